@@ -1,0 +1,366 @@
+// One act: the action of the source at a worker's place, with the local decisions up to the next.
+// Document 01's tables, one function for each place that decides something.
+ghost use mathlib.Core.Path.{_≡_};
+ghost use Rattle.words.specs.Words.{Fair, plus, minus, nextOf, withMark};
+ghost use Rattle.places.specs.declared.Place.the-variants.{Idle};
+ghost use Rattle.acts.specs.Acts.{stay, tailTo, headTo, stampTo, valueTo, fullAt, countOf, yesNo, actP1, actP2, actP3, actP5, actP6, actF6, actF7, actF8, actF9, actO2, actO3, actO5, actO6, actLen3, actEmpty2, actFull2, actClose1, actIsClosed1, actOf, Fits, Within};
+use places::Answer;
+use places::Ends;
+use places::Kind;
+use places::Place;
+use places::Slot;
+use words::Fixed;
+use words::Stamp;
+
+// What an act leaves: the two ends, the slot at its worker's word, and the place its worker goes to.
+pub struct Acted {
+    pub ends: Ends,
+    pub slot: Slot,
+    pub place: Place,
+}
+
+fn stay(e: Ends, s: Slot, p: Place) -> Acted
+    ensures { λ r. ⌜ r ≡ stay e s p ⌝ }
+{
+    Acted {
+        ends: e,
+        slot: s,
+        place: p,
+    }
+}
+
+// A looker's answer.
+fn told(e: Ends, s: Slot, yes: bool) -> Acted
+    ensures { λ r. ⌜ r ≡ stay e s (Idle (yesNo yes)) ⌝ }
+{
+    if yes {
+        stay(e, s, Place::Idle(Answer::Yes))
+    } else {
+        stay(e, s, Place::Idle(Answer::No))
+    }
+}
+
+// The kinds of effect.
+
+fn tail_to_next(f: Fixed, e: Ends, t: Stamp) -> Ends
+    requires { ⌜ Fair f ⌝ }
+    ensures { λ r. ⌜ r ≡ tailTo e (nextOf f t) ⌝ }
+{
+    let h = e.head;
+    let w = words::next(f, t);
+    Ends { head: h, tail: w }
+}
+
+fn tail_to_marked(f: Fixed, e: Ends) -> Ends
+    requires { ⌜ Fair f ⌝ }
+    ensures { λ r. ⌜ r ≡ tailTo e (withMark f (e .tail)) ⌝ }
+{
+    let h = e.head;
+    let w = words::with_mark(f, e.tail);
+    Ends { head: h, tail: w }
+}
+
+fn head_to_next(f: Fixed, e: Ends, h: Stamp) -> Ends
+    requires { ⌜ Fair f ⌝ }
+    ensures { λ r. ⌜ r ≡ headTo e (nextOf f h) ⌝ }
+{
+    let t = e.tail;
+    let w = words::next(f, h);
+    Ends { head: w, tail: t }
+}
+
+fn head_to_lap_before_next(f: Fixed, e: Ends, t: Stamp) -> Ends
+    requires { ⌜ Fair f ⌝ }
+    ensures { λ r. ⌜ r ≡ headTo e (minus (nextOf f t) (f .lap)) ⌝ }
+{
+    let tail = e.tail;
+    let w = words::earlier(words::next(f, t), f.lap);
+    Ends {
+        head: w,
+        tail: tail,
+    }
+}
+
+fn stamp_to(s: Slot, w: Stamp, by: u64) -> Slot
+    ensures { λ r. ⌜ r ≡ stampTo s (plus w by) ⌝ }
+{
+    let n = words::later(w, by);
+    Slot {
+        stamp: n,
+        value: s.value,
+    }
+}
+
+fn value_to(s: Slot, v: u64) -> Slot
+    ensures { λ r. ⌜ r ≡ valueTo s v ⌝ }
+{
+    let w = s.stamp;
+    Slot { stamp: w, value: v }
+}
+
+// push and force_push
+
+fn p1(f: Fixed, e: Ends, s: Slot, k: Kind, item: u64) -> Acted
+    requires { ⌜ Fair f ⌝ }
+    ensures { λ r. ⌜ r ≡ actP1 f e s k item ⌝ }
+{
+    let t = e.tail;
+    if words::marked(f, t) {
+        stay(e, s, Place::Idle(Answer::Closed(item)))
+    } else {
+        stay(e, s, Place::P2(k, t, item))
+    }
+}
+
+fn full_at(k: Kind, t: Stamp, item: u64) -> Place
+    ensures { λ r. ⌜ r ≡ fullAt k t item ⌝ }
+{
+    match k {
+        Kind::Push => Place::P6(t, item),
+        Kind::Force => Place::F6(t, item),
+    }
+}
+
+fn p2(f: Fixed, e: Ends, s: Slot, k: Kind, t: Stamp, item: u64) -> Acted
+    ensures { λ r. ⌜ r ≡ actP2 f e s k t item ⌝ }
+{
+    let seen = s.stamp;
+    if words::same_word(seen, t) {
+        return stay(e, s, Place::P3(k, t, item));
+    }
+    if words::lap_behind_one_past(f, seen, t) {
+        stay(e, s, full_at(k, t, item))
+    } else {
+        stay(e, s, Place::P1(k, item))
+    }
+}
+
+fn p3(f: Fixed, e: Ends, s: Slot, k: Kind, t: Stamp, item: u64, lose: bool) -> Acted
+    requires { ⌜ Fair f ⌝ }
+    ensures { λ r. ⌜ r ≡ actP3 f e s k t item lose ⌝ }
+{
+    let found = e.tail;
+    if words::same_word(found, t) {
+        if lose {
+            stay(e, s, Place::P2(k, t, item))
+        } else {
+            stay(tail_to_next(f, e, t), s, Place::P4(t, item))
+        }
+    } else {
+        p1(f, e, s, k, item)
+    }
+}
+
+fn p5(e: Ends, s: Slot, t: Stamp) -> Acted
+    ensures { λ r. ⌜ r ≡ actP5 e s t ⌝ }
+{
+    stay(e, stamp_to(s, t, 1), Place::Idle(Answer::Pushed))
+}
+
+fn p6(f: Fixed, e: Ends, s: Slot, t: Stamp, item: u64) -> Acted
+    ensures { λ r. ⌜ r ≡ actP6 f e s t item ⌝ }
+{
+    let h = e.head;
+    if words::lap_behind(f, h, t) {
+        stay(e, s, Place::Idle(Answer::Full(item)))
+    } else {
+        stay(e, s, Place::P1(Kind::Push, item))
+    }
+}
+
+fn f6(f: Fixed, e: Ends, s: Slot, t: Stamp, item: u64, lose: bool) -> Acted
+    requires { ⌜ Fair f ⌝ }
+    ensures { λ r. ⌜ r ≡ actF6 f e s t item lose ⌝ }
+{
+    let found = e.head;
+    if words::is_lap_before(f, found, t) {
+        if lose {
+            stay(e, s, Place::P1(Kind::Force, item))
+        } else {
+            stay(head_to_lap_before_next(f, e, t), s, Place::F7(t, item))
+        }
+    } else {
+        stay(e, s, Place::P1(Kind::Force, item))
+    }
+}
+
+fn f7(f: Fixed, e: Ends, s: Slot, t: Stamp, item: u64) -> Acted
+    requires { ⌜ Fair f ⌝ }
+    ensures { λ r. ⌜ r ≡ actF7 f e s t item ⌝ }
+{
+    stay(tail_to_next(f, e, t), s, Place::F8(t, item))
+}
+
+fn f8(e: Ends, s: Slot, t: Stamp, item: u64) -> Acted
+    ensures { λ r. ⌜ r ≡ actF8 e s t item ⌝ }
+{
+    let old = s.value;
+    stay(e, value_to(s, item), Place::F9(t, old))
+}
+
+fn f9(e: Ends, s: Slot, t: Stamp, old: u64) -> Acted
+    ensures { λ r. ⌜ r ≡ actF9 e s t old ⌝ }
+{
+    stay(e, stamp_to(s, t, 1), Place::Idle(Answer::Displaced(old)))
+}
+
+// pop
+
+fn o2(e: Ends, s: Slot, h: Stamp) -> Acted
+    ensures { λ r. ⌜ r ≡ actO2 e s h ⌝ }
+{
+    let seen = s.stamp;
+    if words::one_past(seen, h) {
+        return stay(e, s, Place::O3(h));
+    }
+    if words::same_word(seen, h) {
+        stay(e, s, Place::O6(h))
+    } else {
+        stay(e, s, Place::O1)
+    }
+}
+
+fn o3(f: Fixed, e: Ends, s: Slot, h: Stamp, lose: bool) -> Acted
+    requires { ⌜ Fair f ⌝ }
+    ensures { λ r. ⌜ r ≡ actO3 f e s h lose ⌝ }
+{
+    let found = e.head;
+    if words::same_word(found, h) {
+        if lose {
+            stay(e, s, Place::O2(h))
+        } else {
+            stay(head_to_next(f, e, h), s, Place::O4(h))
+        }
+    } else {
+        stay(e, s, Place::O2(found))
+    }
+}
+
+fn o5(f: Fixed, e: Ends, s: Slot, h: Stamp, value: u64) -> Acted
+    ensures { λ r. ⌜ r ≡ actO5 f e s h value ⌝ }
+{
+    stay(e, stamp_to(s, h, f.lap), Place::Idle(Answer::Popped(value)))
+}
+
+fn o6(f: Fixed, e: Ends, s: Slot, h: Stamp) -> Acted
+    requires { ⌜ Fair f ⌝ }
+    ensures { λ r. ⌜ r ≡ actO6 f e s h ⌝ }
+{
+    let t = e.tail;
+    if words::unmarked_is(f, t, h) {
+        if words::marked(f, t) {
+            stay(e, s, Place::Idle(Answer::PopClosed))
+        } else {
+            stay(e, s, Place::Idle(Answer::Empty))
+        }
+    } else {
+        stay(e, s, Place::O1)
+    }
+}
+
+// The lookers.
+
+// How many items lie between the two words.
+pub fn count(f: Fixed, tail: Stamp, head: Stamp) -> u64
+    requires { ⌜ Within f tail head ⌝ }
+    ensures { λ r. ⌜ r ≡ countOf f tail head ⌝ }
+{
+    let hix = words::index(f, head);
+    let tix = words::index(f, tail);
+    if hix < tix {
+        return tix - hix;
+    }
+    if tix < hix {
+        return f.capacity - hix + tix;
+    }
+    if words::unmarked_is(f, tail, head) {
+        0
+    } else {
+        f.capacity
+    }
+}
+
+fn len3(f: Fixed, e: Ends, s: Slot, t: Stamp, h: Stamp) -> Acted
+    requires { ⌜ Within f t h ⌝ }
+    ensures { λ r. ⌜ r ≡ actLen3 f e s t h ⌝ }
+{
+    let again = e.tail;
+    if words::same_word(again, t) {
+        stay(e, s, Place::Idle(Answer::Len(count(f, t, h))))
+    } else {
+        stay(e, s, Place::Len1)
+    }
+}
+
+fn empty2(f: Fixed, e: Ends, s: Slot, h: Stamp) -> Acted
+    requires { ⌜ Fair f ⌝ }
+    ensures { λ r. ⌜ r ≡ actEmpty2 f e s h ⌝ }
+{
+    let t = e.tail;
+    told(e, s, words::unmarked_is(f, t, h))
+}
+
+fn full2(f: Fixed, e: Ends, s: Slot, t: Stamp) -> Acted
+    requires { ⌜ Fair f ⌝ }
+    ensures { λ r. ⌜ r ≡ actFull2 f e s t ⌝ }
+{
+    let h = e.head;
+    told(e, s, words::lap_behind_unmarked(f, h, t))
+}
+
+fn close1(f: Fixed, e: Ends, s: Slot) -> Acted
+    requires { ⌜ Fair f ⌝ }
+    ensures { λ r. ⌜ r ≡ actClose1 f e s ⌝ }
+{
+    let t = e.tail;
+    if words::marked(f, t) {
+        stay(e, s, Place::Idle(Answer::No))
+    } else {
+        stay(tail_to_marked(f, e), s, Place::Idle(Answer::Yes))
+    }
+}
+
+fn is_closed1(f: Fixed, e: Ends, s: Slot) -> Acted
+    requires { ⌜ Fair f ⌝ }
+    ensures { λ r. ⌜ r ≡ actIsClosed1 f e s ⌝ }
+{
+    let t = e.tail;
+    told(e, s, words::marked(f, t))
+}
+
+// One act of a worker that stands at p, on the ends and on the slot at its word; lose: its weak exchange fails.
+pub fn act_at(f: Fixed, e: Ends, s: Slot, p: Place, lose: bool) -> Acted
+    requires { ⌜ Fits f p ⌝ }
+    ensures { λ r. ⌜ r ≡ actOf f e s p lose ⌝ }
+{
+    let head = e.head;
+    let tail = e.tail;
+    match p {
+        Place::Idle(a) => stay(e, s, Place::Idle(a)),
+        Place::P1(k, item) => p1(f, e, s, k, item),
+        Place::P2(k, t, item) => p2(f, e, s, k, t, item),
+        Place::P3(k, t, item) => p3(f, e, s, k, t, item, lose),
+        Place::P4(t, item) => stay(e, value_to(s, item), Place::P5(t)),
+        Place::P5(t) => p5(e, s, t),
+        Place::P6(t, item) => p6(f, e, s, t, item),
+        Place::F6(t, item) => f6(f, e, s, t, item, lose),
+        Place::F7(t, item) => f7(f, e, s, t, item),
+        Place::F8(t, item) => f8(e, s, t, item),
+        Place::F9(t, old) => f9(e, s, t, old),
+        Place::O1 => stay(e, s, Place::O2(head)),
+        Place::O2(h) => o2(e, s, h),
+        Place::O3(h) => o3(f, e, s, h, lose),
+        Place::O4(h) => stay(e, s, Place::O5(h, s.value)),
+        Place::O5(h, value) => o5(f, e, s, h, value),
+        Place::O6(h) => o6(f, e, s, h),
+        Place::Len1 => stay(e, s, Place::Len2(tail)),
+        Place::Len2(t) => stay(e, s, Place::Len3(t, head)),
+        Place::Len3(t, h) => len3(f, e, s, t, h),
+        Place::Empty1 => stay(e, s, Place::Empty2(head)),
+        Place::Empty2(h) => empty2(f, e, s, h),
+        Place::Full1 => stay(e, s, Place::Full2(tail)),
+        Place::Full2(t) => full2(f, e, s, t),
+        Place::Close1 => close1(f, e, s),
+        Place::IsClosed1 => is_closed1(f, e, s),
+    }
+}
