@@ -28,7 +28,7 @@ fn entry(label: &[u8], which: u64, m: Machine, first: u64, second: u64) {
     let s = show::byte(&mut out, r, b' ');
     let t = show::number(&mut out, s, second);
     let d = done(which, m, first, second);
-    let u = crate::judge::outcome(&mut out, t, m, d, first / 16);
+    let u = trial::judge::outcome(&mut out, t, m, d, first / 16);
     show::flush(&out, u);
 }
 
@@ -48,8 +48,8 @@ pub fn step(label: &[u8], m: Machine, first: u64, second: u64) {
 fn codes(which: u64) {
     let mut code = 0;
     while code < 16 {
-        entry(b"", which, crate::build::base(), code, 0);
-        entry(b"", which, crate::build::base(), code, 1);
+        entry(b"", which, trial::build::base(), code, 0);
+        entry(b"", which, trial::build::base(), code, 1);
         code += 1;
     }
 }
@@ -66,7 +66,7 @@ fn workers(m: Machine, last: u64)
 }
 
 fn far_workers() {
-    let m = crate::build::base();
+    let m = trial::build::base();
     begin(b"", m, 18446744073709551600, 5);
     act(b"", m, 18446744073709551608, 0);
     act(b"", m, 18446744073709551609, 0);
@@ -82,8 +82,8 @@ pub fn all() {
     codes(0);
     codes(1);
     codes(2);
-    workers(crate::build::with_count(crate::build::base(), 1), 0);
-    workers(crate::build::base(), 1);
-    workers(crate::build::with_count(crate::build::base(), 16), 15);
+    workers(trial::build::with_count(trial::build::base(), 1), 0);
+    workers(trial::build::base(), 1);
+    workers(trial::build::with_count(trial::build::base(), 16), 15);
     far_workers();
 }

@@ -7,7 +7,7 @@ use words::Stamp;
 const LAST: u64 = 4294967295;
 
 fn pushing() -> Machine {
-    crate::build::at(Place::P1(Kind::Push, 5))
+    trial::build::at(Place::P1(Kind::Push, 5))
 }
 
 fn begins() {
@@ -23,8 +23,8 @@ fn begins() {
 }
 
 fn acts() {
-    let m = crate::build::base();
-    let full = crate::build::with_meter(m, LAST);
+    let m = trial::build::base();
+    let full = trial::build::with_meter(m, LAST);
     crate::entries::act(b"9 before 3: ", m, 42, 0);
     crate::entries::act(b"9 before 3: ", m, 40, 1);
     crate::entries::act(b"3 before 5: ", m, 40, 0);
@@ -37,7 +37,7 @@ fn acts() {
 
 fn acts_of_busy() {
     let m = pushing();
-    let full = crate::build::with_meter(m, LAST);
+    let full = trial::build::with_meter(m, LAST);
     crate::entries::act(b"9 before 7: ", full, 8, 1);
     crate::entries::act(b"7 before 8: ", full, 9, 0);
     crate::entries::act(b"8: ", m, 9, 0);
@@ -46,14 +46,14 @@ fn acts_of_busy() {
 }
 
 fn six_first() {
-    let m = crate::build::with_ends(pushing(), 4, 1);
+    let m = trial::build::with_ends(pushing(), 4, 1);
     crate::entries::begin(b"6 before 9: ", m, 10, 1);
     crate::entries::begin(b"6 before 3: ", m, 32, 1);
     crate::entries::begin(b"6 before 4: ", m, 0, 1);
     crate::entries::act(b"6 before 9: ", m, 10, 1);
     crate::entries::act(b"6 before 3: ", m, 40, 0);
     crate::entries::act(b"6 before 5: ", m, 24, 0);
-    crate::entries::act(b"6 before 7: ", crate::build::with_meter(m, LAST), 8, 0);
+    crate::entries::act(b"6 before 7: ", trial::build::with_meter(m, LAST), 8, 0);
     crate::entries::act(b"6 before 8: ", m, 9, 0);
     crate::entries::step(b"6 before 9: ", m, 47, 3);
 }
@@ -62,49 +62,49 @@ fn meters() {
     let m = pushing();
     crate::entries::act(
         b"meter 4294967293: ",
-        crate::build::with_meter(m, 4294967293),
+        trial::build::with_meter(m, 4294967293),
         8,
         0,
     );
     crate::entries::act(
         b"meter 4294967294: ",
-        crate::build::with_meter(m, 4294967294),
+        trial::build::with_meter(m, 4294967294),
         8,
         0,
     );
     crate::entries::act(
         b"meter 4294967295: ",
-        crate::build::with_meter(m, LAST),
+        trial::build::with_meter(m, LAST),
         8,
         0,
     );
     crate::entries::act(
         b"meter 4294967296: ",
-        crate::build::with_meter(m, 4294967296),
+        trial::build::with_meter(m, 4294967296),
         8,
         0,
     );
     crate::entries::act(
         b"meter 18446744073709551615: ",
-        crate::build::with_meter(m, 18446744073709551615),
+        trial::build::with_meter(m, 18446744073709551615),
         8,
         0,
     );
     crate::entries::begin(
         b"meter 4294967295: ",
-        crate::build::with_meter(m, LAST),
+        trial::build::with_meter(m, LAST),
         16,
         7,
     );
     crate::entries::step(
         b"meter 4294967294: ",
-        crate::build::with_meter(m, 4294967294),
+        trial::build::with_meter(m, 4294967294),
         8,
         0,
     );
     crate::entries::step(
         b"meter 4294967295: ",
-        crate::build::with_meter(m, LAST),
+        trial::build::with_meter(m, LAST),
         8,
         0,
     );
@@ -119,26 +119,26 @@ fn both(label: &[u8], m: Machine) {
 fn exchanges() {
     both(
         b"P3, words agree: ",
-        crate::build::at(Place::P3(Kind::Push, Stamp(1), 5)),
+        trial::build::at(Place::P3(Kind::Push, Stamp(1), 5)),
     );
     both(
         b"P3, words differ: ",
-        crate::build::at(Place::P3(Kind::Push, Stamp(0), 5)),
+        trial::build::at(Place::P3(Kind::Push, Stamp(0), 5)),
     );
     both(
         b"P3, closed meanwhile: ",
-        crate::build::with_ends(crate::build::at(Place::P3(Kind::Force, Stamp(1), 5)), 0, 5),
+        trial::build::with_ends(trial::build::at(Place::P3(Kind::Force, Stamp(1), 5)), 0, 5),
     );
     both(
         b"F6, words agree: ",
-        crate::build::at(Place::F6(Stamp(8), 9)),
+        trial::build::at(Place::F6(Stamp(8), 9)),
     );
     both(
         b"F6, words differ: ",
-        crate::build::at(Place::F6(Stamp(16), 9)),
+        trial::build::at(Place::F6(Stamp(16), 9)),
     );
-    both(b"O3, words agree: ", crate::build::at(Place::O3(Stamp(0))));
-    both(b"O3, words differ: ", crate::build::at(Place::O3(Stamp(8))));
+    both(b"O3, words agree: ", trial::build::at(Place::O3(Stamp(0))));
+    both(b"O3, words differ: ", trial::build::at(Place::O3(Stamp(8))));
 }
 
 pub fn all() {

@@ -2,11 +2,11 @@
 use machine::Machine;
 
 fn run(label: &[u8], m: Machine, schedule: &[u64]) {
-    crate::judge::ran(label, bounded::run(m, schedule));
+    trial::judge::ran(label, bounded::run(m, schedule));
 }
 
 fn stops() {
-    let m = crate::build::base();
+    let m = trial::build::base();
     run(b"to its end", m, &[0, 6, 8, 0, 8, 0]);
     run(b"4 at 2", m, &[0, 6, 8, 0, 0, 7, 8, 0]);
     run(b"5 at 0", m, &[8, 0, 0, 6]);
@@ -20,7 +20,7 @@ fn stops() {
 }
 
 fn lost() {
-    let m = crate::build::base();
+    let m = trial::build::base();
     run(
         b"one exchange lost",
         m,
@@ -34,25 +34,25 @@ fn lost() {
 }
 
 fn odd() {
-    let m = crate::build::base();
+    let m = trial::build::base();
     run(b"11, one word", m, &[0]);
     run(b"11, three words", m, &[0, 6, 8]);
     run(b"11 before 9", m, &[10, 0, 8]);
-    run(b"6 before 11", crate::build::with_count(m, 0), &[0]);
-    run(b"6", crate::build::with_count(m, 17), &[0, 6]);
+    run(b"6 before 11", trial::build::with_count(m, 0), &[0]);
+    run(b"6", trial::build::with_count(m, 17), &[0, 6]);
     let none = [0u64; 0];
     run(b"empty", m, &none);
-    run(b"6, empty", crate::build::with_count(m, 0), &none);
+    run(b"6, empty", trial::build::with_count(m, 0), &none);
 }
 
 fn meters() {
-    let m = crate::build::base();
-    let last = crate::build::with_meter(m, 4294967294);
+    let m = trial::build::base();
+    let last = trial::build::with_meter(m, 4294967294);
     run(b"7 at 2", last, &[0, 6, 8, 0, 8, 0]);
     run(b"7 at 3", last, &[0, 6, 8, 0, 16, 7, 24, 0]);
     run(
         b"7 at 1",
-        crate::build::with_meter(m, 4294967295),
+        trial::build::with_meter(m, 4294967295),
         &[0, 6, 8, 0],
     );
 }

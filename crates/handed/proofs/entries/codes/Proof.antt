@@ -7,7 +7,7 @@ use Rattle.handed.proofs.entries.codes.Statement.{statement}
 use Rattle.handed.proofs.entries.codes.Tie as tie
 use Rattle.handed.proofs.entries.codes.Reads as reads
 use Rattle.handed.proofs.entries.codes.Lts as lts
-use Rattle.handed.proofs.build.base.Reads as base-reads
+use Rattle.trial.proofs.build.base.Reads as base-reads
 use Rattle.handed.proofs.entries.entry.Reads as entry-reads
 
 abbrev Inv-loop : tie.InvT-loop

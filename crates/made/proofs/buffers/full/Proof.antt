@@ -3,13 +3,13 @@ use mathlib.Core.Path.{_≡_}
 use lib.ListN.{length}
 use native.Mathlib.Omega.{arith}
 use borrow.Author.Needs.{needs}
-use Rattle.handed.proofs.buffers.full.Statement.{statement}
-use Rattle.handed.proofs.buffers.full.Tie as tie
-use Rattle.handed.proofs.buffers.full.Reads as reads
-use Rattle.handed.proofs.buffers.full.Lts as lts
+use Rattle.made.proofs.buffers.full.Statement.{statement}
+use Rattle.made.proofs.buffers.full.Tie as tie
+use Rattle.made.proofs.buffers.full.Reads as reads
+use Rattle.made.proofs.buffers.full.Lts as lts
 use Rattle.bounded.proofs.make.Reads as make-reads
-use Rattle.handed.proofs.build.with_ends.Reads as with-ends-reads
-use Rattle.handed.proofs.build.with_slot.Reads as with-slot-reads
+use Rattle.trial.proofs.build.with_ends.Reads as with-ends-reads
+use Rattle.trial.proofs.build.with_slot.Reads as with-slot-reads
 
 abbrev Inv-loop : tie.InvT-loop
 Inv-loop m₀ i₀ m i = Unit {0}

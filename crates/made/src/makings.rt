@@ -4,7 +4,7 @@ use machine::Machine;
 // What came of a making: the blank machine, or one with these constants.
 fn stands(out: &mut [u8], at: usize, refusal: u64, m: Machine) -> usize {
     if refusal != 0 {
-        if alike::machines(m, crate::build::zeroed()) {
+        if alike::machines(m, trial::build::zeroed()) {
             return show::text(out, at, b" blank");
         }
         return show::text(out, at, b" NOT BLANK");
@@ -46,7 +46,7 @@ fn fresh(capacity: u64, workers: u64) {
     let t = show::worker(&mut out, s, m, 16);
     let u = show::end_line(&mut out, t);
     show::flush(&out, u);
-    crate::judge::slots(m);
+    trial::judge::slots(m);
 }
 
 pub fn all() {

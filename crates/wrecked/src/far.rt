@@ -6,15 +6,15 @@ use machine::Ran;
 fn late() -> Machine {
     let made = bounded::make(2, 1);
     let m = made.machine;
-    let ends = crate::build::with_ends(m, 18446744073709551608, 18446744073709551608);
-    let first = crate::build::with_slot(ends, 0, 18446744073709551608, 0);
-    crate::build::with_slot(first, 1, 18446744073709551609, 0)
+    let ends = trial::build::with_ends(m, 18446744073709551608, 18446744073709551608);
+    let first = trial::build::with_slot(ends, 0, 18446744073709551608, 0);
+    trial::build::with_slot(first, 1, 18446744073709551609, 0)
 }
 
 fn told(label: &[u8], r: Ran) -> Machine {
-    crate::judge::ran(label, r);
+    trial::judge::ran(label, r);
     let m = r.machine;
-    crate::judge::slots(m);
+    trial::judge::slots(m);
     m
 }
 
@@ -57,7 +57,7 @@ fn drain(d: Machine) {
 
 // Slots that no run leaves: each call goes back to its first load.
 fn astray() {
-    let m = crate::build::with_slot(late(), 0, 3, 0);
+    let m = trial::build::with_slot(late(), 0, 3, 0);
     told(b"push, stamp 3", bounded::run(m, &[0, 5, 8, 0, 8, 0]));
     told(b"pop, stamp 3", bounded::run(m, &[2, 0, 8, 0, 8, 0]));
     told(b"close", bounded::run(m, &[6, 0, 8, 0]));

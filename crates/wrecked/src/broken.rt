@@ -6,9 +6,9 @@ use places::Place;
 use words::Stamp;
 
 fn fixed(label: &[u8], capacity: u64, mark: u64, lap: u64) {
-    crate::judge::machine(
+    trial::judge::machine(
         label,
-        crate::build::with_fixed(crate::build::base(), capacity, mark, lap),
+        trial::build::with_fixed(trial::build::base(), capacity, mark, lap),
     );
 }
 
@@ -37,7 +37,7 @@ fn constants() {
 }
 
 fn count(label: &[u8], n: u64) {
-    crate::judge::machine(label, crate::build::with_count(crate::build::base(), n));
+    trial::judge::machine(label, trial::build::with_count(trial::build::base(), n));
 }
 
 fn counts() {
@@ -49,9 +49,9 @@ fn counts() {
 }
 
 fn ends(label: &[u8], head: u64, tail: u64) {
-    crate::judge::machine(
+    trial::judge::machine(
         label,
-        crate::build::with_ends(crate::build::base(), head, tail),
+        trial::build::with_ends(trial::build::base(), head, tail),
     );
 }
 
@@ -98,25 +98,25 @@ fn tails() {
 }
 
 fn pushing(t: u64) {
-    crate::judge::place(Place::P2(Kind::Push, Stamp(t), 9));
-    crate::judge::place(Place::P2(Kind::Force, Stamp(t), 9));
-    crate::judge::place(Place::P3(Kind::Push, Stamp(t), 9));
-    crate::judge::place(Place::P3(Kind::Force, Stamp(t), 9));
-    crate::judge::place(Place::P4(Stamp(t), 9));
-    crate::judge::place(Place::P5(Stamp(t)));
-    crate::judge::place(Place::P6(Stamp(t), 9));
-    crate::judge::place(Place::F6(Stamp(t), 9));
-    crate::judge::place(Place::F7(Stamp(t), 9));
-    crate::judge::place(Place::F8(Stamp(t), 9));
-    crate::judge::place(Place::F9(Stamp(t), 9));
+    trial::judge::place(Place::P2(Kind::Push, Stamp(t), 9));
+    trial::judge::place(Place::P2(Kind::Force, Stamp(t), 9));
+    trial::judge::place(Place::P3(Kind::Push, Stamp(t), 9));
+    trial::judge::place(Place::P3(Kind::Force, Stamp(t), 9));
+    trial::judge::place(Place::P4(Stamp(t), 9));
+    trial::judge::place(Place::P5(Stamp(t)));
+    trial::judge::place(Place::P6(Stamp(t), 9));
+    trial::judge::place(Place::F6(Stamp(t), 9));
+    trial::judge::place(Place::F7(Stamp(t), 9));
+    trial::judge::place(Place::F8(Stamp(t), 9));
+    trial::judge::place(Place::F9(Stamp(t), 9));
 }
 
 fn popping(h: u64) {
-    crate::judge::place(Place::O2(Stamp(h)));
-    crate::judge::place(Place::O3(Stamp(h)));
-    crate::judge::place(Place::O4(Stamp(h)));
-    crate::judge::place(Place::O5(Stamp(h), 9));
-    crate::judge::place(Place::O6(Stamp(h)));
+    trial::judge::place(Place::O2(Stamp(h)));
+    trial::judge::place(Place::O3(Stamp(h)));
+    trial::judge::place(Place::O4(Stamp(h)));
+    trial::judge::place(Place::O5(Stamp(h), 9));
+    trial::judge::place(Place::O6(Stamp(h)));
 }
 
 fn both(w: u64) {
@@ -125,36 +125,36 @@ fn both(w: u64) {
 }
 
 fn holding_none() {
-    crate::judge::place(Place::P1(Kind::Push, 9));
-    crate::judge::place(Place::P1(Kind::Force, 9));
-    crate::judge::place(Place::O1);
-    crate::judge::place(Place::Len1);
-    crate::judge::place(Place::Empty1);
-    crate::judge::place(Place::Full1);
-    crate::judge::place(Place::Close1);
-    crate::judge::place(Place::IsClosed1);
+    trial::judge::place(Place::P1(Kind::Push, 9));
+    trial::judge::place(Place::P1(Kind::Force, 9));
+    trial::judge::place(Place::O1);
+    trial::judge::place(Place::Len1);
+    trial::judge::place(Place::Empty1);
+    trial::judge::place(Place::Full1);
+    trial::judge::place(Place::Close1);
+    trial::judge::place(Place::IsClosed1);
 }
 
 // Of len only the index counts; of is_empty and is_full nothing does.
 fn looking() {
-    crate::judge::place(Place::Len2(Stamp(1)));
-    crate::judge::place(Place::Len2(Stamp(2)));
-    crate::judge::place(Place::Len2(Stamp(4)));
-    crate::judge::place(Place::Len2(Stamp(6)));
-    crate::judge::place(Place::Len3(Stamp(1), Stamp(1)));
-    crate::judge::place(Place::Len3(Stamp(2), Stamp(1)));
-    crate::judge::place(Place::Len3(Stamp(1), Stamp(2)));
-    crate::judge::place(Place::Len3(Stamp(5), Stamp(4)));
-    crate::judge::place(Place::Len3(Stamp(5), Stamp(7)));
-    crate::judge::place(Place::Empty2(Stamp(2)));
-    crate::judge::place(Place::Empty2(Stamp(7)));
-    crate::judge::place(Place::Full2(Stamp(2)));
-    crate::judge::place(Place::Full2(Stamp(7)));
+    trial::judge::place(Place::Len2(Stamp(1)));
+    trial::judge::place(Place::Len2(Stamp(2)));
+    trial::judge::place(Place::Len2(Stamp(4)));
+    trial::judge::place(Place::Len2(Stamp(6)));
+    trial::judge::place(Place::Len3(Stamp(1), Stamp(1)));
+    trial::judge::place(Place::Len3(Stamp(2), Stamp(1)));
+    trial::judge::place(Place::Len3(Stamp(1), Stamp(2)));
+    trial::judge::place(Place::Len3(Stamp(5), Stamp(4)));
+    trial::judge::place(Place::Len3(Stamp(5), Stamp(7)));
+    trial::judge::place(Place::Empty2(Stamp(2)));
+    trial::judge::place(Place::Empty2(Stamp(7)));
+    trial::judge::place(Place::Full2(Stamp(2)));
+    trial::judge::place(Place::Full2(Stamp(7)));
 }
 
 fn record(label: &[u8], count: u64, i: usize, p: Place) {
-    let m = crate::build::with_count(crate::build::base(), count);
-    crate::judge::machine(label, crate::build::with_place(m, i, p));
+    let m = trial::build::with_count(trial::build::base(), count);
+    trial::judge::machine(label, trial::build::with_place(m, i, p));
 }
 
 fn past_the_count() {

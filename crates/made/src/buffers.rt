@@ -8,7 +8,7 @@ fn told(label: &[u8], m: Machine, buffer: &mut [u64]) {
     let mut out = [0u8; 512];
     let p = show::text(&mut out, 0, label);
     let t = bounded::contents(m, buffer);
-    let q = crate::judge::say_told(&mut out, p, b": ", t);
+    let q = trial::judge::say_told(&mut out, p, b": ", t);
     let n = buffer.len() as u64;
     let r = show::told(&mut out, q, b", buffer", buffer, Told::Number(n));
     show::flush(&out, r);
@@ -29,13 +29,13 @@ fn lengths(label: &[u8], m: Machine) {
 fn d() -> Machine {
     let made = bounded::make(2, 2);
     let m = made.machine;
-    let ends = crate::build::with_ends(m, 8, 16);
-    crate::build::with_slot(crate::build::with_slot(ends, 0, 9, 7), 1, 10, 8)
+    let ends = trial::build::with_ends(m, 8, 16);
+    trial::build::with_slot(trial::build::with_slot(ends, 0, 9, 7), 1, 10, 8)
 }
 
 fn ends(label: &[u8], head: u64, tail: u64) {
     let mut three = [77u64, 77, 77];
-    told(label, crate::build::with_ends(d(), head, tail), &mut three);
+    told(label, trial::build::with_ends(d(), head, tail), &mut three);
 }
 
 // 256 items, the most there are.
@@ -44,10 +44,10 @@ fn full() -> Machine {
     let mut m = made.machine;
     let mut i = 0;
     while i < 256 {
-        m = crate::build::with_slot(m, i, i as u64 + 1, i as u64 + 1000);
+        m = trial::build::with_slot(m, i, i as u64 + 1, i as u64 + 1000);
         i += 1;
     }
-    crate::build::with_ends(m, 0, 1024)
+    trial::build::with_ends(m, 0, 1024)
 }
 
 // LABEL: REFUSAL or ok COUNT, then the buffer's first word, its 256th and its last
@@ -55,7 +55,7 @@ fn many(label: &[u8], m: Machine, buffer: &mut [u64]) {
     let mut out = [0u8; 512];
     let p = show::text(&mut out, 0, label);
     let t = bounded::contents(m, buffer);
-    let q = crate::judge::say_told(&mut out, p, b": ", t);
+    let q = trial::judge::say_told(&mut out, p, b": ", t);
     let n = buffer.len();
     if 255 <= n {
         let r = show::named(&mut out, q, b" first", buffer[0]);
@@ -78,13 +78,13 @@ fn most() {
 
 pub fn all() {
     lengths(b"7 and 8", d());
-    lengths(b"closed, 7 and 8", crate::build::with_ends(d(), 8, 20));
-    lengths(b"8", crate::build::with_ends(d(), 9, 16));
-    lengths(b"nothing", crate::build::with_ends(d(), 16, 16));
-    lengths(b"4 before 10", crate::build::with_place(d(), 1, Place::O1));
+    lengths(b"closed, 7 and 8", trial::build::with_ends(d(), 8, 20));
+    lengths(b"8", trial::build::with_ends(d(), 9, 16));
+    lengths(b"nothing", trial::build::with_ends(d(), 16, 16));
+    lengths(b"4 before 10", trial::build::with_place(d(), 1, Place::O1));
     lengths(
         b"6 before 4 and 10",
-        crate::build::with_ends(crate::build::with_place(d(), 1, Place::O1), 12, 16),
+        trial::build::with_ends(trial::build::with_place(d(), 1, Place::O1), 12, 16),
     );
     ends(b"head 9, tail 17", 9, 17);
     ends(b"head 9, tail 21", 9, 21);
