@@ -1,0 +1,1 @@
+// The ring over claim numbers: theorems alone, in specs/.
