@@ -8,7 +8,7 @@ use native.Mathlib.Omega.{arith}
 use native.Mathlib.Nat.{add-mod-right}
 use native.Mathlib.Decide.{ℕ-discrete}
 use Rattle.ring.specs.Upd.{upd, upd-at, upd-else, upd-same, choose}
-use Rattle.ring.specs.Ring.{Stage, Fill, Filled, Take, Grab, Swap, Swapped, Cell, Await, Hold, Hand, number, Mine, mine-one, Shared, Valued, HandOk, CellOk, View, ViewOk, Inv, Change, view-else, cell-else}
+use Rattle.ring.specs.Ring.{Stage, Fill, Filled, Take, Grab, Swap, Swapped, Cell, Await, Hold, Hand, number, Mine, mine-one, Shared, Latest, Valued, HandOk, CellOk, View, ViewOk, Inv, Change, view-else, cell-else}
 
 -- Of worker w, at slot i.
 pub data Effect : Type 0 where
@@ -21,8 +21,9 @@ pub data Effect : Type 0 where
   Forced : ℕ → ℕ → Effect
   -- the item of claim k is written; that of a lap after k
   Fills Swaps : ℕ → ℕ → Effect
-  -- the slot, in hand at k, becomes a cell in no hand
+  -- the slot, in hand at k, becomes a cell in no hand; the same, and the item of claim k is handed out
   Frees : ℕ → Cell → Effect
+  Gives : ℕ → Cell → ℕ → Effect
 
 -- Three shapes of change: at tail, at head, at neither.
 abbrev pub tailTo : ℕ → ℕ → Cell → ℕ → Shared → Shared
@@ -105,6 +106,11 @@ module _ (c : ℕ) where
   after w i (Fills k a) s = slotTo i (Hand Filled k w) (upd (s .val) i a) (upd (s .written) k true) s
   after w i (Swaps k a) s = slotTo i (Hand Swapped k w) (upd (s .val) i a) (upd (s .written) (k + c) true) s
   after w i (Frees k y) s = slotTo i y (s .val) (s .written) s
+  after w i (Gives k y v) s = slotTo i y (s .val) (s .written) s
+
+  -- a slot in w's hand may become y
+  abbrev pub Free : Shared → ℕ → ℕ → ℕ → Cell → Type 0
+  Free s w i k y = (st : Stage) × (s .cell i ≡ Hand st k w) × (k ≤ number y) × Loose y × CellOk c s i y
 
   -- when w may do so
   abbrev pub Fits : Shared → ℕ → ℕ → Effect → Type 0
@@ -113,16 +119,21 @@ module _ (c : ℕ) where
   Fits s w i Taken = s .cell i ≡ Hold (s .head)
   Fits s w i Grabbed = (s .cell i ≡ Hold (s .head)) × (s .tail ≡ s .head + c)
   Fits s w i (Forced k x) = s .cell i ≡ Hand Grab k w
-  Fits s w i (Fills k a) = (s .cell i ≡ Hand Fill k w) × (a ≡ s .item k)
-  Fits s w i (Swaps k a) = (s .cell i ≡ Hand Swap k w) × (a ≡ s .item (k + c))
-  Fits s w i (Frees k y) = (st : Stage) × (s .cell i ≡ Hand st k w) × (k ≤ number y) × Loose y × CellOk c s i y
+  Fits s w i (Fills k a) = (s .cell i ≡ Hand Fill k w) × (a ≡ s .item k) × Latest (s .tailer) (s .tail) w k
+  Fits s w i (Swaps k a) = (s .cell i ≡ Hand Swap k w) × (a ≡ s .item (k + c)) × Latest (s .tailer) (s .tail) w (k + c)
+  Fits s w i (Frees k y) = Free s w i k y
+  Fits s w i (Gives k y v) = Free s w i k y × (k + c ≤ number y) × (v ≡ s .item k) × (k < s .tail) × Latest (s .taker) (s .head) w k
 
 -- a cell is in one hand, and what is loose in none
 hand-loose : (st : Stage) (k w : ℕ) (y : Cell) → Loose y → Hand st k w ≡ y → ⊥
 hand-loose st k w y l e = subst Loose (sym e) l
 
+pub loose-mine : (j : ℕ) (y : Cell) → Loose y → Mine j y → ⊥
+loose-mine j (Await k) l m = m
+loose-mine j (Hold k) l m = m
+
 module _ (c : ℕ) (s : Shared) (w i : ℕ) (small : i < c) (inv : Inv c s) where
-  ok-at : (x : Cell) → s .cell i ≡ x → CellOk c s i x
+  pub ok-at : (x : Cell) → s .cell i ≡ x → CellOk c s i x
   ok-at x e = rw e at (inv .cells i small)
 
   up-true : (f : ℕ → Bool) (k n : ℕ) → f n ≡ true → upd f k true n ≡ true
@@ -216,6 +227,7 @@ module _ (c : ℕ) (s : Shared) (w i : ℕ) (small : i < c) (inv : Inv c s) wher
   course (Swaps k a) f =
       moved (slot-change Swap k (Hand Swapped k w) (upd (s .val) i a) (upd (s .written) (k + c) true) (f .0) (omega arith) (λ m n. upd-else (s .val) i m a n) (up-true (s .written) (k + c)))
   course (Frees k y) f = moved (slot-change (f .0) k y (s .val) (s .written) (f .1) (f .2) (λ m n. refl) (λ n e. e))
+  course (Gives k y v) f = moved (slot-change (f .0 .0) k y (s .val) (s .written) (f .0 .1) (f .0 .2) (λ m n. refl) (λ n e. e))
 
   loose-same : (y : Cell) → Loose y → CellOk c s i y → CellOk c (slotTo i y (s .val) (s .written) s) i y
   loose-same (Await k) l o = o
@@ -245,6 +257,7 @@ module _ (c : ℕ) (s : Shared) (w i : ℕ) (small : i < c) (inv : Inv c s) wher
       let o = ok-at (Hand Swap k w) (f .0) in
       rw (upd-same (s .cell) i (Hand Swapped k w)) (o .0, (o .1 .0, o .1 .1, (upd-same (s .val) i a ∙ f .1, upd-same (s .written) (k + c) true)))
   cell-after (Frees k y) f = rw (upd-same (s .cell) i y) (loose-same y (f .3) (f .4))
+  cell-after (Gives k y v) f = rw (upd-same (s .cell) i y) (loose-same y (f .0 .3) (f .0 .4))
 
   ends-after : (e : Effect) → Fits c s w i e → (after c w i e s .head ≤ after c w i e s .tail) × (after c w i e s .tail ≤ after c w i e s .head + c)
   ends-after Still f = (inv .low, inv .high)
@@ -263,6 +276,7 @@ module _ (c : ℕ) (s : Shared) (w i : ℕ) (small : i < c) (inv : Inv c s) wher
   ends-after (Fills k a) f = (inv .low, inv .high)
   ends-after (Swaps k a) f = (inv .low, inv .high)
   ends-after (Frees k y) f = (inv .low, inv .high)
+  ends-after (Gives k y v) f = (inv .low, inv .high)
 
   -- every effect keeps the invariant
   pub inv-after : (e : Effect) → Fits c s w i e → Inv c (after c w i e s)
@@ -285,11 +299,8 @@ module _ (c : ℕ) (s : Shared) (w i : ℕ) (small : i < c) (inv : Inv c s) wher
   mine-after (Forced k x) f j n m = absurd (n (sym (rw (upd-same (s .cell) i (Hand Swap k w)) at m)))
   mine-after (Fills k a) f j n m = absurd (n (sym (rw (upd-same (s .cell) i (Hand Filled k w)) at m)))
   mine-after (Swaps k a) f j n m = absurd (n (sym (rw (upd-same (s .cell) i (Hand Swapped k w)) at m)))
-  mine-after (Frees k y) f j n m = absurd (free-mine y (f .3) (rw (upd-same (s .cell) i y) at m))
-    where
-      free-mine : (y : Cell) → Loose y → Mine j y → ⊥
-      free-mine (Await k) l m = m
-      free-mine (Hold k) l m = m
+  mine-after (Frees k y) f j n m = absurd (loose-mine j y (f .3) (rw (upd-same (s .cell) i y) at m))
+  mine-after (Gives k y v) f j n m = absurd (loose-mine j y (f .0 .3) (rw (upd-same (s .cell) i y) at m))
 
 -- every other slot, in short
 pub cell-course : (c : ℕ) (s u : Shared) (w i : ℕ) → Course c s u w i → (m : ℕ) → m ≢ i → u .cell m ≡ s .cell m
