@@ -1,2 +1,4 @@
 pub mod Laws
 pub mod Pick
+pub mod Marks
+pub mod Fits
