@@ -19,7 +19,8 @@ use Rattle.ring.specs.Effects.{Effect, Still, Tailed, Taken, Grabbed, Forced, F
 use Rattle.picture.specs.Stamps.{W, tailWord, slotWord, fixed}
 
 pub data Look : Type 0 where
-  Calm : Look
+  -- no word; idle, with its answer
+  Calm : Answer → Look
   -- the word of a claim; the word a lap on
   Sees Laps : Stamp → (ℕ → View) → Look
   -- a word of tail, marked or not; that, and a word of head
@@ -27,8 +28,8 @@ pub data Look : Type 0 where
   Counts : Stamp → Stamp → Look
 
 abbrev pub look : ℕ → Place → Look
-look c (Idle a) = Calm
-look c (P1 k x) = Calm
+look c (Idle a) = Calm a
+look c (P1 k x) = Calm Nothing
 look c (P2 k t x) = Sees t Tail
 look c (P3 k t x) = Sees t Awaits
 look c (P4 t x) = Sees t (λ m. Keeps Fill m x m)
@@ -38,21 +39,21 @@ look c (F6 t x) = Laps t Forces
 look c (F7 t x) = Laps t (Owns Grab)
 look c (F8 t x) = Laps t (λ m. Keeps Swap m x (m + c))
 look c (F9 t old) = Laps t (λ m. Keeps Swapped m old m)
-look c O1 = Calm
+look c O1 = Calm Nothing
 look c (O2 h) = Sees h Head
 look c (O3 h) = Sees h Holds
 look c (O4 h) = Sees h (Owns Take)
 look c (O5 h v) = Sees h (λ m. Keeps Take m v m)
 look c (O6 h) = Sees h Head
-look c Len1 = Calm
+look c Len1 = Calm Nothing
 look c (Len2 t) = Tails t
 look c (Len3 t h) = Counts t h
-look c Empty1 = Calm
+look c Empty1 = Calm Nothing
 look c (Empty2 h) = Sees h Head
-look c Full1 = Calm
+look c Full1 = Calm Nothing
 look c (Full2 t) = Tails t
-look c Close1 = Calm
-look c IsClosed1 = Calm
+look c Close1 = Calm Nothing
+look c IsClosed1 = Calm Nothing
 
 -- A slot in hand, with its index.
 abbrev pub grips : View → Bool
@@ -65,7 +66,7 @@ grips (Owns st k) = true
 grips (Keeps st k a m) = true
 
 abbrev pub HandAt : ℕ → Look → ℕ → Type 0
-HandAt mark Calm i = ⊥
+HandAt mark (Calm a) i = ⊥
 HandAt mark (Sees t v) i = (grips (v 0) ≡ true) × (t .0 % mark ≡ i)
 HandAt mark (Laps t v) i = (grips (v 0) ≡ true) × (t .0 % mark ≡ i)
 HandAt mark (Tails t) i = ⊥
@@ -89,33 +90,38 @@ answered (Len k) = Quiet
 answered Yes = Quiet
 answered No = Quiet
 
-abbrev pub tale : Place → Tale
-tale (Idle a) = answered a
-tale (P1 k x) = Quiet
-tale (P2 k t x) = Quiet
-tale (P3 k t x) = Quiet
-tale (P4 t x) = Tailing x
-tale (P5 t) = Quiet
-tale (P6 t x) = Quiet
-tale (F6 t x) = Quiet
-tale (F7 t x) = Heading
-tale (F8 t x) = Tailing x
-tale (F9 t old) = Quiet
-tale O1 = Quiet
-tale (O2 h) = Quiet
-tale (O3 h) = Quiet
-tale (O4 h) = Heading
-tale (O5 h v) = Quiet
-tale (O6 h) = Quiet
-tale Len1 = Quiet
-tale (Len2 t) = Quiet
-tale (Len3 t h) = Quiet
-tale Empty1 = Quiet
-tale (Empty2 h) = Quiet
-tale Full1 = Quiet
-tale (Full2 t) = Quiet
-tale Close1 = Quiet
-tale IsClosed1 = Quiet
+abbrev pub claimed : View → Tale
+claimed (Tail t) = Quiet
+claimed (Head h) = Quiet
+claimed (Awaits t) = Quiet
+claimed (Holds h) = Quiet
+claimed (Forces h) = Quiet
+claimed (Owns Fill k) = Quiet
+claimed (Owns Filled k) = Quiet
+claimed (Owns Take k) = Heading
+claimed (Owns Grab k) = Heading
+claimed (Owns Swap k) = Quiet
+claimed (Owns Swapped k) = Quiet
+claimed (Keeps Fill k x m) = Tailing x
+claimed (Keeps Filled k x m) = Quiet
+claimed (Keeps Take k x m) = Quiet
+claimed (Keeps Grab k x m) = Quiet
+claimed (Keeps Swap k x m) = Tailing x
+claimed (Keeps Swapped k x m) = Quiet
+
+abbrev pub tale : Look → Tale
+tale (Calm a) = answered a
+tale (Sees t v) = claimed (v 0)
+tale (Laps t v) = claimed (v 0)
+tale (Tails t) = Quiet
+tale (Counts t h) = Quiet
+
+abbrev pub answerIn : Look → Answer
+answerIn (Calm a) = a
+answerIn (Sees t v) = Nothing
+answerIn (Laps t v) = Nothing
+answerIn (Tails t) = Nothing
+answerIn (Counts t h) = Nothing
 
 abbrev pub told : Effect → Tale
 told Still = Quiet
@@ -152,7 +158,7 @@ module _ (c mark n : ℕ) where
 
   -- the words that a worker holds are words of claims, and their numbers are what it relies on
   abbrev pub Stands : Shared → ℕ → Look → Type 0
-  Stands s w Calm = Unit {0}
+  Stands s w (Calm a) = Unit {0}
   Stands s w (Sees t v) = (k : ℕ) × (t ≡ W c mark n k) × ViewOk c s w (v k)
   Stands s w (Laps t v) = (k : ℕ) × (t ≡ W c mark n (k + c)) × ViewOk c s w (v k)
   Stands s w (Tails t) = (k : ℕ) × (b : Bool) × (t ≡ tailWord c mark n k b) × (k ≤ s .tail)
@@ -162,7 +168,7 @@ module _ (c mark n : ℕ) where
   -- the claim number of the word that a worker holds of its end (of tail for len and is_full) is not too old: since it was
   -- loaded or found, fewer claims were made than a turn less two capacities
   abbrev pub Recent : (s : Shared) (w : ℕ) (l : Look) → Stands s w l → Type 0
-  Recent s w Calm o = Unit {0}
+  Recent s w (Calm a) o = Unit {0}
   Recent s w (Sees t v) o = s .tail + 2 * c < o .0 + n * c
   Recent s w (Laps t v) o = s .tail + 2 * c < o .0 + c + n * c
   Recent s w (Tails t) o = s .tail + 2 * c < o .0 + n * c
@@ -170,7 +176,7 @@ module _ (c mark n : ℕ) where
 
   -- in the first turn every word is recent
   pub young-recent : (s : Shared) (w : ℕ) → s .tail + 2 * c < n * c → (l : Look) (o : Stands s w l) → Recent s w l o
-  young-recent s w y Calm o = tt
+  young-recent s w y (Calm a) o = tt
   young-recent s w y (Sees t v) o = omega arith
   young-recent s w y (Laps t v) o = omega arith
   young-recent s w y (Tails t) o = omega arith
@@ -178,7 +184,7 @@ module _ (c mark n : ℕ) where
 
   -- another's act leaves a worker where it stands
   pub stands-else : (s u : Shared) (w i : ℕ) → Inv c s → Course c s u w i → (j : ℕ) → j ≢ w → (l : Look) → Stands s j l → Stands u j l
-  stands-else s u w i inv d j ne Calm o = tt
+  stands-else s u w i inv d j ne (Calm a) o = tt
   stands-else s u w i inv d j ne (Sees t v) o = (o .0, o .1, view-course c s u w i inv d j ne (v (o .0)) (o .2))
   stands-else s u w i inv d j ne (Laps t v) o = (o .0, o .1, view-course c s u w i inv d j ne (v (o .0)) (o .2))
   stands-else s u w i inv d j ne (Tails t) o = (o .0, o .1, o .2, omega (arith, tail-course c s u w i d))

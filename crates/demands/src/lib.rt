@@ -1,0 +1,1 @@
+// Demand 2, stated: definitions alone, in specs/. Crate claims proves it.
