@@ -278,3 +278,8 @@ module _ (c n workers : ℕ) (base : Base c n workers) (s : Shared) (m : Machine
           claims-few = omega (arith, grows c s w spot effect, pic .claims-few);
           meter-few = omega arith;
         }
+
+    -- where the acting worker stands afterwards
+    pub acted-stood : stood (acted m w (stood m w) lose) w ≡ result .place
+    unfolding acted stored
+    acted-stood = ap (λ (z : Worker). z .place) (getD-set-same (m .workers) w (record { place = result .place }) idler seat)
