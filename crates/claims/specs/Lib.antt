@@ -3,3 +3,7 @@ pub mod Turns
 pub mod Pictured
 pub mod Logged
 pub mod Reached
+pub mod Hands
+pub mod Answers
+pub mod Counts
+pub mod Runs
