@@ -7,3 +7,6 @@ pub mod Hands
 pub mod Answers
 pub mod Counts
 pub mod Runs
+pub mod Contents
+pub mod Plain
+pub mod Demand2

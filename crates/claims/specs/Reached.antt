@@ -165,7 +165,7 @@ module _ (c n workers : ℕ) (base : Base c n workers) where
         records = λ i l. idle-fits c _ (ltb i workers) (fresh-stood c workers i);
       }
 
-  fresh-pictured : 0 < workers → Pictured c n workers ring0 (freshOf c workers)
+  pub fresh-pictured : 0 < workers → Pictured c n workers ring0 (freshOf c workers)
   unfolding freshOf ring0
   fresh-pictured some =
       record {
@@ -188,7 +188,7 @@ nil-split : {A : Type 0} (xs : List A) (y : A) (ys : List A) → [] ≡ xs ++ y 
 nil-split [] y ys e = let q : _≡_ {A = ℕ} 0 1 = cc in omega arith
 nil-split (x ∷ xs) y ys e = let q : _≡_ {A = ℕ} 0 1 = cc in omega arith
 
-fresh-logged : (c : ℕ) → Logged c ring0 []
+pub fresh-logged : (c : ℕ) → Logged c ring0 []
 unfolding ring0 itemsOf tailersOf takersOf
 fresh-logged c =
     record {

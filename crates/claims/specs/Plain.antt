@@ -1,0 +1,85 @@
+-- From a fresh machine no stamp wraps: the meter ends long before a turn.
+use mathlib.Core.Path.{_≡_, refl, sym, ap, _∙_, subst}
+use mathlib.Core.Bool.{Bool, true, false, cond}
+use mathlib.Core.List.{List, [], _∷_, _++_}
+use Prim.Native.Nat.{ℕ, zero, suc, _+_, _*_, _-_, _/_, _%_, _^_, _≤_, _<_}
+use native.Mathlib.Omega.{arith}
+use native.Mathlib.Nat.{mod-lt, div-le-self, mul-le-mul-left}
+use lib.ListN.{length, getD}
+use Rattle.words.specs.declared.Stamp.{Stamp}
+use Rattle.words.specs.declared.Fixed.{Fixed}
+use Rattle.words.specs.Limits.{slotsMost, meterMost, wide}
+use Rattle.words.specs.Words.{markOf, lapOf, fixedOf, unmarkedOf}
+use Rattle.words.proofs.Marks.{Ruled, ruled}
+use Rattle.places.specs.declared.Slot.{Slot}
+use Rattle.places.specs.declared.Ends.{Ends}
+use Rattle.machine.specs.declared.Machine.{Machine}
+use Rattle.machine.specs.declared.Event.{Event}
+use Rattle.machine.specs.Machine.{slot}
+use Rattle.demands.specs.Demands.{Plainly, plainWord, tally}
+use Rattle.ring.specs.Width.{word, word-plain}
+use Rattle.ring.specs.Ring.{Cell, number, Shared, Inv}
+use Rattle.picture.specs.Stamps.{fixed, unmarked-tail, slotWord}
+use Rattle.picture.specs.Sight.{full, endsOf, number-slot, number-near}
+use Rattle.claims.specs.Counts.{tally-tail, tally-head}
+use Rattle.claims.specs.Pictured.{Base, Pictured}
+use Rattle.claims.specs.Logged.{Logged}
+use Rattle.claims.specs.Reached.{Reached}
+
+module _ (c n workers : ℕ) (base : Base c n workers) (m : Machine) (h : List Event) (r : Reached c n workers m h) where
+  -- claims of two laps more are still within the first turn
+  plain : (k : ℕ) → k ≤ r .ring .tail + 2 * c → word c (markOf c) n k ≡ k / c * (2 * markOf c) + k % c
+  plain k l =
+      word-plain c (markOf c) n (base .ground .laws) k (omega (arith, base .long, base .few, r .pictured .claims-few, r .pictured .meter-few))
+
+  tails : tally h .tail .0 ≡ r .ring .tail
+  tails = tally-tail h ∙ r .logged .lists .tailers-are .long
+
+  heads : tally h .head .0 ≡ r .ring .head
+  heads = tally-head h ∙ r .logged .lists .takers-are .long
+
+  pub plain-head : m .ring .ends .head .0 ≡ plainWord c workers (tally h .head .0)
+  plain-head =
+      ap (λ (e : Ends). e .head .0) (r .pictured .ends) ∙ plain (r .ring .head) (omega (arith, r .pictured .inv .low))
+      ∙ ap (λ (k : ℕ). k / c * (2 * markOf c) + k % c) (sym heads)
+
+  pub plain-tail : unmarkedOf (m .ring .fixed) (m .ring .ends .tail) .0 ≡ plainWord c workers (tally h .tail .0)
+  plain-tail =
+      ap (λ (f : Fixed). unmarkedOf f (m .ring .ends .tail) .0) (r .pictured .rule)
+      ∙ ap (λ (e : Ends). unmarkedOf (fixed c (markOf c)) (e .tail) .0) (r .pictured .ends)
+      ∙ ap (λ (w : Stamp). w .0) (unmarked-tail c (markOf c) n (base .ground) (r .ring .tail) (r .pictured .shut))
+      ∙ plain (r .ring .tail) (omega arith) ∙ ap (λ (k : ℕ). k / c * (2 * markOf c) + k % c) (sym tails)
+
+  one-more : (b : Bool) (x : ℕ) → cond b (x + 1) x ≡ x + cond b 1 0
+  one-more true x = refl
+  one-more false x = omega arith
+
+  pub plain-stamps : (i : ℕ) → i < c
+      → (k : ℕ) × (b : Bool) × (getD (m .ring .slots) i (slot 0 0) .stamp .0 ≡ plainWord c workers k + cond b 1 0) × (k % c ≡ i)
+      × (k ≤ tally h .tail .0 + c)
+  plain-stamps i l =
+      let s = r .ring in
+      let inv = r .pictured .inv in
+      let x = s .cell i in
+      let near = number-near c s inv i x (inv .cells i l) in
+      let low : number x ≤ s .tail + c = omega (arith, near, inv .low) in (
+        number x,
+        full x,
+        ap (λ (z : Slot). z .stamp .0) (r .pictured .slots i l) ∙ one-more (full x) (word c (markOf c) n (number x))
+            ∙ ap (λ (z : ℕ). z + cond (full x) 1 0) (plain (number x) (omega arith)),
+        number-slot c s inv i x (inv .cells i l),
+        omega (arith, tails),
+      )
+
+  pub plain-room : plainWord c workers (tally h .tail .0 + c) + 2 * lapOf c < wide
+  plain-room =
+      let u : Ruled (fixedOf c) = ruled (fixedOf c) (base .ground .laws .some) (base .few) refl refl in
+      let small : 2 * markOf c ≤ 1026 = omega (arith, u .small) in
+      let t : ℕ = tally h .tail .0 + c in
+      let most : tally h .tail .0 + c ≤ meterMost + slotsMost = omega (arith, tails, base .few, r .pictured .claims-few, r .pictured .meter-few) in
+      omega (
+        arith,
+        mul-le-mul-left ((tally h .tail .0 + c) / c) small,
+        div-le-self (tally h .tail .0 + c) c,
+        mod-lt (tally h .tail .0 + c) (base .ground .laws .some),
+      )
