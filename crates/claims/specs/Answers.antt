@@ -21,7 +21,7 @@ use Rattle.machine.specs.declared.Event.{Event}
 use Rattle.machine.specs.Machine.{accepted}
 use Rattle.machine.specs.Turn.{turn, turnOf, acted}
 use Rattle.machine.specs.History.{eventsOf}
-use Rattle.demands.specs.Demands.{Acts, Truth}
+use Rattle.demands.specs.EverySchedule.{Acts, Truth}
 use Rattle.picture.specs.Stamps.{fixed}
 use Rattle.picture.specs.Sight.{look, answerIn, endsOf}
 use Rattle.claims.specs.Turns.{Turned, began, did, turned, stood}

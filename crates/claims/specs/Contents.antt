@@ -26,7 +26,7 @@ use Rattle.machine.specs.Broken.{allIdle}
 use Rattle.machine.specs.Contents.{countIn, wrapped, itemAt, itemsFrom, contentsOf}
 use Rattle.machine.specs.History.{stockOf}
 use Rattle.machine.proofs.Kept.{every}
-use Rattle.demands.specs.Demands.{itemsOf, tally, waiting}
+use Rattle.demands.specs.EverySchedule.{itemsOf, tally, waiting}
 use Rattle.ring.specs.Width.{index-word, near-one}
 use Rattle.ring.specs.Ring.{Cell, Await, Hold, Hand, Mine, Shared, Inv, CellOk}
 use Rattle.picture.specs.Stamps.{fixed, W}

@@ -19,7 +19,7 @@ use Rattle.machine.specs.declared.Moved.the-variants.{Neither, Tail, Head}
 use Rattle.machine.specs.declared.Tally.{Tally}
 use Rattle.machine.specs.Contents.{wrapped}
 use Rattle.machine.specs.History.{movedOf, counted, tallyOf}
-use Rattle.demands.specs.Demands.{tailBy, headBy, tailersOf, takersOf, tally}
+use Rattle.demands.specs.EverySchedule.{tailBy, headBy, tailersOf, takersOf, tally}
 use Rattle.ring.specs.Width.{word, Near, index-word, turn-long}
 use Rattle.picture.specs.Stamps.{Ground, fixed, W, tailWord, index-tail, unmarked-tail, same-is}
 

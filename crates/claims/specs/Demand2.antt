@@ -16,7 +16,7 @@ use Rattle.machine.specs.Turn.{turnOf}
 use Rattle.machine.specs.Run.{ran, runFrom, runOf}
 use Rattle.machine.specs.History.{eventsOf, historyOf}
 use Rattle.machine.proofs.Kept.{of-unbroken}
-use Rattle.demands.specs.Demands.{Allowed, machineAfter, actsOf, ActByAct, NeverBroken, Plainly, OneHand, ReadsWritten, TrueAnswers, ClaimRule, OnceOut, Stock}
+use Rattle.demands.specs.EverySchedule.{Allowed, machineAfter, actsOf, ActByAct, NeverBroken, Plainly, OneHand, ReadsWritten, TrueAnswers, ClaimRule, OnceOut, Stock}
 use Rattle.claims.specs.Reached.{Reached, lapsOf, base-of, ring0, fresh-pictured, fresh-logged, entries}
 use Rattle.claims.specs.Pictured.{Base}
 use Rattle.claims.specs.Hands.{one-hand, reads-written}

@@ -14,7 +14,7 @@ use Rattle.places.specs.declared.Place.{Place}
 use Rattle.machine.specs.declared.Machine.{Machine}
 use Rattle.machine.specs.declared.Event.{Event}
 use Rattle.machine.specs.Machine.{slot}
-use Rattle.demands.specs.Demands.{InHand, handP4, handP5, handF7, handF8, handF9, handO4, handO5, Reads, readO4, readF8, takersOf, LatestIn, ItemIn, WrittenIn}
+use Rattle.demands.specs.EverySchedule.{InHand, handP4, handP5, handF7, handF8, handF9, handO4, handO5, Reads, readO4, readF8, takersOf, LatestIn, ItemIn, WrittenIn}
 use Rattle.ring.specs.Width.{word, index-word}
 use Rattle.ring.specs.Ring.{Stage, Fill, Filled, Take, Grab, Swap, Swapped, Cell, Hand, Mine, mine-one, Shared, Latest, Valued, Inv, CellOk}
 use Rattle.picture.specs.Stamps.{Ground, fixed, W}

@@ -7,7 +7,7 @@ use native.Mathlib.Omega.{arith}
 use native.Mathlib.Decide.{decLt, ℕ-discrete}
 use lib.ListN.{length, getD, length-append, List·getD-append}
 use lib.Seq.{getD-append-seam}
-use Rattle.demands.specs.Demands.{LatestIn}
+use Rattle.demands.specs.EverySchedule.{LatestIn}
 use Rattle.ring.specs.Upd.{upd, upd-at, upd-else}
 use Rattle.ring.specs.Ring.{Latest}
 

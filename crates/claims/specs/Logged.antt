@@ -15,7 +15,7 @@ use Rattle.machine.specs.declared.Event.{Event}
 use Rattle.machine.specs.declared.Moved.{Moved}
 use Rattle.machine.specs.declared.Moved.the-variants as end
 use Rattle.machine.specs.History.{event, movedOf}
-use Rattle.demands.specs.Demands.{HandsOut, popped, displaced, Writes, itemIn, tailBy, headBy, itemsOf, tailersOf, takersOf, LatestIn, ItemIn, WrittenIn}
+use Rattle.demands.specs.EverySchedule.{HandsOut, popped, displaced, Writes, itemIn, tailBy, headBy, itemsOf, tailersOf, takersOf, LatestIn, ItemIn, WrittenIn}
 use Rattle.ring.specs.Upd.{upd, upd-at, upd-else, upd-same}
 use Rattle.ring.specs.Ring.{Cell, Hand, number, Shared, Latest, Inv, CellOk}
 use Rattle.ring.specs.Effects.{Effect, Still, Tailed, Taken, Grabbed, Forced, Fills, Swaps, Frees, Gives, after, Fits, Course, same, moved, course, tail-course, number-course, ok-at}

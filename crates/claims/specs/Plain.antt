@@ -16,7 +16,7 @@ use Rattle.places.specs.declared.Ends.{Ends}
 use Rattle.machine.specs.declared.Machine.{Machine}
 use Rattle.machine.specs.declared.Event.{Event}
 use Rattle.machine.specs.Machine.{slot}
-use Rattle.demands.specs.Demands.{Plainly, plainWord, tally}
+use Rattle.demands.specs.EverySchedule.{Plainly, plainWord, tally}
 use Rattle.ring.specs.Width.{word, word-plain}
 use Rattle.ring.specs.Ring.{Cell, number, Shared, Inv}
 use Rattle.picture.specs.Stamps.{fixed, unmarked-tail, slotWord}

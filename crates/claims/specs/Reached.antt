@@ -29,7 +29,7 @@ use Rattle.machine.specs.Turn.{turn, turnOf, begun, acted, stored}
 use Rattle.machine.specs.Run.{ran, runFrom}
 use Rattle.machine.specs.History.{event, eventsOf, historyOf}
 use Rattle.machine.proofs.Kept.{Unbroken, ends-of}
-use Rattle.demands.specs.Demands.{Allowed, itemsOf, tailersOf, takersOf}
+use Rattle.demands.specs.EverySchedule.{Allowed, itemsOf, tailersOf, takersOf}
 use Rattle.ring.specs.Width.{Wide, word, word-first}
 use Rattle.ring.specs.Ring.{Cell, Await, Shared, Inv}
 use Rattle.picture.specs.Stamps.{Ground, fixed, W, tailWord, index-tail, marked-tail}

@@ -1,1 +1,1 @@
-// Demand 2, stated: definitions alone, in specs/. Crate claims proves it.
+// The demands of document 01 as statements (specs/), each proved (proofs/). No code.

@@ -23,7 +23,7 @@ use Rattle.places.specs.Places.{viewOf}
 use Rattle.acts.specs.declared.Acted.{Acted}
 use Rattle.acts.specs.Acts.{stay, tailTo, headTo, stampTo, valueTo, actOf, actP1, actP2, actP3, actP5, actP6, actF6, actF7, actF8, actF9, actO2, actO3, actO5, actO6, actLen3, actEmpty2, actFull2, actClose1, actIsClosed1, fullAt, yesNo, countOf}
 use Rattle.machine.specs.Turn.{spotOf}
-use Rattle.demands.specs.Demands.{Truth, Writes, writeP4, writeF8}
+use Rattle.demands.specs.EverySchedule.{Truth, Writes, writeP4, writeF8}
 use Rattle.ring.specs.Width.{word, Near, index-word, turn-long}
 use Rattle.ring.specs.Upd.{upd, upd-same}
 use Rattle.ring.specs.Ring.{Stage, Fill, Filled, Take, Grab, Swap, Swapped, Cell, Await, Hold, Hand, number, Mine, Shared, Latest, View, Tail, Head, Awaits, Holds, Forces, Owns, Keeps, ViewOk, CellOk, Claimed, Owned, Inv}

@@ -1,0 +1,129 @@
+-- One entry by itself, and the counts of claims.
+use Prim.Native.Nat.{ℕ, zero, suc, _+_, _-_, _%_, _<_, _≤_}
+use mathlib.Core.Path.{_≡_, refl, sym, ap, _∙_, subst}
+use mathlib.Core.Bool.{Bool, true, false, cond, true≢false}
+use mathlib.Core.List.{List, [], _∷_}
+use native.Mathlib.Omega.{arith}
+use native.Mathlib.Nat.{mod-eq-of-lt}
+use lib.Dec.{ltb, eqb}
+use borrow.Author.Tests.{eqb-true}
+use Rattle.words.specs.declared.Claim.{Claim}
+use Rattle.words.specs.Limits.{wide}
+use Rattle.words.specs.Words.{claim}
+use Rattle.words.proofs.Pick.{along, yes, no, below, above}
+use Rattle.places.specs.declared.Place.{Place}
+use Rattle.places.specs.declared.Order.{Order}
+use Rattle.places.specs.declared.Entry.{Entry}
+use Rattle.places.specs.declared.Entry.the-variants.{Unreadable, Asks}
+use Rattle.places.specs.Places.{entryOf}
+use Rattle.machine.specs.declared.Machine.{Machine}
+use Rattle.machine.specs.declared.Did.{Did}
+use Rattle.machine.specs.declared.Ran.{Ran}
+use Rattle.machine.specs.declared.Moved.{Moved}
+use Rattle.machine.specs.declared.Moved.the-variants.{Neither, Tail, Head}
+use Rattle.machine.specs.declared.Tally.{Tally}
+use Rattle.machine.specs.declared.Verdict.{Verdict}
+use Rattle.machine.specs.declared.Verdict.the-variants.{Refuse, Start, Move}
+use Rattle.machine.specs.Machine.{placeOf, refused, accepted}
+use Rattle.machine.specs.Broken.{brokenOf}
+use Rattle.machine.specs.Turn.{verdictOf, carried, turn, turnOf, begun, acted}
+use Rattle.machine.specs.Run.{ran, runFrom, runOf}
+use Rattle.machine.specs.History.{movedOf, counted, stockOf}
+use Rattle.machine.proofs.Kept.{either}
+use Rattle.bounded.specs.Bounded.{stepOf, beginOf, actOf, nextClaim, talliedOf}
+
+-- ---- a refused entry changes nothing
+abbrev Unchanged : Machine → Did → Type 0
+Unchanged m d = eqb (d .refusal) 0 ≡ false → d .machine ≡ m
+
+refused-unchanged : (m : Machine) (k : ℕ) → Unchanged m (refused k m)
+unfolding refused
+refused-unchanged m k h = refl
+
+accepted-unchanged : (m next : Machine) → Unchanged m (accepted next)
+unfolding accepted
+accepted-unchanged m next h = absurd (true≢false h)
+
+carried-unchanged : (m : Machine) (w : ℕ) (p : Place) (v : Verdict) → Unchanged m (carried m w p v)
+carried-unchanged m w p (Refuse k) = refused-unchanged m k
+carried-unchanged m w p (Start q) = accepted-unchanged m (begun m w q)
+carried-unchanged m w p (Move lose) = accepted-unchanged m (acted m w p lose)
+
+pub turn-unchanged : (m : Machine) (x : Entry) → Unchanged m (turn m x)
+turn-unchanged m Unreadable = refused-unchanged m 9
+turn-unchanged m (Asks w o) =
+    either (Unchanged m) (ltb w (m .count)) (carried m w (placeOf (m .workers) w) (verdictOf (m .meter) (placeOf (m .workers) w) o)) (refused 3 m)
+    (λ b. carried-unchanged m w (placeOf (m .workers) w) (verdictOf (m .meter) (placeOf (m .workers) w) o)) (λ b. refused-unchanged m 3)
+
+-- ---- a schedule of one entry
+abbrev whole : Ran → Did
+whole r = record { refusal = r .refusal; machine = r .machine }
+
+one : (m : Machine) (d : Did) → Unchanged m d → whole (cond (eqb (d .refusal) 0) (ran 0 (0 + 1) (d .machine)) (ran (d .refusal) 0 m)) ≡ d
+unfolding ran
+one m d h =
+    go (eqb (d .refusal) 0) refl
+  where
+    go : (b : Bool) → eqb (d .refusal) 0 ≡ b → whole (cond b (ran 0 (0 + 1) (d .machine)) (ran (d .refusal) 0 m)) ≡ d
+    go true e = ap (λ (k : ℕ). record { refusal = k; machine = d .machine }) (sym (eqb-true (d .refusal) 0 e))
+    go false e = ap (λ (x : Machine). record { refusal = d .refusal; machine = x }) (sym (h e))
+
+pub one-entry : (m : Machine) (first second : ℕ) (r : Ran) (d : Did) → r ≡ runOf m (first ∷ second ∷ []) → d ≡ refused (r .refusal) (r .machine) → d ≡ stepOf m first second
+unfolding runOf runFrom stepOf refused turnOf ran
+one-entry m first second r d e q = q ∙ ap whole e ∙ go (brokenOf m)
+  where
+    go : (b : Bool) → whole (cond b (ran 6 0 m) (cond (eqb (2 % 2) 1) (ran 11 0 m) (runFrom m 0 (first ∷ second ∷ [])))) ≡ cond b (refused 6 m) (turnOf m first second)
+    go true = refl
+    go false = one m (turnOf m first second) (turn-unchanged m (entryOf first second))
+
+-- ---- one that begins, one that acts
+module _ (m : Machine) (first second : ℕ) (r : Did) (b : Bool) (e : b ≡ brokenOf m) where
+  pub begin-6 : b ≡ true → r ≡ refused 6 m → r ≡ beginOf m first second
+  unfolding beginOf
+  begin-6 h q = yes _ b _ _ _ e h q
+
+  pub act-6 : b ≡ true → r ≡ refused 6 m → r ≡ actOf m first second
+  unfolding actOf
+  act-6 h q = yes _ b _ _ _ e h q
+
+  module _ (h : b ≡ false) where
+    steps : r ≡ stepOf m first second → r ≡ turnOf m first second
+    unfolding stepOf
+    steps q = q ∙ sym (no _ b _ _ _ e h refl)
+
+    pub begin-9 : 8 ≤ first % 16 → r ≡ refused 9 m → r ≡ beginOf m first second
+    unfolding beginOf
+    begin-9 g q = no _ b _ _ _ e h (above (first % 16) 8 _ _ _ g q)
+
+    pub begin-step : first % 16 < 8 → r ≡ stepOf m first second → r ≡ beginOf m first second
+    unfolding beginOf
+    begin-step g q = no _ b _ _ _ e h (below (first % 16) 8 _ _ _ g (steps q))
+
+    pub act-9 : first % 16 < 8 → r ≡ refused 9 m → r ≡ actOf m first second
+    unfolding actOf
+    act-9 g q = no _ b _ _ _ e h (below (first % 16) 8 _ _ _ g q)
+
+    pub act-step : 8 ≤ first % 16 → r ≡ stepOf m first second → r ≡ actOf m first second
+    unfolding actOf
+    act-step g q = no _ b _ _ _ e h (above (first % 16) 8 _ _ _ g (steps q))
+
+-- ---- claims
+pub along-moved : (p q : Place) (r : Moved) → p ≡ q → r ≡ movedOf q → r ≡ movedOf p
+along-moved = along movedOf
+
+module _ (t : Tally) (n q : Moved) (e : n ≡ q) where
+  pub tally-none : n ≡ Neither → t ≡ talliedOf t q
+  tally-none h = rw (sym e ∙ h)
+
+  pub tally-tail : (k : Claim) → n ≡ Tail → k ≡ nextClaim (t .tail) → record { tail = k; head = t .head } ≡ talliedOf t q
+  tally-tail k h g = rw (sym e ∙ h, g)
+
+  pub tally-head : (k : Claim) → n ≡ Head → k ≡ nextClaim (t .head) → record { tail = t .tail; head = k } ≡ talliedOf t q
+  tally-head k h g = rw (sym e ∙ h, g)
+
+-- the counts in machine words are the history's, below the width
+pub tally-counts : (t : Tally) (q : Moved) → t .tail .0 + 1 < wide → t .head .0 + 1 < wide → talliedOf t q ≡ counted q t
+unfolding nextClaim
+tally-counts t Neither l g = refl
+tally-counts t Tail l g = ap (λ (k : ℕ). record { tail = claim k; head = t .head }) (mod-eq-of-lt l)
+tally-counts t Head l g = ap (λ (k : ℕ). record { tail = t .tail; head = claim k }) (mod-eq-of-lt g)

@@ -1,0 +1,45 @@
+-- Making, beginning and acting, one call at a time.
+use Prim.Native.Nat.{ℕ, _+_, _%_}
+use mathlib.Core.Bool.{Bool, true, false, cond}
+use lib.Dec.{ltb}
+use Rattle.words.specs.declared.Claim.{Claim}
+use Rattle.words.specs.Limits.{slotsMost, workersMost, wide}
+use Rattle.words.specs.Words.{claim}
+use Rattle.machine.specs.declared.Machine.{Machine}
+use Rattle.machine.specs.declared.Did.{Did}
+use Rattle.machine.specs.declared.Moved.{Moved}
+use Rattle.machine.specs.declared.Moved.the-variants.{Neither, Tail, Head}
+use Rattle.machine.specs.declared.Tally.{Tally}
+use Rattle.machine.specs.Machine.{freshOf, blank, refused, accepted}
+use Rattle.machine.specs.Broken.{inLimits, brokenOf}
+use Rattle.machine.specs.Turn.{turnOf}
+
+-- Order: making 1, 2. A refused making returns the blank machine.
+unfoldable pub makeOf : ℕ → ℕ → Did
+makeOf capacity workers =
+    cond (inLimits capacity slotsMost)
+    (cond (inLimits workers workersMost) (accepted (freshOf capacity workers)) (refused 2 blank))
+    (refused 1 blank)
+
+-- One entry of a schedule by itself.
+unfoldable pub stepOf : Machine → ℕ → ℕ → Did
+stepOf m first second = cond (brokenOf m) (refused 6 m) (turnOf m first second)
+
+-- Order: begin 6, 9, 3, 4. Codes 0 to 7 begin a call; any other is an entry that can't be read as a beginning.
+unfoldable pub beginOf : Machine → ℕ → ℕ → Did
+beginOf m first second =
+    cond (brokenOf m) (refused 6 m) (cond (ltb (first % 16) 8) (turnOf m first second) (refused 9 m))
+
+-- Order: act 6, 9, 3, 5, 7, 8. Codes 8 and 9 act; any other is an entry that can't be read as an act.
+unfoldable pub actOf : Machine → ℕ → ℕ → Did
+actOf m first second =
+    cond (brokenOf m) (refused 6 m) (cond (ltb (first % 16) 8) (refused 9 m) (turnOf m first second))
+
+-- Counting in words of the machine: as `counted` of the history, up to the width (`tally-counts` of proofs/Steps.antt).
+unfoldable pub nextClaim : Claim → Claim
+nextClaim k = claim ((k .0 + 1) % wide)
+
+abbrev pub talliedOf : Tally → Moved → Tally
+talliedOf t Neither = t
+talliedOf t Tail = record { tail = nextClaim (t .tail); head = t .head }
+talliedOf t Head = record { tail = t .tail; head = nextClaim (t .head) }

@@ -1,0 +1,272 @@
+// The public face: what a user calls. Each function takes anything and answers, or refuses with document 01's number.
+ghost use mathlib.Core.Path.{_≡_};
+ghost use lib.ListN.{length};
+ghost use Rattle.machine.specs.Machine.{machineOf};
+ghost use Rattle.machine.specs.Broken.{brokenOf};
+ghost use Rattle.machine.specs.Contents.{told, countIn, contentsRefusal, written, capacityOf};
+ghost use Rattle.machine.specs.Run.{ran, runOf};
+ghost use Rattle.machine.specs.History.{movedOf, stockOf};
+ghost use Rattle.bounded.specs.Bounded.{makeOf, stepOf, beginOf, actOf, nextClaim, talliedOf};
+use machine::Did;
+use machine::Machine;
+use machine::Moved;
+use machine::Ran;
+use machine::Ring;
+use machine::Tally;
+use machine::Told;
+use machine::Verdict;
+use places::Ends;
+use places::Entry;
+use places::Order;
+use places::Place;
+use places::Slot;
+use places::Worker;
+use words::Claim;
+use words::Fixed;
+
+// A fresh machine, or refusal 1 or 2 with the blank one.
+pub fn make(capacity: u64, workers: u64) -> Did
+    ensures { λ r. ⌜ r ≡ makeOf capacity workers ⌝ }
+{
+    if machine::in_limits(capacity, words::SLOTS as u64) {} else {
+        return machine::refuse(machine::blank(), 1);
+    }
+    if machine::in_limits(workers, words::WORKERS as u64) {} else {
+        return machine::refuse(machine::blank(), 2);
+    }
+    machine::refuse(machine::fresh(capacity, workers), 0)
+}
+
+pub fn broken(m: Machine) -> bool
+    ensures { λ r. ⌜ r ≡ brokenOf m ⌝ }
+{
+    machine::broken(m)
+}
+
+pub fn capacity(m: Machine) -> Told
+    ensures { λ r. ⌜ r ≡ capacityOf m ⌝ }
+{
+    if machine::broken(m) {
+        return Told::Refused(6);
+    }
+    let ring = m.ring;
+    let f = ring.fixed;
+    Told::Number(f.capacity)
+}
+
+// The items as `Drop` would meet them, written at the buffer's start. Nothing is removed.
+pub fn contents(m: Machine, buffer: &mut [u64]) -> Told
+    ensures answer { λ r. ⌜ r ≡ told (contentsRefusal m (length (now (buffer .entry)))) (countIn m) ⌝ }
+    ensures lent { λ r. ⌜ now (buffer .exit) ≡ written m (now (buffer .entry)) ⌝ }
+{
+    if machine::broken(m) {
+        return Told::Refused(6);
+    }
+    let workers = m.workers;
+    if machine::all_idle(workers) {} else {
+        return Told::Refused(4);
+    }
+    let n = machine::count_in(m);
+    if buffer.len() < (n as usize) {
+        return Told::Refused(10);
+    }
+    let mut k = 0;
+    while k < n {
+        buffer[k as usize] = machine::item_at(m, k);
+        k += 1;
+    }
+    Told::Number(n)
+}
+
+fn ran(
+    refusal: u64,
+    place: usize,
+    f: Fixed,
+    e: Ends,
+    slots: [Slot; words::SLOTS],
+    workers: [Worker; words::WORKERS],
+    count: u64,
+    meter: u64,
+) -> Ran
+    ensures { λ r. ⌜ r ≡ ran refusal place (machineOf f e slots workers count meter) ⌝ }
+{
+    Ran {
+        refusal: refusal,
+        place: place as u64,
+        machine: Machine {
+            ring: Ring {
+                fixed: f,
+                ends: e,
+                slots: slots,
+            },
+            workers: workers,
+            count: count,
+            meter: meter,
+        },
+    }
+}
+
+// A schedule, entry by entry, to its end or to the first refusal.
+pub fn run(m: Machine, schedule: &[u64]) -> Ran
+    ensures { λ r. ⌜ r ≡ runOf m (now (schedule .entry)) ⌝ }
+{
+    let ring = m.ring;
+    let f = ring.fixed;
+    let mut ends = ring.ends;
+    let mut slots = ring.slots;
+    let mut workers = m.workers;
+    let count = m.count;
+    let mut meter = m.meter;
+    if machine::broken(m) {
+        return ran(6, 0, f, ends, slots, workers, count, meter);
+    }
+    if schedule.len() % 2 == 1 {
+        return ran(11, 0, f, ends, slots, workers, count, meter);
+    }
+    let n = schedule.len() / 2;
+    let mut i = 0;
+    while i < n {
+        let Entry::Asks(worker, order) = places::entry_of(schedule[2 * i], schedule[2 * i + 1])
+        else {
+            return ran(9, i, f, ends, slots, workers, count, meter);
+        };
+        if count <= worker {
+            return ran(3, i, f, ends, slots, workers, count, meter);
+        }
+        let w = worker as usize;
+        let record = workers[w];
+        let p = record.place;
+        let verdict = machine::verdict_of(meter, p, order);
+        match verdict {
+            Verdict::Refuse(number) => {
+                return ran(number, i, f, ends, slots, workers, count, meter);
+            }
+            Verdict::Start(first) => {
+                workers[w] = Worker { place: first };
+                i += 1;
+            }
+            Verdict::Move(lose) => {
+                let view = places::view_of(p);
+                let held = view.held;
+                let k = machine::spot(f, held) as usize;
+                let slot = slots[k];
+                let a = acts::act_at(f, ends, slot, p, lose);
+                let slot_after = a.slot;
+                let place_after = a.place;
+                ends = a.ends;
+                slots[k] = slot_after;
+                workers[w] = Worker { place: place_after };
+                meter += 1;
+                i += 1;
+            }
+        }
+    }
+    ran(0, i, f, ends, slots, workers, count, meter)
+}
+
+// One entry of a schedule, by its two words.
+pub fn step(m: Machine, first: u64, second: u64) -> Did
+    ensures { λ r. ⌜ r ≡ stepOf m first second ⌝ }
+{
+    let entry = [first, second];
+    let r = run(m, &entry);
+    let after = r.machine;
+    machine::refuse(after, r.refusal)
+}
+
+// One entry that begins a call; another's code can't be read here: refusal 9.
+pub fn begin(m: Machine, first: u64, second: u64) -> Did
+    ensures { λ r. ⌜ r ≡ beginOf m first second ⌝ }
+{
+    if machine::broken(m) {
+        return machine::refuse(m, 6);
+    }
+    if first % 16 < 8 {
+        step(m, first, second)
+    } else {
+        machine::refuse(m, 9)
+    }
+}
+
+// One entry that acts; another's code can't be read here: refusal 9.
+pub fn act(m: Machine, first: u64, second: u64) -> Did
+    ensures { λ r. ⌜ r ≡ actOf m first second ⌝ }
+{
+    if machine::broken(m) {
+        return machine::refuse(m, 6);
+    }
+    if first % 16 < 8 {
+        machine::refuse(m, 9)
+    } else {
+        step(m, first, second)
+    }
+}
+
+// Which end the act that led to this place moved.
+pub fn moved_by(after: Place) -> Moved
+    ensures { λ r. ⌜ r ≡ movedOf after ⌝ }
+{
+    match after {
+        Place::Idle(_) => Moved::Neither,
+        Place::P1(_, _) => Moved::Neither,
+        Place::P2(_, _, _) => Moved::Neither,
+        Place::P3(_, _, _) => Moved::Neither,
+        Place::P4(_, _) => Moved::Tail,
+        Place::P5(_) => Moved::Neither,
+        Place::P6(_, _) => Moved::Neither,
+        Place::F6(_, _) => Moved::Neither,
+        Place::F7(_, _) => Moved::Head,
+        Place::F8(_, _) => Moved::Tail,
+        Place::F9(_, _) => Moved::Neither,
+        Place::O1 => Moved::Neither,
+        Place::O2(_) => Moved::Neither,
+        Place::O3(_) => Moved::Neither,
+        Place::O4(_) => Moved::Head,
+        Place::O5(_, _) => Moved::Neither,
+        Place::O6(_) => Moved::Neither,
+        Place::Len1 => Moved::Neither,
+        Place::Len2(_) => Moved::Neither,
+        Place::Len3(_, _) => Moved::Neither,
+        Place::Empty1 => Moved::Neither,
+        Place::Empty2(_) => Moved::Neither,
+        Place::Full1 => Moved::Neither,
+        Place::Full2(_) => Moved::Neither,
+        Place::Close1 => Moved::Neither,
+        Place::IsClosed1 => Moved::Neither,
+    }
+}
+
+fn next_claim(k: Claim) -> Claim
+    ensures { λ r. ⌜ r ≡ nextClaim k ⌝ }
+{
+    Claim(std::num::wrapping_add_u64(k.0, 1))
+}
+
+// The claims at both ends, counted on by the act that led to this place.
+pub fn tally(t: Tally, after: Place) -> Tally
+    ensures { λ r. ⌜ r ≡ talliedOf t (movedOf after) ⌝ }
+{
+    let tail = t.tail;
+    let head = t.head;
+    let moved = moved_by(after);
+    match moved {
+        Moved::Neither => t,
+        Moved::Tail => Tally {
+            tail: next_claim(tail),
+            head: head,
+        },
+        Moved::Head => Tally {
+            tail: tail,
+            head: next_claim(head),
+        },
+    }
+}
+
+// "Stock is tail claims less head claims"
+pub fn stock(t: Tally) -> u64
+    ensures { λ r. ⌜ r ≡ stockOf t ⌝ }
+{
+    let tail = t.tail;
+    let head = t.head;
+    if head.0 <= tail.0 { tail.0 - head.0 } else { 0 }
+}

@@ -1,0 +1,255 @@
+-- Demand 2, "under EVERY schedule": claims, hands, and answers that are true. Said of the machine's own struct, of the
+-- words of a schedule, and of the history of its acts; crate claims proves it.
+use Prim.Native.Nat.{ℕ, _+_, _-_, _*_, _/_, _%_, _≤_, _<_}
+use mathlib.Core.Bool.{Bool, true, false, cond}
+use mathlib.Core.List.{List, [], _∷_, _++_}
+use mathlib.Core.Path.{_≡_}
+use mathlib.Core.Logic.{_≢_}
+use lib.ListN.{length, getD, drop}
+use Rattle.words.specs.declared.Stamp.{Stamp}
+use Rattle.words.specs.declared.Fixed.{Fixed}
+use Rattle.words.specs.Limits.{slotsMost, workersMost, wide}
+use Rattle.words.specs.Words.{claim, indexOf, markedOf, unmarkedOf, lapOf, lapBehind}
+use Rattle.places.specs.declared.Ends.{Ends}
+use Rattle.places.specs.declared.Answer.{Answer}
+use Rattle.places.specs.declared.Answer.the-variants.{Nothing, Pushed, Full, Closed, Displaced, Popped, Empty, PopClosed, Len, Yes, No}
+use Rattle.places.specs.declared.Place.{Place}
+use Rattle.places.specs.declared.Place.the-variants.{Idle, P1, P2, P3, P4, P5, P6, F6, F7, F8, F9, O1, O2, O3, O4, O5, O6, Len1, Len2, Len3, Empty1, Empty2, Full1, Full2, Close1, IsClosed1}
+use Rattle.places.specs.declared.Order.the-variants.{Act}
+use Rattle.places.specs.declared.Entry.the-variants.{Asks}
+use Rattle.places.specs.Places.{entryOf}
+use Rattle.machine.specs.declared.Machine.{Machine}
+use Rattle.machine.specs.declared.Event.{Event}
+use Rattle.machine.specs.declared.Moved.{Moved}
+use Rattle.machine.specs.declared.Moved.the-variants.{Neither, Tail, Head}
+use Rattle.machine.specs.declared.Tally.{Tally}
+use Rattle.machine.specs.Machine.{slot, freshOf, placeOf, accepted}
+use Rattle.machine.specs.Broken.{brokenOf, allIdle}
+use Rattle.machine.specs.Turn.{turnOf}
+use Rattle.machine.specs.Run.{runFrom, runOf}
+use Rattle.machine.specs.Contents.{countIn, contentsOf}
+use Rattle.machine.specs.History.{eventsOf, historyOf, movedOf, tallyOf, stockOf}
+
+-- Every capacity and every number of workers that making accepts.
+pub record Allowed (capacity workers : ℕ) : Type 0 where
+  pub slot-some : 0 < capacity
+  pub slot-most : capacity ≤ slotsMost
+  pub worker-some : 0 < workers
+  pub worker-most : workers ≤ workersMost
+
+-- What the entries of a schedule, up to the first refusal, make of a fresh machine; and their acts, oldest first.
+abbrev pub machineAfter : ℕ → ℕ → List ℕ → Machine
+machineAfter capacity workers s = runFrom (freshOf capacity workers) 0 s .machine
+
+abbrev pub actsOf : ℕ → ℕ → List ℕ → List Event
+actsOf capacity workers s = historyOf (freshOf capacity workers) s
+
+-- An act of worker w that is accepted takes the machine m to the machine next.
+pub record Acts (m : Machine) (w : ℕ) (next : Machine) : Type 0 where
+  pub first : ℕ
+  pub second : ℕ
+  pub lose : Bool
+  pub asks : entryOf first second ≡ Asks w (Act lose)
+  pub done : turnOf m first second ≡ accepted next
+
+-- ---- places
+
+-- In hand: from a won exchange until that worker's stamp store; the slot is the one at the index of the word.
+pub data InHand : Place → Stamp → Type 0 where
+  handP4 : {t : Stamp} {x : ℕ} → InHand (P4 t x) t
+  handP5 : {t : Stamp} → InHand (P5 t) t
+  handF7 : {t : Stamp} {x : ℕ} → InHand (F7 t x) t
+  handF8 : {t : Stamp} {x : ℕ} → InHand (F8 t x) t
+  handF9 : {t : Stamp} {old : ℕ} → InHand (F9 t old) t
+  handO4 : {h : Stamp} → InHand (O4 h) h
+  handO5 : {h : Stamp} {v : ℕ} → InHand (O5 h v) h
+
+-- The next act writes the claim's item into its slot.
+pub data Writes : Place → ℕ → Type 0 where
+  writeP4 : {t : Stamp} {x : ℕ} → Writes (P4 t x) x
+  writeF8 : {t : Stamp} {x : ℕ} → Writes (F8 t x) x
+
+-- The next act reads a value out of the slot at the index of the word.
+pub data Reads : Place → Stamp → Type 0 where
+  readO4 : {h : Stamp} → Reads (O4 h) h
+  readF8 : {t : Stamp} {x : ℕ} → Reads (F8 t x) t
+
+-- Handed out: answered as Popped or Displaced.
+pub data HandsOut : Place → ℕ → Type 0 where
+  popped : {v : ℕ} → HandsOut (Idle (Popped v)) v
+  displaced : {v : ℕ} → HandsOut (Idle (Displaced v)) v
+
+-- "True is said of the words at that moment."
+abbrev pub Truth : Fixed → Ends → Answer → Type 0
+Truth f e Nothing = Unit {0}
+Truth f e Pushed = Unit {0}
+Truth f e (Full x) = lapBehind f (e .head) (unmarkedOf f (e .tail)) ≡ true
+Truth f e (Closed x) = markedOf f (e .tail) ≡ true
+Truth f e (Displaced v) = Unit {0}
+Truth f e (Popped v) = Unit {0}
+Truth f e Empty = (markedOf f (e .tail) ≡ false) × (e .tail ≡ e .head)
+Truth f e PopClosed = (markedOf f (e .tail) ≡ true) × (unmarkedOf f (e .tail) ≡ e .head)
+Truth f e (Len k) = Unit {0}
+Truth f e Yes = Unit {0}
+Truth f e No = Unit {0}
+
+-- ---- claims of a history
+
+-- The item of a tail claim: a won P3 goes to P4, and F7 to F8.
+abbrev pub itemIn : Place → List ℕ
+itemIn (Idle a) = []
+itemIn (P1 k x) = []
+itemIn (P2 k t x) = []
+itemIn (P3 k t x) = []
+itemIn (P4 t x) = x ∷ []
+itemIn (P5 t) = []
+itemIn (P6 t x) = []
+itemIn (F6 t x) = []
+itemIn (F7 t x) = []
+itemIn (F8 t x) = x ∷ []
+itemIn (F9 t old) = []
+itemIn O1 = []
+itemIn (O2 h) = []
+itemIn (O3 h) = []
+itemIn (O4 h) = []
+itemIn (O5 h v) = []
+itemIn (O6 h) = []
+itemIn Len1 = []
+itemIn (Len2 t) = []
+itemIn (Len3 t h) = []
+itemIn Empty1 = []
+itemIn (Empty2 h) = []
+itemIn Full1 = []
+itemIn (Full2 t) = []
+itemIn Close1 = []
+itemIn IsClosed1 = []
+
+abbrev pub tailBy : Moved → ℕ → List ℕ
+tailBy Neither w = []
+tailBy Tail w = w ∷ []
+tailBy Head w = []
+
+abbrev pub headBy : Moved → ℕ → List ℕ
+headBy Neither w = []
+headBy Tail w = []
+headBy Head w = w ∷ []
+
+-- Of the tail claims in order, from number 0: their items, and their workers. Of the head claims: their workers.
+unfoldable pub itemsOf : List Event → List ℕ
+itemsOf [] = []
+itemsOf (e ∷ h) = itemIn (e .after) ++ itemsOf h
+
+unfoldable pub tailersOf : List Event → List ℕ
+tailersOf [] = []
+tailersOf (e ∷ h) = tailBy (movedOf (e .after)) (e .worker) ++ tailersOf h
+
+unfoldable pub takersOf : List Event → List ℕ
+takersOf [] = []
+takersOf (e ∷ h) = headBy (movedOf (e .after)) (e .worker) ++ takersOf h
+
+-- The latest claim of worker w, among claims with these workers, has the number k.
+pub record LatestIn (by : List ℕ) (w k : ℕ) : Type 0 where
+  pub made : k < length by
+  pub its : getD by k 0 ≡ w
+  pub last : (n : ℕ) → k < n → n < length by → getD by n 0 ≢ w
+
+-- Tail claim number k was made, of the item v.
+pub record ItemIn (h : List Event) (k v : ℕ) : Type 0 where
+  pub made : k < length (itemsOf h)
+  pub is : getD (itemsOf h) k 0 ≡ v
+
+-- The item of tail claim number k was written: by the act, of the worker whose latest tail claim it then was, at P4 or F8.
+pub record WrittenIn (h : List Event) (k v : ℕ) : Type 0 where
+  pub earlier : List Event
+  pub act : Event
+  pub later : List Event
+  pub is : h ≡ earlier ++ act ∷ later
+  pub claim : LatestIn (tailersOf earlier) (act .worker) k
+  pub writes : Writes (act .before) v
+
+-- Tail and head claims, none before the first act.
+abbrev pub tally : List Event → Tally
+tally h = tallyOf h (record { tail = claim 0; head = claim 0 })
+
+-- The items of the claims not yet taken: a queue, which a tail claim enters at its end and a head claim leaves at its front.
+abbrev pub waiting : List Event → List ℕ
+waiting h = drop (tally h .head .0) (itemsOf h)
+
+-- ---- the demand
+
+module _ (capacity workers : ℕ) where
+  -- Each act is document 01's: an entry more is one turn of the definition, on the machine and on the history.
+  abbrev pub ActByAct : Type 0
+  ActByAct =
+      (s : List ℕ) (first second : ℕ) → length s % 2 ≡ 0 → runFrom (freshOf capacity workers) 0 s .refusal ≡ 0
+      → turnOf (machineAfter capacity workers s) first second .refusal ≡ 0
+      → (machineAfter capacity workers (s ++ first ∷ second ∷ []) ≡ turnOf (machineAfter capacity workers s) first second .machine)
+      × (actsOf capacity workers (s ++ first ∷ second ∷ [])
+      ≡ actsOf capacity workers s ++ eventsOf (machineAfter capacity workers s) (entryOf first second) (turnOf (machineAfter capacity workers s) first second .machine))
+
+  -- No machine so reached is broken.
+  abbrev pub NeverBroken : Type 0
+  NeverBroken = (s : List ℕ) → brokenOf (machineAfter capacity workers s) ≡ false
+
+  -- The word of claim number k, where nothing wraps.
+  abbrev pub plainWord : ℕ → ℕ
+  plainWord k = k / capacity * lapOf capacity + k % capacity
+
+  -- No stamp wraps: head, tail and every stamp are plain words, and two laps more would still not wrap.
+  pub record Plainly (s : List ℕ) : Type 0 where
+    pub head : machineAfter capacity workers s .ring .ends .head .0 ≡ plainWord (tally (actsOf capacity workers s) .head .0)
+    pub tail : unmarkedOf (machineAfter capacity workers s .ring .fixed) (machineAfter capacity workers s .ring .ends .tail) .0
+        ≡ plainWord (tally (actsOf capacity workers s) .tail .0)
+    pub stamps : (i : ℕ) → i < capacity
+        → (k : ℕ) × (full : Bool) × (getD (machineAfter capacity workers s .ring .slots) i (slot 0 0) .stamp .0 ≡ plainWord k + cond full 1 0)
+        × (k % capacity ≡ i) × (k ≤ tally (actsOf capacity workers s) .tail .0 + capacity)
+    pub room : plainWord (tally (actsOf capacity workers s) .tail .0 + capacity) + 2 * lapOf capacity < wide
+
+  -- No slot is in two hands at any moment.
+  abbrev pub OneHand : Type 0
+  OneHand =
+      (s : List ℕ) (v w : ℕ) (t u : Stamp)
+      → InHand (placeOf (machineAfter capacity workers s .workers) v) t
+      → InHand (placeOf (machineAfter capacity workers s .workers) w) u
+      → indexOf (machineAfter capacity workers s .ring .fixed) t ≡ indexOf (machineAfter capacity workers s .ring .fixed) u
+      → v ≡ w
+
+  -- O4 and F8 read only a value that was written for that claim: the item of the tail claim that has the number of the
+  -- reader's head claim.
+  abbrev pub ReadsWritten : Type 0
+  ReadsWritten =
+      (s : List ℕ) (w : ℕ) (t : Stamp) → Reads (placeOf (machineAfter capacity workers s .workers) w) t
+      → (k : ℕ) × LatestIn (takersOf (actsOf capacity workers s)) w k
+      × WrittenIn (actsOf capacity workers s) k
+      (getD (machineAfter capacity workers s .ring .slots) (indexOf (machineAfter capacity workers s .ring .fixed) t) (slot 0 0) .value)
+      × ItemIn (actsOf capacity workers s) k
+      (getD (machineAfter capacity workers s .ring .slots) (indexOf (machineAfter capacity workers s .ring .fixed) t) (slot 0 0) .value)
+
+  -- Empty, Full and Closed are true of the words at the load or exchange that decided them.
+  abbrev pub TrueAnswers : Type 0
+  TrueAnswers =
+      (s : List ℕ) (w : ℕ) (next : Machine) (a : Answer) → Acts (machineAfter capacity workers s) w next
+      → placeOf (next .workers) w ≡ Idle a
+      → Truth (machineAfter capacity workers s .ring .fixed) (machineAfter capacity workers s .ring .ends) a
+
+  -- The claim rule: what an act hands out is the item of the tail claim that has the number of its worker's latest head claim.
+  abbrev pub ClaimRule : Type 0
+  ClaimRule =
+      (s : List ℕ) (earlier later : List Event) (act : Event) (v : ℕ) → actsOf capacity workers s ≡ earlier ++ act ∷ later
+      → HandsOut (act .after) v
+      → (k : ℕ) × LatestIn (takersOf earlier) (act .worker) k × ItemIn earlier k v
+
+  -- No two such answers share that number.
+  abbrev pub OnceOut : Type 0
+  OnceOut =
+      (s : List ℕ) (earlier between later : List Event) (act again : Event) (v u k : ℕ)
+      → actsOf capacity workers s ≡ earlier ++ act ∷ between ++ again ∷ later
+      → HandsOut (act .after) v → HandsOut (again .after) u
+      → LatestIn (takersOf earlier) (act .worker) k → LatestIn (takersOf (earlier ++ act ∷ between)) (again .worker) k → ⊥
+
+  -- With all workers idle stock equals the number of contents, and contents are, in order, the items not yet taken.
+  abbrev pub Stock : Type 0
+  Stock =
+      (s : List ℕ) → allIdle (machineAfter capacity workers s .workers) ≡ true
+      → (stockOf (tally (actsOf capacity workers s)) ≡ countIn (machineAfter capacity workers s))
+      × (contentsOf (machineAfter capacity workers s) ≡ waiting (actsOf capacity workers s))
