@@ -19,6 +19,7 @@ use Rattle.machine.specs.declared.Moved.the-variants.{Neither, Tail, Head}
 use Rattle.machine.specs.declared.Tally.{Tally}
 use Rattle.machine.specs.Contents.{wrapped}
 use Rattle.machine.specs.History.{movedOf, counted, tallyOf}
+use Rattle.machine.proofs.Kept.{either}
 use Rattle.demands.specs.EverySchedule.{tailBy, headBy, tailersOf, takersOf, tally}
 use Rattle.ring.specs.Width.{word, Near, index-word, turn-long}
 use Rattle.picture.specs.Stamps.{Ground, fixed, W, tailWord, index-tail, unmarked-tail, same-is}
@@ -61,10 +62,6 @@ mod-over c k d some most l =
     let e : k + d ≡ (k / c + 1) * c + (k % c + d - c) = omega (arith, div-add-mod' k c) in
     let q : (k + d) % c ≡ k % c + d - c = ap (λ (z : ℕ). z % c) e ∙ digits-mod (k / c + 1) small in
     omega arith
-
-either : {A : Type 0} (P : A → Type 0) (b : Bool) (x y : A) → (b ≡ true → P x) → (b ≡ false → P y) → P (cond b x y)
-either P true x y p q = p refl
-either P false x y p q = q refl
 
 pub wrapped-is : (c k d : ℕ) → 0 < c → d < c → wrapped c (k % c + d) ≡ (k + d) % c
 unfolding wrapped

@@ -12,69 +12,68 @@ use Rattle.machine.specs.declared.Machine.{Machine}
 use Rattle.machine.specs.declared.Ran.{Ran}
 use Rattle.machine.specs.declared.Event.{Event}
 use Rattle.machine.specs.Machine.{freshOf}
+use Rattle.machine.specs.Broken.{brokenOf}
 use Rattle.machine.specs.Turn.{turnOf}
 use Rattle.machine.specs.Run.{ran, runFrom, runOf}
 use Rattle.machine.specs.History.{eventsOf, historyOf}
 use Rattle.machine.proofs.Kept.{of-unbroken}
-use Rattle.demands.specs.EverySchedule.{Allowed, machineAfter, actsOf, ActByAct, NeverBroken, Plainly, OneHand, ReadsWritten, TrueAnswers, ClaimRule, OnceOut, Stock}
+use Rattle.demands.specs.EverySchedule.{Allowed, machineAfter, actsOf, Demand2, UnderEverySchedule, ActByAct, WholeSchedules}
 use Rattle.claims.specs.Reached.{Reached, lapsOf, base-of, ring0, fresh-pictured, fresh-logged, entries}
 use Rattle.claims.specs.Pictured.{Base}
 use Rattle.claims.specs.Hands.{one-hand, reads-written}
-use Rattle.claims.specs.Answers.{true-answers}
+use Rattle.claims.specs.Answers.{true-answers, true-empty, true-full}
 use Rattle.claims.specs.Runs.{onward}
 use Rattle.claims.specs.Contents.{count-in, stock-is, contents-are}
-use Rattle.claims.specs.Plain.{plain-head, plain-tail, plain-stamps, plain-room}
+use Rattle.claims.specs.Plain.{plainly}
 
-module _ (capacity workers : ℕ) (a : Allowed capacity workers) where
-  base : Base capacity (lapsOf capacity) workers
-  base = base-of capacity workers a
+-- every schedule
+pub reached : (capacity workers : ℕ) → Allowed capacity workers → (s : List ℕ)
+    → Reached capacity (lapsOf capacity) workers (machineAfter capacity workers s) (actsOf capacity workers s)
+reached capacity workers a s =
+    let base = base-of capacity workers a in
+    entries capacity (lapsOf capacity) workers base s (freshOf capacity workers) [] 0
+    (record { ring = ring0; pictured = fresh-pictured capacity (lapsOf capacity) workers base (a .worker-some); logged = fresh-logged capacity })
 
-  -- every schedule
-  pub reached : (s : List ℕ) → Reached capacity (lapsOf capacity) workers (machineAfter capacity workers s) (actsOf capacity workers s)
-  reached s =
-      entries capacity (lapsOf capacity) workers base s (freshOf capacity workers) [] 0
-      (record { ring = ring0; pictured = fresh-pictured capacity (lapsOf capacity) workers base (a .worker-some); logged = fresh-logged capacity })
-
-  pub act-by-act : ActByAct capacity workers
-  unfolding runFrom historyOf ran
-  act-by-act s first second even e taken =
-      let o = onward s (first ∷ second ∷ []) (freshOf capacity workers) 0 even e in
-      let t : eqb (turnOf (machineAfter capacity workers s) first second .refusal) 0 ≡ true = eq-eqb _ 0 taken in
-      (ap (λ (z : Ran). z .machine) (o .run) ∙ rw t, o .acts ∙ rw (t, append-nil (eventsOf (machineAfter capacity workers s) (entryOf first second) (turnOf (machineAfter capacity workers s) first second .machine))))
-
-  pub never-broken : NeverBroken capacity workers
-  never-broken s = of-unbroken (machineAfter capacity workers s) (reached s .pictured .unbroken)
-
-  pub plainly : (s : List ℕ) → Plainly capacity workers s
-  plainly s =
-      let m = machineAfter capacity workers s in
-      let h = actsOf capacity workers s in
+-- what a reached machine has behind it is the demand
+module _ (c n workers : ℕ) (base : Base c n workers) (m : Machine) (h : List Event) (r : Reached c n workers m h) where
+  demanded : Demand2 m h
+  demanded =
       record {
-        head = plain-head capacity (lapsOf capacity) workers base m h (reached s);
-        tail = plain-tail capacity (lapsOf capacity) workers base m h (reached s);
-        stamps = plain-stamps capacity (lapsOf capacity) workers base m h (reached s);
-        room = plain-room capacity (lapsOf capacity) workers base m h (reached s);
+        unbroken = of-unbroken m (r .pictured .unbroken);
+        plain = plainly c n workers base m h r;
+        claim-rule = r .logged .rule;
+        once-out = r .logged .once;
+        one-hand = one-hand c n workers base m h r;
+        reads = reads-written c n workers base m h r;
+        answers = true-answers c n workers base m h r;
+        stock = λ idle. stock-is c n workers base m h r ∙ sym (count-in c n workers base m h r);
+        contents = contents-are c n workers base m h r;
+        fifo = r .logged .fifo;
+        empty = true-empty c n workers base m h r;
+        full = true-full c n workers base m h r;
       }
 
-  pub one-hand-only : OneHand capacity workers
-  one-hand-only s = one-hand capacity (lapsOf capacity) workers base (machineAfter capacity workers s) (actsOf capacity workers s) (reached s)
+pub demand2 : UnderEverySchedule
+demand2 capacity workers a s =
+    demanded capacity (lapsOf capacity) workers (base-of capacity workers a) (machineAfter capacity workers s) (actsOf capacity workers s) (reached capacity workers a s)
 
-  pub reads-only-written : ReadsWritten capacity workers
-  reads-only-written s = reads-written capacity (lapsOf capacity) workers base (machineAfter capacity workers s) (actsOf capacity workers s) (reached s)
+pub act-by-act : ActByAct
+unfolding runFrom historyOf ran
+act-by-act m s first second even e taken =
+    let o = onward s (first ∷ second ∷ []) m 0 even e in
+    let t : eqb (turnOf (runFrom m 0 s .machine) first second .refusal) 0 ≡ true = eq-eqb _ 0 taken in (
+      ap (λ (z : Ran). z .machine) (o .run) ∙ rw t,
+      o .acts ∙ rw (t, append-nil (eventsOf (runFrom m 0 s .machine) (entryOf first second) (turnOf (runFrom m 0 s .machine) first second .machine))),
+    )
 
-  pub answers-true : TrueAnswers capacity workers
-  answers-true s = true-answers capacity (lapsOf capacity) workers base (machineAfter capacity workers s) (actsOf capacity workers s) (reached s)
+made-whole : (capacity workers : ℕ) → Allowed capacity workers → brokenOf (freshOf capacity workers) ≡ false
+unfolding runFrom ran
+made-whole capacity workers a = demand2 capacity workers a [] .unbroken
 
-  pub claim-rule : ClaimRule capacity workers
-  claim-rule s = reached s .logged .rule
-
-  pub once-out : OnceOut capacity workers
-  once-out s = reached s .logged .once
-
-  pub stock : Stock capacity workers
-  stock s idle =
-      let m = machineAfter capacity workers s in
-      let h = actsOf capacity workers s in (
-        stock-is capacity (lapsOf capacity) workers base m h (reached s) ∙ sym (count-in capacity (lapsOf capacity) workers base m h (reached s)),
-        contents-are capacity (lapsOf capacity) workers base m h (reached s) idle,
-      )
+pub whole-schedules : WholeSchedules
+unfolding runOf ran
+whole-schedules capacity workers a s =
+    let b = made-whole capacity workers a in (
+      λ even. rw (b, ne-eqb (length s % 2) 1 (λ e. omega arith)),
+      λ odd. rw (b, eq-eqb (length s % 2) 1 odd),
+    )

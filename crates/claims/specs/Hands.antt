@@ -14,10 +14,10 @@ use Rattle.places.specs.declared.Place.{Place}
 use Rattle.machine.specs.declared.Machine.{Machine}
 use Rattle.machine.specs.declared.Event.{Event}
 use Rattle.machine.specs.Machine.{slot}
-use Rattle.demands.specs.EverySchedule.{InHand, handP4, handP5, handF7, handF8, handF9, handO4, handO5, Reads, readO4, readF8, takersOf, LatestIn, ItemIn, WrittenIn}
+use Rattle.demands.specs.EverySchedule.{InHand, handP4, handP5, handF7, handF8, handF9, handO4, handO5, Reads, readO4, readF8, valueAt, takersOf, LatestIn, ItemIn, WrittenIn}
 use Rattle.ring.specs.Width.{word, index-word}
 use Rattle.ring.specs.Ring.{Stage, Fill, Filled, Take, Grab, Swap, Swapped, Cell, Hand, Mine, mine-one, Shared, Latest, Valued, Inv, CellOk}
-use Rattle.picture.specs.Stamps.{Ground, fixed, W}
+use Rattle.picture.specs.Stamps.{Ground, fixed, W, word-slot, lap-slot}
 use Rattle.picture.specs.Sight.{look, Stands}
 use Rattle.claims.specs.Turns.{stood}
 use Rattle.claims.specs.Lists.{latest-in}
@@ -26,25 +26,18 @@ use Rattle.claims.specs.Logged.{Logged}
 use Rattle.claims.specs.Reached.{Reached}
 
 module _ (c n : ℕ) (g : Ground c (markOf c) n) where
-  -- the slot of a claim's word, and of a word a lap on
-  at-word : (t : Stamp) (k : ℕ) → t ≡ W c (markOf c) n k → t .0 % markOf c ≡ k % c
-  at-word t k e = ap (λ (z : Stamp). z .0 % markOf c) e ∙ index-word c (markOf c) n (g .laws) k
-
-  at-lap : (t : Stamp) (k : ℕ) → t ≡ W c (markOf c) n (k + c) → t .0 % markOf c ≡ k % c
-  at-lap t k e = at-word t (k + c) e ∙ add-mod-right k c
-
   mine-at : (s : Shared) (w i k : ℕ) (st : Stage) → i ≡ k % c → s .cell (k % c) ≡ Hand st k w → Mine w (s .cell i)
   mine-at s w i k st e q = subst (Mine w) (sym (ap (s .cell) e ∙ q)) refl
 
   -- the slot of a worker in hand is its own
   hand-mine : (s : Shared) (w : ℕ) (p : Place) (t : Stamp) → InHand p t → Stands c (markOf c) n s w (look c p) → Mine w (s .cell (t .0 % markOf c))
-  hand-mine s w p t handP4 o = mine-at s w _ (o .0) Fill (at-word t (o .0) (o .1)) (o .2 .0 .0)
-  hand-mine s w p t handP5 o = mine-at s w _ (o .0) Filled (at-word t (o .0) (o .1)) (o .2 .0)
-  hand-mine s w p t handF7 o = mine-at s w _ (o .0) Grab (at-lap t (o .0) (o .1)) (o .2 .0)
-  hand-mine s w p t handF8 o = mine-at s w _ (o .0) Swap (at-lap t (o .0) (o .1)) (o .2 .0 .0)
-  hand-mine s w p t handF9 o = mine-at s w _ (o .0) Swapped (at-lap t (o .0) (o .1)) (o .2 .0 .0)
-  hand-mine s w p t handO4 o = mine-at s w _ (o .0) Take (at-word t (o .0) (o .1)) (o .2 .0)
-  hand-mine s w p t handO5 o = mine-at s w _ (o .0) Take (at-word t (o .0) (o .1)) (o .2 .0 .0)
+  hand-mine s w p t handP4 o = mine-at s w _ (o .0) Fill (word-slot c (markOf c) n g t (o .0) (o .1)) (o .2 .0 .0)
+  hand-mine s w p t handP5 o = mine-at s w _ (o .0) Filled (word-slot c (markOf c) n g t (o .0) (o .1)) (o .2 .0)
+  hand-mine s w p t handF7 o = mine-at s w _ (o .0) Grab (lap-slot c (markOf c) n g t (o .0) (o .1)) (o .2 .0)
+  hand-mine s w p t handF8 o = mine-at s w _ (o .0) Swap (lap-slot c (markOf c) n g t (o .0) (o .1)) (o .2 .0 .0)
+  hand-mine s w p t handF9 o = mine-at s w _ (o .0) Swapped (lap-slot c (markOf c) n g t (o .0) (o .1)) (o .2 .0 .0)
+  hand-mine s w p t handO4 o = mine-at s w _ (o .0) Take (word-slot c (markOf c) n g t (o .0) (o .1)) (o .2 .0)
+  hand-mine s w p t handO5 o = mine-at s w _ (o .0) Take (word-slot c (markOf c) n g t (o .0) (o .1)) (o .2 .0 .0)
 
   -- what a reader's slot holds
   record Readable (s : Shared) (w : ℕ) (t : Stamp) : Type 0 where
@@ -60,14 +53,14 @@ module _ (c n : ℕ) (g : Ground c (markOf c) n) where
   readable s w p t inv readO4 o =
       record {
         claim = o .0;
-        here = at-word t (o .0) (o .1);
+        here = word-slot c (markOf c) n g t (o .0) (o .1);
         latest = o .2 .1;
         valued = cell-ok s inv (o .0) (Hand Take (o .0) w) (o .2 .0) .1 .2;
       }
   readable s w p t inv readF8 o =
       record {
         claim = o .0;
-        here = at-lap t (o .0) (o .1);
+        here = lap-slot c (markOf c) n g t (o .0) (o .1);
         latest = o .2 .0 .1 .0;
         valued = cell-ok s inv (o .0) (Hand Swap (o .0) w) (o .2 .0 .0) .1 .2;
       }
@@ -84,24 +77,21 @@ module _ (c n workers : ℕ) (base : Base c n workers) (m : Machine) (h : List E
       let y = hand-mine c n (base .ground) s w (stood m w) u b (r .pictured .stands w) in
       mine-one v w (s .cell (u .0 % markOf c)) (rw q at x) y
 
-  abbrev value-at : Stamp → ℕ
-  value-at t = getD (m .ring .slots) (indexOf (m .ring .fixed) t) (slot 0 0) .value
-
   pub reads-written : (w : ℕ) (t : Stamp) → Reads (stood m w) t
-      → (k : ℕ) × LatestIn (takersOf h) w k × WrittenIn h k (value-at t) × ItemIn h k (value-at t)
+      → (k : ℕ) × LatestIn (takersOf h) w k × ItemIn h k (valueAt m t) × WrittenIn h k (valueAt m t)
   reads-written w t a =
       let s = r .ring in
       let d = readable c n (base .ground) s w (stood m w) t (r .pictured .inv) a (r .pictured .stands w) in
       let k = d .claim in
       let l = r .logged in
       let i : indexOf (m .ring .fixed) t ≡ k % c = index-at t ∙ d .here in
-      let v : value-at t ≡ s .item k =
+      let v : valueAt m t ≡ s .item k =
       ap (λ (z : ℕ). getD (m .ring .slots) z (slot 0 0) .value) i
       ∙ ap (λ (z : Slot). z .value) (r .pictured .slots (k % c) (mod-lt k (base .ground .laws .some)))
       ∙ d .valued .0 in
       let o = l .written k (d .valued .1) in (
         k,
         latest-in (takersOf h) (s .head) (s .taker) w k (l .lists .takers-are) (d .latest),
-        subst (λ (z : ℕ). WrittenIn h k z) (sym v) (o .1),
         record { made = omega (arith, l .lists .items-are .long, o .0); is = l .lists .items-are .at k (o .0) ∙ sym v },
+        subst (λ (z : ℕ). WrittenIn h k z) (sym v) (o .1),
       )

@@ -103,6 +103,13 @@ idle-is IsClosed1 h = absurd (true≢false h)
 pub idle-hand : (c mark i : ℕ) (p : Place) → viewOf p .busy ≡ false → HandAt mark (look c p) i → ⊥
 idle-hand c mark i p h o = let e = idle-is p h .1 in subst (λ (z : Place). HandAt mark (look c z) i) e o
 
+pub hand-busy : (c mark i : ℕ) (p : Place) → HandAt mark (look c p) i → viewOf p .busy ≡ true
+hand-busy c mark i p o = go (viewOf p .busy) refl
+  where
+    go : (b : Bool) → viewOf p .busy ≡ b → b ≡ true
+    go true e = refl
+    go false e = absurd (idle-hand c mark i p e o)
+
 -- a hand is on the slot at the index of its worker's word
 pub hand-spot : (c mark i : ℕ) (p : Place) → HandAt mark (look c p) i → i ≡ spotOf (fixed c mark) (viewOf p .held)
 hand-spot c mark i (Idle a) h = absurd h
@@ -161,6 +168,12 @@ spot-below f (held.End t) pos k = fits-plain f t k .low
 spot-below f (held.Tail t) pos k = pos
 spot-below f (held.Both t w) pos k = pos
 
+-- the meter ends within the first turn
+pub first-turn : (c n workers : ℕ) → Base c n workers → (s : Shared) (m : Machine) → Pictured c n workers s m → s .tail + 2 * c < n * c
+first-turn c n workers base s m pic =
+    let one : 1 ≤ c = base .ground .laws .some in
+    omega (arith, mul-le-mul-right n one, base .long, base .few, pic .claims-few, pic .meter-few)
+
 module _ (c n workers : ℕ) (base : Base c n workers) (s : Shared) (m : Machine) (pic : Pictured c n workers s m) (w : ℕ) (team : w < m .count) where
   abbrev mark : ℕ
   mark = markOf c
@@ -206,11 +219,6 @@ module _ (c n workers : ℕ) (base : Base c n workers) (s : Shared) (m : Machine
         spot-below (m .ring .fixed) (viewOf (stood m w) .held) (rw (pic .rule) (base .ground .laws .some)) (word-fits-in m (pic .unbroken) w team busy) in
         subst (λ (z : ℕ). spot < z) (ap (λ (f : Fixed). f .capacity) (pic .rule)) b
 
-    young : s .tail + 2 * c < n * c
-    young =
-        let one : 1 ≤ c = base .ground .laws .some in
-        omega (arith, mul-le-mul-right n one, base .long, base .few, pic .claims-few, pic .meter-few)
-
     -- the act, as an effect on the ring
     pub stepped : Step c mark n s w spot (pic .shut) (stood m w) result
     stepped =
@@ -222,7 +230,7 @@ module _ (c n workers : ℕ) (base : Base c n workers) (s : Shared) (m : Machine
         ∙ ap (λ (e : Ends). actOf (fixed c mark) e (getD (m .ring .slots) spot (slot 0 0)) p lose) (pic .ends)
         ∙ ap (λ (z : Slot). actOf (fixed c mark) (endsOf c mark n s (pic .shut)) z p lose) (pic .slots spot spot-small) in
         subst (Step c mark n s w spot (pic .shut) p) (sym same)
-        (step c mark n (base .ground) s (pic .inv) w spot spot-small (pic .shut) p lose busy at o (young-recent c mark n s w young (look c p) o))
+        (step c mark n (base .ground) s (pic .inv) w spot spot-small (pic .shut) p lose busy at o (young-recent c mark n s w (first-turn c n workers base s m pic) (look c p) o))
 
     abbrev pub effect : Effect
     effect = stepped .effect
@@ -278,6 +286,13 @@ module _ (c n workers : ℕ) (base : Base c n workers) (s : Shared) (m : Machine
           claims-few = omega (arith, grows c s w spot effect, pic .claims-few);
           meter-few = omega arith;
         }
+
+    -- the acting worker has no other slot in hand, and if it has that of its act afterwards then it has not answered
+    pub alone : (i : ℕ) → i < c → i ≢ spot → Mine w (s .cell i) → ⊥
+    alone i l ne mine = ne (hand-here i (pic .back i l w mine))
+
+    pub holding : Mine w (next .cell spot) → viewOf (result .place) .busy ≡ true
+    holding mine = hand-busy c mark spot (result .place) (stepped .grip (pic .back spot spot-small w) mine)
 
     -- where the acting worker stands afterwards
     pub acted-stood : stood (acted m w (stood m w) lose) w ≡ result .place

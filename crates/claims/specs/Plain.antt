@@ -16,7 +16,7 @@ use Rattle.places.specs.declared.Ends.{Ends}
 use Rattle.machine.specs.declared.Machine.{Machine}
 use Rattle.machine.specs.declared.Event.{Event}
 use Rattle.machine.specs.Machine.{slot}
-use Rattle.demands.specs.EverySchedule.{Plainly, plainWord, tally}
+use Rattle.demands.specs.EverySchedule.{Plain, plainWord, tally}
 use Rattle.ring.specs.Width.{word, word-plain}
 use Rattle.ring.specs.Ring.{Cell, number, Shared, Inv}
 use Rattle.picture.specs.Stamps.{fixed, unmarked-tail, slotWord}
@@ -38,44 +38,50 @@ module _ (c n workers : ℕ) (base : Base c n workers) (m : Machine) (h : List E
   heads : tally h .head .0 ≡ r .ring .head
   heads = tally-head h ∙ r .logged .lists .takers-are .long
 
-  pub plain-head : m .ring .ends .head .0 ≡ plainWord c workers (tally h .head .0)
-  plain-head =
-      ap (λ (e : Ends). e .head .0) (r .pictured .ends) ∙ plain (r .ring .head) (omega (arith, r .pictured .inv .low))
-      ∙ ap (λ (k : ℕ). k / c * (2 * markOf c) + k % c) (sym heads)
+  -- the words are said of the machine's own constants
+  plain-is : (k : ℕ) → k ≤ r .ring .tail + 2 * c → word c (markOf c) n k ≡ plainWord (m .ring .fixed) k
+  plain-is k l = plain k l ∙ ap (λ (f : Fixed). plainWord f k) (sym (r .pictured .rule))
 
-  pub plain-tail : unmarkedOf (m .ring .fixed) (m .ring .ends .tail) .0 ≡ plainWord c workers (tally h .tail .0)
+  plain-head : m .ring .ends .head .0 ≡ plainWord (m .ring .fixed) (tally h .head .0)
+  plain-head =
+      ap (λ (e : Ends). e .head .0) (r .pictured .ends) ∙ plain-is (r .ring .head) (omega (arith, r .pictured .inv .low)) ∙ ap (plainWord (m .ring .fixed)) (sym heads)
+
+  plain-tail : unmarkedOf (m .ring .fixed) (m .ring .ends .tail) .0 ≡ plainWord (m .ring .fixed) (tally h .tail .0)
   plain-tail =
       ap (λ (f : Fixed). unmarkedOf f (m .ring .ends .tail) .0) (r .pictured .rule)
       ∙ ap (λ (e : Ends). unmarkedOf (fixed c (markOf c)) (e .tail) .0) (r .pictured .ends)
       ∙ ap (λ (w : Stamp). w .0) (unmarked-tail c (markOf c) n (base .ground) (r .ring .tail) (r .pictured .shut))
-      ∙ plain (r .ring .tail) (omega arith) ∙ ap (λ (k : ℕ). k / c * (2 * markOf c) + k % c) (sym tails)
+      ∙ plain-is (r .ring .tail) (omega arith) ∙ ap (plainWord (m .ring .fixed)) (sym tails)
 
   one-more : (b : Bool) (x : ℕ) → cond b (x + 1) x ≡ x + cond b 1 0
   one-more true x = refl
   one-more false x = omega arith
 
-  pub plain-stamps : (i : ℕ) → i < c
-      → (k : ℕ) × (b : Bool) × (getD (m .ring .slots) i (slot 0 0) .stamp .0 ≡ plainWord c workers k + cond b 1 0) × (k % c ≡ i)
-      × (k ≤ tally h .tail .0 + c)
-  plain-stamps i l =
+  cap : m .ring .fixed .capacity ≡ c
+  cap = ap (λ (f : Fixed). f .capacity) (r .pictured .rule)
+
+  plain-stamps : (i : ℕ) → i < m .ring .fixed .capacity
+      → (k : ℕ) × (b : Bool) × (getD (m .ring .slots) i (slot 0 0) .stamp .0 ≡ plainWord (m .ring .fixed) k + cond b 1 0)
+      × (k % m .ring .fixed .capacity ≡ i) × (k ≤ tally h .tail .0 + m .ring .fixed .capacity)
+  plain-stamps i below =
       let s = r .ring in
       let inv = r .pictured .inv in
+      let l : i < c = omega (arith, cap) in
       let x = s .cell i in
       let near = number-near c s inv i x (inv .cells i l) in
       let low : number x ≤ s .tail + c = omega (arith, near, inv .low) in (
         number x,
         full x,
         ap (λ (z : Slot). z .stamp .0) (r .pictured .slots i l) ∙ one-more (full x) (word c (markOf c) n (number x))
-            ∙ ap (λ (z : ℕ). z + cond (full x) 1 0) (plain (number x) (omega arith)),
-        number-slot c s inv i x (inv .cells i l),
-        omega (arith, tails),
+            ∙ ap (λ (z : ℕ). z + cond (full x) 1 0) (plain-is (number x) (omega arith)),
+        ap (λ (z : ℕ). number x % z) cap ∙ number-slot c s inv i x (inv .cells i l),
+        omega (arith, tails, cap),
       )
 
-  pub plain-room : plainWord c workers (tally h .tail .0 + c) + 2 * lapOf c < wide
-  plain-room =
+  room : plainWord (fixed c (markOf c)) (tally h .tail .0 + c) + 2 * (2 * markOf c) < wide
+  room =
       let u : Ruled (fixedOf c) = ruled (fixedOf c) (base .ground .laws .some) (base .few) refl refl in
       let small : 2 * markOf c ≤ 1026 = omega (arith, u .small) in
-      let t : ℕ = tally h .tail .0 + c in
       let most : tally h .tail .0 + c ≤ meterMost + slotsMost = omega (arith, tails, base .few, r .pictured .claims-few, r .pictured .meter-few) in
       omega (
         arith,
@@ -83,3 +89,12 @@ module _ (c n workers : ℕ) (base : Base c n workers) (m : Machine) (h : List E
         div-le-self (tally h .tail .0 + c) c,
         mod-lt (tally h .tail .0 + c) (base .ground .laws .some),
       )
+
+  pub plainly : Plain m h
+  plainly =
+      record {
+        head = plain-head;
+        tail = plain-tail;
+        stamps = plain-stamps;
+        room = subst (λ (f : Fixed). plainWord f (tally h .tail .0 + f .capacity) + 2 * f .lap < wide) (sym (r .pictured .rule)) room;
+      }

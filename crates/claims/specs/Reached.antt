@@ -27,15 +27,15 @@ use Rattle.machine.specs.Machine.{slot, emptySlots, stamped, freshSlots, idler,
 use Rattle.machine.specs.Broken.{inLimits, byRule, endsFit, recordFits, brokenOf}
 use Rattle.machine.specs.Turn.{turn, turnOf, begun, acted, stored}
 use Rattle.machine.specs.Run.{ran, runFrom}
-use Rattle.machine.specs.History.{event, eventsOf, historyOf}
+use Rattle.machine.specs.History.{event, eventsOf, historyOf, tallyOf}
 use Rattle.machine.proofs.Kept.{Unbroken, ends-of}
-use Rattle.demands.specs.EverySchedule.{Allowed, itemsOf, tailersOf, takersOf}
+use Rattle.demands.specs.EverySchedule.{Allowed, start, itemsOf, tailersOf, takersOf}
 use Rattle.ring.specs.Width.{Wide, word, word-first}
 use Rattle.ring.specs.Ring.{Cell, Await, Shared, Inv}
 use Rattle.picture.specs.Stamps.{Ground, fixed, W, tailWord, index-tail, marked-tail}
 use Rattle.picture.specs.Sight.{look, endsOf, slotOf, Stands}
 use Rattle.claims.specs.Turns.{Turned, began, did, turned, stood}
-use Rattle.claims.specs.Pictured.{Base, Pictured, begun-pictured, acted-pictured, stepped, effect, spot, spot-small, next, result, acted-stood}
+use Rattle.claims.specs.Pictured.{Base, Pictured, begun-pictured, acted-pictured, stepped, effect, spot, spot-small, next, result, acted-stood, alone, holding}
 use Rattle.claims.specs.Logged.{Lists, Logged, logged-after}
 use Rattle.claims.specs.Lists.{Listed}
 
@@ -189,7 +189,7 @@ nil-split [] y ys e = let q : _≡_ {A = ℕ} 0 1 = cc in omega arith
 nil-split (x ∷ xs) y ys e = let q : _≡_ {A = ℕ} 0 1 = cc in omega arith
 
 pub fresh-logged : (c : ℕ) → Logged c ring0 []
-unfolding ring0 itemsOf tailersOf takersOf
+unfolding ring0 itemsOf tailersOf takersOf tallyOf
 fresh-logged c =
     record {
       lists =
@@ -199,6 +199,8 @@ fresh-logged c =
             takers-are = record { long = refl; at = λ k l. absurd (omega arith) };
           };
       written = λ k e. absurd (true≢false (sym e));
+      calls = λ i l st k w e t. absurd (let q : _≡_ {A = ℕ} 0 1 = cc in omega arith);
+      fifo = start;
       rule = λ earlier later act v e out. absurd (nil-split earlier act later e);
       past = λ earlier later act v k e out l. absurd (nil-split earlier act later e);
       once = λ earlier between later act again v u k e. absurd (nil-split (earlier ++ act ∷ between) again later e);
@@ -229,7 +231,7 @@ module _ (c n workers : ℕ) (base : Base c n workers) where
         logged =
             rw (acted-stood c n workers base (r .ring) m pic w l lose busy)
             (logged-after c (r .ring) (pic .inv) w _ (spot-small c n workers base (r .ring) m pic w l lose busy) (st .effect) (st .fits) h (r .logged) (stood m w)
-            (result c n workers base (r .ring) m pic w l lose busy .place) (st .tells) (st .writes));
+            (result c n workers base (r .ring) m pic w l lose busy .place) (st .tells) (st .writes) (alone c n workers base (r .ring) m pic w l lose busy) (holding c n workers base (r .ring) m pic w l lose busy));
       }
 
   one-entry : (m : Machine) (h : List Event) (first second : ℕ) → Reached c n workers m h → turnOf m first second .refusal ≡ 0

@@ -21,6 +21,7 @@ use Rattle.machine.specs.declared.Verdict.{Verdict}
 use Rattle.machine.specs.declared.Verdict.the-variants.{Refuse, Start, Move}
 use Rattle.machine.specs.Machine.{placeOf, refused, accepted}
 use Rattle.machine.specs.Turn.{verdictOf, carried, turn, begun, acted}
+use Rattle.machine.proofs.Kept.{either}
 use Rattle.machine.specs.History.{event, eventsOf}
 
 -- where worker w stands
@@ -31,10 +32,6 @@ pub data Turned (m : Machine) : Entry → Machine → List Event → Type 0 wher
   began : (w : ℕ) (call : Call) → w < m .count → viewOf (stood m w) .busy ≡ false → Turned m (Asks w (Begin call)) (begun m w (beginOf call)) []
   did : (w : ℕ) (lose : Bool) → w < m .count → viewOf (stood m w) .busy ≡ true → m .meter < meterMost
       → Turned m (Asks w (Act lose)) (acted m w (stood m w) lose) (event w (stood m w) (stood (acted m w (stood m w) lose) w) ∷ [])
-
-either : {A : Type 0} (P : A → Type 0) (b : Bool) (x y : A) → (b ≡ true → P x) → (b ≡ false → P y) → P (cond b x y)
-either P true x y p q = p refl
-either P false x y p q = q refl
 
 abbrev Result : Machine → Entry → Did → Type 0
 Result m e d = d .refusal ≡ 0 → Turned m e (d .machine) (eventsOf m e (d .machine))

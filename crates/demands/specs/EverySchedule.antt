@@ -1,5 +1,5 @@
 -- Demand 2, "under EVERY schedule": claims, hands, and answers that are true. Said of the machine's own struct, of the
--- words of a schedule, and of the history of its acts; crate claims proves it.
+-- words of a schedule and of the history of its acts. Proofs: crate claims, `demand2` of specs/Demand2.antt.
 use Prim.Native.Nat.{ℕ, _+_, _-_, _*_, _/_, _%_, _≤_, _<_}
 use mathlib.Core.Bool.{Bool, true, false, cond}
 use mathlib.Core.List.{List, [], _∷_, _++_}
@@ -9,7 +9,7 @@ use lib.ListN.{length, getD, drop}
 use Rattle.words.specs.declared.Stamp.{Stamp}
 use Rattle.words.specs.declared.Fixed.{Fixed}
 use Rattle.words.specs.Limits.{slotsMost, workersMost, wide}
-use Rattle.words.specs.Words.{claim, indexOf, markedOf, unmarkedOf, lapOf, lapBehind}
+use Rattle.words.specs.Words.{claim, indexOf, markedOf, unmarkedOf, lapBehind}
 use Rattle.places.specs.declared.Ends.{Ends}
 use Rattle.places.specs.declared.Answer.{Answer}
 use Rattle.places.specs.declared.Answer.the-variants.{Nothing, Pushed, Full, Closed, Displaced, Popped, Empty, PopClosed, Len, Yes, No}
@@ -17,7 +17,7 @@ use Rattle.places.specs.declared.Place.{Place}
 use Rattle.places.specs.declared.Place.the-variants.{Idle, P1, P2, P3, P4, P5, P6, F6, F7, F8, F9, O1, O2, O3, O4, O5, O6, Len1, Len2, Len3, Empty1, Empty2, Full1, Full2, Close1, IsClosed1}
 use Rattle.places.specs.declared.Order.the-variants.{Act}
 use Rattle.places.specs.declared.Entry.the-variants.{Asks}
-use Rattle.places.specs.Places.{entryOf}
+use Rattle.places.specs.Places.{viewOf, entryOf}
 use Rattle.machine.specs.declared.Machine.{Machine}
 use Rattle.machine.specs.declared.Event.{Event}
 use Rattle.machine.specs.declared.Moved.{Moved}
@@ -158,7 +158,11 @@ pub record ItemIn (h : List Event) (k v : ℕ) : Type 0 where
   pub made : k < length (itemsOf h)
   pub is : getD (itemsOf h) k 0 ≡ v
 
--- The item of tail claim number k was written: by the act, of the worker whose latest tail claim it then was, at P4 or F8.
+-- Tail and head claims, none before the first act.
+abbrev pub tally : List Event → Tally
+tally h = tallyOf h (record { tail = claim 0; head = claim 0 })
+
+-- The item v of tail claim number k was written: at P4 or F8, by the worker whose latest tail claim that was.
 pub record WrittenIn (h : List Event) (k v : ℕ) : Type 0 where
   pub earlier : List Event
   pub act : Event
@@ -167,89 +171,125 @@ pub record WrittenIn (h : List Event) (k v : ℕ) : Type 0 where
   pub claim : LatestIn (tailersOf earlier) (act .worker) k
   pub writes : Writes (act .before) v
 
--- Tail and head claims, none before the first act.
-abbrev pub tally : List Event → Tally
-tally h = tallyOf h (record { tail = claim 0; head = claim 0 })
+-- Worker w has answered nothing in these acts.
+abbrev pub Unanswered : ℕ → List Event → Type 0
+Unanswered w [] = Unit {0}
+Unanswered w (e ∷ h) = (e .worker ≡ w → viewOf (e .after) .busy ≡ true) × Unanswered w h
 
--- The items of the claims not yet taken: a queue, which a tail claim enters at its end and a head claim leaves at its front.
+-- Head claim number k was made by w, in the call that it is in.
+pub record CallClaim (h : List Event) (w k : ℕ) : Type 0 where
+  pub earlier : List Event
+  pub act : Event
+  pub later : List Event
+  pub is : h ≡ earlier ++ act ∷ later
+  pub by : act .worker ≡ w
+  pub claims : movedOf (act .after) ≡ Head
+  pub number : tally earlier .head .0 ≡ k
+  pub same-call : Unanswered w later
+
+-- The items of the claims not yet taken.
 abbrev pub waiting : List Event → List ℕ
 waiting h = drop (tally h .head .0) (itemsOf h)
 
+-- A run of a plain queue: a tail claim puts its item at the end, a head claim takes the front, no other act changes it.
+pub data Fifo : List Event → List ℕ → Type 0 where
+  start : Fifo [] []
+  enqueue : (h : List Event) (q : List ℕ) (e : Event) (x : ℕ) → Fifo h q → itemIn (e .after) ≡ x ∷ [] → Fifo (h ++ e ∷ []) (q ++ x ∷ [])
+  dequeue : (h : List Event) (q : List ℕ) (e : Event) (x : ℕ) → Fifo h (x ∷ q) → movedOf (e .after) ≡ Head → Fifo (h ++ e ∷ []) q
+  rest : (h : List Event) (q : List ℕ) (e : Event) → Fifo h q → movedOf (e .after) ≡ Neither → Fifo (h ++ e ∷ []) q
+
+-- ---- words
+
+-- The word of claim number k, where nothing wraps.
+abbrev pub plainWord : Fixed → ℕ → ℕ
+plainWord f k = k / f .capacity * f .lap + k % f .capacity
+
+-- Head, tail and every stamp are such words of claims, and two laps more would still not wrap.
+pub record Plain (m : Machine) (h : List Event) : Type 0 where
+  pub head : m .ring .ends .head .0 ≡ plainWord (m .ring .fixed) (tally h .head .0)
+  pub tail : unmarkedOf (m .ring .fixed) (m .ring .ends .tail) .0 ≡ plainWord (m .ring .fixed) (tally h .tail .0)
+  pub stamps : (i : ℕ) → i < m .ring .fixed .capacity
+      → (k : ℕ) × (full : Bool) × (getD (m .ring .slots) i (slot 0 0) .stamp .0 ≡ plainWord (m .ring .fixed) k + cond full 1 0)
+      × (k % m .ring .fixed .capacity ≡ i) × (k ≤ tally h .tail .0 + m .ring .fixed .capacity)
+  pub room : plainWord (m .ring .fixed) (tally h .tail .0 + m .ring .fixed .capacity) + 2 * m .ring .fixed .lap < wide
+
+-- the value of the slot at the index of a word
+abbrev pub valueAt : Machine → Stamp → ℕ
+valueAt m t = getD (m .ring .slots) (indexOf (m .ring .fixed) t) (slot 0 0) .value
+
 -- ---- the demand
 
-module _ (capacity workers : ℕ) where
-  -- Each act is document 01's: an entry more is one turn of the definition, on the machine and on the history.
-  abbrev pub ActByAct : Type 0
-  ActByAct =
-      (s : List ℕ) (first second : ℕ) → length s % 2 ≡ 0 → runFrom (freshOf capacity workers) 0 s .refusal ≡ 0
-      → turnOf (machineAfter capacity workers s) first second .refusal ≡ 0
-      → (machineAfter capacity workers (s ++ first ∷ second ∷ []) ≡ turnOf (machineAfter capacity workers s) first second .machine)
-      × (actsOf capacity workers (s ++ first ∷ second ∷ [])
-      ≡ actsOf capacity workers s ++ eventsOf (machineAfter capacity workers s) (entryOf first second) (turnOf (machineAfter capacity workers s) first second .machine))
-
-  -- No machine so reached is broken.
-  abbrev pub NeverBroken : Type 0
-  NeverBroken = (s : List ℕ) → brokenOf (machineAfter capacity workers s) ≡ false
-
-  -- The word of claim number k, where nothing wraps.
-  abbrev pub plainWord : ℕ → ℕ
-  plainWord k = k / capacity * lapOf capacity + k % capacity
-
-  -- No stamp wraps: head, tail and every stamp are plain words, and two laps more would still not wrap.
-  pub record Plainly (s : List ℕ) : Type 0 where
-    pub head : machineAfter capacity workers s .ring .ends .head .0 ≡ plainWord (tally (actsOf capacity workers s) .head .0)
-    pub tail : unmarkedOf (machineAfter capacity workers s .ring .fixed) (machineAfter capacity workers s .ring .ends .tail) .0
-        ≡ plainWord (tally (actsOf capacity workers s) .tail .0)
-    pub stamps : (i : ℕ) → i < capacity
-        → (k : ℕ) × (full : Bool) × (getD (machineAfter capacity workers s .ring .slots) i (slot 0 0) .stamp .0 ≡ plainWord k + cond full 1 0)
-        × (k % capacity ≡ i) × (k ≤ tally (actsOf capacity workers s) .tail .0 + capacity)
-    pub room : plainWord (tally (actsOf capacity workers s) .tail .0 + capacity) + 2 * lapOf capacity < wide
-
-  -- No slot is in two hands at any moment.
-  abbrev pub OneHand : Type 0
-  OneHand =
-      (s : List ℕ) (v w : ℕ) (t u : Stamp)
-      → InHand (placeOf (machineAfter capacity workers s .workers) v) t
-      → InHand (placeOf (machineAfter capacity workers s .workers) w) u
-      → indexOf (machineAfter capacity workers s .ring .fixed) t ≡ indexOf (machineAfter capacity workers s .ring .fixed) u
-      → v ≡ w
-
-  -- O4 and F8 read only a value that was written for that claim: the item of the tail claim that has the number of the
-  -- reader's head claim.
-  abbrev pub ReadsWritten : Type 0
-  ReadsWritten =
-      (s : List ℕ) (w : ℕ) (t : Stamp) → Reads (placeOf (machineAfter capacity workers s .workers) w) t
-      → (k : ℕ) × LatestIn (takersOf (actsOf capacity workers s)) w k
-      × WrittenIn (actsOf capacity workers s) k
-      (getD (machineAfter capacity workers s .ring .slots) (indexOf (machineAfter capacity workers s .ring .fixed) t) (slot 0 0) .value)
-      × ItemIn (actsOf capacity workers s) k
-      (getD (machineAfter capacity workers s .ring .slots) (indexOf (machineAfter capacity workers s .ring .fixed) t) (slot 0 0) .value)
-
-  -- Empty, Full and Closed are true of the words at the load or exchange that decided them.
-  abbrev pub TrueAnswers : Type 0
-  TrueAnswers =
-      (s : List ℕ) (w : ℕ) (next : Machine) (a : Answer) → Acts (machineAfter capacity workers s) w next
-      → placeOf (next .workers) w ≡ Idle a
-      → Truth (machineAfter capacity workers s .ring .fixed) (machineAfter capacity workers s .ring .ends) a
-
-  -- The claim rule: what an act hands out is the item of the tail claim that has the number of its worker's latest head claim.
-  abbrev pub ClaimRule : Type 0
-  ClaimRule =
-      (s : List ℕ) (earlier later : List Event) (act : Event) (v : ℕ) → actsOf capacity workers s ≡ earlier ++ act ∷ later
-      → HandsOut (act .after) v
-      → (k : ℕ) × LatestIn (takersOf earlier) (act .worker) k × ItemIn earlier k v
-
-  -- No two such answers share that number.
-  abbrev pub OnceOut : Type 0
-  OnceOut =
-      (s : List ℕ) (earlier between later : List Event) (act again : Event) (v u k : ℕ)
-      → actsOf capacity workers s ≡ earlier ++ act ∷ between ++ again ∷ later
+-- What holds of every machine that a schedule reaches from a fresh one, and of the acts behind it.
+pub record Demand2 (m : Machine) (h : List Event) : Type 0 where
+  -- No machine so reached is broken, and no stamp wraps.
+  pub unbroken : brokenOf m ≡ false
+  pub plain : Plain m h
+  -- The claim rule: a value handed out is the item of the tail claim that has the number of the call's head claim.
+  pub claim-rule : (earlier later : List Event) (act : Event) (v : ℕ) → h ≡ earlier ++ act ∷ later → HandsOut (act .after) v
+      → (k : ℕ) × CallClaim earlier (act .worker) k × LatestIn (takersOf earlier) (act .worker) k × ItemIn earlier k v
+  -- No two of these answers share that number.
+  pub once-out : (earlier between later : List Event) (act again : Event) (v u k : ℕ) → h ≡ earlier ++ act ∷ between ++ again ∷ later
       → HandsOut (act .after) v → HandsOut (again .after) u
       → LatestIn (takersOf earlier) (act .worker) k → LatestIn (takersOf (earlier ++ act ∷ between)) (again .worker) k → ⊥
-
+  -- No slot is in two hands at any moment.
+  pub one-hand : (v w : ℕ) (t u : Stamp) → InHand (placeOf (m .workers) v) t → InHand (placeOf (m .workers) w) u
+      → indexOf (m .ring .fixed) t ≡ indexOf (m .ring .fixed) u → v ≡ w
+  -- O4 and F8 read only a value that was written for that claim.
+  pub reads : (w : ℕ) (t : Stamp) → Reads (placeOf (m .workers) w) t
+      → (k : ℕ) × LatestIn (takersOf h) w k × ItemIn h k (valueAt m t) × WrittenIn h k (valueAt m t)
+  -- Empty, Full and Closed are true of the words at the load or exchange that decided them.
+  pub answers : (w : ℕ) (next : Machine) (a : Answer) → Acts m w next → placeOf (next .workers) w ≡ Idle a
+      → Truth (m .ring .fixed) (m .ring .ends) a
   -- With all workers idle stock equals the number of contents, and contents are, in order, the items not yet taken.
-  abbrev pub Stock : Type 0
-  Stock =
-      (s : List ℕ) → allIdle (machineAfter capacity workers s .workers) ≡ true
-      → (stockOf (tally (actsOf capacity workers s)) ≡ countIn (machineAfter capacity workers s))
-      × (contentsOf (machineAfter capacity workers s) ≡ waiting (actsOf capacity workers s))
+  pub stock : allIdle (m .workers) ≡ true → stockOf (tally h) ≡ countIn m
+  pub contents : allIdle (m .workers) ≡ true → contentsOf m ≡ waiting h
+  -- Beside the demand: every run is one of a plain queue, and a yes of is_empty and of is_full is true at its last load.
+  pub fifo : Fifo h (waiting h)
+  pub empty : (w : ℕ) (next : Machine) (t : Stamp) → placeOf (m .workers) w ≡ Empty2 t → Acts m w next → placeOf (next .workers) w ≡ Idle Yes
+      → unmarkedOf (m .ring .fixed) (m .ring .ends .tail) ≡ m .ring .ends .head
+  pub full : (w : ℕ) (next : Machine) (t : Stamp) → placeOf (m .workers) w ≡ Full2 t → Acts m w next → placeOf (next .workers) w ≡ Idle Yes
+      → lapBehind (m .ring .fixed) (m .ring .ends .head) (unmarkedOf (m .ring .fixed) (m .ring .ends .tail)) ≡ true
+
+-- Every capacity, every number of workers, every schedule.
+abbrev pub UnderEverySchedule : Type 0
+UnderEverySchedule =
+    (capacity workers : ℕ) → Allowed capacity workers → (s : List ℕ) → Demand2 (machineAfter capacity workers s) (actsOf capacity workers s)
+
+-- Each act is the one action that document 01 reads out of the source: of entries that are accepted, each is one turn of the
+-- definition, on the machine and on the history; and a schedule of whole entries is run so.
+abbrev pub ActByAct : Type 0
+ActByAct =
+    (m : Machine) (s : List ℕ) (first second : ℕ) → length s % 2 ≡ 0 → runFrom m 0 s .refusal ≡ 0
+    → turnOf (runFrom m 0 s .machine) first second .refusal ≡ 0
+    → (runFrom m 0 (s ++ first ∷ second ∷ []) .machine ≡ turnOf (runFrom m 0 s .machine) first second .machine)
+    × (historyOf m (s ++ first ∷ second ∷ [])
+    ≡ historyOf m s ++ eventsOf (runFrom m 0 s .machine) (entryOf first second) (turnOf (runFrom m 0 s .machine) first second .machine))
+
+abbrev pub WholeSchedules : Type 0
+WholeSchedules =
+    (capacity workers : ℕ) → Allowed capacity workers → (s : List ℕ)
+    → (length s % 2 ≡ 0 → runOf (freshOf capacity workers) s ≡ runFrom (freshOf capacity workers) 0 s)
+    × (length s % 2 ≡ 1 → runOf (freshOf capacity workers) s .machine ≡ freshOf capacity workers)
+
+-- Worker w did none of these acts.
+abbrev pub Unmoved : ℕ → List Event → Type 0
+Unmoved w [] = Unit {0}
+Unmoved w (e ∷ h) = (e .worker ≢ w) × Unmoved w h
+
+-- Beside the demand: `len`'s count is true at its head load. The load is worker w's act on the machine after s; in the
+-- entries t it does not act; its next act answers n.
+pub record LenAnswers (capacity workers : ℕ) (s : List ℕ) (w n : ℕ) : Type 0 where
+  pub tail : Stamp
+  pub loads : placeOf (machineAfter capacity workers s .workers) w ≡ Len2 tail
+  pub loaded : Machine
+  pub load : Acts (machineAfter capacity workers s) w loaded
+  pub rest : List ℕ
+  pub still : Unmoved w (historyOf loaded rest)
+  pub answered : Machine
+  pub answer : Acts (runFrom loaded 0 rest .machine) w answered
+  pub is : placeOf (answered .workers) w ≡ Idle (Len n)
+
+abbrev pub LenTrue : Type 0
+LenTrue =
+    (capacity workers : ℕ) → Allowed capacity workers → (s : List ℕ) (w n : ℕ) → LenAnswers capacity workers s w n
+    → n ≡ stockOf (tally (actsOf capacity workers s))

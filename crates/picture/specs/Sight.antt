@@ -14,7 +14,7 @@ use Rattle.places.specs.declared.Place.{Place}
 use Rattle.places.specs.declared.Place.the-variants.{Idle, P1, P2, P3, P4, P5, P6, F6, F7, F8, F9, O1, O2, O3, O4, O5, O6, Len1, Len2, Len3, Empty1, Empty2, Full1, Full2, Close1, IsClosed1}
 use Rattle.places.specs.declared.Held.the-variants as held
 use Rattle.places.specs.Places.{viewOf}
-use Rattle.ring.specs.Ring.{Stage, Fill, Filled, Take, Grab, Swap, Swapped, Cell, Await, Hold, Hand, number, Shared, View, Tail, Head, Awaits, Holds, Forces, Owns, Keeps, ViewOk, CellOk, Inv}
+use Rattle.ring.specs.Ring.{Stage, Fill, Filled, Take, Grab, Swap, Swapped, taking, Cell, Await, Hold, Hand, number, Shared, View, Tail, Head, Awaits, Holds, Forces, Owns, Keeps, ViewOk, CellOk, Inv}
 use Rattle.ring.specs.Effects.{Effect, Still, Tailed, Taken, Grabbed, Forced, Fills, Swaps, Frees, Gives, Course, view-course, tail-course, head-course}
 use Rattle.picture.specs.Stamps.{W, tailWord, slotWord, fixed}
 
@@ -135,18 +135,10 @@ told (Frees k y) = Quiet
 told (Gives k y v) = Giving v
 
 -- The stamp of a slot says its number, and whether it is full.
-abbrev pub fullAt : Stage → Bool
-fullAt Fill = false
-fullAt Filled = false
-fullAt Take = true
-fullAt Grab = true
-fullAt Swap = true
-fullAt Swapped = true
-
 abbrev pub full : Cell → Bool
 full (Await k) = false
 full (Hold k) = true
-full (Hand st k w) = fullAt st
+full (Hand st k w) = taking st
 
 -- The ring's ends and slots as the machine has them, with so many laps to the width; the mark is outside the ring.
 module _ (c mark n : ℕ) where

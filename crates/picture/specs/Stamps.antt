@@ -81,6 +81,13 @@ module _ (c mark n : ℕ) (g : Ground c mark n) where
       let q : k + c + 1 ≡ k + 1 + c = omega arith in
       rw (next-is (k + c), q) (minus-lap (k + 1))
 
+  -- the slot of a claim's word, and of a word a lap on
+  pub word-slot : (t : Stamp) (k : ℕ) → t ≡ W c mark n k → indexOf (fixed c mark) t ≡ k % c
+  word-slot t k e = ap (λ (z : Stamp). z .0 % mark) e ∙ index-word c mark n (g .laws) k
+
+  pub lap-slot : (t : Stamp) (k : ℕ) → t ≡ W c mark n (k + c) → indexOf (fixed c mark) t ≡ k % c
+  lap-slot t k e = word-slot t (k + c) e ∙ add-mod-right k c
+
   -- the mark
   pub index-tail : (k : ℕ) (b : Bool) → indexOf (fixed c mark) (tailWord c mark n k b) ≡ k % c
   index-tail k true = index-marked c mark n (g .laws) k

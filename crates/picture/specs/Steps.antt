@@ -23,18 +23,15 @@ use Rattle.places.specs.Places.{viewOf}
 use Rattle.acts.specs.declared.Acted.{Acted}
 use Rattle.acts.specs.Acts.{stay, tailTo, headTo, stampTo, valueTo, actOf, actP1, actP2, actP3, actP5, actP6, actF6, actF7, actF8, actF9, actO2, actO3, actO5, actO6, actLen3, actEmpty2, actFull2, actClose1, actIsClosed1, fullAt, yesNo, countOf}
 use Rattle.machine.specs.Turn.{spotOf}
+use Rattle.machine.proofs.Kept.{either}
 use Rattle.demands.specs.EverySchedule.{Truth, Writes, writeP4, writeF8}
 use Rattle.ring.specs.Width.{word, Near, index-word, turn-long}
 use Rattle.ring.specs.Upd.{upd, upd-same}
 use Rattle.ring.specs.Ring.{Stage, Fill, Filled, Take, Grab, Swap, Swapped, Cell, Await, Hold, Hand, number, Mine, Shared, Latest, View, Tail, Head, Awaits, Holds, Forces, Owns, Keeps, ViewOk, CellOk, Claimed, Owned, Inv}
-use Rattle.ring.specs.Effects.{Effect, Still, Tailed, Taken, Grabbed, Forced, Fills, Swaps, Frees, Gives, after, Fits, Free, Loose, ok-at}
+use Rattle.ring.specs.Effects.{Effect, Still, Tailed, Taken, Grabbed, Forced, Fills, Swaps, Frees, Gives, after, Fits, Free, Loose, loose-mine, ok-at}
 use Rattle.picture.specs.Stamps
 use Rattle.picture.specs.Stamps.{Ground, fixed, W, tailWord, slotWord}
 use Rattle.picture.specs.Sight.{Look, Tails, look, HandAt, Tale, Quiet, Heading, Tailing, Giving, tale, answerIn, told, full, endsOf, slotOf, Stands, Recent, see-free, see-full, number-slot, number-near}
-
-either : {A : Type 0} (P : A → Type 0) (b : Bool) (x y : A) → (b ≡ true → P x) → (b ≡ false → P y) → P (cond b x y)
-either P true x y p q = p refl
-either P false x y p q = q refl
 
 -- a test that passed, taken apart
 unless : (b t : Bool) → cond b false t ≡ true → (b ≡ false) × (t ≡ true)
@@ -226,11 +223,7 @@ module _ (c mark n : ℕ) (g : Ground c mark n) (s : Shared) (inv : Inv c s) (w 
 
   -- a slot let go is in no hand
   gone : (y : Cell) → Loose y → {P : Type 0} → Mine w (upd (s .cell) i y i) → P
-  gone y l m = absurd (loose-none y l (rw (upd-same (s .cell) i y) at m))
-    where
-      loose-none : (y : Cell) → Loose y → Mine w y → ⊥
-      loose-none (Await k) l m = m
-      loose-none (Hold k) l m = m
+  gone y l m = absurd (loose-mine w y l (rw (upd-same (s .cell) i y) at m))
 
   p5 : (b : Bool) (m : ℕ) → m % c ≡ i → ViewOk c s w (Owns Filled m) → Does b (P5 (Word m)) (actP5 (E b) S (Word m))
   unfolding stay stampTo
@@ -355,7 +348,7 @@ module _ (c mark n : ℕ) (g : Ground c mark n) (s : Shared) (inv : Inv c s) (w 
       record {
         effect = Gives m (Hold (m + c)) v;
         fits =
-            ((Swapped, e, omega arith, tt, (add-mod-right m c ∙ at, k .1 .0, k .1 .1, k .1 .2)), omega arith, o .2, o .1, o .0 .1);
+            ((Swapped, e, omega arith, tt, (add-mod-right m c ∙ at, k .1 .0, k .1 .1, k .1 .2)), refl, omega arith, o .2, o .1, o .0 .1);
         shut = b;
         ends = refl;
         slot = rw (upd-same (s .cell) i (Hold (m + c)), Stamps.plus-one c mark n g (m + c));
@@ -437,7 +430,7 @@ module _ (c mark n : ℕ) (g : Ground c mark n) (s : Shared) (inv : Inv c s) (w 
       record {
         effect = Gives m (Await (m + c)) v;
         fits =
-            ((Take, e, omega arith, tt, (add-mod-right m c ∙ at, k .1 .1, omega (arith, k .1 .0))), omega arith, o .2, o .1, o .0 .1);
+            ((Take, e, omega arith, tt, (add-mod-right m c ∙ at, k .1 .1, omega (arith, k .1 .0))), refl, omega arith, o .2, o .1, o .0 .1);
         shut = b;
         ends = refl;
         slot = rw (upd-same (s .cell) i (Await (m + c)), Stamps.plus-lap c mark n g m);
@@ -503,12 +496,12 @@ module _ (c mark n : ℕ) (g : Ground c mark n) (s : Shared) (inv : Inv c s) (w 
       either (Does b Close1) (markedOf f (E b .tail)) (stay (E b) S (Idle No)) (stay (tailTo (E b) (withMark f (E b .tail))) S (Idle Yes))
       (λ h. still b Close1 (Idle No) no-word refl tt tt) (closes b)
 
-  -- the slot of a claim's word
+  -- the slot of the act is that of the claim
   at-word : (t : Stamp) (m : ℕ) → t ≡ Word m → i ≡ indexOf f t → m % c ≡ i
-  at-word t m e at = sym (index-word c mark n (g .laws) m) ∙ ap (λ (z : Stamp). z .0 % mark) (sym e) ∙ sym at
+  at-word t m e at = sym (Stamps.word-slot c mark n g t m e) ∙ sym at
 
   at-lap : (t : Stamp) (m : ℕ) → t ≡ Word (m + c) → i ≡ indexOf f t → m % c ≡ i
-  at-lap t m e at = sym (add-mod-right m c) ∙ at-word t (m + c) e at
+  at-lap t m e at = sym (Stamps.lap-slot c mark n g t m e) ∙ sym at
 
   -- every act of a busy worker
   pub step : (b : Bool) (p : Place) (lose : Bool) → viewOf p .busy ≡ true → i ≡ spotOf f (viewOf p .held)

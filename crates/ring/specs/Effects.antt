@@ -8,7 +8,7 @@ use native.Mathlib.Omega.{arith}
 use native.Mathlib.Nat.{add-mod-right}
 use native.Mathlib.Decide.{ℕ-discrete}
 use Rattle.ring.specs.Upd.{upd, upd-at, upd-else, upd-same, choose}
-use Rattle.ring.specs.Ring.{Stage, Fill, Filled, Take, Grab, Swap, Swapped, Cell, Await, Hold, Hand, number, Mine, mine-one, Shared, Latest, Valued, HandOk, CellOk, View, ViewOk, Inv, Change, view-else, cell-else}
+use Rattle.ring.specs.Ring.{Stage, Fill, Filled, Take, Grab, Swap, Swapped, taking, Cell, Await, Hold, Hand, number, Mine, mine-one, Shared, Latest, Valued, HandOk, CellOk, View, ViewOk, Inv, Change, view-else, cell-else}
 
 -- Of worker w, at slot i.
 pub data Effect : Type 0 where
@@ -122,7 +122,7 @@ module _ (c : ℕ) where
   Fits s w i (Fills k a) = (s .cell i ≡ Hand Fill k w) × (a ≡ s .item k) × Latest (s .tailer) (s .tail) w k
   Fits s w i (Swaps k a) = (s .cell i ≡ Hand Swap k w) × (a ≡ s .item (k + c)) × Latest (s .tailer) (s .tail) w (k + c)
   Fits s w i (Frees k y) = Free s w i k y
-  Fits s w i (Gives k y v) = Free s w i k y × (k + c ≤ number y) × (v ≡ s .item k) × (k < s .tail) × Latest (s .taker) (s .head) w k
+  Fits s w i (Gives k y v) = (f : Free s w i k y) × (taking (f .0) ≡ true) × (k + c ≤ number y) × (v ≡ s .item k) × (k < s .tail) × Latest (s .taker) (s .head) w k
 
 -- a cell is in one hand, and what is loose in none
 hand-loose : (st : Stage) (k w : ℕ) (y : Cell) → Loose y → Hand st k w ≡ y → ⊥

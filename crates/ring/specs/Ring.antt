@@ -11,6 +11,15 @@ use native.Mathlib.Decide.{decLt}
 pub data Stage : Type 0 where
   Fill Filled Take Grab Swap Swapped : Stage
 
+-- by a head claim: the slot was full, and its stamp still says so
+abbrev pub taking : Stage → Bool
+taking Fill = false
+taking Filled = false
+taking Take = true
+taking Grab = true
+taking Swap = true
+taking Swapped = true
+
 -- A slot: it waits for tail claim k, holds the item of claim k, or is in the hand of a worker that works at claim k
 -- (of force_push: the claim whose item goes out; the item of k + c comes in).
 pub data Cell : Type 0 where
