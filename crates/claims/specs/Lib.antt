@@ -10,3 +10,4 @@ pub mod Runs
 pub mod Contents
 pub mod Plain
 pub mod Demand2
+pub mod Lens
