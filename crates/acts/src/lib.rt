@@ -173,14 +173,15 @@ fn f6(f: Fixed, e: Ends, s: Slot, t: Stamp, item: u64, lose: bool) -> Acted
     ensures { λ r. ⌜ r ≡ actF6 f e s t item lose ⌝ }
 {
     let found = e.head;
+    let lost = Place::P1(Kind::Force, item);
     if words::is_lap_before(f, found, t) {
         if lose {
-            stay(e, s, Place::P1(Kind::Force, item))
+            stay(e, s, lost)
         } else {
             stay(head_to_lap_before_next(f, e, t), s, Place::F7(t, item))
         }
     } else {
-        stay(e, s, Place::P1(Kind::Force, item))
+        stay(e, s, lost)
     }
 }
 
