@@ -18,7 +18,7 @@ use Rattle.machine.specs.Run.{ran, runFrom, runOf}
 use Rattle.machine.specs.History.{eventsOf, historyOf}
 use Rattle.machine.proofs.Kept.{of-unbroken}
 use Rattle.demands.specs.EverySchedule.{Allowed, machineAfter, actsOf, Demand2, UnderEverySchedule, ActByAct, WholeSchedules}
-use Rattle.claims.specs.Reached.{Reached, lapsOf, base-of, ring0, fresh-pictured, fresh-logged, entries}
+use Rattle.claims.specs.Reached.{Reached, lapsOf, base-of, ring0, fresh-pictured, fresh-logged, fresh-metered, entries}
 use Rattle.claims.specs.Pictured.{Base}
 use Rattle.claims.specs.Hands.{one-hand, reads-written}
 use Rattle.claims.specs.Answers.{true-answers, true-empty, true-full}
@@ -32,13 +32,16 @@ pub reached : (capacity workers : ℕ) → Allowed capacity workers → (s : Lis
 reached capacity workers a s =
     let base = base-of capacity workers a in
     entries capacity (lapsOf capacity) workers base s (freshOf capacity workers) [] 0
-    (record { ring = ring0; pictured = fresh-pictured capacity (lapsOf capacity) workers base (a .worker-some); logged = fresh-logged capacity })
+    (record { ring = ring0; pictured = fresh-pictured capacity (lapsOf capacity) workers base (a .worker-some); logged = fresh-logged capacity; metered = fresh-metered capacity workers })
 
 -- what a reached machine has behind it is the demand
 module _ (c n workers : ℕ) (base : Base c n workers) (m : Machine) (h : List Event) (r : Reached c n workers m h) where
-  demanded : Demand2 m h
+  demanded : Demand2 c workers m h
   demanded =
       record {
+        made = r .pictured .rule;
+        team = r .pictured .count;
+        meter = r .metered;
         unbroken = of-unbroken m (r .pictured .unbroken);
         plain = plainly c n workers base m h r;
         claim-rule = r .logged .rule;

@@ -7,7 +7,7 @@ use native.Mathlib.Omega.{arith}
 use native.Mathlib.Nat.{mod-eq-of-lt, mul-le-mul-left, div-mul-cancel}
 use native.Mathlib.Decide.{decLt, ℕ-discrete}
 use lib.Dec.{ltb, leb, eqb}
-use lib.ListN.{length, getD, set, replicate, length-set, length-replicate, getD-replicate}
+use lib.ListN.{length, getD, set, replicate, length-append, length-set, length-replicate, getD-replicate}
 use lib.Seq.{getD-set-same, getD-set-other}
 use borrow.Author.Tests.{eqb-true, eq-eqb, ne-eqb, le-leb, lt-ltb}
 use Rattle.words.specs.Limits.{slotsMost, workersMost, meterMost, wide}
@@ -206,11 +206,25 @@ fresh-logged c =
       once = λ earlier between later act again v u k e. absurd (nil-split (earlier ++ act ∷ between) again later e);
     }
 
+pub fresh-metered : (c workers : ℕ) → freshOf c workers .meter ≡ 0
+unfolding freshOf
+fresh-metered c workers = refl
+
+-- the meter rises with each act
+begun-meter : (m : Machine) (w : ℕ) (q : Place) → begun m w q .meter ≡ m .meter
+unfolding begun
+begun-meter m w q = refl
+
+acted-meter : (m : Machine) (w : ℕ) (p : Place) (lose : Bool) → acted m w p lose .meter ≡ m .meter + 1
+unfolding acted stored
+acted-meter m w p lose = refl
+
 -- What every reached machine has behind it.
 pub record Reached (c n workers : ℕ) (m : Machine) (h : List Event) : Type 0 where
   pub ring : Shared
   pub pictured : Pictured c n workers ring m
   pub logged : Logged c ring h
+  pub metered : m .meter ≡ length h
 
 module _ (c n workers : ℕ) (base : Base c n workers) where
   -- an accepted entry leads from one to the next
@@ -221,6 +235,7 @@ module _ (c n workers : ℕ) (base : Base c n workers) where
         ring = r .ring;
         pictured = begun-pictured c n workers base (r .ring) m (r .pictured) w l call idle;
         logged = rw (append-nil h) (r .logged);
+        metered = begun-meter m w (beginOf call) ∙ r .metered ∙ ap length (sym (append-nil h));
       }
   entered m h en next-machine acts r (did w lose l busy early) =
       let pic = r .pictured in
@@ -232,6 +247,9 @@ module _ (c n workers : ℕ) (base : Base c n workers) where
             rw (acted-stood c n workers base (r .ring) m pic w l lose busy)
             (logged-after c (r .ring) (pic .inv) w _ (spot-small c n workers base (r .ring) m pic w l lose busy) (st .effect) (st .fits) h (r .logged) (stood m w)
             (result c n workers base (r .ring) m pic w l lose busy .place) (st .tells) (st .writes) (alone c n workers base (r .ring) m pic w l lose busy) (holding c n workers base (r .ring) m pic w l lose busy));
+        metered =
+            acted-meter m w (stood m w) lose ∙ ap (λ (k : ℕ). k + 1) (r .metered)
+            ∙ sym (length-append h (event w (stood m w) (stood (acted m w (stood m w) lose) w) ∷ []));
       }
 
   one-entry : (m : Machine) (h : List Event) (first second : ℕ) → Reached c n workers m h → turnOf m first second .refusal ≡ 0

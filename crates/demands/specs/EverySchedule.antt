@@ -9,7 +9,7 @@ use lib.ListN.{length, getD, drop}
 use Rattle.words.specs.declared.Stamp.{Stamp}
 use Rattle.words.specs.declared.Fixed.{Fixed}
 use Rattle.words.specs.Limits.{slotsMost, workersMost, wide}
-use Rattle.words.specs.Words.{claim, indexOf, markedOf, unmarkedOf, lapBehind}
+use Rattle.words.specs.Words.{claim, fixedOf, indexOf, markedOf, unmarkedOf, lapBehind}
 use Rattle.places.specs.declared.Ends.{Ends}
 use Rattle.places.specs.declared.Answer.{Answer}
 use Rattle.places.specs.declared.Answer.the-variants.{Nothing, Pushed, Full, Closed, Displaced, Popped, Empty, PopClosed, Len, Yes, No}
@@ -220,7 +220,11 @@ valueAt m t = getD (m .ring .slots) (indexOf (m .ring .fixed) t) (slot 0 0) .val
 -- ---- the demand
 
 -- What holds of every machine that a schedule reaches from a fresh one, and of the acts behind it.
-pub record Demand2 (m : Machine) (h : List Event) : Type 0 where
+pub record Demand2 (capacity workers : ℕ) (m : Machine) (h : List Event) : Type 0 where
+  -- It is the machine that was made, and its meter counts the acts.
+  pub made : m .ring .fixed ≡ fixedOf capacity
+  pub team : m .count ≡ workers
+  pub meter : m .meter ≡ length h
   -- No machine so reached is broken, and no stamp wraps.
   pub unbroken : brokenOf m ≡ false
   pub plain : Plain m h
@@ -253,7 +257,8 @@ pub record Demand2 (m : Machine) (h : List Event) : Type 0 where
 -- Every capacity, every number of workers, every schedule.
 abbrev pub UnderEverySchedule : Type 0
 UnderEverySchedule =
-    (capacity workers : ℕ) → Allowed capacity workers → (s : List ℕ) → Demand2 (machineAfter capacity workers s) (actsOf capacity workers s)
+    (capacity workers : ℕ) → Allowed capacity workers → (s : List ℕ)
+    → Demand2 capacity workers (machineAfter capacity workers s) (actsOf capacity workers s)
 
 -- Each act is the one action that document 01 reads out of the source: of entries that are accepted, each is one turn of the
 -- definition, on the machine and on the history; and a schedule of whole entries is run so.
