@@ -230,7 +230,7 @@ module _ (c n workers : ℕ) (base : Base c n workers) (s : Shared) (m : Machine
         ∙ ap (λ (e : Ends). actOf (fixed c mark) e (getD (m .ring .slots) spot (slot 0 0)) p lose) (pic .ends)
         ∙ ap (λ (z : Slot). actOf (fixed c mark) (endsOf c mark n s (pic .shut)) z p lose) (pic .slots spot spot-small) in
         subst (Step c mark n s w spot (pic .shut) p) (sym same)
-        (step c mark n (base .ground) s (pic .inv) w spot spot-small (pic .shut) p lose busy at o (young-recent c mark n s w (first-turn c n workers base s m pic) (look c p) o))
+        (step c mark n (base .ground) s (pic .inv) w spot spot-small (pic .shut) p lose busy at o (young-recent c mark n s w (pic .inv .low) (first-turn c n workers base s m pic) (look c p) o))
 
     abbrev pub effect : Effect
     effect = stepped .effect

@@ -282,7 +282,7 @@ Unmoved w [] = Unit {0}
 Unmoved w (e ∷ h) = (e .worker ≢ w) × Unmoved w h
 
 -- Beside the demand: `len`'s count is true at its head load. The load is worker w's act on the machine after s; in the
--- entries t it does not act; its next act answers n.
+-- entries `rest` it does not act; its next act answers n.
 pub record LenAnswers (capacity workers : ℕ) (s : List ℕ) (w n : ℕ) : Type 0 where
   pub tail : Stamp
   pub loads : placeOf (machineAfter capacity workers s .workers) w ≡ Len2 tail

@@ -140,6 +140,25 @@ full (Await k) = false
 full (Hold k) = true
 full (Hand st k w) = taking st
 
+-- the end whose word a view is of
+abbrev pub endSeen : Shared → View → ℕ
+endSeen s (Tail t) = s .tail
+endSeen s (Head h) = s .head
+endSeen s (Awaits t) = s .tail
+endSeen s (Holds h) = s .head
+endSeen s (Forces h) = s .tail
+endSeen s (Owns st k) = s .tail
+endSeen s (Keeps st k a m) = s .tail
+
+end-most : (s : Shared) → s .head ≤ s .tail → (v : View) → endSeen s v ≤ s .tail
+end-most s le (Tail t) = omega arith
+end-most s le (Head h) = le
+end-most s le (Awaits t) = omega arith
+end-most s le (Holds h) = le
+end-most s le (Forces h) = omega arith
+end-most s le (Owns st k) = omega arith
+end-most s le (Keeps st k a m) = omega arith
+
 -- The ring's ends and slots as the machine has them, with so many laps to the width; the mark is outside the ring.
 module _ (c mark n : ℕ) where
   abbrev pub endsOf : Shared → Bool → Ends
@@ -157,22 +176,22 @@ module _ (c mark n : ℕ) where
   Stands s w (Counts t h) =
       (k : ℕ) × (b : Bool) × (j : ℕ) × (t ≡ tailWord c mark n k b) × (h ≡ W c mark n j) × (k ≤ s .tail) × (s .tail ≡ k → (j ≤ k) × (k ≤ j + c))
 
-  -- the claim number of the word that a worker holds of its end (of tail for len and is_full) is not too old: since it was
-  -- loaded or found, fewer claims were made than a turn less two capacities
+  -- The word that a worker holds of an end is not too old: since it was loaded or found, fewer claims were made at that end
+  -- than a turn less two capacities. Words of the width wrap; this is all that their tests ask.
   abbrev pub Recent : (s : Shared) (w : ℕ) (l : Look) → Stands s w l → Type 0
   Recent s w (Calm a) o = Unit {0}
-  Recent s w (Sees t v) o = s .tail + 2 * c < o .0 + n * c
-  Recent s w (Laps t v) o = s .tail + 2 * c < o .0 + c + n * c
+  Recent s w (Sees t v) o = endSeen s (v 0) + 2 * c < o .0 + n * c
+  Recent s w (Laps t v) o = endSeen s (v 0) + 2 * c < o .0 + c + n * c
   Recent s w (Tails t) o = s .tail + 2 * c < o .0 + n * c
   Recent s w (Counts t h) o = s .tail + 2 * c < o .0 + n * c
 
   -- in the first turn every word is recent
-  pub young-recent : (s : Shared) (w : ℕ) → s .tail + 2 * c < n * c → (l : Look) (o : Stands s w l) → Recent s w l o
-  young-recent s w y (Calm a) o = tt
-  young-recent s w y (Sees t v) o = omega arith
-  young-recent s w y (Laps t v) o = omega arith
-  young-recent s w y (Tails t) o = omega arith
-  young-recent s w y (Counts t h) o = omega arith
+  pub young-recent : (s : Shared) (w : ℕ) → s .head ≤ s .tail → s .tail + 2 * c < n * c → (l : Look) (o : Stands s w l) → Recent s w l o
+  young-recent s w le y (Calm a) o = tt
+  young-recent s w le y (Sees t v) o = omega (arith, end-most s le (v 0))
+  young-recent s w le y (Laps t v) o = omega (arith, end-most s le (v 0))
+  young-recent s w le y (Tails t) o = omega arith
+  young-recent s w le y (Counts t h) o = omega arith
 
   -- another's act leaves a worker where it stands
   pub stands-else : (s u : Shared) (w i : ℕ) → Inv c s → Course c s u w i → (j : ℕ) → j ≢ w → (l : Look) → Stands s j l → Stands u j l

@@ -83,9 +83,12 @@ module _ (c mark n : ℕ) (g : Ground c mark n) (s : Shared) (inv : Inv c s) (w 
   abbrev Word : ℕ → Stamp
   Word k = W c mark n k
 
-  -- the number of a word is no older than a turn less two capacities
+  -- the number of a word of tail, and of head, is no older than a turn less two capacities
   abbrev Late : ℕ → Type 0
   Late m = s .tail + 2 * c < m + n * c
+
+  abbrev LateHead : ℕ → Type 0
+  LateHead m = s .head + 2 * c < m + n * c
 
   turn : 3 * c ≤ n * c
   turn = turn-long c mark n (g .laws)
@@ -294,32 +297,30 @@ module _ (c mark n : ℕ) (g : Ground c mark n) (s : Shared) (inv : Inv c s) (w 
   lap-index : (m : ℕ) → m % c ≡ i → word c mark n (m + c) % mark ≡ i
   lap-index m at = index-word c mark n (g .laws) (m + c) ∙ add-mod-right m c ∙ at
 
-  f7 : (b : Bool) (m x : ℕ) → m % c ≡ i → ViewOk c s w (Owns Grab m) → Does b (F7 (Word (m + c)) x) (actF7 f (E b) S (Word (m + c)) x)
+  -- force_push's tail claim, whatever the act makes of the mark
+  forces : (b shut : Bool) (m x : ℕ) → m % c ≡ i → ViewOk c s w (Owns Grab m)
+      → Does b (F7 (Word (m + c)) x) (stay (tailTo (E b) (tailWord c mark n (m + c + 1) shut)) S (F8 (Word (m + c)) x))
   unfolding stay tailTo
-  f7 b m x at o =
+  forces b shut m x at o =
       let e = owned-here Grab m at o in
       let k = ok-at c s w i small inv (Hand Grab m w) e in
       let q : s .tail ≡ m + c = k .1 .1 in
       record {
         effect = Forced m x;
         fits = e;
-        shut = false;
-        ends = rw (Stamps.next-is c mark n g (m + c), q);
+        shut = shut;
+        ends = rw q;
         slot = rw (upd-same (s .cell) i (Hand Swap m w), e);
-        stands = (
-          m,
-          refl,
-          (
-            (rw at (upd-same (s .cell) i (Hand Swap m w)), (o .1, rw (← q) (newest (s .tailer) (s .tail)))),
-            omega arith,
-            rw (← q) (sym (upd-same (s .item) (s .tail) x)),
-          ),
-        );
+        stands =
+            (m, refl, ((rw at (upd-same (s .cell) i (Hand Swap m w)), (o .1, rw (← q) (newest (s .tailer) (s .tail)))), omega arith, rw (← q) (sym (upd-same (s .item) (s .tail) x))));
         tells = refl;
         truth = tt;
         grip = λ back z. (refl, lap-index m at);
         writes = tt;
       }
+
+  f7 : (b : Bool) (m x : ℕ) → m % c ≡ i → ViewOk c s w (Owns Grab m) → Does b (F7 (Word (m + c)) x) (actF7 f (E b) S (Word (m + c)) x)
+  f7 b m x at o = rw (Stamps.next-is c mark n g (m + c)) (forces b false m x at o)
 
   f8 : (b : Bool) (m x : ℕ) → m % c ≡ i → ViewOk c s w (Keeps Swap m x (m + c)) → Does b (F8 (Word (m + c)) x) (actF8 (E b) S (Word (m + c)) x)
   unfolding stay valueTo
@@ -359,7 +360,7 @@ module _ (c mark n : ℕ) (g : Ground c mark n) (s : Shared) (inv : Inv c s) (w 
         writes = tt;
       }
 
-  o2 : (b : Bool) (m : ℕ) → m % c ≡ i → m ≤ s .head → Late m → Does b (O2 (Word m)) (actO2 (E b) S (Word m))
+  o2 : (b : Bool) (m : ℕ) → m % c ≡ i → m ≤ s .head → LateHead m → Does b (O2 (Word m)) (actO2 (E b) S (Word m))
   o2 b m at le late =
       either (Does b (O2 (Word m))) (onePast (S .stamp) (Word m)) (stay (E b) S (O3 (Word m))) _
       (λ h. still b (O2 (Word m)) (O3 (Word m)) no-hand refl tt (m, refl, (le, holds h)))
@@ -390,7 +391,7 @@ module _ (c mark n : ℕ) (g : Ground c mark n) (s : Shared) (inv : Inv c s) (w 
         writes = tt;
       }
 
-  o3 : (b : Bool) (m : ℕ) (lose : Bool) → m % c ≡ i → ViewOk c s w (Holds m) → Late m → Does b (O3 (Word m)) (actO3 f (E b) S (Word m) lose)
+  o3 : (b : Bool) (m : ℕ) (lose : Bool) → m % c ≡ i → ViewOk c s w (Holds m) → LateHead m → Does b (O3 (Word m)) (actO3 f (E b) S (Word m) lose)
   o3 b m lose at o late =
       either (Does b (O3 (Word m))) (same (E b .head) (Word m)) _ (stay (E b) S (O2 (E b .head)))
       (λ h. either (Does b (O3 (Word m))) lose (stay (E b) S (O2 (Word m))) (stay (headTo (E b) (nextOf f (Word m))) S (O4 (Word m)))
@@ -441,7 +442,7 @@ module _ (c mark n : ℕ) (g : Ground c mark n) (s : Shared) (inv : Inv c s) (w 
         writes = tt;
       }
 
-  o6 : (b : Bool) (m : ℕ) → m ≤ s .head → Late m → Does b (O6 (Word m)) (actO6 f (E b) S (Word m))
+  o6 : (b : Bool) (m : ℕ) → m ≤ s .head → LateHead m → Does b (O6 (Word m)) (actO6 f (E b) S (Word m))
   o6 b m le late =
       either (Does b (O6 (Word m))) (same (unmarkedOf f (E b .tail)) (Word m)) _ (stay (E b) S O1)
       (λ h. either (Does b (O6 (Word m))) (markedOf f (E b .tail)) (stay (E b) S (Idle PopClosed)) (stay (E b) S (Idle Empty))
