@@ -1,6 +1,6 @@
 -- Demand 2, "under EVERY schedule": claims, hands, and answers that are true. Said of the machine's own struct, of the
--- words of a schedule and of the history of its acts. Proofs: crate claims, `demand2` of specs/Demand2.antt.
-use Prim.Native.Nat.{ℕ, _+_, _-_, _*_, _/_, _%_, _≤_, _<_}
+-- words of a schedule and of the history of its acts. Proofs: crate claims, `demand2` of proofs/Demand2.antt.
+use Prim.Native.Nat.{ℕ, _+_, _*_, _/_, _%_, _≤_, _<_}
 use mathlib.Core.Bool.{Bool, true, false, cond}
 use mathlib.Core.List.{List, [], _∷_, _++_}
 use mathlib.Core.Path.{_≡_}

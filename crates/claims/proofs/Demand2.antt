@@ -1,8 +1,8 @@
 -- Demand 2, proved.
-use mathlib.Core.Path.{_≡_, refl, sym, ap, _∙_, subst}
-use mathlib.Core.Bool.{Bool, true, false, cond}
-use mathlib.Core.List.{List, [], _∷_, _++_, append-nil}
-use Prim.Native.Nat.{ℕ, _+_, _%_, _≤_, _<_}
+use mathlib.Core.Path.{_≡_, sym, ap, _∙_}
+use mathlib.Core.Bool.{true, false}
+use mathlib.Core.List.{List, [], _∷_, append-nil}
+use Prim.Native.Nat.{ℕ, _%_}
 use native.Mathlib.Omega.{arith}
 use lib.Dec.{eqb}
 use lib.ListN.{length}
@@ -18,13 +18,13 @@ use Rattle.machine.specs.Run.{ran, runFrom, runOf}
 use Rattle.machine.specs.History.{eventsOf, historyOf}
 use Rattle.machine.proofs.Kept.{of-unbroken}
 use Rattle.demands.specs.EverySchedule.{Allowed, machineAfter, actsOf, Demand2, UnderEverySchedule, ActByAct, WholeSchedules}
-use Rattle.claims.specs.Reached.{Reached, lapsOf, base-of, ring0, fresh-pictured, fresh-logged, fresh-metered, entries}
-use Rattle.claims.specs.Pictured.{Base}
-use Rattle.claims.specs.Hands.{one-hand, reads-written}
-use Rattle.claims.specs.Answers.{true-answers, true-empty, true-full}
-use Rattle.claims.specs.Runs.{onward}
-use Rattle.claims.specs.Contents.{count-in, stock-is, contents-are}
-use Rattle.claims.specs.Plain.{plainly}
+use Rattle.claims.proofs.Reached.{Reached, lapsOf, base-of, ring0, fresh-pictured, fresh-logged, fresh-metered, entries}
+use Rattle.claims.proofs.Pictured.{Base}
+use Rattle.claims.proofs.Hands.{one-hand, reads-written}
+use Rattle.claims.proofs.Answers.{true-answers, true-empty, true-full}
+use Rattle.claims.proofs.Runs.{onward}
+use Rattle.claims.proofs.Contents.{count-in, stock-is, contents-are}
+use Rattle.claims.proofs.Plain.{plainly}
 
 -- every schedule
 pub reached : (capacity workers : ℕ) → Allowed capacity workers → (s : List ℕ)

@@ -2,16 +2,14 @@
 use mathlib.Core.Path.{_≡_, refl, sym, ap, _∙_, subst}
 use mathlib.Core.Logic.{_≢_}
 use mathlib.Core.Bool.{Bool, true, false, cond, true≢false}
-use mathlib.Core.List.{List, [], _∷_, _++_, append-assoc}
-use Prim.Native.Nat.{ℕ, zero, suc, _+_, _*_, _-_, _≤_, _<_}
+use mathlib.Core.List.{List, [], _∷_, _++_}
+use Prim.Native.Nat.{ℕ, _+_, _*_, _-_, _≤_}
 use native.Mathlib.Omega.{arith}
-use native.Mathlib.Decide.{ℕ-discrete}
 use lib.Dec.{eqb}
-use lib.ListN.{length, getD, length-append}
+use lib.ListN.{length, length-append}
 use lib.Seq.{getD-set-other}
 use borrow.Author.Tests.{eqb-true}
 use Rattle.words.specs.declared.Stamp.{Stamp}
-use Rattle.words.specs.declared.Fixed.{Fixed}
 use Rattle.words.specs.Words.{markOf, same}
 use Rattle.places.specs.declared.Ends.{Ends}
 use Rattle.places.specs.declared.Slot.{Slot}
@@ -23,27 +21,24 @@ use Rattle.places.specs.declared.Order.the-variants.{Act}
 use Rattle.places.specs.declared.Entry.{Entry}
 use Rattle.places.specs.declared.Entry.the-variants.{Asks}
 use Rattle.places.specs.Places.{viewOf, entryOf, beginOf}
-use Rattle.acts.specs.declared.Acted.{Acted}
-use Rattle.acts.specs.Acts.{stay, actOf, actLen3, countOf}
+use Rattle.acts.specs.Acts.{stay, countOf}
 use Rattle.machine.specs.declared.Machine.{Machine}
 use Rattle.machine.specs.declared.Event.{Event}
-use Rattle.machine.specs.Machine.{idler, placeOf}
-use Rattle.machine.specs.Turn.{turnOf, begun, acted, stored, spotOf}
+use Rattle.machine.specs.Machine.{idler}
+use Rattle.machine.specs.Turn.{turnOf, begun, acted, stored}
 use Rattle.machine.specs.Run.{ran, runFrom}
-use Rattle.machine.specs.History.{event, eventsOf, historyOf, movedOf, stockOf}
-use Rattle.machine.proofs.Kept.{either}
-use Rattle.demands.specs.EverySchedule.{Allowed, machineAfter, actsOf, Acts, Unmoved, LenAnswers, LenTrue, tally, tailBy, tailersOf}
-use Rattle.ring.specs.Width.{Near}
-use Rattle.ring.specs.Ring.{Shared}
-use Rattle.picture.specs.Stamps.{fixed, W, tailWord, tails-one}
-use Rattle.picture.specs.Sight.{look, endsOf, Stands}
-use Rattle.claims.specs.Turns.{Turned, began, did, turned, stood}
-use Rattle.claims.specs.Counts.{count-is}
-use Rattle.claims.specs.Pictured.{Base, Pictured, first-turn}
-use Rattle.claims.specs.Reached.{Reached, entered, entries, lapsOf, base-of}
-use Rattle.claims.specs.Answers.{Done, acts-done, leads}
-use Rattle.claims.specs.Contents.{stock-is}
-use Rattle.claims.specs.Demand2.{reached}
+use Rattle.machine.specs.History.{event, eventsOf, historyOf, movedOf}
+use Rattle.demands.specs.EverySchedule.{machineAfter, actsOf, Acts, Unmoved, LenTrue, tailBy, tailersOf}
+use Rattle.ring.proofs.Width.{Near}
+use Rattle.picture.proofs.Stamps.{fixed, W, tailWord, tails-one}
+use Rattle.picture.proofs.Sight.{look, endsOf, Stands}
+use Rattle.claims.proofs.Turns.{Turned, began, did, turned, stood}
+use Rattle.claims.proofs.Counts.{count-is}
+use Rattle.claims.proofs.Pictured.{Base, first-turn}
+use Rattle.claims.proofs.Reached.{Reached, entered, entries, lapsOf, base-of}
+use Rattle.claims.proofs.Answers.{Done, acts-done, leads}
+use Rattle.claims.proofs.Contents.{stock-is}
+use Rattle.claims.proofs.Demand2.{reached}
 
 unmoved-split : (w : ℕ) (a b : List Event) → Unmoved w (a ++ b) → Unmoved w a × Unmoved w b
 unmoved-split w [] b o = (tt, o)

@@ -1,10 +1,9 @@
 -- Document 01's functions and tests on words, read as claim numbers.
 use mathlib.Core.Path.{_≡_, refl, sym, ap, _∙_}
-use mathlib.Core.Logic.{_≢_}
 use mathlib.Core.Bool.{Bool, true, false, cond}
-use Prim.Native.Nat.{ℕ, _+_, _*_, _-_, _/_, _%_, _^_, _≤_, _<_}
+use Prim.Native.Nat.{ℕ, _+_, _*_, _-_, _/_, _%_, _≤_, _<_}
 use native.Mathlib.Omega.{arith}
-use native.Mathlib.Nat.{mod-lt, mod-eq-of-lt, add-mod-right}
+use native.Mathlib.Nat.{mod-eq-of-lt, add-mod-right}
 use native.Mathlib.Decide.{decLt}
 use lib.Dec.{ltb, eqb}
 use borrow.Author.Tests.{lt-ltb, le-ltb, eq-eqb, ne-eqb, eqb-true, eqb-false}
@@ -12,7 +11,7 @@ use Rattle.words.specs.declared.Stamp.{Stamp}
 use Rattle.words.specs.declared.Fixed.{Fixed}
 use Rattle.words.specs.Limits.{wide}
 use Rattle.words.specs.Words.{stamp, indexOf, markedOf, unmarkedOf, plus, minus, withMark, nextOf, same, onePast, lapBehind, lapBehindOnePast}
-use Rattle.ring.specs.Width.{word, Wide, Near, below, index-word, index-marked, clear-word, set-word, marked-below, lap-word, lap-full, lap-back, next-within, next-over, word-one, word-odd}
+use Rattle.ring.proofs.Width.{word, Wide, Near, below, index-word, index-marked, clear-word, set-word, marked-below, lap-word, lap-full, lap-back, next-within, next-over, word-one, word-odd}
 
 -- The constants of a ring, with so many laps to the width.
 pub record Ground (c mark n : ℕ) : Type 0 where

@@ -1,15 +1,14 @@
 -- What an accepted entry did: a call begun, or one act.
-use mathlib.Core.Path.{_≡_, refl, sym, ap, _∙_, subst}
-use mathlib.Core.Bool.{Bool, true, false, cond, true≢false}
+use mathlib.Core.Path.{_≡_}
+use mathlib.Core.Bool.{Bool, true, false, cond}
 use mathlib.Core.List.{List, [], _∷_}
-use Prim.Native.Nat.{ℕ, zero, suc, _+_, _≤_, _<_}
+use Prim.Native.Nat.{ℕ, _<_}
 use native.Mathlib.Omega.{arith}
-use lib.Dec.{ltb, eqb}
+use lib.Dec.{ltb}
 use borrow.Author.Tests.{ltb-true}
 use Rattle.words.specs.Limits.{meterMost}
 use Rattle.places.specs.declared.Place.{Place}
 use Rattle.places.specs.declared.Call.{Call}
-use Rattle.places.specs.declared.Order.{Order}
 use Rattle.places.specs.declared.Order.the-variants.{Begin, Act}
 use Rattle.places.specs.declared.Entry.{Entry}
 use Rattle.places.specs.declared.Entry.the-variants.{Unreadable, Asks}

@@ -1,22 +1,20 @@
 -- Where a worker stands, in claims: of each place the word it holds and what the number of that word stands for.
-use mathlib.Core.Path.{_≡_, refl, sym, ap, _∙_}
+use mathlib.Core.Path.{_≡_, ap}
 use mathlib.Core.Logic.{_≢_}
-use mathlib.Core.Bool.{Bool, true, false, cond}
+use mathlib.Core.Bool.{Bool, true, false}
 use Prim.Native.Nat.{ℕ, _+_, _*_, _%_, _≤_, _<_}
 use native.Mathlib.Omega.{arith}
 use Rattle.words.specs.declared.Stamp.{Stamp}
-use Rattle.words.specs.Words.{stamp, indexOf}
+use Rattle.words.specs.Words.{stamp}
 use Rattle.places.specs.declared.Slot.{Slot}
 use Rattle.places.specs.declared.Ends.{Ends}
 use Rattle.places.specs.declared.Answer.{Answer}
 use Rattle.places.specs.declared.Answer.the-variants.{Nothing, Pushed, Full, Closed, Displaced, Popped, Empty, PopClosed, Len, Yes, No}
 use Rattle.places.specs.declared.Place.{Place}
 use Rattle.places.specs.declared.Place.the-variants.{Idle, P1, P2, P3, P4, P5, P6, F6, F7, F8, F9, O1, O2, O3, O4, O5, O6, Len1, Len2, Len3, Empty1, Empty2, Full1, Full2, Close1, IsClosed1}
-use Rattle.places.specs.declared.Held.the-variants as held
-use Rattle.places.specs.Places.{viewOf}
-use Rattle.ring.specs.Ring.{Stage, Fill, Filled, Take, Grab, Swap, Swapped, taking, Cell, Await, Hold, Hand, number, Shared, View, Tail, Head, Awaits, Holds, Forces, Owns, Keeps, ViewOk, CellOk, Inv}
-use Rattle.ring.specs.Effects.{Effect, Still, Tailed, Taken, Grabbed, Forced, Fills, Swaps, Frees, Gives, Course, view-course, tail-course, head-course}
-use Rattle.picture.specs.Stamps.{W, tailWord, slotWord, fixed}
+use Rattle.ring.proofs.Ring.{Fill, Filled, Take, Grab, Swap, Swapped, taking, Cell, Await, Hold, Hand, number, Shared, View, Tail, Head, Awaits, Holds, Forces, Owns, Keeps, ViewOk, CellOk, Inv}
+use Rattle.ring.proofs.Effects.{Effect, Still, Tailed, Taken, Grabbed, Forced, Fills, Swaps, Frees, Gives, Course, view-course, tail-course}
+use Rattle.picture.proofs.Stamps.{W, tailWord, slotWord}
 
 pub data Look : Type 0 where
   -- no word; idle, with its answer

@@ -2,13 +2,13 @@
 -- invariant and leaves the other workers what they rely on.
 use mathlib.Core.Path.{_≡_, refl, sym, ap, _∙_, subst}
 use mathlib.Core.Logic.{_≢_}
-use mathlib.Core.Bool.{Bool, true, false}
+use mathlib.Core.Bool.{Bool, true}
 use Prim.Native.Nat.{ℕ, _+_, _%_, _≤_, _<_}
 use native.Mathlib.Omega.{arith}
 use native.Mathlib.Nat.{add-mod-right}
 use native.Mathlib.Decide.{ℕ-discrete}
-use Rattle.ring.specs.Upd.{upd, upd-at, upd-else, upd-same, choose}
-use Rattle.ring.specs.Ring.{Stage, Fill, Filled, Take, Grab, Swap, Swapped, taking, Cell, Await, Hold, Hand, number, Mine, mine-one, Shared, Latest, Valued, HandOk, CellOk, View, ViewOk, Inv, Change, view-else, cell-else}
+use Rattle.ring.proofs.Upd.{upd, upd-at, upd-else, upd-same}
+use Rattle.ring.proofs.Ring.{Stage, Fill, Filled, Take, Grab, Swap, Swapped, taking, Cell, Await, Hold, Hand, number, Mine, Shared, Latest, CellOk, View, ViewOk, Inv, Change, view-else, cell-else}
 
 -- Of worker w, at slot i.
 pub data Effect : Type 0 where
@@ -82,10 +82,6 @@ view-course c s u w i inv (moved d) j n v o = view-else c s u w i inv d j n v o
 pub tail-course : (c : ℕ) (s u : Shared) (w i : ℕ) → Course c s u w i → s .tail ≤ u .tail
 tail-course c s u w i (same e) = rw e (omega arith)
 tail-course c s u w i (moved d) = d .tailUp
-
-pub head-course : (c : ℕ) (s u : Shared) (w i : ℕ) → Course c s u w i → s .head ≤ u .head
-head-course c s u w i (same e) = rw e (omega arith)
-head-course c s u w i (moved d) = d .headUp
 
 -- the numbers of a slot never fall
 pub number-course : (c : ℕ) (s u : Shared) (w i : ℕ) → Course c s u w i → (m : ℕ) → number (s .cell m) ≤ number (u .cell m)

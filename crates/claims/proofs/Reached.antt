@@ -1,43 +1,41 @@
 -- Every machine that a schedule reaches from a fresh one is the picture of a ring, and its history is that ring's.
-use mathlib.Core.Path.{_≡_, refl, sym, ap, _∙_, subst}
+use mathlib.Core.Path.{_≡_, refl, sym, ap, _∙_}
 use mathlib.Core.Bool.{Bool, true, false, cond, true≢false}
 use mathlib.Core.List.{List, [], _∷_, _++_, append-assoc, append-nil}
-use Prim.Native.Nat.{ℕ, zero, suc, _+_, _*_, _-_, _/_, _%_, _^_, _≤_, _<_}
+use Prim.Native.Nat.{ℕ, zero, suc, _+_, _*_, _/_, _%_, _≤_, _<_}
 use native.Mathlib.Omega.{arith}
 use native.Mathlib.Nat.{mod-eq-of-lt, mul-le-mul-left, div-mul-cancel}
 use native.Mathlib.Decide.{decLt, ℕ-discrete}
-use lib.Dec.{ltb, leb, eqb}
-use lib.ListN.{length, getD, set, replicate, length-append, length-set, length-replicate, getD-replicate}
+use lib.Dec.{ltb, eqb}
+use lib.ListN.{length, getD, set, replicate, length-append, length-set, length-replicate}
 use lib.Seq.{getD-set-same, getD-set-other}
 use borrow.Author.Tests.{eqb-true, eq-eqb, ne-eqb, le-leb, lt-ltb}
 use Rattle.words.specs.Limits.{slotsMost, workersMost, meterMost, wide}
 use Rattle.words.specs.Words.{stamp, markOf, lapOf, fixedOf, markedOf, indexOf}
 use Rattle.words.proofs.Marks.{Ruled, ruled}
-use Rattle.words.proofs.Fits.{Plain}
 use Rattle.places.specs.declared.Slot.{Slot}
 use Rattle.places.specs.declared.Place.{Place}
 use Rattle.places.specs.declared.Place.the-variants.{Idle}
 use Rattle.places.specs.declared.Answer.the-variants.{Nothing}
 use Rattle.places.specs.declared.Worker.{Worker}
 use Rattle.places.specs.declared.Entry.{Entry}
-use Rattle.places.specs.Places.{viewOf, inside, entryOf, beginOf}
+use Rattle.places.specs.Places.{inside, entryOf, beginOf}
 use Rattle.machine.specs.declared.Machine.{Machine}
 use Rattle.machine.specs.declared.Event.{Event}
-use Rattle.machine.specs.Machine.{slot, emptySlots, stamped, freshSlots, idler, idlers, starts, machineOf, freshOf, placeOf}
-use Rattle.machine.specs.Broken.{inLimits, byRule, endsFit, recordFits, brokenOf}
-use Rattle.machine.specs.Turn.{turn, turnOf, begun, acted, stored}
+use Rattle.machine.specs.Machine.{slot, emptySlots, stamped, freshSlots, idler, idlers, starts, freshOf}
+use Rattle.machine.specs.Broken.{inLimits, byRule, endsFit, recordFits}
+use Rattle.machine.specs.Turn.{turnOf, begun, acted, stored}
 use Rattle.machine.specs.Run.{ran, runFrom}
 use Rattle.machine.specs.History.{event, eventsOf, historyOf, tallyOf}
 use Rattle.machine.proofs.Kept.{Unbroken, ends-of}
 use Rattle.demands.specs.EverySchedule.{Allowed, start, itemsOf, tailersOf, takersOf}
-use Rattle.ring.specs.Width.{Wide, word, word-first}
-use Rattle.ring.specs.Ring.{Cell, Await, Shared, Inv}
-use Rattle.picture.specs.Stamps.{Ground, fixed, W, tailWord, index-tail, marked-tail}
-use Rattle.picture.specs.Sight.{look, endsOf, slotOf, Stands}
-use Rattle.claims.specs.Turns.{Turned, began, did, turned, stood}
-use Rattle.claims.specs.Pictured.{Base, Pictured, begun-pictured, acted-pictured, stepped, effect, spot, spot-small, next, result, acted-stood, alone, holding}
-use Rattle.claims.specs.Logged.{Lists, Logged, logged-after}
-use Rattle.claims.specs.Lists.{Listed}
+use Rattle.ring.proofs.Width.{word, word-first}
+use Rattle.ring.proofs.Ring.{Await, Shared}
+use Rattle.picture.proofs.Stamps.{fixed, tailWord, index-tail, marked-tail}
+use Rattle.picture.proofs.Sight.{endsOf}
+use Rattle.claims.proofs.Turns.{Turned, began, did, turned, stood}
+use Rattle.claims.proofs.Pictured.{Base, Pictured, begun-pictured, acted-pictured, stepped, effect, spot-small, next, result, acted-stood, alone, holding}
+use Rattle.claims.proofs.Logged.{Logged, logged-after}
 
 -- how many laps there are to the width
 pub lapsOf : ℕ → ℕ
@@ -69,7 +67,7 @@ base-of c workers a =
         go : Dec (meterMost + 2 * slotsMost < wide / (2 * markOf c)) → meterMost + 2 * slotsMost < wide / (2 * markOf c)
         go (yes l) = l
         go (no z) =
-            let small : 2 * markOf c ≤ 1026 = omega (arith, r .small) in
+            let small : 2 * markOf c ≤ 4 * (slotsMost + 1) = omega (arith, r .small) in
             absurd (omega (arith, mul-le-mul-left (wide / (2 * markOf c)) small, whole))
 
 -- The fresh machine.

@@ -1,11 +1,10 @@
 -- No slot is in two hands, and what is read was written for that claim.
 use mathlib.Core.Path.{_≡_, refl, sym, ap, _∙_, subst}
-use mathlib.Core.Bool.{Bool, true, false}
-use mathlib.Core.List.{List, [], _∷_, _++_}
-use Prim.Native.Nat.{ℕ, _+_, _*_, _%_, _≤_, _<_}
+use mathlib.Core.List.{List}
+use Prim.Native.Nat.{ℕ, _%_}
 use native.Mathlib.Omega.{arith}
-use native.Mathlib.Nat.{mod-lt, add-mod-right}
-use lib.ListN.{length, getD}
+use native.Mathlib.Nat.{mod-lt}
+use lib.ListN.{getD}
 use Rattle.words.specs.declared.Stamp.{Stamp}
 use Rattle.words.specs.declared.Fixed.{Fixed}
 use Rattle.words.specs.Words.{markOf, indexOf}
@@ -15,15 +14,13 @@ use Rattle.machine.specs.declared.Machine.{Machine}
 use Rattle.machine.specs.declared.Event.{Event}
 use Rattle.machine.specs.Machine.{slot}
 use Rattle.demands.specs.EverySchedule.{InHand, handP4, handP5, handF7, handF8, handF9, handO4, handO5, Reads, readO4, readF8, valueAt, takersOf, LatestIn, ItemIn, WrittenIn}
-use Rattle.ring.specs.Width.{word, index-word}
-use Rattle.ring.specs.Ring.{Stage, Fill, Filled, Take, Grab, Swap, Swapped, Cell, Hand, Mine, mine-one, Shared, Latest, Valued, Inv, CellOk}
-use Rattle.picture.specs.Stamps.{Ground, fixed, W, word-slot, lap-slot}
-use Rattle.picture.specs.Sight.{look, Stands}
-use Rattle.claims.specs.Turns.{stood}
-use Rattle.claims.specs.Lists.{latest-in}
-use Rattle.claims.specs.Pictured.{Base, Pictured}
-use Rattle.claims.specs.Logged.{Logged}
-use Rattle.claims.specs.Reached.{Reached}
+use Rattle.ring.proofs.Ring.{Stage, Fill, Filled, Take, Grab, Swap, Swapped, Cell, Hand, Mine, mine-one, Shared, Latest, Valued, Inv, CellOk}
+use Rattle.picture.proofs.Stamps.{Ground, fixed, word-slot, lap-slot}
+use Rattle.picture.proofs.Sight.{look, Stands}
+use Rattle.claims.proofs.Turns.{stood}
+use Rattle.claims.proofs.Lists.{latest-in}
+use Rattle.claims.proofs.Pictured.{Base}
+use Rattle.claims.proofs.Reached.{Reached}
 
 module _ (c n : ℕ) (g : Ground c (markOf c) n) where
   mine-at : (s : Shared) (w i k : ℕ) (st : Stage) → i ≡ k % c → s .cell (k % c) ≡ Hand st k w → Mine w (s .cell i)

@@ -1,15 +1,14 @@
 -- The ring's counts, items and workers are those of the history, and the claim rule holds along it.
 use mathlib.Core.Path.{_≡_, refl, sym, ap, _∙_, subst}
 use mathlib.Core.Logic.{_≢_, _⊎_, inl, inr}
-use mathlib.Core.Bool.{Bool, true, false, true≢false}
+use mathlib.Core.Bool.{true, true≢false}
 use mathlib.Core.List.{List, [], _∷_, _++_, append-assoc, append-nil}
-use Prim.Native.Nat.{ℕ, zero, suc, _+_, _*_, _%_, _≤_, _<_}
+use Prim.Native.Nat.{ℕ, suc, _+_, _%_, _≤_, _<_}
 use native.Mathlib.Omega.{arith}
 use native.Mathlib.Decide.{ℕ-discrete}
 use lib.ListN.{length, getD, drop, length-append}
 use lib.Seq.{drop-append-le, drop-cons}
 use Rattle.places.specs.Places.{viewOf}
-use Rattle.places.specs.declared.Answer.{Answer}
 use Rattle.places.specs.declared.Answer.the-variants.{Nothing, Pushed, Full, Closed, Displaced, Popped, Empty, PopClosed, Len, Yes, No}
 use Rattle.places.specs.declared.Place.{Place}
 use Rattle.places.specs.declared.Place.the-variants.{Idle, P1, P2, P3, P4, P5, P6, F6, F7, F8, F9, O1, O2, O3, O4, O5, O6, Len1, Len2, Len3, Empty1, Empty2, Full1, Full2, Close1, IsClosed1}
@@ -17,14 +16,14 @@ use Rattle.machine.specs.declared.Event.{Event}
 use Rattle.machine.specs.declared.Moved.{Moved}
 use Rattle.machine.specs.declared.Moved.the-variants as end
 use Rattle.machine.specs.History.{event, movedOf}
-use Rattle.demands.specs.EverySchedule.{HandsOut, popped, displaced, Writes, itemIn, tailBy, headBy, itemsOf, tailersOf, takersOf, LatestIn, ItemIn, WrittenIn, Unanswered, CallClaim, tally, waiting, Fifo, start, enqueue, dequeue, rest}
-use Rattle.ring.specs.Upd.{upd, upd-at, upd-else, upd-same}
-use Rattle.ring.specs.Ring.{Stage, Fill, Filled, Take, Grab, Swap, Swapped, taking, Cell, Hold, Hand, Mine, number, Shared, Latest, Inv, CellOk}
-use Rattle.ring.specs.Effects.{Effect, Still, Tailed, Taken, Grabbed, Forced, Fills, Swaps, Frees, Gives, after, Fits, Loose, loose-mine, Course, same, moved, course, tail-course, cell-course, number-course, ok-at}
-use Rattle.picture.specs.Sight.{Look, look, Tale, Quiet, Heading, Tailing, Giving, tale, told}
-use Rattle.picture.specs.Steps.{WritesBy}
-use Rattle.claims.specs.Counts.{tally-head}
-use Rattle.claims.specs.Lists.{Last, Earlier, split-end, Listed, listed-same, listed-more, latest-in, latest-one}
+use Rattle.demands.specs.EverySchedule.{HandsOut, popped, displaced, Writes, itemIn, tailBy, headBy, itemsOf, tailersOf, takersOf, LatestIn, ItemIn, WrittenIn, Unanswered, CallClaim, waiting, Fifo, enqueue, dequeue, rest}
+use Rattle.ring.proofs.Upd.{upd-else, upd-same}
+use Rattle.ring.proofs.Ring.{Stage, Fill, Filled, Take, Grab, Swap, Swapped, taking, Hold, Hand, Mine, number, Shared, Latest, Inv}
+use Rattle.ring.proofs.Effects.{Effect, Still, Tailed, Taken, Grabbed, Forced, Fills, Swaps, Frees, Gives, after, Fits, loose-mine, Course, same, moved, course, tail-course, cell-course, number-course, ok-at}
+use Rattle.picture.proofs.Sight.{look, Tale, Quiet, Heading, Tailing, Giving, tale, told}
+use Rattle.picture.proofs.Steps.{WritesBy}
+use Rattle.claims.proofs.Counts.{tally-head}
+use Rattle.claims.proofs.Lists.{Last, Earlier, split-end, Listed, listed-same, listed-more, latest-in, latest-one}
 
 -- what a tale adds to the lists of a history
 abbrev itemsBy : Tale → List ℕ

@@ -1,19 +1,17 @@
 -- A machine as the picture of a ring over claim numbers; a call begun and every act keep it one.
 use mathlib.Core.Path.{_≡_, refl, sym, ap, _∙_, subst}
 use mathlib.Core.Logic.{_≢_}
-use mathlib.Core.Bool.{Bool, true, false, cond, true≢false}
-use mathlib.Core.List.{List, [], _∷_}
-use Prim.Native.Nat.{ℕ, zero, suc, _+_, _*_, _-_, _%_, _≤_, _<_}
+use mathlib.Core.Bool.{Bool, true, false, true≢false}
+use mathlib.Core.List.{List}
+use Prim.Native.Nat.{ℕ, _+_, _*_, _≤_, _<_}
 use native.Mathlib.Omega.{arith}
 use native.Mathlib.Nat.{mul-le-mul-right}
 use native.Mathlib.Decide.{ℕ-discrete}
 use lib.ListN.{length, getD, set, length-set}
 use lib.Seq.{getD-set-same, getD-set-other}
-use Rattle.words.specs.declared.Stamp.{Stamp}
 use Rattle.words.specs.declared.Fixed.{Fixed}
 use Rattle.words.specs.Limits.{slotsMost, workersMost, meterMost}
-use Rattle.words.specs.Words.{markOf, indexOf}
-use Rattle.words.proofs.Fits.{Plain}
+use Rattle.words.specs.Words.{markOf}
 use Rattle.places.specs.declared.Slot.{Slot}
 use Rattle.places.specs.declared.Ends.{Ends}
 use Rattle.places.specs.declared.Answer.{Answer}
@@ -32,12 +30,12 @@ use Rattle.machine.specs.declared.Machine.{Machine}
 use Rattle.machine.specs.Machine.{slot, placeOf, idler}
 use Rattle.machine.specs.Turn.{spotOf, begun, stored, acted}
 use Rattle.machine.proofs.Kept.{Unbroken, begun-unbroken, acted-unbroken, word-fits-in, fits-plain}
-use Rattle.ring.specs.Ring.{Cell, Mine, Shared, Inv}
-use Rattle.ring.specs.Effects.{Effect, Still, Tailed, Taken, Grabbed, Forced, Fills, Swaps, Frees, Gives, after, Course, course, inv-after, mine-after, cell-course, val-course}
-use Rattle.picture.specs.Stamps.{Ground, fixed}
-use Rattle.picture.specs.Sight.{Look, Calm, look, HandAt, endsOf, slotOf, Stands, young-recent, stands-else}
-use Rattle.picture.specs.Steps.{Step, step}
-use Rattle.claims.specs.Turns.{stood}
+use Rattle.ring.proofs.Ring.{Mine, Shared, Inv}
+use Rattle.ring.proofs.Effects.{Effect, Still, Tailed, Taken, Grabbed, Forced, Fills, Swaps, Frees, Gives, after, Course, course, inv-after, mine-after, cell-course, val-course}
+use Rattle.picture.proofs.Stamps.{Ground, fixed}
+use Rattle.picture.proofs.Sight.{Calm, look, HandAt, endsOf, slotOf, Stands, young-recent, stands-else}
+use Rattle.picture.proofs.Steps.{Step, step}
+use Rattle.claims.proofs.Turns.{stood}
 
 -- The constants: a ring by rule, its words so wide that the meter ends long before a turn.
 pub record Base (c n workers : ℕ) : Type 0 where

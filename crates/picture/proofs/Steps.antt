@@ -1,37 +1,34 @@
 -- Each act of document 01's tables is an effect on the ring, and leaves its worker where the table says.
-use mathlib.Core.Path.{_≡_, refl, sym, ap, _∙_, subst}
-use mathlib.Core.Logic.{_≢_}
+use mathlib.Core.Path.{_≡_, refl, sym, ap, _∙_}
 use mathlib.Core.Bool.{Bool, true, false, cond, true≢false}
-use Prim.Native.Nat.{ℕ, _+_, _*_, _-_, _%_, _≤_, _<_}
+use Prim.Native.Nat.{ℕ, _+_, _*_, _%_, _≤_, _<_}
 use native.Mathlib.Omega.{arith}
-use native.Mathlib.Nat.{mod-lt, add-mod-right}
-use lib.Dec.{eqb}
+use native.Mathlib.Nat.{add-mod-right}
 use borrow.Author.Tests.{eqb-true}
 use Rattle.words.specs.declared.Stamp.{Stamp}
 use Rattle.words.specs.declared.Fixed.{Fixed}
-use Rattle.words.specs.Words.{stamp, indexOf, markedOf, unmarkedOf, plus, minus, withMark, nextOf, same, onePast, lapBehind, lapBehindOnePast}
+use Rattle.words.specs.Words.{stamp, indexOf, markedOf, unmarkedOf, minus, withMark, nextOf, same, onePast, lapBehind, lapBehindOnePast}
 use Rattle.places.specs.declared.Slot.{Slot}
 use Rattle.places.specs.declared.Ends.{Ends}
 use Rattle.places.specs.declared.Kind.{Kind}
 use Rattle.places.specs.declared.Kind.the-variants.{Push, Force}
-use Rattle.places.specs.declared.Answer.{Answer}
-use Rattle.places.specs.declared.Answer.the-variants.{Nothing, Pushed, Full, Closed, Displaced, Popped, Empty, PopClosed, Len, Yes, No}
+use Rattle.places.specs.declared.Answer.the-variants.{Full, Closed, Empty, PopClosed, Len, Yes, No}
 use Rattle.places.specs.declared.Place.{Place}
 use Rattle.places.specs.declared.Place.the-variants.{Idle, P1, P2, P3, P4, P5, P6, F6, F7, F8, F9, O1, O2, O3, O4, O5, O6, Len1, Len2, Len3, Empty1, Empty2, Full1, Full2, Close1, IsClosed1}
 use Rattle.places.specs.declared.Held.the-variants as held
 use Rattle.places.specs.Places.{viewOf}
 use Rattle.acts.specs.declared.Acted.{Acted}
-use Rattle.acts.specs.Acts.{stay, tailTo, headTo, stampTo, valueTo, actOf, actP1, actP2, actP3, actP5, actP6, actF6, actF7, actF8, actF9, actO2, actO3, actO5, actO6, actLen3, actEmpty2, actFull2, actClose1, actIsClosed1, fullAt, yesNo, countOf}
+use Rattle.acts.specs.Acts.{stay, tailTo, headTo, stampTo, valueTo, actOf, actP1, actP2, actP3, actP5, actP6, actF6, actF7, actF8, actF9, actO2, actO3, actO5, actO6, actLen3, actClose1, fullAt, yesNo, countOf}
 use Rattle.machine.specs.Turn.{spotOf}
 use Rattle.machine.proofs.Kept.{either}
 use Rattle.demands.specs.EverySchedule.{Truth, Writes, writeP4, writeF8}
-use Rattle.ring.specs.Width.{word, Near, index-word, turn-long}
-use Rattle.ring.specs.Upd.{upd, upd-same}
-use Rattle.ring.specs.Ring.{Stage, Fill, Filled, Take, Grab, Swap, Swapped, Cell, Await, Hold, Hand, number, Mine, Shared, Latest, View, Tail, Head, Awaits, Holds, Forces, Owns, Keeps, ViewOk, CellOk, Claimed, Owned, Inv}
-use Rattle.ring.specs.Effects.{Effect, Still, Tailed, Taken, Grabbed, Forced, Fills, Swaps, Frees, Gives, after, Fits, Free, Loose, loose-mine, ok-at}
-use Rattle.picture.specs.Stamps
-use Rattle.picture.specs.Stamps.{Ground, fixed, W, tailWord, slotWord}
-use Rattle.picture.specs.Sight.{Look, Tails, look, HandAt, Tale, Quiet, Heading, Tailing, Giving, tale, answerIn, told, full, endsOf, slotOf, Stands, Recent, see-free, see-full, number-slot, number-near}
+use Rattle.ring.proofs.Width.{word, Near, index-word, turn-long}
+use Rattle.ring.proofs.Upd.{upd, upd-same}
+use Rattle.ring.proofs.Ring.{Stage, Fill, Filled, Take, Grab, Swap, Swapped, Cell, Await, Hold, Hand, number, Mine, Shared, Latest, Awaits, Holds, Forces, Owns, Keeps, ViewOk, CellOk, Owned, Inv}
+use Rattle.ring.proofs.Effects.{Effect, Still, Tailed, Taken, Grabbed, Forced, Fills, Swaps, Frees, Gives, after, Fits, Loose, loose-mine, ok-at}
+use Rattle.picture.proofs.Stamps
+use Rattle.picture.proofs.Stamps.{Ground, fixed, W, tailWord}
+use Rattle.picture.proofs.Sight.{Tails, look, HandAt, Quiet, tale, answerIn, told, full, endsOf, slotOf, Stands, Recent, see-free, see-full, number-slot, number-near}
 
 -- a test that passed, taken apart
 unless : (b t : Bool) → cond b false t ≡ true → (b ≡ false) × (t ≡ true)

@@ -1,10 +1,9 @@
 -- Answers are true of the words at the act that gave them.
 use mathlib.Core.Path.{_≡_, refl, sym, ap, _∙_, subst}
 use mathlib.Core.Bool.{Bool, true, false}
-use mathlib.Core.List.{List, [], _∷_, _++_}
-use Prim.Native.Nat.{ℕ, _+_, _*_, _≤_, _<_}
+use mathlib.Core.List.{List}
+use Prim.Native.Nat.{ℕ, _+_, _*_, _<_}
 use native.Mathlib.Omega.{arith}
-use lib.Dec.{eqb}
 use lib.ListN.{getD}
 use borrow.Author.Tests.{eqb-true}
 use Rattle.words.specs.declared.Fixed.{Fixed}
@@ -13,13 +12,12 @@ use Rattle.words.specs.declared.Stamp.{Stamp}
 use Rattle.words.specs.Words.{markOf, unmarkedOf, same, lapBehind}
 use Rattle.places.specs.declared.Ends.{Ends}
 use Rattle.places.specs.declared.Answer.{Answer}
-use Rattle.places.specs.declared.Answer.the-variants.{Yes, No}
+use Rattle.places.specs.declared.Answer.the-variants.{Yes}
 use Rattle.places.specs.declared.Place.{Place}
 use Rattle.places.specs.declared.Place.the-variants.{Idle, Empty2, Full2}
 use Rattle.places.specs.declared.Order.the-variants.{Act}
-use Rattle.places.specs.declared.Entry.{Entry}
 use Rattle.places.specs.declared.Entry.the-variants.{Asks}
-use Rattle.places.specs.Places.{viewOf, entryOf}
+use Rattle.places.specs.Places.{viewOf}
 use Rattle.places.specs.declared.Slot.{Slot}
 use Rattle.acts.specs.Acts.{actOf, stay, yesNo}
 use Rattle.machine.specs.declared.Machine.{Machine}
@@ -27,14 +25,13 @@ use Rattle.machine.specs.declared.Did.{Did}
 use Rattle.machine.specs.declared.Event.{Event}
 use Rattle.machine.specs.Machine.{slot, accepted}
 use Rattle.machine.specs.Turn.{spotOf, turn, turnOf, acted}
-use Rattle.machine.specs.History.{eventsOf}
 use Rattle.demands.specs.EverySchedule.{Acts, Truth}
-use Rattle.ring.specs.Width.{word, Near}
-use Rattle.picture.specs.Stamps.{fixed, W, tailWord, unmarked-tail, same-is, behind-is}
-use Rattle.picture.specs.Sight.{look, answerIn, endsOf, Stands}
-use Rattle.claims.specs.Turns.{Turned, began, did, turned, stood}
-use Rattle.claims.specs.Pictured.{Base, Pictured, first-turn, stepped, result, acted-stood}
-use Rattle.claims.specs.Reached.{Reached}
+use Rattle.ring.proofs.Width.{Near}
+use Rattle.picture.proofs.Stamps.{fixed, W, unmarked-tail, same-is, behind-is}
+use Rattle.picture.proofs.Sight.{look, answerIn, endsOf, Stands}
+use Rattle.claims.proofs.Turns.{Turned, did, turned, stood}
+use Rattle.claims.proofs.Pictured.{Base, first-turn, stepped, result, acted-stood}
+use Rattle.claims.proofs.Reached.{Reached}
 
 -- An accepted act, taken apart.
 pub record Done (m : Machine) (w : ℕ) (lose : Bool) (next : Machine) : Type 0 where

@@ -1,15 +1,15 @@
 -- From a fresh machine no stamp wraps: the meter ends long before a turn.
 use mathlib.Core.Path.{_≡_, refl, sym, ap, _∙_, subst}
 use mathlib.Core.Bool.{Bool, true, false, cond}
-use mathlib.Core.List.{List, [], _∷_, _++_}
-use Prim.Native.Nat.{ℕ, zero, suc, _+_, _*_, _-_, _/_, _%_, _^_, _≤_, _<_}
+use mathlib.Core.List.{List}
+use Prim.Native.Nat.{ℕ, _+_, _*_, _/_, _%_, _≤_, _<_}
 use native.Mathlib.Omega.{arith}
 use native.Mathlib.Nat.{mod-lt, div-le-self, mul-le-mul-left}
-use lib.ListN.{length, getD}
+use lib.ListN.{getD}
 use Rattle.words.specs.declared.Stamp.{Stamp}
 use Rattle.words.specs.declared.Fixed.{Fixed}
 use Rattle.words.specs.Limits.{slotsMost, meterMost, wide}
-use Rattle.words.specs.Words.{markOf, lapOf, fixedOf, unmarkedOf}
+use Rattle.words.specs.Words.{markOf, fixedOf, unmarkedOf}
 use Rattle.words.proofs.Marks.{Ruled, ruled}
 use Rattle.places.specs.declared.Slot.{Slot}
 use Rattle.places.specs.declared.Ends.{Ends}
@@ -17,14 +17,13 @@ use Rattle.machine.specs.declared.Machine.{Machine}
 use Rattle.machine.specs.declared.Event.{Event}
 use Rattle.machine.specs.Machine.{slot}
 use Rattle.demands.specs.EverySchedule.{Plain, plainWord, tally}
-use Rattle.ring.specs.Width.{word, word-plain}
-use Rattle.ring.specs.Ring.{Cell, number, Shared, Inv}
-use Rattle.picture.specs.Stamps.{fixed, unmarked-tail, slotWord}
-use Rattle.picture.specs.Sight.{full, endsOf, number-slot, number-near}
-use Rattle.claims.specs.Counts.{tally-tail, tally-head}
-use Rattle.claims.specs.Pictured.{Base, Pictured}
-use Rattle.claims.specs.Logged.{Logged}
-use Rattle.claims.specs.Reached.{Reached}
+use Rattle.ring.proofs.Width.{word, word-plain}
+use Rattle.ring.proofs.Ring.{number}
+use Rattle.picture.proofs.Stamps.{fixed, unmarked-tail}
+use Rattle.picture.proofs.Sight.{full, number-slot, number-near}
+use Rattle.claims.proofs.Counts.{tally-tail, tally-head}
+use Rattle.claims.proofs.Pictured.{Base}
+use Rattle.claims.proofs.Reached.{Reached}
 
 module _ (c n workers : ℕ) (base : Base c n workers) (m : Machine) (h : List Event) (r : Reached c n workers m h) where
   -- claims of two laps more are still within the first turn
@@ -81,7 +80,7 @@ module _ (c n workers : ℕ) (base : Base c n workers) (m : Machine) (h : List E
   room : plainWord (fixed c (markOf c)) (tally h .tail .0 + c) + 2 * (2 * markOf c) < wide
   room =
       let u : Ruled (fixedOf c) = ruled (fixedOf c) (base .ground .laws .some) (base .few) refl refl in
-      let small : 2 * markOf c ≤ 1026 = omega (arith, u .small) in
+      let small : 2 * markOf c ≤ 4 * (slotsMost + 1) = omega (arith, u .small) in
       let most : tally h .tail .0 + c ≤ meterMost + slotsMost = omega (arith, tails, base .few, r .pictured .claims-few, r .pictured .meter-few) in
       omega (
         arith,

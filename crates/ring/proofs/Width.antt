@@ -1,15 +1,12 @@
 -- The word of a claim number. n laps of 2 * mark make the width of a word, and n * c claims a turn; the laws ask only
 -- that the capacity c is below mark.
-use mathlib.Core.Path.{_≡_, refl, sym, ap, _∙_}
+use mathlib.Core.Path.{_≡_, sym, ap, _∙_}
 use mathlib.Core.Logic.{_≢_}
-use mathlib.Core.Bool.{Bool, true, false, cond}
-use Prim.Native.Nat.{ℕ, zero, suc, _+_, _*_, _-_, _/_, _%_, _≤_, _<_}
+use Prim.Native.Nat.{ℕ, _+_, _*_, _-_, _/_, _%_, _≤_, _<_}
 use native.Mathlib.Omega.{arith}
 use native.Mathlib.Nat.{mod-lt, div-add-mod', add-div-right, add-mod-right, mod-add-mod, lt-of-mul-lt-mul-right, le-of-mul-le-mul-right, mod-eq-of-lt, div-eq-of-lt, mul-le-mul-right}
-use native.Mathlib.Decide.{decLt, decLe, ℕ-discrete}
+use native.Mathlib.Decide.{decLt, decLe}
 use lib.Arith.{digits-lt, digits-div, digits-mod, mod-mul}
-use lib.Dec.{eqb}
-use borrow.Author.Tests.{eq-eqb, ne-eqb}
 
 -- word(k) = (k div c) * lap + (k mod c), the laps taken modulo their number
 unfoldable pub word : ℕ → ℕ → ℕ → ℕ → ℕ

@@ -1,15 +1,15 @@
 -- Lists that grow at their end, as histories do.
-use mathlib.Core.Path.{_≡_, refl, sym, ap, _∙_, subst}
-use mathlib.Core.Logic.{_≢_, _⊎_, inl, inr}
-use mathlib.Core.List.{List, [], _∷_, _++_, append-assoc, append-nil}
-use Prim.Native.Nat.{ℕ, zero, suc, _+_, _≤_, _<_}
+use mathlib.Core.Path.{_≡_, refl, sym, _∙_}
+use mathlib.Core.Logic.{_⊎_, inl, inr}
+use mathlib.Core.List.{List, [], _∷_, _++_, append-nil}
+use Prim.Native.Nat.{ℕ, _+_, _<_}
 use native.Mathlib.Omega.{arith}
 use native.Mathlib.Decide.{decLt, ℕ-discrete}
 use lib.ListN.{length, getD, length-append, List·getD-append}
 use lib.Seq.{getD-append-seam}
 use Rattle.demands.specs.EverySchedule.{LatestIn}
-use Rattle.ring.specs.Upd.{upd, upd-at, upd-else}
-use Rattle.ring.specs.Ring.{Latest}
+use Rattle.ring.proofs.Upd.{upd, upd-at, upd-else}
+use Rattle.ring.proofs.Ring.{Latest}
 
 -- Where a list with one more at its end was split: at that one, or before.
 pub record Earlier {A : Type 0} (xs : List A) (y : A) (before : List A) (z : A) (behind : List A) : Type 0 where

@@ -1,9 +1,9 @@
 -- Counts of claims: from the history, and from the words of the ends.
-use mathlib.Core.Path.{_≡_, refl, sym, ap, _∙_, subst}
+use mathlib.Core.Path.{_≡_, sym, ap, _∙_}
 use mathlib.Core.Logic.{_≢_}
-use mathlib.Core.Bool.{Bool, true, false, cond}
-use mathlib.Core.List.{List, [], _∷_, _++_}
-use Prim.Native.Nat.{ℕ, zero, suc, _+_, _*_, _-_, _/_, _%_, _≤_, _<_}
+use mathlib.Core.Bool.{Bool, cond}
+use mathlib.Core.List.{List, [], _∷_}
+use Prim.Native.Nat.{ℕ, _+_, _*_, _-_, _/_, _%_, _≤_, _<_}
 use native.Mathlib.Omega.{arith}
 use native.Mathlib.Nat.{mod-lt, div-add-mod'}
 use native.Mathlib.Decide.{decLt}
@@ -11,22 +11,23 @@ use lib.Arith.{digits-mod}
 use lib.Dec.{ltb, eqb}
 use lib.ListN.{length, length-append}
 use borrow.Author.Tests.{ltb-true, ltb-false, eqb-true, eqb-false}
-use Rattle.words.specs.Words.{claim, indexOf}
+use Rattle.words.specs.Words.{claim}
 use Rattle.acts.specs.Acts.{countOf}
 use Rattle.machine.specs.declared.Event.{Event}
 use Rattle.machine.specs.declared.Moved.{Moved}
 use Rattle.machine.specs.declared.Moved.the-variants.{Neither, Tail, Head}
 use Rattle.machine.specs.declared.Tally.{Tally}
 use Rattle.machine.specs.Contents.{wrapped}
-use Rattle.machine.specs.History.{movedOf, counted, tallyOf}
+use Rattle.machine.specs.History.{movedOf, tallyOf}
+use Rattle.machine.specs.History as history
 use Rattle.machine.proofs.Kept.{either}
 use Rattle.demands.specs.EverySchedule.{tailBy, headBy, tailersOf, takersOf, tally}
-use Rattle.ring.specs.Width.{word, Near, index-word, turn-long}
-use Rattle.picture.specs.Stamps.{Ground, fixed, W, tailWord, index-tail, unmarked-tail, same-is}
+use Rattle.ring.proofs.Width.{Near, index-word, turn-long}
+use Rattle.picture.proofs.Stamps.{Ground, fixed, W, tailWord, index-tail, unmarked-tail, same-is}
 
 -- the tally counts the claims
 by-moved : (x : Moved) (t : Tally) (w : ℕ)
-    → (counted x t .tail .0 ≡ t .tail .0 + length (tailBy x w)) × (counted x t .head .0 ≡ t .head .0 + length (headBy x w))
+    → (history.counted x t .tail .0 ≡ t .tail .0 + length (tailBy x w)) × (history.counted x t .head .0 ≡ t .head .0 + length (headBy x w))
 by-moved Neither t w = omega arith
 by-moved Tail t w = omega arith
 by-moved Head t w = omega arith
@@ -37,7 +38,7 @@ unfolding tallyOf tailersOf takersOf
 tally-from [] t = omega arith
 tally-from (e ∷ h) t =
     let x = movedOf (e .after) in
-    let a = tally-from h (counted x t) in
+    let a = tally-from h (history.counted x t) in
     let b = by-moved x t (e .worker) in (
       omega (arith, a .0, b .0, length-append (tailBy x (e .worker)) (tailersOf h)),
       omega (arith, a .1, b .1, length-append (headBy x (e .worker)) (takersOf h)),
@@ -71,8 +72,11 @@ wrapped-is c k d some l =
     (λ b. let q : (k + d) % c + c ≡ k % c + d = mod-over c k d some (omega arith) (ltb-false (k % c + d) c b) in omega arith)
 
 -- `len`'s count of two words is the difference of their numbers
+abbrev counted : ℕ → ℕ → ℕ → ℕ
+counted c j k = cond (ltb (j % c) (k % c)) (k % c - j % c) (cond (ltb (k % c) (j % c)) (c - j % c + k % c) (cond (eqb k j) 0 c))
+
 numbers-count : (c j k : ℕ) → 0 < c → j ≤ k → k ≤ j + c
-    → cond (ltb (j % c) (k % c)) (k % c - j % c) (cond (ltb (k % c) (j % c)) (c - j % c + k % c) (cond (eqb k j) 0 c)) ≡ k - j
+    → counted c j k ≡ k - j
 numbers-count c j k some low high = go (decLt (j % c + (k - j)) c)
   where
     split : k ≡ j + (k - j)
@@ -84,7 +88,7 @@ numbers-count c j k some low high = go (decLt (j % c + (k - j)) c)
     over : c ≤ j % c + (k - j) → k % c + c ≡ j % c + (k - j)
     over l = ap (λ (z : ℕ). z % c + c) split ∙ mod-over c j (k - j) some (omega arith) l
 
-    count : (k % c ≡ j % c + (k - j)) → cond (ltb (j % c) (k % c)) (k % c - j % c) (cond (ltb (k % c) (j % c)) (c - j % c + k % c) (cond (eqb k j) 0 c)) ≡ k - j
+    count : (k % c ≡ j % c + (k - j)) → counted c j k ≡ k - j
     count e =
         either (λ (z : ℕ). z ≡ k - j) (ltb (j % c) (k % c)) (k % c - j % c) _ (λ b. omega arith)
         (λ b. either (λ (z : ℕ). z ≡ k - j) (ltb (k % c) (j % c)) (c - j % c + k % c) _
@@ -93,7 +97,7 @@ numbers-count c j k some low high = go (decLt (j % c + (k - j)) c)
         (λ q. omega (arith, eqb-true k j q))
         (λ q. let ne : k ≢ j = eqb-false k j q in absurd (omega (arith, ltb-false (j % c) (k % c) b)))))
 
-    count-over : (k % c + c ≡ j % c + (k - j)) → cond (ltb (j % c) (k % c)) (k % c - j % c) (cond (ltb (k % c) (j % c)) (c - j % c + k % c) (cond (eqb k j) 0 c)) ≡ k - j
+    count-over : (k % c + c ≡ j % c + (k - j)) → counted c j k ≡ k - j
     count-over e =
         either (λ (z : ℕ). z ≡ k - j) (ltb (j % c) (k % c)) (k % c - j % c) _
         (λ b. absurd (omega (arith, ltb-true (j % c) (k % c) b)))
@@ -103,7 +107,7 @@ numbers-count c j k some low high = go (decLt (j % c + (k - j)) c)
         (λ q. absurd (omega (arith, eqb-true k j q, mod-lt j some)))
         (λ q. omega (arith, ltb-false (k % c) (j % c) d))))
 
-    go : Dec (j % c + (k - j) < c) → cond (ltb (j % c) (k % c)) (k % c - j % c) (cond (ltb (k % c) (j % c)) (c - j % c + k % c) (cond (eqb k j) 0 c)) ≡ k - j
+    go : Dec (j % c + (k - j) < c) → counted c j k ≡ k - j
     go (yes l) = count (within l)
     go (no l) = count-over (over (omega arith))
 

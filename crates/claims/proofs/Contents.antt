@@ -1,16 +1,14 @@
 -- With all workers idle the slots from head on hold the items of the claims not yet taken.
 use mathlib.Core.Path.{_≡_, refl, sym, ap, _∙_, subst}
-use mathlib.Core.Bool.{Bool, true, false, cond, not}
-use mathlib.Core.List.{List, [], _∷_, _++_}
-use Prim.Native.Nat.{ℕ, zero, suc, _+_, _*_, _-_, _%_, _≤_, _<_}
+use mathlib.Core.Bool.{true, false, not}
+use mathlib.Core.List.{List}
+use Prim.Native.Nat.{ℕ, zero, suc, _+_, _-_, _%_, _≤_, _<_}
 use native.Mathlib.Omega.{arith}
 use native.Mathlib.Nat.{mod-lt}
-use native.Mathlib.Numerals.{add-one}
 use native.Mathlib.Decide.{decLt, decLe}
 use lib.ListN.{length, getD, drop, drop-of-length-le, List·getD-eq-default}
 use lib.Seq.{drop-cons}
 use borrow.Author.Tests.{not-true}
-use Rattle.words.specs.declared.Stamp.{Stamp}
 use Rattle.words.specs.declared.Fixed.{Fixed}
 use Rattle.words.specs.Limits.{workersMost}
 use Rattle.words.specs.Words.{markOf, indexOf}
@@ -27,15 +25,13 @@ use Rattle.machine.specs.Contents.{countIn, wrapped, itemAt, itemsFrom, content
 use Rattle.machine.specs.History.{stockOf}
 use Rattle.machine.proofs.Kept.{every}
 use Rattle.demands.specs.EverySchedule.{itemsOf, tally, waiting}
-use Rattle.ring.specs.Width.{index-word, near-one}
-use Rattle.ring.specs.Ring.{Cell, Await, Hold, Hand, Mine, Shared, Inv, CellOk}
-use Rattle.picture.specs.Stamps.{fixed, W}
-use Rattle.picture.specs.Sight.{endsOf}
-use Rattle.claims.specs.Turns.{stood}
-use Rattle.claims.specs.Counts.{tally-tail, tally-head, wrapped-is, count-is}
-use Rattle.claims.specs.Pictured.{Base, Pictured, idle-hand}
-use Rattle.claims.specs.Logged.{Logged}
-use Rattle.claims.specs.Reached.{Reached}
+use Rattle.ring.proofs.Width.{index-word, near-one}
+use Rattle.ring.proofs.Ring.{Cell, Await, Hold, Hand, Mine, CellOk}
+use Rattle.picture.proofs.Stamps.{fixed}
+use Rattle.claims.proofs.Turns.{stood}
+use Rattle.claims.proofs.Counts.{tally-tail, tally-head, wrapped-is, count-is}
+use Rattle.claims.proofs.Pictured.{Base, idle-hand}
+use Rattle.claims.proofs.Reached.{Reached}
 
 idle-at : (ws : List Worker) → length ws ≡ workersMost → allIdle ws ≡ true → (w : ℕ) → viewOf (placeOf ws w) .busy ≡ false
 unfolding allIdle
