@@ -20,6 +20,7 @@ use Rattle.machine.proofs.Kept.{of-unbroken}
 use Rattle.demands.specs.EverySchedule.{Allowed, machineAfter, actsOf, Demand2, UnderEverySchedule, ActByAct, WholeSchedules}
 use Rattle.claims.proofs.Reached.{Reached, lapsOf, base-of, ring0, fresh-pictured, fresh-logged, fresh-metered, entries}
 use Rattle.claims.proofs.Pictured.{Base}
+use Rattle.claims.proofs.Counts.{tally-tail, tally-head}
 use Rattle.claims.proofs.Hands.{one-hand, reads-written}
 use Rattle.claims.proofs.Answers.{true-answers, true-empty, true-full}
 use Rattle.claims.proofs.Runs.{onward}
@@ -44,6 +45,8 @@ module _ (c n workers : ℕ) (base : Base c n workers) (m : Machine) (h : List E
         meter = r .metered;
         unbroken = of-unbroken m (r .pictured .unbroken);
         plain = plainly c n workers base m h r;
+        tails = r .logged .lists .items-are .long ∙ sym (r .logged .lists .tailers-are .long) ∙ sym (tally-tail h);
+        heads = sym (tally-head h);
         claim-rule = r .logged .rule;
         once-out = r .logged .once;
         one-hand = one-hand c n workers base m h r;

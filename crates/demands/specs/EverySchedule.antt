@@ -228,6 +228,9 @@ pub record Demand2 (capacity workers : ℕ) (m : Machine) (h : List Event) : Typ
   -- No machine so reached is broken, and no stamp wraps.
   pub unbroken : brokenOf m ≡ false
   pub plain : Plain m h
+  -- The lists of claims are as long as the tally says.
+  pub tails : length (itemsOf h) ≡ tally h .tail .0
+  pub heads : length (takersOf h) ≡ tally h .head .0
   -- The claim rule: a value handed out is the item of the tail claim that has the number of the call's head claim.
   pub claim-rule : (earlier later : List Event) (act : Event) (v : ℕ) → h ≡ earlier ++ act ∷ later → HandsOut (act .after) v
       → (k : ℕ) × CallClaim earlier (act .worker) k × LatestIn (takersOf earlier) (act .worker) k × ItemIn earlier k v
