@@ -6,7 +6,7 @@ use Prim.Native.Nat.{ℕ, zero, suc, _+_, _-_, _%_, _≤_, _<_}
 use native.Mathlib.Omega.{arith}
 use native.Mathlib.Nat.{mod-lt}
 use native.Mathlib.Decide.{decLt, decLe}
-use lib.ListN.{length, getD, drop, drop-of-length-le, List·getD-eq-default}
+use lib.ListN.{length, getD, drop, length-drop, drop-of-length-le, List·getD-eq-default}
 use lib.Seq.{drop-cons}
 use borrow.Author.Tests.{not-true}
 use Rattle.words.specs.declared.Fixed.{Fixed}
@@ -126,3 +126,9 @@ module _ (c n workers : ℕ) (base : Base c n workers) (m : Machine) (h : List E
     contents-are =
         let z : r .ring .head + 0 ≡ tally h .head .0 = omega (arith, tally-head h, r .logged .lists .takers-are .long) in
         ap (λ (k : ℕ). itemsFrom m k 0) count-in ∙ items-from (r .ring .tail - r .ring .head) 0 (omega arith) ∙ ap (λ (k : ℕ). drop k (itemsOf h)) z
+
+    pub contents-number : stockOf (tally h) ≡ length (contentsOf m)
+    contents-number =
+        let l : length (waiting h) ≡ length (itemsOf h) - tally h .head .0 = length-drop (tally h .head .0) (itemsOf h) in
+        stock-is
+        ∙ omega (arith, l, ap length contents-are, tally-head h, r .logged .lists .takers-are .long, r .logged .lists .items-are .long)

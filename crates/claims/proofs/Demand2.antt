@@ -24,7 +24,7 @@ use Rattle.claims.proofs.Counts.{tally-tail, tally-head}
 use Rattle.claims.proofs.Hands.{one-hand, reads-written}
 use Rattle.claims.proofs.Answers.{true-answers, true-empty, true-full}
 use Rattle.claims.proofs.Runs.{onward}
-use Rattle.claims.proofs.Contents.{count-in, stock-is, contents-are}
+use Rattle.claims.proofs.Contents.{count-in, stock-is, contents-are, contents-number}
 use Rattle.claims.proofs.Plain.{plainly}
 
 -- every schedule
@@ -52,7 +52,8 @@ module _ (c n workers : ℕ) (base : Base c n workers) (m : Machine) (h : List E
         one-hand = one-hand c n workers base m h r;
         reads = reads-written c n workers base m h r;
         answers = true-answers c n workers base m h r;
-        stock = λ idle. stock-is c n workers base m h r ∙ sym (count-in c n workers base m h r);
+        stock = stock-is c n workers base m h r ∙ sym (count-in c n workers base m h r);
+        number = contents-number c n workers base m h r;
         contents = contents-are c n workers base m h r;
         fifo = r .logged .fifo;
         empty = true-empty c n workers base m h r;

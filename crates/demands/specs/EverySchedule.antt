@@ -247,8 +247,10 @@ pub record Demand2 (capacity workers : ℕ) (m : Machine) (h : List Event) : Typ
   -- Empty, Full and Closed are true of the words at the load or exchange that decided them.
   pub answers : (w : ℕ) (next : Machine) (a : Answer) → Acts m w next → placeOf (next .workers) w ≡ Idle a
       → Truth (m .ring .fixed) (m .ring .ends) a
-  -- With all workers idle stock equals the number of contents, and contents are, in order, the items not yet taken.
-  pub stock : allIdle (m .workers) ≡ true → stockOf (tally h) ≡ countIn m
+  -- Stock is `len`'s count of the words at every moment. With all workers idle it equals the number of contents, and
+  -- contents are, in order, the items of the claims not yet taken.
+  pub stock : stockOf (tally h) ≡ countIn m
+  pub number : allIdle (m .workers) ≡ true → stockOf (tally h) ≡ length (contentsOf m)
   pub contents : allIdle (m .workers) ≡ true → contentsOf m ≡ waiting h
   -- Beside the demand: every run is one of a plain queue, and a yes of is_empty and of is_full is true at its last load.
   pub fifo : Fifo h (waiting h)
