@@ -1,0 +1,13 @@
+pub mod Lists
+pub mod Turns
+pub mod Pictured
+pub mod Logged
+pub mod Reached
+pub mod Hands
+pub mod Answers
+pub mod Counts
+pub mod Runs
+pub mod Contents
+pub mod Plain
+pub mod Demand2
+pub mod Lens

@@ -1,0 +1,3 @@
+pub mod Stamps
+pub mod Sight
+pub mod Steps

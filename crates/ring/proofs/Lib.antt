@@ -1,0 +1,4 @@
+pub mod Width
+pub mod Upd
+pub mod Ring
+pub mod Effects
