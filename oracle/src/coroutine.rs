@@ -2,6 +2,9 @@
 //!
 //! A thread for each worker would do as well, but a handover between threads costs microseconds and a switch nanoseconds.
 
+#[cfg(not(any(target_arch = "aarch64", target_arch = "x86_64")))]
+compile_error!("the switch between coroutines is written for aarch64 and x86_64 alone");
+
 use std::arch::naked_asm;
 use std::cell::Cell;
 use std::mem::MaybeUninit;

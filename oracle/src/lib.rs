@@ -18,8 +18,14 @@ mod bounded;
 mod coroutine;
 mod sync;
 
+pub mod drive;
+pub mod exhaustive;
+pub mod interleaved;
+pub mod list;
 pub mod machine;
+pub mod random;
 pub mod schedule;
+pub mod sequential;
 pub mod stage;
 pub mod state;
 pub mod tally;

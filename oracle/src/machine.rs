@@ -410,3 +410,33 @@ fn place(call: Call, pending: Action, seen: &Seen) -> State {
         _ => panic!("no place stands for {pending:?} in {call:?}"),
     }
 }
+
+#[cfg(test)]
+mod tests {
+    use super::*;
+    use crate::random::Random;
+
+    /// Stepping changes nothing: the same calls made on a second queue directly, outside a coroutine, answer the same.
+    #[test]
+    fn stepped_and_direct_calls_agree() {
+        let mut random = Random::new(3);
+        for capacity in [1, 2, 3, 8, 256] {
+            let mut machine = Machine::make(capacity, 1).unwrap_or_else(|_| panic!("refused"));
+            let capacity = capacity as usize;
+            let (direct, made) = stage::making(capacity, || Bounded::new(capacity));
+            for round in 0..5000 {
+                let codes: &[u64] =
+                    if round < 4900 { &[0, 0, 1, 2, 2, 3, 4, 5, 7] } else { &[0, 1, 2, 2, 3, 4, 5, 6, 7] };
+                let code = random.pick(codes);
+                let item = if code < 2 { random.item() } else { 0 };
+                let call = Call::decode(code, item).expect("a call");
+                assert_eq!(machine.enter(code, item), 0);
+                while machine.busy(0) {
+                    assert_eq!(machine.enter(8, 0), 0);
+                }
+                assert_eq!(machine.state(0), Some(answer(&direct, call)));
+                assert_eq!((machine.head(), machine.tail()), (made.head(), made.tail()));
+            }
+        }
+    }
+}

@@ -15,6 +15,8 @@ pub enum Ending {
 }
 
 const ENDINGS: [&str; 4] = ["won", "lost by the words", "lost by the schedule", "lost by both"];
+/// Three each of push, force_push and pop, one of len, two each of the other four.
+const ANSWERS: usize = 18;
 const KINDS: usize = Kind::ALL.len();
 
 #[derive(Clone)]
@@ -74,6 +76,15 @@ impl Tally {
 
     pub fn times_refused(&self, refusal: u64) -> u64 {
         self.refusals[refusal as usize]
+    }
+
+    /// Whether every place, every answer of every call and every ending of every exchange was seen.
+    pub fn complete(&self) -> bool {
+        let seen = |counts: &[u64]| counts.iter().filter(|times| **times > 0).count();
+        let places = Kind::ALL.iter().filter(|kind| !kind.idle()).all(|kind| self.times_at(*kind) > 0);
+        places
+            && seen(self.answers.as_flattened()) == ANSWERS
+            && seen(self.exchanges.as_flattened()) == 4 * ENDINGS.len()
     }
 
     pub fn add(&mut self, other: &Tally) {
