@@ -71,10 +71,10 @@ pub fn drive(run: &mut Run, acts: u64, seed: u64) -> Result<(), String> {
         let schedule = if random.once_in(25) {
             refused_whole(&mut random)
         } else {
-            // One process for each schedule wants long ones.
-            let length = if run.many() { 100 + random.below(6000) } else { run.batch };
             let capacity = random.pick(&CAPACITIES);
             let workers = 1 + random.below(16) as u64;
+            // One process for each schedule wants long ones, and a large ring needs time to run full.
+            let length = if run.many() { 100 + random.below(6000 + 60 * capacity as usize) } else { run.batch };
             schedule(&mut random, capacity, workers, length)
         };
         run.add(schedule)?;
@@ -147,8 +147,8 @@ fn refused_end(random: &mut Random, schedule: &mut Schedule, machine: &mut Machi
 pub fn any_entry(random: &mut Random, workers: u64) -> (u64, u64) {
     let beyond = [workers, workers + 1, 16, 17, u64::MAX / 16];
     let worker = if random.once_in(6) { random.pick(&beyond) } else { random.below(workers as usize) as u64 };
-    let code = random.below(16) as u64;
-    let item = if random.once_in(3) { random.item() } else { 0 };
+    let code = if random.once_in(6) { 10 + random.below(6) } else { random.below(10) } as u64;
+    let item = if code <= 1 || random.once_in(12) { random.item() } else { 0 };
     (16 * worker + code, item)
 }
 

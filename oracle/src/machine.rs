@@ -16,6 +16,7 @@ const METER_LIMIT: u64 = 4_294_967_295;
 pub type Refusal = u64;
 
 /// An item. Its end is noted while `MET_BY_DROP` holds a list: so the source's `Drop` tells what it meets.
+#[repr(transparent)]
 struct Item(u64);
 
 thread_local! {
@@ -105,14 +106,19 @@ struct Seen {
     last: Option<Action>,
 }
 
-enum Standing {
-    Idle(State),
-    Busy { call: Call, pending: Action, seen: Seen },
+/// A call under way.
+#[derive(Clone, Copy)]
+struct Busy {
+    call: Call,
+    pending: Action,
+    seen: Seen,
 }
 
 struct Worker {
     coroutine: Coroutine,
-    standing: Standing,
+    busy: Option<Busy>,
+    /// The place of the call, or the last answer.
+    state: State,
 }
 
 pub struct Machine {
@@ -173,7 +179,7 @@ impl Machine {
 
     /// Where a worker stands, or none if there is no such worker.
     pub fn state(&self, worker: u64) -> Option<State> {
-        self.worker(worker).map(Worker::state)
+        self.worker(worker).map(|worker| worker.state)
     }
 
     pub fn busy(&self, worker: u64) -> bool {
@@ -182,10 +188,7 @@ impl Machine {
 
     /// The action a busy worker does next.
     pub fn pending(&self, worker: u64) -> Option<Action> {
-        match self.worker(worker)?.standing {
-            Standing::Idle(_) => None,
-            Standing::Busy { pending, .. } => Some(pending),
-        }
+        self.worker(worker)?.busy.map(|busy| busy.pending)
     }
 
     fn worker(&self, worker: u64) -> Option<&Worker> {
@@ -209,7 +212,7 @@ impl Machine {
 
     /// The call runs up to its first action; that is no act.
     fn begin(&mut self, worker: usize, call: Call) -> Result<(), Refusal> {
-        if let Standing::Busy { .. } = self.workers[worker].standing {
+        if self.workers[worker].busy.is_some() {
             return Err(4);
         }
         CALL.set(Some((call, self.queue)));
@@ -219,7 +222,7 @@ impl Machine {
     }
 
     fn act(&mut self, worker: usize, lose: bool) -> Result<(), Refusal> {
-        let Standing::Busy { call, pending, mut seen } = self.workers[worker].standing else {
+        let Some(Busy { call, pending, mut seen }) = self.workers[worker].busy else {
             return Err(5);
         };
         if self.meter >= METER_LIMIT {
@@ -228,7 +231,7 @@ impl Machine {
         if lose && !matches!(pending, Action::WeakExchange(..)) {
             return Err(8);
         }
-        let place = self.workers[worker].state().kind;
+        let place = self.workers[worker].state.kind;
         if let Action::Value(slot) = pending {
             seen.value = self.value(slot);
         }
@@ -243,16 +246,17 @@ impl Machine {
 
     /// Records where a worker came to rest: before its next action, or with its call's answer.
     fn settle(&mut self, worker: usize, call: Call, seen: Seen) {
-        let standing = match stage::said() {
-            Said::Pending(pending) => Standing::Busy { call, pending, seen },
+        let (busy, state) = match stage::said() {
+            Said::Pending(pending) => (Some(Busy { call, pending, seen }), place(call, pending, &seen)),
             Said::Answer(state) => {
                 self.tally.answer(call, state.kind);
-                Standing::Idle(state)
+                (None, state)
             }
         };
+        self.tally.place(state.kind);
         let worker = &mut self.workers[worker];
-        worker.standing = standing;
-        self.tally.place(worker.state().kind);
+        worker.busy = busy;
+        worker.state = state;
     }
 
     fn count_act(&mut self, place: Kind, action: Action, lose: bool, seen: &Seen) {
@@ -295,14 +299,7 @@ impl Drop for Machine {
 
 impl Worker {
     fn new() -> Worker {
-        Worker { coroutine: Coroutine::new(serve), standing: Standing::Idle(Kind::None.alone()) }
-    }
-
-    fn state(&self) -> State {
-        match &self.standing {
-            Standing::Idle(answer) => *answer,
-            Standing::Busy { call, pending, seen } => place(*call, *pending, seen),
-        }
+        Worker { coroutine: Coroutine::new(serve), busy: None, state: Kind::None.alone() }
     }
 }
 
@@ -415,6 +412,19 @@ fn place(call: Call, pending: Action, seen: &Seen) -> State {
 mod tests {
     use super::*;
     use crate::random::Random;
+
+    /// No run reaches the meter's limit, so it is set: 5, 7, 8 in this order, and a call may still begin.
+    #[test]
+    fn meter_at_its_limit() {
+        let mut machine = Machine::make(1, 2).unwrap_or_else(|_| panic!("refused"));
+        machine.meter = METER_LIMIT - 1;
+        assert_eq!(
+            [(0, 5), (8, 0), (8, 0), (9, 0), (24, 0), (16, 6)].map(|(a, b)| machine.enter(a, b)),
+            [0, 0, 7, 7, 5, 0]
+        );
+        assert_eq!(machine.meter, METER_LIMIT);
+        assert_eq!(machine.state(0), Some(Kind::P2Push.with(&[0, 5])));
+    }
 
     /// Stepping changes nothing: the same calls made on a second queue directly, outside a coroutine, answer the same.
     #[test]
