@@ -1,0 +1,137 @@
+//! Every schedule of two calls at once on rings of one and two slots.
+//!
+//! Either all sequences of so many acts (which busy worker goes, and code 8 or, at a weak exchange, code 9), after which the
+//! calls are ended in turn so that the contents are seen. Or the compact set, without a bound: every act from every state that
+//! can be reached, each in a schedule that ends right after it, so that all slots are compared after each act.
+
+use crate::drive::Run;
+use crate::interleaved::end_all_calls;
+use crate::machine::Machine;
+use crate::schedule::Schedule;
+use crate::sequential::whole_call;
+use crate::stage::Action;
+use std::collections::{HashSet, VecDeque};
+
+#[derive(Clone, Copy)]
+pub enum Extent {
+    Depth(usize),
+    Compact,
+}
+
+/// How the ring stands when the two calls begin.
+#[derive(Clone, Copy, Debug)]
+struct Preload {
+    capacity: u64,
+    /// Items pushed and popped before.
+    gone: u64,
+    held: u64,
+    closed: bool,
+}
+
+pub fn drive(run: &mut Run, extent: Extent) -> Result<(), String> {
+    for preload in preloads() {
+        for pair in 0..64 {
+            let calls = [pair / 8, pair % 8];
+            match extent {
+                Extent::Depth(depth) => deep(run, depth, preload, calls)?,
+                Extent::Compact => compact(run, preload, calls)?,
+            }
+        }
+    }
+    run.flush()
+}
+
+/// Empty, partly full and full, open and closed, fresh and on a later lap.
+fn preloads() -> Vec<Preload> {
+    let mut all = Vec::new();
+    for capacity in 1..=2 {
+        for gone in [0, 1] {
+            for held in 0..=capacity {
+                all.extend([false, true].map(|closed| Preload { capacity, gone, held, closed }));
+            }
+        }
+    }
+    all
+}
+
+/// All sequences of acts of one pair of calls, up to their ends or so many acts.
+fn deep(run: &mut Run, depth: usize, preload: Preload, calls: [u64; 2]) -> Result<(), String> {
+    let mut open = vec![Vec::new()];
+    while let Some(path) = open.pop() {
+        let (mut schedule, mut machine) = walked(preload, calls, &path);
+        let options = options(&machine);
+        if options.is_empty() || path.len() == depth {
+            end_all_calls(&mut schedule, &mut machine);
+            run.add(schedule)?;
+        } else {
+            open.extend(options.iter().map(|option| [path.as_slice(), &[*option]].concat()));
+        }
+    }
+    Ok(())
+}
+
+/// Every act from every state, by a shortest way to the state.
+fn compact(run: &mut Run, preload: Preload, calls: [u64; 2]) -> Result<(), String> {
+    let mut seen = HashSet::new();
+    let mut open = VecDeque::from([Vec::new()]);
+    while let Some(path) = open.pop_front() {
+        let (schedule, machine) = walked(preload, calls, &path);
+        run.add(schedule)?;
+        if seen.insert(snapshot(&machine)) {
+            open.extend(options(&machine).iter().map(|option| [path.as_slice(), &[*option]].concat()));
+        }
+    }
+    Ok(())
+}
+
+/// The ring loaded, both calls begun, and the acts of a path done.
+fn walked(preload: Preload, calls: [u64; 2], path: &[u64]) -> (Schedule, Machine) {
+    let (mut schedule, mut machine) = begun(preload, calls);
+    for first in path {
+        assert_eq!(machine.enter(*first, 0), 0);
+        schedule.push(*first, 0);
+    }
+    (schedule, machine)
+}
+
+fn begun(preload: Preload, calls: [u64; 2]) -> (Schedule, Machine) {
+    let mut schedule = Schedule::new(preload.capacity, 2);
+    let mut machine = Machine::make(preload.capacity, 2).expect("within the limits");
+    let mut whole = |code, item| whole_call(&mut schedule, &mut machine, code, item);
+    for item in 0..preload.gone {
+        whole(0, 11 + item);
+        whole(2, 0);
+    }
+    for item in 0..preload.held {
+        whole(0, 21 + item);
+    }
+    if preload.closed {
+        whole(6, 0);
+    }
+    for (worker, code) in calls.into_iter().enumerate() {
+        let item = if code <= 1 { 31 + worker as u64 } else { 0 };
+        let first = 16 * worker as u64 + code;
+        assert_eq!(machine.enter(first, item), 0);
+        schedule.push(first, item);
+    }
+    (schedule, machine)
+}
+
+/// The first words of the acts that are not refused.
+fn options(machine: &Machine) -> Vec<u64> {
+    let mut options = Vec::new();
+    for worker in 0..machine.workers() as u64 {
+        match machine.pending(worker) {
+            None => {}
+            Some(Action::WeakExchange(..)) => options.extend([16 * worker + 8, 16 * worker + 9]),
+            Some(_) => options.push(16 * worker + 8),
+        }
+    }
+    options
+}
+
+/// All but the meter, which no act looks at below its limit.
+fn snapshot(machine: &Machine) -> String {
+    let states: Vec<_> = (0..machine.workers() as u64).filter_map(|worker| machine.state(worker)).collect();
+    format!("{} {} {:?} {:?}", machine.head(), machine.tail(), machine.slots(), states)
+}

@@ -1,0 +1,167 @@
+//! Random schedules of 1 to 16 workers. What is likely changes from phase to phase, so that rings run full and empty, exchanges
+//! are lost, and workers sleep over whole laps with stale words in hand.
+
+use crate::drive::Run;
+use crate::machine::Machine;
+use crate::random::Random;
+use crate::schedule::Schedule;
+use crate::stage::Action;
+
+pub const CAPACITIES: [u64; 9] = [1, 2, 3, 4, 5, 7, 8, 255, 256];
+
+/// How likely each call is, in the order of the codes; close has its own rule.
+const MIXES: [[usize; 8]; 7] = [
+    [4, 4, 4, 1, 1, 1, 0, 1], // everything
+    [9, 1, 2, 1, 0, 1, 0, 0], // runs full
+    [2, 1, 9, 1, 1, 0, 0, 0], // runs empty
+    [1, 9, 1, 0, 0, 0, 0, 0], // displaces
+    [5, 0, 5, 0, 0, 0, 0, 0], // in and out
+    [0, 6, 4, 1, 0, 0, 0, 0], // displacing against popping
+    [2, 1, 2, 4, 4, 4, 0, 4], // looks on
+];
+
+/// What is likely for a while.
+struct Phase {
+    left: usize,
+    mix: [usize; 8],
+    /// How often each worker is chosen; some sleep.
+    weights: Vec<usize>,
+    /// The chosen worker goes on for about this many entries.
+    stay: usize,
+    /// A weak exchange is made to fail once in so many times.
+    lose: usize,
+}
+
+impl Phase {
+    fn new(random: &mut Random, schedule: &Schedule) -> Phase {
+        Phase {
+            left: 30 + random.below(300 + 12 * schedule.capacity as usize),
+            mix: random.pick(&MIXES),
+            weights: (0..schedule.workers).map(|_| random.pick(&[1, 10, 10, 30])).collect(),
+            stay: random.pick(&[1, 1, 4, 20]),
+            lose: random.pick(&[0, 0, 8, 2]),
+        }
+    }
+
+    /// An entry that will not be refused.
+    fn entry(&self, random: &mut Random, machine: &Machine, worker: u64, close: bool) -> (u64, u64) {
+        let (code, item) = match machine.pending(worker) {
+            Some(Action::WeakExchange(..)) if random.once_in(self.lose) => (9, 0),
+            Some(_) => (8, 0),
+            None => self.call(random, close),
+        };
+        (16 * worker + code, item)
+    }
+
+    fn call(&self, random: &mut Random, close: bool) -> (u64, u64) {
+        if close && random.once_in(20) {
+            return (6, 0);
+        }
+        match random.weighted(&self.mix) as u64 {
+            code @ 0..=1 => (code, random.item()),
+            code => (code, 0),
+        }
+    }
+}
+
+/// Schedules until so many acts were done.
+pub fn drive(run: &mut Run, acts: u64, seed: u64) -> Result<(), String> {
+    let mut random = Random::new(seed);
+    while run.tally.acts < acts {
+        let schedule = if random.once_in(25) {
+            refused_whole(&mut random)
+        } else {
+            let capacity = random.pick(&CAPACITIES);
+            let workers = 1 + random.below(16) as u64;
+            // One process for each schedule wants long ones, and a large ring needs time to run full.
+            let length = if run.many() { 100 + random.below(6000 + 60 * capacity as usize) } else { run.batch };
+            schedule(&mut random, capacity, workers, length)
+        };
+        run.add(schedule)?;
+    }
+    run.flush()
+}
+
+/// A schedule that is accepted but perhaps for its end.
+pub fn schedule(random: &mut Random, capacity: u64, workers: u64, length: usize) -> Schedule {
+    let mut schedule = Schedule::new(capacity, workers);
+    let mut machine = Machine::make(capacity, workers).expect("within the limits");
+    // Little happens once the ring is closed, so closing comes late or not at all.
+    let close_from = if random.once_in(2) { length - random.below(length.min(1500)) } else { length };
+    let mut phase = Phase::new(random, &schedule);
+    let mut worker = 0;
+    for done in 0..length {
+        if phase.left == 0 {
+            phase = Phase::new(random, &schedule);
+        }
+        phase.left -= 1;
+        if random.once_in(phase.stay) {
+            worker = random.weighted(&phase.weights) as u64;
+        }
+        let (first, second) = phase.entry(random, &machine, worker, done >= close_from);
+        assert_eq!(machine.enter(first, second), 0);
+        schedule.push(first, second);
+    }
+    if random.once_in(2) {
+        end_all_calls(&mut schedule, &mut machine);
+    }
+    if !random.once_in(4) {
+        refused_end(random, &mut schedule, &mut machine);
+    }
+    schedule
+}
+
+/// Acts in turn until no worker is busy, so that the contents can be seen. The workers take turns: one may wait for another.
+pub fn end_all_calls(schedule: &mut Schedule, machine: &mut Machine) {
+    while let Some(round) = busy(machine) {
+        for worker in round {
+            let first = 16 * worker + 8;
+            assert_eq!(machine.enter(first, 0), 0);
+            schedule.push(first, 0);
+        }
+    }
+}
+
+fn busy(machine: &Machine) -> Option<Vec<u64>> {
+    let busy: Vec<u64> = (0..machine.workers() as u64).filter(|worker| machine.busy(*worker)).collect();
+    (!busy.is_empty()).then_some(busy)
+}
+
+/// An entry that is refused for any reason, and perhaps some more that must not be run.
+fn refused_end(random: &mut Random, schedule: &mut Schedule, machine: &mut Machine) {
+    loop {
+        let (first, second) = any_entry(random, schedule.workers);
+        // An entry that happens to be accepted is kept.
+        let refusal = machine.enter(first, second);
+        schedule.push(first, second);
+        if refusal != 0 {
+            break;
+        }
+    }
+    for _ in 0..random.below(3) {
+        schedule.push(8, 0);
+    }
+}
+
+/// Any worker, any code, any item.
+pub fn any_entry(random: &mut Random, workers: u64) -> (u64, u64) {
+    let beyond = [workers, workers + 1, 16, 17, u64::MAX / 16];
+    let worker = if random.once_in(6) { random.pick(&beyond) } else { random.below(workers as usize) as u64 };
+    let code = if random.once_in(6) { 10 + random.below(6) } else { random.below(10) } as u64;
+    let item = if code <= 1 || random.once_in(12) { random.item() } else { 0 };
+    (16 * worker + code, item)
+}
+
+/// A making refused, or an odd number of words, or both.
+pub fn refused_whole(random: &mut Random) -> Schedule {
+    let capacity = random.pick(&[0, 1, 2, 256, 257, 1024, u64::MAX]);
+    let workers = random.pick(&[0, 1, 2, 16, 17, 64, u64::MAX]);
+    let mut schedule = Schedule::new(capacity, workers);
+    for _ in 0..random.below(3) {
+        schedule.push(random.below(10) as u64, 0);
+    }
+    if random.once_in(2) {
+        schedule.words.push(0);
+    }
+    schedule
+}

@@ -1,0 +1,77 @@
+//! The judge of the port: the unmodified `bounded.rs` of concurrent-queue 2.5.0, run one action at a time.
+//!
+//! `bounded.rs` is a byte-for-byte copy. Everything it imports is given a stand-in of the same shape here and in `sync`: the
+//! atomics and cells stop before each action, so that a schedule decides who goes next (`stage`, `coroutine`). `machine` adds
+//! what the port adds (workers, meter, refusals) and `schedule` the text that the port's `replay` prints.
+
+// The port's words have 64 bits; the source's have the size of a pointer.
+#[cfg(not(target_pointer_width = "64"))]
+compile_error!("the judge needs a 64-bit target");
+
+extern crate alloc;
+// The source imports `CachePadded` from this crate; ours stands below.
+extern crate self as crossbeam_utils;
+
+#[rustfmt::skip]
+#[allow(dead_code)]
+mod bounded;
+mod coroutine;
+mod sync;
+
+pub mod drive;
+pub mod exhaustive;
+pub mod interleaved;
+pub mod list;
+pub mod machine;
+pub mod random;
+pub mod schedule;
+pub mod sequential;
+pub mod stage;
+pub mod state;
+pub mod tally;
+
+use std::ops::{Deref, DerefMut};
+
+/// Stands for `crossbeam_utils::CachePadded`. Padding is about speed alone.
+pub struct CachePadded<T>(T);
+
+impl<T> CachePadded<T> {
+    pub fn new(value: T) -> Self {
+        CachePadded(value)
+    }
+}
+
+impl<T> Deref for CachePadded<T> {
+    type Target = T;
+
+    fn deref(&self) -> &T {
+        &self.0
+    }
+}
+
+impl<T> DerefMut for CachePadded<T> {
+    fn deref_mut(&mut self) -> &mut T {
+        &mut self.0
+    }
+}
+
+/// Why a push failed, as in the crate's lib.rs.
+pub enum PushError<T> {
+    Full(T),
+    Closed(T),
+}
+
+/// Why a force_push failed, as in the crate's lib.rs.
+pub struct ForcePushError<T>(pub T);
+
+/// Why a pop failed, as in the crate's lib.rs.
+pub enum PopError {
+    Empty,
+    Closed,
+}
+
+/// No act: every action is taken as sequentially consistent already.
+fn full_fence() {}
+
+/// No act: which worker goes next is the schedule's business.
+fn busy_wait() {}

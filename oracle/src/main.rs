@@ -1,0 +1,178 @@
+//! The judge's commands. README.md says what they are for.
+
+use oracle::drive::{first_difference, Module, Run};
+use oracle::exhaustive::Extent;
+use oracle::schedule::{run, split, Schedule, SEPARATOR};
+use oracle::tally::Tally;
+use oracle::{exhaustive, interleaved, list, sequential};
+use std::io::Read;
+use std::path::Path;
+use std::process::ExitCode;
+use std::time::Instant;
+use std::{env, fs};
+
+const USAGE: &str = "judge expect FILE|- [--quiet] [--many]
+judge sequential --calls N --seed S [--module CMD [--many]] [--batch ENTRIES] [--save DIR]
+judge interleaved --acts N --seed S [--module CMD [--many]] [--batch ENTRIES] [--save DIR]
+judge exhaustive [--compact | --depth ACTS] [--module CMD [--many]] [--batch ENTRIES] [--save DIR]
+judge list --seed S [--to DIR]
+judge check-against FILE.out FILE.in";
+
+fn main() -> ExitCode {
+    let arguments: Vec<String> = env::args().skip(1).collect();
+    match command(&arguments) {
+        Ok(()) => ExitCode::SUCCESS,
+        Err(message) => {
+            eprintln!("{message}");
+            ExitCode::FAILURE
+        }
+    }
+}
+
+fn command(arguments: &[String]) -> Result<(), String> {
+    let (name, rest) = arguments.split_first().ok_or(USAGE)?;
+    let options = Options::parse(rest)?;
+    match name.as_str() {
+        "expect" => expect(&options),
+        "sequential" => {
+            driven(&options, |run| sequential::drive(run, options.number("calls")?, options.number("seed")?))
+        }
+        "interleaved" => {
+            driven(&options, |run| interleaved::drive(run, options.number("acts")?, options.number("seed")?))
+        }
+        "exhaustive" => driven(&options, |run| exhaustive::drive(run, extent(&options)?)),
+        "list" => write_list(&options),
+        "check-against" => check_against(&options),
+        _ => Err(USAGE.into()),
+    }
+}
+
+/// Plain arguments, options with a value, and flags.
+#[derive(Default)]
+struct Options {
+    plain: Vec<String>,
+    values: Vec<(String, String)>,
+    flags: Vec<String>,
+}
+
+impl Options {
+    fn parse(arguments: &[String]) -> Result<Options, String> {
+        let mut options = Options::default();
+        let mut arguments = arguments.iter().cloned();
+        while let Some(argument) = arguments.next() {
+            match argument.strip_prefix("--") {
+                None => options.plain.push(argument),
+                Some(flag @ ("quiet" | "many" | "compact")) => options.flags.push(flag.into()),
+                Some(name @ ("calls" | "acts" | "seed" | "module" | "batch" | "save" | "to" | "depth")) => {
+                    let value = arguments.next().ok_or(format!("--{name} needs a value"))?;
+                    options.values.push((name.into(), value));
+                }
+                Some(_) => return Err(format!("unknown option {argument}\n{USAGE}")),
+            }
+        }
+        Ok(options)
+    }
+
+    fn flag(&self, name: &str) -> bool {
+        self.flags.iter().any(|flag| flag == name)
+    }
+
+    fn value(&self, name: &str) -> Option<&str> {
+        self.values.iter().find(|(option, _)| option == name).map(|(_, value)| value.as_str())
+    }
+
+    fn number(&self, name: &str) -> Result<u64, String> {
+        let value = self.value(name).ok_or(format!("--{name} is missing\n{USAGE}"))?;
+        value.parse().map_err(|_| format!("--{name}: not a number: {value}"))
+    }
+
+    fn number_or(&self, name: &str, default: u64) -> Result<u64, String> {
+        self.value(name).map_or(Ok(default), |_| self.number(name))
+    }
+}
+
+fn read(path: &str) -> Result<String, String> {
+    let mut text = String::new();
+    let done = match path {
+        "-" => std::io::stdin().read_to_string(&mut text).map(drop),
+        _ => fs::read_to_string(path).map(|read| text = read),
+    };
+    done.map(|()| text).map_err(|error| format!("{path}: {error}"))
+}
+
+/// Prints what `replay` must print.
+fn expect(options: &Options) -> Result<(), String> {
+    let [path] = options.plain.as_slice() else {
+        return Err(USAGE.into());
+    };
+    let text = read(path)?;
+    let quiet = options.flag("quiet");
+    if !options.flag("many") {
+        print!("{}", run(&Schedule::parse(&text)?, quiet, &mut Tally::default()));
+        return Ok(());
+    }
+    for schedule in Schedule::parse_many(&text)? {
+        println!("{}{SEPARATOR}", run(&schedule, quiet, &mut Tally::default()));
+    }
+    Ok(())
+}
+
+/// A differential run with its counts and its time.
+fn driven(options: &Options, drive: impl FnOnce(&mut Run) -> Result<(), String>) -> Result<(), String> {
+    let module = options.value("module").map(|command| Module { command: command.into(), many: options.flag("many") });
+    let compared =
+        if module.is_some() { "compared, no difference" } else { "judged, nothing compared: no module given" };
+    let batch = options.number_or("batch", 50_000)? as usize;
+    let save = options.value("save").unwrap_or("differences").into();
+    let mut run = Run::new(module, batch.max(10), save);
+    let start = Instant::now();
+    let result = drive(&mut run);
+    let seconds = start.elapsed().as_secs_f64();
+    print!("{}", run.tally);
+    println!("{:.1} s, {:.0} acts a second", seconds, run.tally.acts as f64 / seconds);
+    result?;
+    println!("{compared}");
+    Ok(())
+}
+
+fn extent(options: &Options) -> Result<Extent, String> {
+    if options.flag("compact") {
+        return Ok(Extent::Compact);
+    }
+    Ok(Extent::Depth(options.number_or("depth", 12)? as usize))
+}
+
+fn write_list(options: &Options) -> Result<(), String> {
+    let (input, output) = list::list(options.number("seed")?);
+    let place = Path::new(options.value("to").unwrap_or("."));
+    let write =
+        |name: &str, text: String| fs::write(place.join(name), text).map_err(|error| format!("{name}: {error}"));
+    write("list.in", input)?;
+    write("list.out", output)
+}
+
+/// Compares outputs that were recorded elsewhere with the judge's.
+fn check_against(options: &Options) -> Result<(), String> {
+    let [outputs, inputs] = options.plain.as_slice() else {
+        return Err(USAGE.into());
+    };
+    let schedules = Schedule::parse_many(&read(inputs)?)?;
+    let outputs = split(&read(outputs)?);
+    if outputs.len() != schedules.len() {
+        return Err(format!("{} outputs for {} schedules", outputs.len(), schedules.len()));
+    }
+    let mut tally = Tally::default();
+    let mut different = 0;
+    for (number, (schedule, output)) in schedules.iter().zip(&outputs).enumerate() {
+        if let Some(lines) = first_difference(&run(schedule, false, &mut tally), output) {
+            println!("schedule {number}, {lines}");
+            different += 1;
+        }
+    }
+    println!("{} schedules, {} acts, {different} different", tally.schedules, tally.acts);
+    if different == 0 {
+        Ok(())
+    } else {
+        Err("the outputs differ".into())
+    }
+}

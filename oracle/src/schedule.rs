@@ -1,0 +1,173 @@
+//! Schedules in `replay`'s input format, and the text that `replay` must print for them.
+
+use crate::machine::{Machine, Refusal};
+use crate::tally::Tally;
+use std::fmt::Write;
+
+/// A line that stands between two schedules, and after each output, where there are several in one text.
+pub const SEPARATOR: &str = "%";
+
+/// Capacity, workers and the words of the entries, two to an entry if nothing is wrong.
+#[derive(Clone, Debug, PartialEq, Eq)]
+pub struct Schedule {
+    pub capacity: u64,
+    pub workers: u64,
+    pub words: Vec<u64>,
+}
+
+impl Schedule {
+    pub fn new(capacity: u64, workers: u64) -> Schedule {
+        Schedule { capacity, workers, words: Vec::new() }
+    }
+
+    /// Unsigned decimal numbers separated by white space; `#` starts a comment.
+    pub fn parse(text: &str) -> Result<Schedule, String> {
+        let mut numbers = text
+            .lines()
+            .flat_map(|line| line.split('#').next().unwrap_or("").split_whitespace())
+            .map(|word| word.parse::<u64>().map_err(|_| format!("not an unsigned 64-bit number: {word}")));
+        let mut need = |what| numbers.next().unwrap_or_else(|| Err(format!("no {what}")));
+        let (capacity, workers) = (need("capacity")?, need("number of workers")?);
+        let words = numbers.collect::<Result<_, _>>()?;
+        Ok(Schedule { capacity, workers, words })
+    }
+
+    pub fn parse_many(text: &str) -> Result<Vec<Schedule>, String> {
+        split(text).iter().map(|part| Schedule::parse(part)).collect()
+    }
+
+    /// The input format, an entry to a line.
+    pub fn text(&self) -> String {
+        let mut text = format!("{} {}\n", self.capacity, self.workers);
+        for entry in self.words.chunks(2) {
+            text += &entry.iter().map(u64::to_string).collect::<Vec<_>>().join(" ");
+            text += "\n";
+        }
+        text
+    }
+
+    pub fn push(&mut self, first: u64, second: u64) {
+        self.words.extend([first, second]);
+    }
+
+    pub fn entries(&self) -> impl Iterator<Item = (u64, u64)> + '_ {
+        self.words.chunks_exact(2).map(|entry| (entry[0], entry[1]))
+    }
+
+    /// The schedule with only its first entries.
+    pub fn prefix(&self, entries: usize) -> Schedule {
+        let mut prefix = self.clone();
+        prefix.words.truncate(2 * entries);
+        prefix
+    }
+}
+
+/// The parts of a text between lines with a single separator; one at the very end begins no further part.
+pub fn split(text: &str) -> Vec<String> {
+    let mut parts = vec![String::new()];
+    for line in text.lines() {
+        if line == SEPARATOR {
+            parts.push(String::new());
+        } else {
+            let part = parts.last_mut().expect("never empty");
+            part.push_str(line);
+            part.push('\n');
+        }
+    }
+    parts.pop_if(|last| last.is_empty());
+    parts
+}
+
+/// Schedules as one text for a module that takes many.
+pub fn join<'a>(schedules: impl IntoIterator<Item = &'a Schedule>) -> String {
+    let texts: Vec<_> = schedules.into_iter().map(Schedule::text).collect();
+    texts.join(&format!("{SEPARATOR}\n"))
+}
+
+/// What `replay` must print, with a line for each entry or (quiet) only the report of the whole.
+pub fn run(schedule: &Schedule, quiet: bool, tally: &mut Tally) -> String {
+    tally.schedules += 1;
+    let mut out = String::new();
+    match Machine::make(schedule.capacity, schedule.workers) {
+        Err(refusal) => refused_making(&mut out, refusal, tally),
+        Ok(machine) => run_on(machine, schedule, quiet, &mut out, tally),
+    }
+    out
+}
+
+/// The blank machine is broken: refusal 6 for the schedule and for the contents, and no slot to print.
+fn refused_making(out: &mut String, refusal: Refusal, tally: &mut Tally) {
+    tally.refusal(refusal);
+    tally.refusal(6);
+    tally.contents_refused[6] += 1;
+    *out = format!("made {refusal}\n0 6 h=0 t=0 m=0\nslots\ncontents refused 6\n");
+}
+
+fn run_on(mut machine: Machine, schedule: &Schedule, quiet: bool, out: &mut String, tally: &mut Tally) {
+    out.push_str("made 0\n");
+    if schedule.words.len() % 2 == 1 {
+        machine.tally.refusal(11);
+        report(out, 0, 11, &machine);
+        out.push('\n');
+    } else {
+        let (place, refusal) = run_entries(&mut machine, schedule, quiet, out);
+        if quiet {
+            report(out, place, refusal, &machine);
+            out.push('\n');
+        }
+    }
+    tally.add(&machine.tally);
+    slots(out, &machine);
+    contents(out, machine, tally);
+}
+
+/// Entry by entry to the first refusal. The report: that entry's place and refusal, or the count of entries and 0.
+fn run_entries(machine: &mut Machine, schedule: &Schedule, quiet: bool, out: &mut String) -> (usize, Refusal) {
+    for (place, (first, second)) in schedule.entries().enumerate() {
+        let refusal = machine.enter(first, second);
+        if !quiet {
+            report(out, place, refusal, machine);
+            worker(out, machine, first / 16);
+        }
+        if refusal != 0 {
+            return (place, refusal);
+        }
+    }
+    (schedule.words.len() / 2, 0)
+}
+
+// Writing to a `String` cannot fail, so the results of `write!` are let go below.
+
+fn report(out: &mut String, place: usize, refusal: Refusal, machine: &Machine) {
+    let (head, tail, meter) = (machine.head(), machine.tail(), machine.meter());
+    let _ = write!(out, "{place} {refusal} h={head} t={tail} m={meter}");
+}
+
+fn worker(out: &mut String, machine: &Machine, worker: u64) {
+    let _ = match machine.state(worker) {
+        Some(state) => writeln!(out, " w{worker}={state}"),
+        None => writeln!(out, " w{worker}=-"),
+    };
+}
+
+fn slots(out: &mut String, machine: &Machine) {
+    out.push_str("slots");
+    for (stamp, value) in machine.slots() {
+        let _ = write!(out, " ({stamp},{value})");
+    }
+    out.push('\n');
+}
+
+fn contents(out: &mut String, machine: Machine, tally: &mut Tally) {
+    out.push_str("contents");
+    match machine.contents() {
+        Ok(items) => items.iter().for_each(|item| {
+            let _ = write!(out, " {item}");
+        }),
+        Err(refusal) => {
+            tally.contents_refused[refusal as usize] += 1;
+            let _ = write!(out, " refused {refusal}");
+        }
+    }
+    out.push('\n');
+}

@@ -1,0 +1,65 @@
+//! Random calls one after another, each run to its end before the next begins.
+
+use crate::drive::Run;
+use crate::interleaved::CAPACITIES;
+use crate::machine::Machine;
+use crate::random::Random;
+use crate::schedule::Schedule;
+
+/// How likely each call is, in the order of the codes.
+const MIXES: [[usize; 8]; 5] = [
+    [8, 0, 1, 1, 1, 1, 0, 1], // fills
+    [1, 0, 8, 1, 1, 1, 0, 1], // empties
+    [1, 8, 1, 1, 1, 1, 0, 1], // displaces
+    [4, 1, 4, 1, 1, 1, 0, 1], // goes round
+    [2, 2, 2, 3, 3, 3, 0, 3], // looks on
+];
+
+/// Schedules until so many calls were made.
+pub fn drive(run: &mut Run, calls: u64, seed: u64) -> Result<(), String> {
+    let mut random = Random::new(seed);
+    let mut made = 0;
+    while made < calls {
+        // A call has about five entries.
+        let most = if run.many() { 2000 } else { run.batch / 5 };
+        let length = (1 + random.below(most)).min((calls - made) as usize);
+        let capacity = random.pick(&CAPACITIES);
+        run.add(schedule(&mut random, capacity, length))?;
+        made += length as u64;
+    }
+    run.flush()
+}
+
+pub fn schedule(random: &mut Random, capacity: u64, calls: usize) -> Schedule {
+    let workers = random.pick(&[1, 1, 2, 16]);
+    let mut schedule = Schedule::new(capacity, workers);
+    let mut machine = Machine::make(capacity, workers).expect("within the limits");
+    // The ring stays closed, so closing comes late; some of what follows empties it.
+    let close_from =
+        if random.once_in(4) { calls } else { calls - random.below(calls.min(3 * capacity as usize + 20)) };
+    let (mut mix, mut left) = (MIXES[0], 0);
+    for done in 0..calls {
+        if left == 0 {
+            mix = random.pick(&MIXES);
+            left = 1 + random.below(2 * capacity as usize + 10);
+        }
+        left -= 1;
+        mix[6] = usize::from(done >= close_from);
+        let code = random.weighted(&mix) as u64;
+        let item = if code <= 1 { random.item() } else { 0 };
+        let worker = random.below(workers as usize) as u64;
+        whole_call(&mut schedule, &mut machine, 16 * worker + code, item);
+    }
+    schedule
+}
+
+/// A call from its begin to its answer.
+pub fn whole_call(schedule: &mut Schedule, machine: &mut Machine, first: u64, item: u64) {
+    assert_eq!(machine.enter(first, item), 0);
+    schedule.push(first, item);
+    let worker = first / 16;
+    while machine.busy(worker) {
+        assert_eq!(machine.enter(16 * worker + 8, 0), 0);
+        schedule.push(16 * worker + 8, 0);
+    }
+}

@@ -1,0 +1,183 @@
+//! Document 01's eight runs on paper. All numbers are the document's.
+
+use oracle::machine::Machine;
+use oracle::stage::{Action, Word};
+use oracle::state::Kind;
+
+const PUSH: u64 = 0;
+const FORCE_PUSH: u64 = 1;
+const POP: u64 = 2;
+const LEN: u64 = 3;
+const IS_EMPTY: u64 = 4;
+const CLOSE: u64 = 6;
+const IS_CLOSED: u64 = 7;
+const ACT: u64 = 8;
+
+struct Bench(Machine);
+
+impl Bench {
+    fn new(capacity: u64, workers: u64) -> Bench {
+        Bench(Machine::make(capacity, workers).unwrap_or_else(|refusal| panic!("refused {refusal}")))
+    }
+
+    fn begin(&mut self, worker: u64, code: u64, item: u64) {
+        assert_eq!(self.0.enter(16 * worker + code, item), 0);
+    }
+
+    /// One act; the state after it.
+    fn act(&mut self, worker: u64) -> String {
+        assert_eq!(self.0.enter(16 * worker + ACT, 0), 0);
+        self.0.state(worker).unwrap().to_string()
+    }
+
+    /// Acts to the answer, and how many.
+    fn end(&mut self, worker: u64) -> (String, u64) {
+        let before = self.0.meter();
+        while self.0.busy(worker) {
+            self.act(worker);
+        }
+        (self.0.state(worker).unwrap().to_string(), self.0.meter() - before)
+    }
+
+    fn call(&mut self, worker: u64, code: u64, item: u64) -> String {
+        self.begin(worker, code, item);
+        self.end(worker).0
+    }
+
+    fn ends(&self) -> (u64, u64) {
+        (self.0.head(), self.0.tail())
+    }
+
+    fn stamps(&self) -> Vec<u64> {
+        self.0.slots().iter().map(|(stamp, _)| *stamp).collect()
+    }
+
+    fn contents(self) -> Vec<u64> {
+        self.0.contents().unwrap_or_else(|refusal| panic!("refused {refusal}"))
+    }
+
+    /// Tail claims less head claims: won P3 and done F7, won O3 and F6.
+    fn stock(&self) -> u64 {
+        let tally = &self.0.tally;
+        let won = |kind| tally.times_won(kind);
+        let tail_claims = won(Kind::P3Push) + won(Kind::P3Force) + tally.times_at(Kind::F8);
+        tail_claims - won(Kind::O3) - won(Kind::F6)
+    }
+}
+
+fn run_b() -> Bench {
+    let mut bench = Bench::new(2, 1);
+    assert_eq!(bench.0.enter(0, 5), 0);
+    (0..5).for_each(|_| assert_eq!(bench.0.enter(8, 0), 0));
+    bench
+}
+
+fn run_c() -> Bench {
+    let mut bench = run_b();
+    assert_eq!(bench.call(0, PUSH, 6), "idle:pushed");
+    assert_eq!((bench.0.tail(), bench.stamps()[1]), (8, 2));
+    assert_eq!(bench.call(0, POP, 0), "idle:popped(5)");
+    assert_eq!((bench.0.head(), bench.stamps()[0]), (1, 8));
+    assert_eq!(bench.call(0, PUSH, 7), "idle:pushed");
+    assert_eq!((bench.0.tail(), bench.stamps()[0]), (9, 9));
+    bench.begin(0, PUSH, 8);
+    assert_eq!(bench.end(0), ("idle:full(8)".into(), 3));
+    bench
+}
+
+fn run_d() -> Bench {
+    let mut bench = run_c();
+    bench.begin(0, FORCE_PUSH, 8);
+    assert_eq!(bench.end(0), ("idle:displaced(6)".into(), 6));
+    assert_eq!((bench.ends(), bench.stamps()[1]), ((8, 16), 10));
+    bench
+}
+
+/// Capacity 1, holding 7, and worker 0 at F6 of force_push 8.
+fn before_f6() -> Bench {
+    let mut bench = Bench::new(1, 2);
+    assert_eq!(bench.call(0, PUSH, 7), "idle:pushed");
+    assert_eq!((bench.0.tail(), bench.stamps()), (4, vec![1]));
+    bench.begin(0, FORCE_PUSH, 8);
+    bench.act(0);
+    assert_eq!(bench.act(0), "F6(4,8)");
+    bench
+}
+
+/// Mark is what `close` sets; lap is what the first pop's stamp store adds to head 0.
+#[test]
+fn a_constants() {
+    for (capacity, mark, lap) in [(1, 2, 4), (2, 4, 8), (3, 4, 8), (4, 8, 16), (255, 256, 512), (256, 512, 1024)] {
+        let mut bench = Bench::new(capacity, 2);
+        bench.call(0, PUSH, 5);
+        bench.begin(0, POP, 0);
+        (0..4).for_each(|_| drop(bench.act(0)));
+        assert_eq!(bench.0.pending(0), Some(Action::Store(Word::Stamp(0), lap)));
+        bench.begin(1, CLOSE, 0);
+        assert_eq!(bench.0.pending(1), Some(Action::FetchOr(Word::Tail, mark)));
+    }
+}
+
+#[test]
+fn b_push() {
+    let bench = run_b();
+    assert_eq!(bench.ends(), (0, 1));
+    assert_eq!(bench.0.slots(), [(1, 5), (1, 0)]);
+    assert_eq!(bench.0.meter(), 5);
+    assert_eq!(bench.0.state(0).unwrap().to_string(), "idle:pushed");
+    assert_eq!(bench.contents(), [5]);
+}
+
+#[test]
+fn c_full() {
+    run_c();
+}
+
+#[test]
+fn d_displaced() {
+    assert_eq!(run_d().contents(), [7, 8]);
+}
+
+#[test]
+fn e_closed() {
+    let mut bench = run_d();
+    assert_eq!(bench.call(0, CLOSE, 0), "idle:yes");
+    assert_eq!(bench.0.tail(), 20);
+    assert_eq!(bench.call(0, PUSH, 9), "idle:closed(9)");
+    assert_eq!(bench.call(0, POP, 0), "idle:popped(7)");
+    assert_eq!(bench.call(0, POP, 0), "idle:popped(8)");
+    assert_eq!(bench.call(0, POP, 0), "idle:closed");
+    assert_eq!((bench.0.head(), bench.stamps()), (16, vec![16, 17]));
+}
+
+#[test]
+fn f_close_lost() {
+    let mut bench = before_f6();
+    assert_eq!(bench.call(1, CLOSE, 0), "idle:yes");
+    assert_eq!(bench.0.tail(), 6);
+    assert_eq!(bench.end(0).0, "idle:displaced(7)");
+    assert_eq!((bench.ends(), bench.stamps()), ((4, 8), vec![5]));
+    assert_eq!(bench.call(1, IS_CLOSED, 0), "idle:no");
+    assert_eq!(bench.0.tally.closes_lost, 1);
+}
+
+#[test]
+fn g_before_f7() {
+    let mut bench = before_f6();
+    assert_eq!(bench.act(0), "F7(4,8)");
+    assert_eq!(bench.ends(), (4, 4));
+    assert_eq!(bench.call(1, LEN, 0), "idle:len(0)");
+    assert_eq!(bench.call(1, IS_EMPTY, 0), "idle:yes");
+    assert_eq!(bench.stock(), 0);
+    bench.begin(1, POP, 0);
+    assert_eq!(bench.0.state(1).unwrap().kind, Kind::O1);
+    assert_eq!(bench.act(1), "O2(4)");
+    assert_eq!(bench.act(1), "O1");
+}
+
+#[test]
+fn h_limits() {
+    let made = |capacity, workers| Machine::make(capacity, workers).err().unwrap_or(0);
+    assert_eq!([0, 257, 1, 256].map(|capacity| made(capacity, 1)), [1, 1, 0, 0]);
+    assert_eq!([0, 17, 1, 16].map(|workers| made(1, workers)), [2, 2, 0, 0]);
+}

@@ -1,0 +1,85 @@
+//! The text that `replay` must print, in the cases that are not entries of an accepted schedule.
+
+use oracle::schedule::{run, split, Schedule};
+use oracle::tally::Tally;
+
+fn printed(input: &str) -> String {
+    run(&Schedule::parse(input).unwrap(), false, &mut Tally::default())
+}
+
+fn quiet(input: &str) -> String {
+    run(&Schedule::parse(input).unwrap(), true, &mut Tally::default())
+}
+
+#[test]
+fn empty_schedule() {
+    assert_eq!(printed("2 1"), "made 0\nslots (0,0) (1,0)\ncontents\n");
+    assert_eq!(quiet("2 1"), "made 0\n0 0 h=0 t=0 m=0\nslots (0,0) (1,0)\ncontents\n");
+}
+
+#[test]
+fn refused_making() {
+    let blank = |refusal| format!("made {refusal}\n0 6 h=0 t=0 m=0\nslots\ncontents refused 6\n");
+    assert_eq!(printed("0 1 0 5"), blank(1));
+    assert_eq!(printed("1 17 0 5 8"), blank(2));
+    assert_eq!(printed("257 0"), blank(1));
+    assert_eq!(quiet("0 1"), blank(1));
+}
+
+#[test]
+fn odd_number_of_words() {
+    let expected = "made 0\n0 11 h=0 t=0 m=0\nslots (0,0)\ncontents\n";
+    assert_eq!(printed("1 1 0 5 8"), expected);
+    assert_eq!(quiet("1 1 0 5 8"), expected);
+}
+
+#[test]
+fn refused_entry_ends_the_run() {
+    let input = "1 1 # a comment\n0 5 8 0\n 176 0 # no such worker: refusal 3\n8 0";
+    let begun = "made 0\n0 0 h=0 t=0 m=0 w0=P1:push(5)\n1 0 h=0 t=0 m=1 w0=P2:push(0,5)\n";
+    let end = "slots (0,0)\ncontents refused 4\n";
+    assert_eq!(printed(input), format!("{begun}2 3 h=0 t=0 m=1 w11=-\n{end}"));
+    assert_eq!(quiet(input), format!("made 0\n2 3 h=0 t=0 m=1\n{end}"));
+}
+
+/// Document 01: begin 9, 3, 4; act 9, 3, 5, 8.
+#[test]
+fn order_of_refusals() {
+    let refusal = |entries: &str| {
+        let output = quiet(&format!("1 1 {entries}"));
+        output.lines().nth(1).unwrap().split(' ').nth(1).unwrap().to_string()
+    };
+    assert_eq!(refusal("26 0"), "9", "code 10 of no worker");
+    assert_eq!(refusal("18 1"), "9", "an item with a pop of no worker");
+    assert_eq!(refusal("24 1"), "9", "an item with an act of no worker");
+    assert_eq!(refusal("8 1"), "9", "an item with an act of an idle worker");
+    assert_eq!(refusal("2 0 2 7"), "9", "an item with a pop of a busy worker");
+    assert_eq!(refusal("16 5"), "3", "begin of no worker");
+    assert_eq!(refusal("25 0"), "3", "act of no worker");
+    assert_eq!(refusal("18446744073709551608 0"), "3", "act of the last worker a word can name");
+    assert_eq!(refusal("2 0 2 0"), "4", "begin of a busy worker");
+    assert_eq!(refusal("9 0"), "5", "lost act of an idle worker");
+    assert_eq!(refusal("2 0 9 0"), "8", "lost act at a load");
+}
+
+/// A lost exchange with the words agreeing, then code 9 with the words differing.
+#[test]
+fn code_9() {
+    let lost = printed("2 1 0 5 8 0 8 0 9 0");
+    assert_eq!(lost.lines().last(), Some("contents refused 4"));
+    assert_eq!(lost.lines().nth(4), Some("3 0 h=0 t=0 m=3 w0=P2:push(0,5)"));
+    let raced = "2 2 0 5 8 0 8 0 16 6 24 0 24 0 24 0 9 0";
+    assert_eq!(printed(raced).lines().nth(8), Some("7 0 h=0 t=1 m=6 w0=P2:push(1,5)"));
+    assert_eq!(printed(raced), printed(&raced.replace(" 9 0", " 8 0")));
+}
+
+#[test]
+fn texts_of_many() {
+    assert_eq!(split("1 1\n%\n2 2\n"), ["1 1\n", "2 2\n"]);
+    assert_eq!(split("a\n%\nb\n%\n"), ["a\n", "b\n"]);
+    assert!(Schedule::parse("1").is_err());
+    assert!(Schedule::parse("1 1 x").is_err());
+    assert!(Schedule::parse("1 1 -1").is_err());
+    let schedule = Schedule::parse("1 1 0 5 8").unwrap();
+    assert_eq!(Schedule::parse(&schedule.text()), Ok(schedule));
+}
