@@ -1,10 +1,8 @@
 // A machine, run pair by pair. The first pair of numbers makes it; every other is an entry.
 use crate::options::Options;
 use crate::summary::Summary;
-use machine::Did;
 use machine::Machine;
-use places::Answer;
-use places::Place;
+use show::Seen;
 
 pub struct Run {
     pub machine: Machine,
@@ -70,51 +68,58 @@ fn make(capacity: u64, workers: u64, odd: bool, out: &mut [u8], at: usize) -> Ru
     }
 }
 
-// Where the entry's worker stands.
-fn place_of(m: Machine, worker: u64) -> Place {
-    let workers = m.workers;
-    if worker < 16 {
-        let record = workers[worker as usize];
-        let p = record.place;
-        return p;
+// An entry: its place, what was said of it, its first word, and what was seen of its worker before and after.
+struct Turn {
+    place: u64,
+    refusal: u64,
+    first: u64,
+    before: Seen,
+    after: Seen,
+}
+
+fn turn_of(place: u64, refusal: u64, first: u64, before: Seen, after: Seen) -> Turn {
+    Turn {
+        place: place,
+        refusal: refusal,
+        first: first,
+        before: before,
+        after: after,
     }
-    Place::Idle(Answer::Nothing)
 }
 
 // The summary after an entry.
-fn counted(s: Summary, before: Machine, did: Did, first: u64) -> Summary {
-    if did.refusal != 0 {
+fn counted(asked: bool, s: Summary, t: Turn) -> Summary {
+    let before = t.before;
+    let after = t.after;
+    let p = before.place;
+    let q = after.place;
+    if !asked {
+        return s;
+    }
+    if t.refusal != 0 {
         return crate::summary::refused(s);
     }
-    if first % 16 < 8 {
+    if t.first % 16 < 8 {
         return crate::summary::begun(s);
     }
-    let after = did.machine;
-    crate::summary::acted(s, place_of(before, first / 16), place_of(after, first / 16))
-}
-
-fn counted_if(asked: bool, s: Summary, before: Machine, did: Did, first: u64) -> Summary {
-    if asked {
-        return counted(s, before, did, first);
-    }
-    s
+    crate::summary::acted(s, p, q)
 }
 
 // PLACE R h=H t=T m=M wN=S
-fn line(out: &mut [u8], at: usize, place: u64, did: Did, first: u64) -> usize {
-    let m = did.machine;
-    let p = show::report(out, at, place, did.refusal, m);
+fn line(out: &mut [u8], at: usize, t: Turn) -> usize {
+    let after = t.after;
+    let p = show::report_of(out, at, t.place, t.refusal, after);
     let q = show::byte(out, p, b' ');
-    let r = show::worker(out, q, m, first / 16);
+    let r = show::stands(out, q, t.first / 16, after);
     let s = show::end_line(out, r);
     show::settle(out, s)
 }
 
-fn line_unless(quiet: bool, out: &mut [u8], at: usize, place: u64, did: Did, first: u64) -> usize {
+fn line_unless(quiet: bool, out: &mut [u8], at: usize, t: Turn) -> usize {
     if quiet {
         return at;
     }
-    line(out, at, place, did, first)
+    line(out, at, t)
 }
 
 fn next_place(place: u64, refusal: u64) -> u64 {
@@ -140,12 +145,15 @@ fn steps(r: Run, o: Options, list: &[u64], from: usize, out: &mut [u8]) -> Run {
         let first = list[i];
         let second = list[i + 1];
         i += 2;
-        let did = bounded::step(m, first, second);
-        s = counted_if(o.summary, s, m, did, first);
-        at = line_unless(o.quiet, out, at, place, did, first);
-        let after = did.machine;
-        m = after;
-        refusal = did.refusal;
+        let pair = [first, second];
+        let before = show::seen_of(m, first / 16);
+        let ran = bounded::run(m, &pair);
+        let now = ran.machine;
+        m = now;
+        refusal = ran.refusal;
+        let turn = turn_of(place, refusal, first, before, show::seen_of(m, first / 16));
+        s = counted(o.summary, s, turn);
+        at = line_unless(o.quiet, out, at, turn);
         place = next_place(place, refusal);
     }
     Run {

@@ -64,7 +64,7 @@ fn ended(r: Reading, many: bool, list: &mut [u64], left: usize) -> Reading {
     let scan = r.scan;
     let end = [b'\n'];
     let piece = scan::read_piece(scan, many, &end, list, left);
-    if piece.event < scan::MARK {
+    if piece.event == scan::NOTHING {
         return after(piece, r.offset, END);
     }
     after(piece, r.offset, piece.event)

@@ -205,6 +205,11 @@ fn keep(list: &mut [u64], count: usize, event: u64, number: u64) -> usize {
     count
 }
 
+// What stops a reading; a number does not.
+fn stop_of(event: u64) -> u64 {
+    if event < MARK { NOTHING } else { event }
+}
+
 // A piece of text, to its end or to the first event that is no number. The list has room for a number to each two bytes.
 pub fn read_piece(s: Scan, many: bool, bytes: &[u8], list: &mut [u64], count: usize) -> Piece {
     let mut scan = s;
@@ -223,6 +228,6 @@ pub fn read_piece(s: Scan, many: bool, bytes: &[u8], list: &mut [u64], count: us
         scan: scan,
         used: i,
         count: kept,
-        event: event,
+        event: stop_of(event),
     }
 }
