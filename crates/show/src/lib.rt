@@ -158,41 +158,74 @@ pub fn place(out: &mut [u8], at: usize, p: Place) -> usize {
     }
 }
 
-// Where worker w stands; "-" where there is no such worker.
-pub fn worker(out: &mut [u8], at: usize, m: Machine, w: u64) -> usize {
-    let p = byte(out, at, b'w');
-    let q = number(out, p, w);
-    let r = byte(out, q, b'=');
-    let workers = m.workers;
-    if w < m.count {
-        let i = w as usize;
-        if i < words::WORKERS {
-            let record = workers[i];
-            let stands = record.place;
-            return place(out, r, stands);
-        }
-    }
-    byte(out, r, b'-')
+// What one line says of a machine: its ends and meter, and where a worker stands, if there is such a worker.
+pub struct Seen {
+    pub head: u64,
+    pub tail: u64,
+    pub meter: u64,
+    pub there: bool,
+    pub place: Place,
 }
 
-// h=H t=T m=M
-pub fn ends(out: &mut [u8], at: usize, m: Machine) -> usize {
+pub fn seen_of(m: Machine, w: u64) -> Seen {
     let ring = m.ring;
     let e = ring.ends;
     let head = e.head;
     let tail = e.tail;
-    let p = named(out, at, b"h", head.0);
-    let q = named(out, p, b" t", tail.0);
-    named(out, q, b" m", m.meter)
+    let workers = m.workers;
+    let i = w % 16;
+    let record = workers[i as usize];
+    let stands = record.place;
+    Seen {
+        head: head.0,
+        tail: tail.0,
+        meter: m.meter,
+        there: w < m.count,
+        place: stands,
+    }
+}
+
+// wN=PLACE; "-" where there is no such worker
+pub fn stands(out: &mut [u8], at: usize, w: u64, s: Seen) -> usize {
+    let p = byte(out, at, b'w');
+    let q = number(out, p, w);
+    let r = byte(out, q, b'=');
+    let stands = s.place;
+    if s.there {
+        return place(out, r, stands);
+    }
+    byte(out, r, b'-')
+}
+
+pub fn worker(out: &mut [u8], at: usize, m: Machine, w: u64) -> usize {
+    let s = seen_of(m, w);
+    stands(out, at, w, s)
+}
+
+// h=H t=T m=M
+pub fn end_words(out: &mut [u8], at: usize, s: Seen) -> usize {
+    let p = named(out, at, b"h", s.head);
+    let q = named(out, p, b" t", s.tail);
+    named(out, q, b" m", s.meter)
+}
+
+pub fn ends(out: &mut [u8], at: usize, m: Machine) -> usize {
+    let s = seen_of(m, 0);
+    end_words(out, at, s)
 }
 
 // PLACE R h=H t=T m=M, with no line end
-pub fn report(out: &mut [u8], at: usize, place: u64, refusal: u64, m: Machine) -> usize {
+pub fn report_of(out: &mut [u8], at: usize, place: u64, refusal: u64, s: Seen) -> usize {
     let p = number(out, at, place);
     let q = byte(out, p, b' ');
     let r = number(out, q, refusal);
-    let s = byte(out, r, b' ');
-    ends(out, s, m)
+    let t = byte(out, r, b' ');
+    end_words(out, t, s)
+}
+
+pub fn report(out: &mut [u8], at: usize, place: u64, refusal: u64, m: Machine) -> usize {
+    let s = seen_of(m, 0);
+    report_of(out, at, place, refusal, s)
 }
 
 // A full line of slots can be longer than a buffer, so it is settled slot by slot.

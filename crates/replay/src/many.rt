@@ -1,0 +1,268 @@
+// One schedule, or one after another: each is read once to see that it can be run, and once more to run it.
+use crate::options::Options;
+use crate::play::Run;
+use crate::source::Reading;
+
+const STRIDE: u64 = 1000000;
+
+// How many numbers there are, and where and how the reading ended.
+struct Survey {
+    count: u64,
+    reading: Reading,
+}
+
+fn survey_in(fd: i32, many: bool, begin: Reading, bytes: &mut [u8], list: &mut [u64]) -> Survey {
+    let mut r = begin;
+    let mut count = 0;
+    let mut turns = u64::MAX;
+    while turns > 0 && r.event == scan::NOTHING {
+        r = crate::source::turn(fd, many, r, bytes, list, 0);
+        count = std::num::wrapping_add_u64(count, r.count as u64);
+        turns -= 1;
+    }
+    Survey {
+        count: count,
+        reading: r,
+    }
+}
+
+fn surveyed(fd: i32, many: bool, offset: u64, line: u64) -> Survey {
+    let mut bytes = [0u8; crate::source::BYTES];
+    let mut list = [0u64; crate::source::NUMBERS];
+    survey_in(
+        fd,
+        many,
+        crate::source::start(offset, line),
+        &mut bytes,
+        &mut list,
+    )
+}
+
+// Says what is wrong, and answers whether nothing is.
+fn is_sound(s: Survey, name: &[u8]) -> bool {
+    let r = s.reading;
+    let scan = r.scan;
+    let event = r.event;
+    match event {
+        crate::source::FAILED => {
+            os::fail(name);
+            return false;
+        }
+        scan::NO_NUMBER => {
+            crate::say::fault(
+                name,
+                scan.line,
+                scan.start,
+                b"not an unsigned decimal number",
+            );
+            return false;
+        }
+        scan::TOO_LARGE => {
+            crate::say::fault(
+                name,
+                scan.line,
+                scan.start,
+                b"a number that does not fit 64 bits",
+            );
+            return false;
+        }
+        _ => {}
+    }
+    if s.count == 0 {
+        crate::say::fault(name, scan.line, scan.column, b"the capacity is missing");
+        return false;
+    }
+    if s.count == 1 {
+        crate::say::fault(
+            name,
+            scan.line,
+            scan.column,
+            b"the number of workers is missing",
+        );
+        return false;
+    }
+    true
+}
+
+// The number that has no pair yet goes to the list's start, and is the one that the next piece leaves there.
+fn carry(list: &mut [u64], count: usize) -> usize {
+    if count % 2 == 0 {
+        return 0;
+    }
+    if count <= list.len() {
+        list[0] = list[count - 1];
+        return 1;
+    }
+    0
+}
+
+fn progress(before: u64, after: u64) {
+    if before / STRIDE != after / STRIDE {
+        if libc::isatty(libc::STDERR_FILENO) == 1 {
+            crate::say::progress(after);
+        }
+    }
+}
+
+// A reading, the run of what was read, and whether a number is left over: 1 or 0.
+struct Playing {
+    reading: Reading,
+    run: Run,
+    left: usize,
+}
+
+fn goes_on(p: Playing) -> bool {
+    let r = p.reading;
+    let run = p.run;
+    if r.event == scan::NOTHING {
+        run.refusal == 0
+    } else {
+        false
+    }
+}
+
+// One piece of the schedule.
+fn play_some(run: Run, o: Options, odd: bool, list: &[u64], n: usize, out: &mut [u8]) -> Run {
+    let after = crate::play::pairs(run, o, odd, list, n, out);
+    progress(run.place, after.place);
+    after
+}
+
+fn read_and_play(
+    p: Playing,
+    o: Options,
+    fd: i32,
+    odd: bool,
+    bytes: &mut [u8],
+    list: &mut [u64],
+    out: &mut [u8],
+) -> Playing {
+    let before = p.reading;
+    let run = p.run;
+    let r = crate::source::turn(fd, o.many, before, bytes, list, p.left);
+    let after = play_some(run, o, odd, list, r.count, out);
+    let left = carry(list, r.count);
+    Playing {
+        reading: r,
+        run: after,
+        left: left,
+    }
+}
+
+fn play_in(
+    begin: Playing,
+    o: Options,
+    fd: i32,
+    odd: bool,
+    bytes: &mut [u8],
+    list: &mut [u64],
+    out: &mut [u8],
+) -> Run {
+    let mut p = begin;
+    let mut turns = u64::MAX;
+    while turns > 0 && goes_on(p) {
+        turns -= 1;
+        p = read_and_play(p, o, fd, odd, bytes, list, out);
+    }
+    let run = p.run;
+    run
+}
+
+fn play_begin(offset: u64, line: u64, at: usize) -> Playing {
+    Playing {
+        reading: crate::source::start(offset, line),
+        run: crate::play::start(at),
+        left: 0,
+    }
+}
+
+fn play(
+    o: Options,
+    fd: i32,
+    offset: u64,
+    line: u64,
+    odd: bool,
+    out: &mut [u8],
+    at: usize,
+) -> usize {
+    let mut bytes = [0u8; crate::source::BYTES];
+    let mut list = [0u64; crate::source::NUMBERS];
+    let begin = play_begin(offset, line, at);
+    let run = play_in(begin, o, fd, odd, &mut bytes, &mut list, out);
+    crate::play::finish(run, o, out)
+}
+
+// Where the next schedule begins, and where the text to be written goes on.
+struct Next {
+    more: bool,
+    offset: u64,
+    line: u64,
+    at: usize,
+}
+
+fn stop(at: usize) -> Next {
+    Next {
+        more: false,
+        offset: 0,
+        line: 0,
+        at: at,
+    }
+}
+
+fn one(o: Options, fd: i32, name: &[u8], from: Next, out: &mut [u8]) -> Next {
+    let s = surveyed(fd, o.many, from.offset, from.line);
+    if is_sound(s, name) {} else {
+        return stop(from.at);
+    }
+    let at = play(
+        o,
+        fd,
+        from.offset,
+        from.line,
+        s.count % 2 == 1,
+        out,
+        from.at,
+    );
+    let r = s.reading;
+    let scan = r.scan;
+    Next {
+        more: r.event == scan::MARK,
+        offset: r.offset,
+        line: scan.line,
+        at: at,
+    }
+}
+
+// A mark at the very end begins no further schedule.
+fn unless_at_end(fd: i32, n: Next) -> Next {
+    let mut byte = [0u8; 1];
+    let mut m = n;
+    if n.more {
+        let got = libc::pread(fd, &mut byte, crate::source::to_offset(n.offset));
+        if got == 0 {
+            m.more = false;
+        }
+    }
+    m
+}
+
+fn run_in(o: Options, fd: i32, name: &[u8], out: &mut [u8]) {
+    let mut n = Next {
+        more: true,
+        offset: 0,
+        line: 1,
+        at: 0,
+    };
+    let mut turns = u64::MAX;
+    while turns > 0 && n.more {
+        n = one(o, fd, name, n, out);
+        n = unless_at_end(fd, n);
+        turns -= 1;
+    }
+    show::flush(out, n.at);
+}
+
+pub fn run_all(o: Options, fd: i32, name: &[u8]) {
+    let mut out = io::large_buffer();
+    run_in(o, fd, name, &mut out);
+}
