@@ -1,3 +1,4 @@
 pub mod Demands
 pub mod Eight
 pub mod EverySchedule
+pub mod Alone

@@ -1,0 +1,1 @@
+// Demand 3, proved: theorems alone, in specs/. Crate demands states it.
