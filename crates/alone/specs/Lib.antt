@@ -1,2 +1,4 @@
 pub mod Rank
 pub mod Found
+pub mod Foretold
+pub mod Solo
