@@ -77,7 +77,7 @@ module _ (c mark n : ℕ) (g : Ground c mark n) (s : Shared) (inv : Inv c s) (yo
   turn = turn-long c mark n (g .laws)
 
   -- the tests of the ends, in claims
-  tail-is : (b : Bool) (m : ℕ) → m ≤ s .tail → same (unmarkedOf f (tailWord c mark n (s .tail) b)) (Word m) ≡ eqb (s .tail) m
+  pub tail-is : (b : Bool) (m : ℕ) → m ≤ s .tail → same (unmarkedOf f (tailWord c mark n (s .tail) b)) (Word m) ≡ eqb (s .tail) m
   tail-is b m le =
       let r : Near (n * c) (s .tail) m = omega (arith, turn) in
       rw (Stamps.unmarked-tail c mark n g (s .tail) b) (Stamps.same-is c mark n g (s .tail) m r)
@@ -87,7 +87,7 @@ module _ (c mark n : ℕ) (g : Ground c mark n) (s : Shared) (inv : Inv c s) (yo
       let r : Near (n * c) (s .head) m = omega (arith, turn, inv .low) in
       Stamps.same-is c mark n g (s .head) m r
 
-  behind-is : (m : ℕ) → m ≤ s .tail → lapBehind f (Word (s .head)) (Word m) ≡ eqb (s .head + c) m
+  pub behind-is : (m : ℕ) → m ≤ s .tail → lapBehind f (Word (s .head)) (Word m) ≡ eqb (s .head + c) m
   behind-is m le =
       let r : Near (n * c) (s .head + c) m = omega (arith, turn, inv .low, inv .high) in
       Stamps.behind-is c mark n g (s .head) m r

@@ -7,7 +7,7 @@ use Prim.Native.Nat.{ℕ, zero, suc, _+_, _*_, _-_, _/_, _%_, _≤_, _<_}
 use native.Mathlib.Omega.{arith}
 use native.Mathlib.Decide.{ℕ-discrete, decLt}
 use lib.Dec.{ltb, eqb}
-use lib.ListN.{length, getD, set}
+use lib.ListN.{length, getD, set, List·getD-eq-default}
 use lib.Seq.{getD-set-same, getD-set-other}
 use borrow.Author.Tests.{lt-ltb, ltb-true, eq-eqb, eqb-true}
 use Rattle.words.specs.declared.Stamp.{Stamp}
@@ -59,11 +59,6 @@ act-entry w =
     let top : (16 * w + 8) / 16 ≡ w = omega arith in
     rw (low, top)
 
-past-end : {A : Type 0} (l : List A) (i : ℕ) (d : A) → length l ≤ i → getD l i d ≡ d
-past-end [] i d h = refl
-past-end (x ∷ l) zero d h = absurd (omega arith)
-past-end (x ∷ l) (suc i) d h = past-end l i d (omega arith)
-
 counted : (f : Fixed) (p : Place) (b : Bool) → viewOf p .busy ≡ true → recordFits f p b ≡ true → b ≡ true
 unfolding recordFits
 counted f p true busy h = refl
@@ -104,7 +99,7 @@ module _ (c n workers : ℕ) (base : Base c n workers) (s : Shared) (m : Machine
       go (yes l) = ltb-true w (m .count) (counted (m .ring .fixed) (stood m w) (ltb w (m .count)) busy (pic .unbroken .records w l))
       go (no z) =
           let over : length (m .workers) ≤ w = omega (arith, pic .workers-long) in
-          absurd (true≢false (sym (rw (ap (λ (y : Worker). y .place) (past-end (m .workers) w idler over)) at busy)))
+          absurd (true≢false (sym (rw (ap (λ (y : Worker). y .place) (List·getD-eq-default (m .workers) idler over)) at busy)))
 
   pub act-turn : m .meter < meterMost → turnOf m (16 * w + 8) 0 ≡ accepted (acted m w (stood m w) false)
   unfolding turnOf
@@ -123,18 +118,19 @@ module _ (c n workers : ℕ) (base : Base c n workers) (s : Shared) (m : Machine
   small = spot-small c n workers base s m pic w team false busy
 
   module _ (free : OtherHand m w → ⊥) where
-    loose : (HandAt (markOf c) (look c p) i → ⊥) → Loose (s .cell i)
-    loose mine = loose-of (s .cell i) (λ v z. go v (ℕ-discrete v w) (pic .back i small v z))
+    -- a slot that is not in the worker's own hand is in none
+    pub loose : (j : ℕ) → j < c → (HandAt (markOf c) (look c p) j → ⊥) → Loose (s .cell j)
+    loose j l mine = loose-of (s .cell j) (λ v z. go v (ℕ-discrete v w) (pic .back j l v z))
       where
-        go : (v : ℕ) → Dec (v ≡ w) → HandAt (markOf c) (look c (stood m v)) i → ⊥
+        go : (v : ℕ) → Dec (v ≡ w) → HandAt (markOf c) (look c (stood m v)) j → ⊥
         go v (yes e) h = mine (rw e at h)
-        go v (no ne) h = let t = hand-of c (markOf c) i (stood m v) h in free (v, ne, t .0, t .1)
+        go v (no ne) h = let t = hand-of c (markOf c) j (stood m v) h in free (v, ne, t .0, t .1)
 
     found : Finds (m .ring .fixed) (m .ring .ends) (ownSlot m p) p
     found =
         let at : i ≡ spotOf (fixed c (markOf c)) (viewOf p .held) = ap (λ (f : Fixed). spotOf f (viewOf p .held)) (pic .rule) in
         let d : Finds (fixed c (markOf c)) (endsOf c (markOf c) n s (pic .shut)) (slotOf c (markOf c) n (s .cell i) (s .val i)) p =
-        finds c (markOf c) n (base .ground) s (pic .inv) (first-turn c n workers base s m pic) w i (pic .shut) p small at (pic .stands w) loose in
+        finds c (markOf c) n (base .ground) s (pic .inv) (first-turn c n workers base s m pic) w i (pic .shut) p small at (pic .stands w) (loose i small) in
         subst (λ (f : Fixed). Finds f (m .ring .ends) (ownSlot m p) p) (sym (pic .rule))
         (subst (λ (e : Ends). Finds (fixed c (markOf c)) e (ownSlot m p) p) (sym (pic .ends))
         (subst (λ (z : Slot). Finds (fixed c (markOf c)) (endsOf c (markOf c) n s (pic .shut)) z p) (sym (pic .slots i small)) d))
