@@ -2,3 +2,4 @@ pub mod Demands
 pub mod Eight
 pub mod EverySchedule
 pub mod Alone
+pub mod Attained
