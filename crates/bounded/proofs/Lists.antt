@@ -121,6 +121,6 @@ module _ (capacity workers : ℕ) (a : Bool) (ea : a ≡ inLimits capacity slots
     unfolding makeOf
     make-2 m r h q e = yes _ a _ _ _ ea ha (no _ b _ _ _ eb h (e ∙ ap (refused 2) q))
 
-    pub make-0 : (m : Machine) (r : Did) → b ≡ true → m ≡ freshOf capacity workers → r ≡ refused 0 m → r ≡ makeOf capacity workers
-    unfolding makeOf refused accepted
-    make-0 m r h q e = yes _ a _ _ _ ea ha (yes _ b _ _ _ eb h (e ∙ ap (refused 0) q))
+    pub make-0 : (m : Machine) (r : Did) → b ≡ true → m ≡ freshOf capacity workers → r ≡ accepted m → r ≡ makeOf capacity workers
+    unfolding makeOf
+    make-0 m r h q e = yes _ a _ _ _ ea ha (yes _ b _ _ _ eb h (e ∙ ap accepted q))

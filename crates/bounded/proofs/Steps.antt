@@ -68,9 +68,9 @@ one m d h =
     go true e = ap (λ (k : ℕ). record { refusal = k; machine = d .machine }) (sym (eqb-true (d .refusal) 0 e))
     go false e = ap (λ (x : Machine). record { refusal = d .refusal; machine = x }) (sym (h e))
 
-pub one-entry : (m : Machine) (first second : ℕ) (r : Ran) (d : Did) → r ≡ runOf m (first ∷ second ∷ []) → d ≡ refused (r .refusal) (r .machine) → d ≡ stepOf m first second
+pub one-entry : (m : Machine) (first second : ℕ) (r : Ran) → r ≡ runOf m (first ∷ second ∷ []) → whole r ≡ stepOf m first second
 unfolding runOf runFrom stepOf refused turnOf ran
-one-entry m first second r d e q = q ∙ ap whole e ∙ go (brokenOf m)
+one-entry m first second r e = ap whole e ∙ go (brokenOf m)
   where
     go : (b : Bool) → whole (cond b (ran 6 0 m) (cond (eqb (2 % 2) 1) (ran 11 0 m) (runFrom m 0 (first ∷ second ∷ [])))) ≡ cond b (refused 6 m) (turnOf m first second)
     go true = refl

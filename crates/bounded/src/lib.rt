@@ -17,7 +17,6 @@ use machine::Told;
 use machine::Verdict;
 use places::Ends;
 use places::Entry;
-use places::Order;
 use places::Place;
 use places::Slot;
 use places::Worker;
@@ -34,7 +33,7 @@ pub fn make(capacity: u64, workers: u64) -> Did
     if machine::in_limits(workers, words::WORKERS as u64) {} else {
         return machine::refuse(machine::blank(), 2);
     }
-    machine::refuse(machine::fresh(capacity, workers), 0)
+    machine::accept(machine::fresh(capacity, workers))
 }
 
 pub fn broken(m: Machine) -> bool
@@ -171,7 +170,10 @@ pub fn step(m: Machine, first: u64, second: u64) -> Did
     let entry = [first, second];
     let r = run(m, &entry);
     let after = r.machine;
-    machine::refuse(after, r.refusal)
+    Did {
+        refusal: r.refusal,
+        machine: after,
+    }
 }
 
 // One entry that begins a call; another's code can't be read here: refusal 9.

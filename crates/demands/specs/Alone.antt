@@ -1,7 +1,7 @@
 -- Demand 3: a call that alone is scheduled ends, unless another worker has a slot in hand; and a slot in hand is let go of.
--- Said of the machine's own struct and of entries. Proofs: crate alone, `demand3` of specs/Demand3.antt.
-use Prim.Native.Nat.{ℕ, zero, suc, _+_, _*_, _≤_, _<_}
-use mathlib.Core.Bool.{Bool, true, false, cond}
+-- Said of the machine's own struct and of entries. Proofs: crate alone, `demand3` of proofs/Demand3.antt.
+use Prim.Native.Nat.{ℕ, suc, _+_, _*_, _≤_, _<_}
+use mathlib.Core.Bool.{Bool, true, cond}
 use mathlib.Core.List.{List, [], _∷_, _++_}
 use mathlib.Core.Path.{_≡_}
 use mathlib.Core.Logic.{_≢_}
@@ -28,8 +28,9 @@ use Rattle.machine.specs.declared.Event.{Event}
 use Rattle.machine.specs.Machine.{placeOf}
 use Rattle.machine.specs.Turn.{turnOf}
 use Rattle.machine.specs.Run.{runFrom}
+use Rattle.machine.specs.History.{historyOf}
 use Rattle.demands.specs.Eight.{acts}
-use Rattle.demands.specs.EverySchedule.{Allowed, machineAfter, actsOf, InHand, Truth, waiting}
+use Rattle.demands.specs.EverySchedule.{Allowed, machineAfter, actsOf, InHand, HandsOut, Truth, CallClaim, ItemIn, waiting}
 
 -- Most acts to the end, from each place: push at most 6, force_push 7, pop 6, len 5, is_empty 2, is_full 2, close 1,
 -- is_closed 1; in hand P4 2, F7 3, O4 2. A word that is out of date costs the acts up to the next load.
@@ -79,8 +80,8 @@ queueAnswer call.Close closed capacity q = cond closed No Yes
 queueAnswer call.IsClosed closed capacity q = yesNo closed
 
 -- Worker w's call, if only acts of w are scheduled (code 8), ends within so many of them, none refused; its answer is true
--- of the words at the act that decided it, and that of a call only begun is a plain queue's. (The run's places are counted
--- from `from`.)
+-- of the words at the act that decided it and keeps the claim rule, and that of a call only begun is a plain queue's. (The
+-- run's places are counted from `from`.)
 pub record EndsAlone (m : Machine) (h : List Event) (from w most : ℕ) : Type 0 where
   -- the acts before the last
   pub before : ℕ
@@ -90,6 +91,9 @@ pub record EndsAlone (m : Machine) (h : List Event) (from w most : ℕ) : Type 0
   pub answer : Answer
   pub ends : placeOf (runFrom m from (acts w (suc before)) .machine .workers) w ≡ Idle answer
   pub true-then : Truth (m .ring .fixed) (runFrom m from (acts w before) .machine .ring .ends) answer
+  -- a value handed out is the item of the tail claim that has the number of the call's head claim
+  pub claim-rule : (v : ℕ) → HandsOut (Idle answer) v
+      → (k : ℕ) × CallClaim (h ++ historyOf m (acts w before)) w k × ItemIn (h ++ historyOf m (acts w before)) k v
   pub queue : (c : Call) → placeOf (m .workers) w ≡ beginOf c
       → answer ≡ queueAnswer c (markedOf (m .ring .fixed) (m .ring .ends .tail)) (m .ring .fixed .capacity) (waiting h)
 

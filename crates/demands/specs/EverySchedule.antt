@@ -1,6 +1,6 @@
 -- Demand 2, "under EVERY schedule": claims, hands, and answers that are true. Said of the machine's own struct, of the
--- words of a schedule and of the history of its acts. Proofs: crate claims, `demand2` of specs/Demand2.antt.
-use Prim.Native.Nat.{ℕ, _+_, _-_, _*_, _/_, _%_, _≤_, _<_}
+-- words of a schedule and of the history of its acts. Proofs: crate claims, `demand2` of proofs/Demand2.antt.
+use Prim.Native.Nat.{ℕ, _+_, _*_, _/_, _%_, _≤_, _<_}
 use mathlib.Core.Bool.{Bool, true, false, cond}
 use mathlib.Core.List.{List, [], _∷_, _++_}
 use mathlib.Core.Path.{_≡_}
@@ -9,7 +9,7 @@ use lib.ListN.{length, getD, drop}
 use Rattle.words.specs.declared.Stamp.{Stamp}
 use Rattle.words.specs.declared.Fixed.{Fixed}
 use Rattle.words.specs.Limits.{slotsMost, workersMost, wide}
-use Rattle.words.specs.Words.{claim, indexOf, markedOf, unmarkedOf, lapBehind}
+use Rattle.words.specs.Words.{claim, fixedOf, indexOf, markedOf, unmarkedOf, lapBehind}
 use Rattle.places.specs.declared.Ends.{Ends}
 use Rattle.places.specs.declared.Answer.{Answer}
 use Rattle.places.specs.declared.Answer.the-variants.{Nothing, Pushed, Full, Closed, Displaced, Popped, Empty, PopClosed, Len, Yes, No}
@@ -220,10 +220,17 @@ valueAt m t = getD (m .ring .slots) (indexOf (m .ring .fixed) t) (slot 0 0) .val
 -- ---- the demand
 
 -- What holds of every machine that a schedule reaches from a fresh one, and of the acts behind it.
-pub record Demand2 (m : Machine) (h : List Event) : Type 0 where
+pub record Demand2 (capacity workers : ℕ) (m : Machine) (h : List Event) : Type 0 where
+  -- It is the machine that was made, and its meter counts the acts.
+  pub made : m .ring .fixed ≡ fixedOf capacity
+  pub team : m .count ≡ workers
+  pub meter : m .meter ≡ length h
   -- No machine so reached is broken, and no stamp wraps.
   pub unbroken : brokenOf m ≡ false
   pub plain : Plain m h
+  -- The lists of claims are as long as the tally says.
+  pub tails : length (itemsOf h) ≡ tally h .tail .0
+  pub heads : length (takersOf h) ≡ tally h .head .0
   -- The claim rule: a value handed out is the item of the tail claim that has the number of the call's head claim.
   pub claim-rule : (earlier later : List Event) (act : Event) (v : ℕ) → h ≡ earlier ++ act ∷ later → HandsOut (act .after) v
       → (k : ℕ) × CallClaim earlier (act .worker) k × LatestIn (takersOf earlier) (act .worker) k × ItemIn earlier k v
@@ -240,8 +247,10 @@ pub record Demand2 (m : Machine) (h : List Event) : Type 0 where
   -- Empty, Full and Closed are true of the words at the load or exchange that decided them.
   pub answers : (w : ℕ) (next : Machine) (a : Answer) → Acts m w next → placeOf (next .workers) w ≡ Idle a
       → Truth (m .ring .fixed) (m .ring .ends) a
-  -- With all workers idle stock equals the number of contents, and contents are, in order, the items not yet taken.
-  pub stock : allIdle (m .workers) ≡ true → stockOf (tally h) ≡ countIn m
+  -- Stock is `len`'s count of the words at every moment. With all workers idle it equals the number of contents, and
+  -- contents are, in order, the items of the claims not yet taken.
+  pub stock : stockOf (tally h) ≡ countIn m
+  pub number : allIdle (m .workers) ≡ true → stockOf (tally h) ≡ length (contentsOf m)
   pub contents : allIdle (m .workers) ≡ true → contentsOf m ≡ waiting h
   -- Beside the demand: every run is one of a plain queue, and a yes of is_empty and of is_full is true at its last load.
   pub fifo : Fifo h (waiting h)
@@ -253,7 +262,8 @@ pub record Demand2 (m : Machine) (h : List Event) : Type 0 where
 -- Every capacity, every number of workers, every schedule.
 abbrev pub UnderEverySchedule : Type 0
 UnderEverySchedule =
-    (capacity workers : ℕ) → Allowed capacity workers → (s : List ℕ) → Demand2 (machineAfter capacity workers s) (actsOf capacity workers s)
+    (capacity workers : ℕ) → Allowed capacity workers → (s : List ℕ)
+    → Demand2 capacity workers (machineAfter capacity workers s) (actsOf capacity workers s)
 
 -- Each act is the one action that document 01 reads out of the source: of entries that are accepted, each is one turn of the
 -- definition, on the machine and on the history; and a schedule of whole entries is run so.
@@ -277,7 +287,7 @@ Unmoved w [] = Unit {0}
 Unmoved w (e ∷ h) = (e .worker ≢ w) × Unmoved w h
 
 -- Beside the demand: `len`'s count is true at its head load. The load is worker w's act on the machine after s; in the
--- entries t it does not act; its next act answers n.
+-- entries `rest` it does not act; its next act answers n.
 pub record LenAnswers (capacity workers : ℕ) (s : List ℕ) (w n : ℕ) : Type 0 where
   pub tail : Stamp
   pub loads : placeOf (machineAfter capacity workers s .workers) w ≡ Len2 tail

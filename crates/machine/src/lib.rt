@@ -84,6 +84,15 @@ pub fn refuse(m: Machine, number: u64) -> Did
     }
 }
 
+pub fn accept(m: Machine) -> Did
+    ensures { λ r. ⌜ r ≡ accepted m ⌝ }
+{
+    Did {
+        refusal: 0,
+        machine: m,
+    }
+}
+
 // "A fresh ring starts from 256 empty slots, stamp 0 and value 0; then slot i below capacity gets stamp i."
 pub fn fresh_slots(capacity: u64) -> [Slot; words::SLOTS]
     requires { ⌜ capacity ≤ slotsMost ⌝ }

@@ -5,52 +5,53 @@ use Rattle.bounded.proofs.make.Statement.{statement}
 use Rattle.bounded.proofs.make.Tie as tie
 use Rattle.bounded.proofs.make.Reads as reads
 use Rattle.bounded.proofs.make.Lts as lts
+use Rattle.machine.proofs.accept.Reads as accept-reads
 use Rattle.machine.proofs.blank.Reads as blank-reads
 use Rattle.machine.proofs.fresh.Reads as fresh-reads
 use Rattle.machine.proofs.in_limits.Reads as in-limits-reads
 use Rattle.machine.proofs.refuse.Reads as refuse-reads
 
--- src/lib.rt:31:8
+-- src/lib.rt:30:8
 in-limits-requires : tie.Need-in-limits-requires
 in-limits-requires c κs = search needs
 
--- src/lib.rt:32:32
+-- src/lib.rt:31:32
 blank-requires : tie.Need-blank-requires
 blank-requires c κs = search needs
 
--- src/lib.rt:32:9
+-- src/lib.rt:31:9
 refuse-requires : tie.Need-refuse-requires
 refuse-requires c κs = search needs
 
--- src/lib.rt:32:9
+-- src/lib.rt:31:9
 returns : tie.Need-returns
 returns c = search (needs, make-1)
 
--- src/lib.rt:34:8
+-- src/lib.rt:33:8
 in-limits-requires-2 : tie.Need-in-limits-requires-2
 in-limits-requires-2 c κs = search needs
 
--- src/lib.rt:35:32
+-- src/lib.rt:34:32
 blank-requires-2 : tie.Need-blank-requires-2
 blank-requires-2 c κs = search needs
 
--- src/lib.rt:35:9
+-- src/lib.rt:34:9
 refuse-requires-2 : tie.Need-refuse-requires-2
 refuse-requires-2 c κs = search needs
 
--- src/lib.rt:35:9
+-- src/lib.rt:34:9
 returns-2 : tie.Need-returns-2
 returns-2 c = search (needs, make-2)
 
--- src/lib.rt:37:21
+-- src/lib.rt:36:21
 fresh-requires : tie.Need-fresh-requires
 fresh-requires c κs = search (needs, limit-most)
 
--- src/lib.rt:37:5
-refuse-requires-3 : tie.Need-refuse-requires-3
-refuse-requires-3 c κs = search needs
+-- src/lib.rt:36:5
+accept-requires : tie.Need-accept-requires
+accept-requires c κs = search needs
 
--- src/lib.rt:28:1
+-- src/lib.rt:27:1
 returns-3 : tie.Need-returns-3
 returns-3 c = search (needs, make-0)
 
@@ -67,5 +68,5 @@ make-spec =
     refuse-requires-2
     returns-2
     fresh-requires
-    refuse-requires-3
+    accept-requires
     returns-3)

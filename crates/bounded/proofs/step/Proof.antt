@@ -5,7 +5,6 @@ use Rattle.bounded.proofs.step.Tie as tie
 use Rattle.bounded.proofs.step.Reads as reads
 use Rattle.bounded.proofs.step.Lts as lts
 use Rattle.bounded.proofs.run.Reads as run-reads
-use Rattle.machine.proofs.refuse.Reads as refuse-reads
 
 -- src/lib.rt:171:20
 slice-aggregate-run : tie.Need-slice-aggregate-run
@@ -15,13 +14,9 @@ slice-aggregate-run c = search needs
 run-requires : tie.Need-run-requires
 run-requires c κs = search needs
 
--- src/lib.rt:173:5
-refuse-requires : tie.Need-refuse-requires
-refuse-requires c κs = search needs
-
 -- src/lib.rt:167:1
 returns : tie.Need-returns
 returns c = search (needs, one-entry)
 
 pub step-spec : {M : Type 1} → statement M
-step-spec = tie.close (tie.spec slice-aggregate-run run-requires refuse-requires returns)
+step-spec = tie.close (tie.spec slice-aggregate-run run-requires returns)
