@@ -82,6 +82,15 @@ low : (b : Bool) (n x y : ℕ) → n < x → n < y → n < cond b x y
 low true n x y p q = p
 low false n x y p q = q
 
+both : (b : Bool) (x y p q : ℕ) → x < p → y < q → cond b x y < cond b p q
+both true x y p q l m = l
+both false x y p q l m = m
+
+-- a test that fails leaves the second
+second : (b : Bool) (n x y : ℕ) → (b ≡ true → ⊥) → n < y → n < cond b x y
+second true n x y h l = absurd (h refl)
+second false n x y h l = l
+
 high : (b : Bool) (x y n : ℕ) → x ≤ n → y ≤ n → cond b x y ≤ n
 high true x y n p q = p
 high false x y n p q = q
@@ -96,66 +105,45 @@ module _ (f : Fixed) (e : Ends) (s : Slot) where
   now-at false x y n h l = absurd (true≢false (sym h))
 
   -- P1: the word of tail, just loaded
-  loads : (k : Kind) (x n : ℕ) → (markedOf f (e .tail) ≡ false → 4 + oneMore k < n) → 0 < n → Less n (actP1 f e s k x)
+  loads : (k : Kind) (x n : ℕ) → (markedOf f (e .tail) ≡ false → rankOf f e (P2 k (e .tail) x) < n) → 0 < n → Less n (actP1 f e s k x)
   unfolding stay
-  loads k x n l pos =
-      either (Less n) (markedOf f (e .tail)) (stay e s (Idle (Closed x))) (stay e s (P2 k (e .tail) x))
-      (λ h. pos)
-      (λ h. now-at (same (unmarkedOf f (e .tail)) (e .tail)) (4 + oneMore k) (6 + oneMore k) n (clear-same f (e .tail) h) (l h))
+  loads k x n in-date pos =
+      either (Less n) (markedOf f (e .tail)) (stay e s (Idle (Closed x))) (stay e s (P2 k (e .tail) x)) (λ h. pos) in-date
 
   falls-p2 : (k : Kind) (t : Stamp) (x : ℕ) → FindsTail f e s t → Less (rankOf f e (P2 k t x)) (actP2 f e s k t x)
   unfolding stay
   falls-p2 k t x d =
-      either (Less n) (same (s .stamp) t) (stay e s (P3 k t x)) _
-      (λ h. steps (same (unmarkedOf f (e .tail)) t))
-      (λ h. either (Less n) (lapBehindOnePast f (s .stamp) t) (stay e s (fullAt k t x)) (stay e s (P1 k x))
+      either (Less (rankOf f e (P2 k t x))) (same (s .stamp) t) (stay e s (P3 k t x)) _
+      (λ h. both (same (unmarkedOf f (e .tail)) t) _ _ _ _ (omega arith) (omega arith))
+      (λ h. either (Less (rankOf f e (P2 k t x))) (lapBehindOnePast f (s .stamp) t) (stay e s (fullAt k t x)) (stay e s (P1 k x))
       (λ g. full k (d .full g))
-      (λ g. out (same (unmarkedOf f (e .tail)) t) refl h g))
+      (λ g. second (same (unmarkedOf f (e .tail)) t) _ _ _ (λ q. d .decides q h g) (omega arith)))
     where
-      n : ℕ
-      n = rankOf f e (P2 k t x)
-
-      steps : (b : Bool) → cond b 3 (5 + oneMore k) < cond b (4 + oneMore k) (6 + oneMore k)
-      steps true = omega arith
-      steps false = omega arith
-
-      full : (k : Kind) → (lapBehind f (e .head) t ≡ true) × (same (e .head) (minus t (f .lap)) ≡ true)
-          → rankOf f e (fullAt k t x) < cond (same (unmarkedOf f (e .tail)) t) (4 + oneMore k) (6 + oneMore k)
-      full Push q = now-at (lapBehind f (e .head) t) 1 6 _ (q .0) (low (same (unmarkedOf f (e .tail)) t) 1 4 6 (omega arith) (omega arith))
-      full Force q = now-at (same (e .head) (minus t (f .lap))) 4 7 _ (q .1) (low (same (unmarkedOf f (e .tail)) t) 4 5 7 (omega arith) (omega arith))
-
-      out : (b : Bool) → same (unmarkedOf f (e .tail)) t ≡ b → same (s .stamp) t ≡ false → lapBehindOnePast f (s .stamp) t ≡ false
-          → 5 + oneMore k < cond b (4 + oneMore k) (6 + oneMore k)
-      out true q h g = absurd (d .decides q h g)
-      out false q h g = omega arith
+      full : (k : Kind) → (lapBehind f (e .head) t ≡ true) × (same (e .head) (minus t (f .lap)) ≡ true) → rankOf f e (fullAt k t x) < rankOf f e (P2 k t x)
+      full Push q = now-at (lapBehind f (e .head) t) _ _ _ (q .0) (low (same (unmarkedOf f (e .tail)) t) _ _ _ (omega arith) (omega arith))
+      full Force q = now-at (same (e .head) (minus t (f .lap))) _ _ _ (q .1) (low (same (unmarkedOf f (e .tail)) t) _ _ _ (omega arith) (omega arith))
 
   falls-p3 : (k : Kind) (t : Stamp) (x : ℕ) → Less (rankOf f e (P3 k t x)) (actP3 f e s k t x false)
   unfolding stay
   falls-p3 k t x =
       either (Less (rankOf f e (P3 k t x))) (same (e .tail) t) (stay (tailTo e (nextOf f t)) s (P4 t x)) (actP1 f e s k x)
-      (λ h. low (same (unmarkedOf f (e .tail)) t) 2 3 (5 + oneMore k) (omega arith) (omega arith))
-      (λ h. loads k x (rankOf f e (P3 k t x)) (λ g. lost (same (unmarkedOf f (e .tail)) t) refl h g) (low (same (unmarkedOf f (e .tail)) t) 0 3 (5 + oneMore k) (omega arith) (omega arith)))
+      (λ h. low (same (unmarkedOf f (e .tail)) t) _ _ _ (omega arith) (omega arith))
+      (λ h. loads k x (rankOf f e (P3 k t x))
+      (λ g. now-at (same (unmarkedOf f (e .tail)) (e .tail)) _ _ _ (clear-same f (e .tail) g) (second (same (unmarkedOf f (e .tail)) t) _ _ _ (lost h g) (omega arith)))
+      (low (same (unmarkedOf f (e .tail)) t) _ _ _ (omega arith) (omega arith)))
     where
-      lost : (b : Bool) → same (unmarkedOf f (e .tail)) t ≡ b → same (e .tail) t ≡ false → markedOf f (e .tail) ≡ false → 4 + oneMore k < cond b 3 (5 + oneMore k)
-      lost true q h g = absurd (true≢false (sym q ∙ ap (λ (z : Stamp). same z t) (clear-is f (e .tail) g) ∙ h))
-      lost false q h g = omega arith
+      -- an unmarked tail that is not t is not t without its mark either
+      lost : same (e .tail) t ≡ false → markedOf f (e .tail) ≡ false → same (unmarkedOf f (e .tail)) t ≡ true → ⊥
+      lost h g q = true≢false (sym q ∙ ap (λ (z : Stamp). same z t) (clear-is f (e .tail) g) ∙ h)
 
   falls-o2 : (h : Stamp) → FindsHead f e s h → Less (rankOf f e (O2 h)) (actOf f e s (O2 h) false)
   unfolding stay
   falls-o2 h d =
       either (Less (rankOf f e (O2 h))) (onePast (s .stamp) h) (stay e s (O3 h)) _
-      (λ p. steps (same (e .head) h))
+      (λ p. both (same (e .head) h) _ _ _ _ (omega arith) (omega arith))
       (λ p. either (Less (rankOf f e (O2 h))) (same (s .stamp) h) (stay e s (O6 h)) (stay e s O1)
-      (λ q. now-at (same (unmarkedOf f (e .tail)) h) 1 6 _ (d .empty q) (low (same (e .head) h) 1 4 6 (omega arith) (omega arith)))
-      (λ q. out (same (e .head) h) refl p q))
-    where
-      steps : (b : Bool) → cond b 3 5 < cond b 4 6
-      steps true = omega arith
-      steps false = omega arith
-
-      out : (b : Bool) → same (e .head) h ≡ b → onePast (s .stamp) h ≡ false → same (s .stamp) h ≡ false → 5 < cond b 4 6
-      out true z p q = absurd (d .decides z p q)
-      out false z p q = omega arith
+      (λ q. now-at (same (unmarkedOf f (e .tail)) h) _ _ _ (d .empty q) (low (same (e .head) h) _ _ _ (omega arith) (omega arith)))
+      (λ q. second (same (e .head) h) _ _ _ (λ z. d .decides z p q) (omega arith)))
 
   -- a test that goes both ways: to the end of it, or back to a load
   back : (b : Bool) (a c : Acted) (x y : ℕ) → Less x a → Less y c → Less (cond b x y) (cond b a c)
@@ -165,64 +153,61 @@ module _ (f : Fixed) (e : Ends) (s : Slot) where
   pub falls : (p : Place) → viewOf p .busy ≡ true → Finds f e s p → rankOf f (actOf f e s p false .ends) (actOf f e s p false .place) < rankOf f e p
   unfolding stay tailTo headTo
   falls (Idle a) busy d = absurd (true≢false (sym busy))
-  falls (P1 k x) busy d = loads k x (5 + oneMore k) (λ g. omega arith) (omega arith)
+  falls (P1 k x) busy d =
+      loads k x _ (λ g. now-at (same (unmarkedOf f (e .tail)) (e .tail)) _ _ _ (clear-same f (e .tail) g) (omega arith)) (omega arith)
   falls (P2 k t x) busy d = falls-p2 k t x d
   falls (P3 k t x) busy d = falls-p3 k t x
   falls (P4 t x) busy d = omega arith
   falls (P5 t) busy d = omega arith
-  falls (P6 t x) busy d = back (lapBehind f (e .head) t) (stay e s (Idle (Full x))) (stay e s (P1 Push x)) 1 6 (omega arith) (omega arith)
+  falls (P6 t x) busy d = back (lapBehind f (e .head) t) (stay e s (Idle (Full x))) (stay e s (P1 Push x)) _ _ (omega arith) (omega arith)
   falls (F6 t x) busy d =
-      back (same (e .head) (minus t (f .lap))) (stay (headTo e (minus (nextOf f t) (f .lap))) s (F7 t x)) (stay e s (P1 Force x)) 4 7 (omega arith) (omega arith)
+      back (same (e .head) (minus t (f .lap))) (stay (headTo e (minus (nextOf f t) (f .lap))) s (F7 t x)) (stay e s (P1 Force x)) _ _ (omega arith) (omega arith)
   falls (F7 t x) busy d = omega arith
   falls (F8 t x) busy d = omega arith
   falls (F9 t old) busy d = omega arith
-  falls O1 busy d = now-at (same (e .head) (e .head)) 4 6 5 (same-self (e .head)) (omega arith)
+  falls O1 busy d = now-at (same (e .head) (e .head)) _ _ _ (same-self (e .head)) (omega arith)
   falls (O2 h) busy d = falls-o2 h d
   falls (O3 h) busy d =
-      back (same (e .head) h) (stay (headTo e (nextOf f h)) s (O4 h)) (stay e s (O2 (e .head))) 3 5 (omega arith)
-      (now-at (same (e .head) (e .head)) 4 6 5 (same-self (e .head)) (omega arith))
+      back (same (e .head) h) (stay (headTo e (nextOf f h)) s (O4 h)) (stay e s (O2 (e .head))) _ _ (omega arith)
+      (now-at (same (e .head) (e .head)) _ _ _ (same-self (e .head)) (omega arith))
   falls (O4 h) busy d = omega arith
   falls (O5 h v) busy d = omega arith
   falls (O6 h) busy d =
-      back (same (unmarkedOf f (e .tail)) h) _ (stay e s O1) 1 6
-      (either (Less 1) (markedOf f (e .tail)) (stay e s (Idle PopClosed)) (stay e s (Idle Empty)) (λ q. omega arith) (λ q. omega arith)) (omega arith)
-  falls Len1 busy d = now-at (same (e .tail) (e .tail)) 2 5 3 (same-self (e .tail)) (omega arith)
-  falls (Len2 t) busy d = steps (same (e .tail) t)
-    where
-      steps : (b : Bool) → cond b 1 4 < cond b 2 5
-      steps true = omega arith
-      steps false = omega arith
-  falls (Len3 t h) busy d = back (same (e .tail) t) (stay e s (Idle (Len (countOf f t h)))) (stay e s Len1) 1 4 (omega arith) (omega arith)
+      back (same (unmarkedOf f (e .tail)) h) _ (stay e s O1) _ _
+      (either (Less _) (markedOf f (e .tail)) (stay e s (Idle PopClosed)) (stay e s (Idle Empty)) (λ q. omega arith) (λ q. omega arith)) (omega arith)
+  falls Len1 busy d = now-at (same (e .tail) (e .tail)) _ _ _ (same-self (e .tail)) (omega arith)
+  falls (Len2 t) busy d = both (same (e .tail) t) _ _ _ _ (omega arith) (omega arith)
+  falls (Len3 t h) busy d = back (same (e .tail) t) (stay e s (Idle (Len (countOf f t h)))) (stay e s Len1) _ _ (omega arith) (omega arith)
   falls Empty1 busy d = omega arith
   falls (Empty2 h) busy d = omega arith
   falls Full1 busy d = omega arith
   falls (Full2 t) busy d = omega arith
   falls Close1 busy d =
-      either (Less 1) (markedOf f (e .tail)) (stay e s (Idle No)) (stay (tailTo e (withMark f (e .tail))) s (Idle Yes)) (λ q. omega arith) (λ q. omega arith)
+      either (Less _) (markedOf f (e .tail)) (stay e s (Idle No)) (stay (tailTo e (withMark f (e .tail))) s (Idle Yes)) (λ q. omega arith) (λ q. omega arith)
   falls IsClosed1 busy d = omega arith
 
 -- the rank is within document 01's numbers
 pub most : (f : Fixed) (e : Ends) (p : Place) → rankOf f e p ≤ mostOf p
 most f e (Idle a) = omega arith
 most f e (P1 k x) = omega arith
-most f e (P2 k t x) = high (same (unmarkedOf f (e .tail)) t) (4 + oneMore k) (6 + oneMore k) (6 + oneMore k) (omega arith) (omega arith)
-most f e (P3 k t x) = high (same (unmarkedOf f (e .tail)) t) 3 (5 + oneMore k) (5 + oneMore k) (omega arith) (omega arith)
+most f e (P2 k t x) = high (same (unmarkedOf f (e .tail)) t) _ _ _ (omega arith) (omega arith)
+most f e (P3 k t x) = high (same (unmarkedOf f (e .tail)) t) _ _ _ (omega arith) (omega arith)
 most f e (P4 t x) = omega arith
 most f e (P5 t) = omega arith
-most f e (P6 t x) = high (lapBehind f (e .head) t) 1 6 6 (omega arith) (omega arith)
-most f e (F6 t x) = high (same (e .head) (minus t (f .lap))) 4 7 7 (omega arith) (omega arith)
+most f e (P6 t x) = high (lapBehind f (e .head) t) _ _ _ (omega arith) (omega arith)
+most f e (F6 t x) = high (same (e .head) (minus t (f .lap))) _ _ _ (omega arith) (omega arith)
 most f e (F7 t x) = omega arith
 most f e (F8 t x) = omega arith
 most f e (F9 t old) = omega arith
 most f e O1 = omega arith
-most f e (O2 h) = high (same (e .head) h) 4 6 6 (omega arith) (omega arith)
-most f e (O3 h) = high (same (e .head) h) 3 5 5 (omega arith) (omega arith)
+most f e (O2 h) = high (same (e .head) h) _ _ _ (omega arith) (omega arith)
+most f e (O3 h) = high (same (e .head) h) _ _ _ (omega arith) (omega arith)
 most f e (O4 h) = omega arith
 most f e (O5 h v) = omega arith
-most f e (O6 h) = high (same (unmarkedOf f (e .tail)) h) 1 6 6 (omega arith) (omega arith)
+most f e (O6 h) = high (same (unmarkedOf f (e .tail)) h) _ _ _ (omega arith) (omega arith)
 most f e Len1 = omega arith
-most f e (Len2 t) = high (same (e .tail) t) 2 5 5 (omega arith) (omega arith)
-most f e (Len3 t h) = high (same (e .tail) t) 1 4 4 (omega arith) (omega arith)
+most f e (Len2 t) = high (same (e .tail) t) _ _ _ (omega arith) (omega arith)
+most f e (Len3 t h) = high (same (e .tail) t) _ _ _ (omega arith) (omega arith)
 most f e Empty1 = omega arith
 most f e (Empty2 h) = omega arith
 most f e Full1 = omega arith
