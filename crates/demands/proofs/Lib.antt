@@ -1,2 +1,3 @@
 pub mod Eight
 pub mod Refusals
+pub mod Attained

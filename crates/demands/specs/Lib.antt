@@ -1,3 +1,5 @@
 pub mod Demands
 pub mod Eight
 pub mod EverySchedule
+pub mod Alone
+pub mod Attained

@@ -1,0 +1,2 @@
+pub mod Rank
+pub mod Foretold

@@ -1,0 +1,15 @@
+-- Demand 3's numbers, computed from the definitions.
+use mathlib.Core.Path.{_≡_, refl}
+use Rattle.words.specs.Words.{doubled, markOf, markedOf, unmarkedOf, plus, minus, withMark, nextOf, same, onePast, lapBehind, lapBehindOnePast}
+use Rattle.places.specs.Places.{inside, strayOf, orderOf, entryOf}
+use Rattle.acts.specs.Acts.{stay, tailTo, headTo, stampTo, valueTo, countOf}
+use Rattle.machine.specs.Machine.{emptySlots, stamped, freshSlots, idlers, freshOf, refused, accepted}
+use Rattle.machine.specs.Broken.{all, inLimits, byRule, endsFit, recordFits, recordsFit, brokenOf}
+use Rattle.machine.specs.Turn.{begun, stored, acted, turnOf}
+use Rattle.machine.specs.Run.{ran, runFrom, runOf}
+use Rattle.demands.specs.Eight.{acts}
+use Rattle.demands.specs.Attained.{Attained, attained, seenIn, sightOf, needed, othersIdle}
+
+pub numbers-attained : Attained
+unfolding doubled markOf markedOf unmarkedOf plus minus withMark nextOf same onePast lapBehind lapBehindOnePast inside strayOf orderOf entryOf stay tailTo headTo stampTo valueTo countOf emptySlots stamped freshSlots idlers freshOf refused accepted all inLimits byRule endsFit recordFits recordsFit brokenOf begun stored acted turnOf ran runFrom runOf acts attained seenIn sightOf needed othersIdle
+numbers-attained = refl
