@@ -248,6 +248,7 @@ fn o6(f: Fixed, e: Ends, s: Slot, h: Stamp) -> Acted
     ensures { λ r. ⌜ r ≡ actO6 f e s h ⌝ }
 {
     let t = e.tail;
+    let again = Place::O1;
     if words::unmarked_is(f, t, h) {
         if words::marked(f, t) {
             stay(e, s, Place::Idle(Answer::PopClosed))
@@ -255,7 +256,7 @@ fn o6(f: Fixed, e: Ends, s: Slot, h: Stamp) -> Acted
             stay(e, s, Place::Idle(Answer::Empty))
         }
     } else {
-        stay(e, s, Place::O1)
+        stay(e, s, again)
     }
 }
 
