@@ -49,23 +49,24 @@ fn after(piece: Piece, offset: u64, event: u64) -> Reading {
     }
 }
 
-fn failed(r: Reading) -> Reading {
+// The reading as it was, with the numbers that are now there and what ended it.
+fn stopped(r: Reading, count: usize, event: u64) -> Reading {
     let scan = r.scan;
     Reading {
         scan: scan,
         offset: r.offset,
-        count: r.count,
-        event: FAILED,
+        count: count,
+        event: event,
     }
 }
 
-// The input's end ends a line; the event is the input's end unless the line's was one.
+// The input's end ends a line. It is the event unless that line's end was one; the reading stands where the input ended.
 fn ended(r: Reading, many: bool, list: &mut [u64], left: usize) -> Reading {
     let scan = r.scan;
     let end = [b'\n'];
     let piece = scan::read_piece(scan, many, &end, list, left);
     if piece.event == scan::NOTHING {
-        return after(piece, r.offset, END);
+        return stopped(r, piece.count, END);
     }
     after(piece, r.offset, piece.event)
 }
@@ -81,7 +82,7 @@ pub fn turn(
 ) -> Reading {
     let got = libc::pread(fd, bytes, to_offset(r.offset));
     if got < 0 {
-        return failed(r);
+        return stopped(r, 0, FAILED);
     }
     if got == 0 {
         return ended(r, many, list, left);
