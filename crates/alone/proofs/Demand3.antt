@@ -18,7 +18,7 @@ use Rattle.claims.proofs.Reached.{Reached, lapsOf, base-of}
 use Rattle.claims.proofs.Demand2.{reached}
 use Rattle.alone.proofs.Falls.{most, seven}
 use Rattle.alone.proofs.Solo.{foretold, act-turn, ends-by}
-use Rattle.alone.proofs.Hand.{lets-go}
+use Rattle.alone.proofs.Hand.{lets-go, as-run}
 use Rattle.alone.proofs.Queue.{queue-is}
 use Rattle.alone.proofs.Way.{other-hand}
 
@@ -47,6 +47,7 @@ module _ (c n workers : ℕ) (base : Base c n workers) (m : Machine) (h : List E
         alone = ends-alone;
         in-the-way = λ w busy left not-ended. way w busy left not-ended (other-hand c n workers base (r .ring) m (r .pictured) w);
         lets-go = λ w t l hand enough. lets-go c n workers base w l m h r t hand enough;
+        as-run = as-run m 0;
       }
     where
       way : (w : ℕ) → viewOf (stood m w) .busy ≡ true → m .meter + 7 ≤ meterMost → (EndsAlone m h 0 w (mostOf (stood m w)) → ⊥) → Dec (OtherHand m w) → OtherHand m w

@@ -141,6 +141,8 @@ pub record Demand3 (m : Machine) (h : List Event) : Type 0 where
   -- Whatever entries come between, a worker with a slot in hand lets go with its next acts.
   pub lets-go : (w : ℕ) (t : Stamp) (entries : List ℕ) → InHand (placeOf (m .workers) w) t
       → mostOf (placeOf (m .workers) w) ≤ ownActs w m entries → LetsGo m w entries (mostOf (placeOf (m .workers) w))
+  -- (Entries that are all accepted are passed as a schedule runs them.)
+  pub as-run : (entries : List ℕ) → runFrom m 0 entries .refusal ≡ 0 → passed m entries ≡ runFrom m 0 entries .machine
 
 abbrev pub ScheduledAlone : Type 0
 ScheduledAlone =
