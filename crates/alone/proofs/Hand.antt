@@ -26,6 +26,7 @@ use Rattle.machine.specs.declared.Did.{Did}
 use Rattle.machine.specs.declared.Event.{Event}
 use Rattle.machine.specs.Machine.{idler}
 use Rattle.machine.specs.Turn.{turnOf, begun, acted}
+use Rattle.machine.specs.Run.{ran, runFrom}
 use Rattle.machine.specs.History.{eventsOf}
 use Rattle.machine.proofs.Kept.{of-unbroken}
 use Rattle.bounded.specs.Bounded.{stepOf}
@@ -73,6 +74,23 @@ hand-some p t handO5 = omega arith
 begun-else : (m : Machine) (w v : ℕ) (q : Place) → v ≢ w → stood (begun m w q) v ≡ stood m v
 unfolding begun
 begun-else m w v q ne = ap (λ (z : Worker). z .place) (getD-set-other (m .workers) w v _ idler ne)
+
+-- entries that are all accepted are passed as a schedule runs them
+pub as-run : (m : Machine) (place : ℕ) (entries : List ℕ) → runFrom m place entries .refusal ≡ 0 → passed m entries ≡ runFrom m place entries .machine
+unfolding passed runFrom ran
+as-run m place [] e = refl
+as-run m place (first ∷ []) e = refl
+as-run m place (first ∷ second ∷ rest) e = go (as-run next (place + 1) rest) (eqb (turnOf m first second .refusal) 0) refl e
+  where
+    next : Machine
+    next = turnOf m first second .machine
+
+    go : (runFrom next (place + 1) rest .refusal ≡ 0 → passed next rest ≡ runFrom next (place + 1) rest .machine)
+        → (b : Bool) → eqb (turnOf m first second .refusal) 0 ≡ b
+        → cond b (runFrom next (place + 1) rest) (ran (turnOf m first second .refusal) place m) .refusal ≡ 0
+        → passed next rest ≡ cond b (runFrom next (place + 1) rest) (ran (turnOf m first second .refusal) place m) .machine
+    go more true q z = more z
+    go more false q z = absurd (eqb-false _ 0 q z)
 
 -- an entry's part of the count
 abbrev part : ℕ → Machine → ℕ → ℕ → ℕ

@@ -1,12 +1,12 @@
 -- A call that alone is scheduled: each act is accepted, lowers the rank and leaves the answer foretold; so it ends.
 use mathlib.Core.Path.{_≡_, refl, sym, ap, _∙_, subst}
 use mathlib.Core.Logic.{_≢_}
-use mathlib.Core.Bool.{Bool, true, false, true≢false}
+use mathlib.Core.Bool.{Bool, true, false, cond, true≢false}
 use mathlib.Core.List.{List, [], _∷_, _++_, append-assoc, append-nil}
 use Prim.Native.Nat.{ℕ, zero, suc, _+_, _*_, _/_, _%_, _≤_, _<_}
 use native.Mathlib.Omega.{arith}
 use native.Mathlib.Decide.{ℕ-discrete, decLt}
-use lib.Dec.{ltb}
+use lib.Dec.{ltb, eqb}
 use lib.ListN.{length, getD, set, List·getD-eq-default}
 use lib.Seq.{getD-set-same, getD-set-other}
 use borrow.Author.Tests.{lt-ltb, ltb-true}
@@ -27,9 +27,9 @@ use Rattle.acts.specs.Acts.{actOf}
 use Rattle.machine.specs.declared.Machine.{Machine}
 use Rattle.machine.specs.declared.Event.{Event}
 use Rattle.machine.specs.declared.Ran.{Ran}
-use Rattle.machine.specs.Machine.{slot, placeOf, idler, accepted}
+use Rattle.machine.specs.Machine.{slot, placeOf, idler, refused, accepted}
 use Rattle.machine.specs.Broken.{recordFits}
-use Rattle.machine.specs.Turn.{turnOf, spotOf, stored, acted}
+use Rattle.machine.specs.Turn.{verdictOf, carried, turnOf, spotOf, stored, acted}
 use Rattle.machine.specs.Run.{ran, runFrom}
 use Rattle.machine.specs.History.{event, historyOf}
 use Rattle.demands.specs.Eight.{acts}
@@ -183,6 +183,8 @@ pub record Ended (m : Machine) (h : List Event) (from w most : ℕ) (a : Answer)
   pub ends : placeOf (runFrom m from (acts w (suc before)) .machine .workers) w ≡ Idle a
   pub true-then : Truth (m .ring .fixed) (runFrom m from (acts w before) .machine .ring .ends) a
   pub claimed : (v : ℕ) → HandsOut (Idle a) v → Claims (h ++ historyOf m (acts w before)) w v
+  -- and acts past the end change nothing
+  pub idle-by : viewOf (placeOf (runFrom m from (acts w most) .machine .workers) w) .busy ≡ false
 
 -- one act more before it
 run-more : (m next : Machine) (from w k : ℕ) → turnOf m (16 * w + 8) 0 ≡ accepted next → runFrom m from (acts w (suc k)) ≡ runFrom next (from + 1) (acts w k)
@@ -200,19 +202,37 @@ history-more m next h w k e =
 answered : (m : Machine) (w : ℕ) (a : Answer) → stood m w ≡ Idle a → foretold m w ≡ a
 answered m w a e = ap (λ (q : Place). foretoldOf (m .ring .fixed) (m .ring .ends) (headValue m) (ownSlot m q .value) q) e
 
+-- acts of an idle worker are refused
+idle-refused : (m : Machine) (w : ℕ) → viewOf (stood m w) .busy ≡ false → eqb (turnOf m (16 * w + 8) 0 .refusal) 0 ≡ false
+unfolding turnOf refused
+idle-refused m w idle = rw (act-entry w) (go (ltb w (m .count)))
+  where
+    go : (b : Bool) → eqb (cond b (carried m w (stood m w) (verdictOf (m .meter) (stood m w) (Act false))) (refused 3 m) .refusal) 0 ≡ false
+    go true = rw idle
+    go false = refl
+
+pub idle-stays : (m : Machine) (from w k : ℕ) → viewOf (stood m w) .busy ≡ false → runFrom m from (acts w k) .machine ≡ m
+unfolding runFrom acts ran
+idle-stays m from w zero idle = refl
+idle-stays m from w (suc k) idle = rw (idle-refused m w idle)
+
 -- the last act
 last : (m next : Machine) (h : List Event) (from w : ℕ) (a : Answer) → turnOf m (16 * w + 8) 0 ≡ accepted next → viewOf (stood m w) .busy ≡ true → stood next w ≡ Idle a
-    → Truth (m .ring .fixed) (m .ring .ends) a → ((v : ℕ) → HandsOut (Idle a) v → Claims h w v) → {k : ℕ} → 1 ≤ k → Ended m h from w k a
+    → Truth (m .ring .fixed) (m .ring .ends) a → ((v : ℕ) → HandsOut (Idle a) v → Claims h w v) → (k : ℕ) → Ended m h from w (suc k) a
 unfolding runFrom historyOf acts ran accepted
-last m next h from w a taken busy e t claims l =
+last m next h from w a taken busy e t claims k =
     record {
       before = 0;
-      within = l;
+      within = omega arith;
       accepted-all = rw taken;
       busy-yet = busy;
       ends = ap (λ (z : Ran). placeOf (z .machine .workers) w) (run-more m next from w 0 taken) ∙ e;
       true-then = t;
       claimed = rw (append-nil h) claims;
+      idle-by =
+          ap (λ (z : Ran). viewOf (placeOf (z .machine .workers) w) .busy) (run-more m next from w k taken)
+          ∙ ap (λ (z : Machine). viewOf (stood z w) .busy) (idle-stays next (from + 1) w k (ap (λ (q : Place). viewOf q .busy) e))
+          ∙ ap (λ (q : Place). viewOf q .busy) e;
     }
 
 module _ (c n workers : ℕ) (base : Base c n workers) (w : ℕ) where
@@ -263,6 +283,7 @@ module _ (c n workers : ℕ) (base : Base c n workers) (w : ℕ) where
                 λ v out.
                 subst (λ (l : List Event). Claims l w v) (history-more m next h w (d .before) taken)
                 (d .claimed v (subst (λ (a : Answer). HandsOut (Idle a) v) (sym told) out));
+            idle-by = ap (λ (z : Ran). viewOf (placeOf (z .machine .workers) w) .busy) (run-more m next from w k taken) ∙ d .idle-by;
           }
       go false e more =
           let i = idle-is (stood next w) e in
@@ -273,4 +294,4 @@ module _ (c n workers : ℕ) (base : Base c n workers) (w : ℕ) where
           (λ v out.
           let c = r′ .logged .rule h [] (event w (stood m w) (stood next w)) v refl (subst (λ (q : Place). HandsOut q v) (sym a) out) in
           (c .0, c .1, c .3))
-          (omega arith)
+          k

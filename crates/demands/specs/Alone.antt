@@ -135,12 +135,14 @@ pub record Demand3 (m : Machine) (h : List Event) : Type 0 where
   -- With seven acts left on the meter and no other worker's hand on a slot a call that alone is scheduled ends.
   pub alone : (w : ℕ) → viewOf (placeOf (m .workers) w) .busy ≡ true → m .meter + 7 ≤ meterMost → (OtherHand m w → ⊥)
       → EndsAlone m h 0 w (mostOf (placeOf (m .workers) w))
-  -- One that does not end has another worker's hand on a slot.
-  pub in-the-way : (w : ℕ) → viewOf (placeOf (m .workers) w) .busy ≡ true → m .meter + 7 ≤ meterMost
-      → (EndsAlone m h 0 w (mostOf (placeOf (m .workers) w)) → ⊥) → OtherHand m w
+  -- One that is still under way after those acts has another worker's hand on a slot.
+  pub in-the-way : (w : ℕ) → m .meter + 7 ≤ meterMost
+      → viewOf (placeOf (runFrom m 0 (acts w (mostOf (placeOf (m .workers) w))) .machine .workers) w) .busy ≡ true → OtherHand m w
   -- Whatever entries come between, a worker with a slot in hand lets go with its next acts.
   pub lets-go : (w : ℕ) (t : Stamp) (entries : List ℕ) → InHand (placeOf (m .workers) w) t
       → mostOf (placeOf (m .workers) w) ≤ ownActs w m entries → LetsGo m w entries (mostOf (placeOf (m .workers) w))
+  -- (Entries that are all accepted are passed as a schedule runs them.)
+  pub as-run : (entries : List ℕ) → runFrom m 0 entries .refusal ≡ 0 → passed m entries ≡ runFrom m 0 entries .machine
 
 abbrev pub ScheduledAlone : Type 0
 ScheduledAlone =
