@@ -51,7 +51,7 @@ pub fn say_told(out: &mut [u8], at: usize, name: &[u8], t: Told) -> usize {
 
 // Worker 0 begins a push, acts, and acts with a weak exchange that fails.
 fn entries(out: &mut [u8], at: usize, m: Machine) -> usize {
-    let p = say_did(out, at, b": begin ", m, bounded::begin(m, 0, 5));
+    let p = say_did(out, at, b" begin ", m, bounded::begin(m, 0, 5));
     let q = say_did(out, p, b" act ", m, bounded::act(m, 8, 0));
     say_did(out, q, b" lose ", m, bounded::act(m, 9, 0))
 }
@@ -81,13 +81,25 @@ fn looks(out: &mut [u8], at: usize, m: Machine) -> usize {
     say_told(out, r, b" capacity ", bounded::capacity(m))
 }
 
+fn sound(out: &mut [u8], at: usize, m: Machine) -> usize {
+    if bounded::broken(m) {
+        return show::text(out, at, b": broken,");
+    }
+    show::text(out, at, b": sound,")
+}
+
+fn one_entry(out: &mut [u8], at: usize, m: Machine) -> usize {
+    let p = sound(out, at, m);
+    let q = entries(out, p, m);
+    steps(out, q, m)
+}
+
 fn line(out: &mut [u8], at: usize, m: Machine) {
-    let p = entries(out, at, m);
-    let q = steps(out, p, m);
-    let r = schedules(out, q, m);
-    let s = looks(out, r, m);
-    let t = show::end_line(out, s);
-    show::flush(out, t);
+    let p = one_entry(out, at, m);
+    let q = schedules(out, p, m);
+    let r = looks(out, q, m);
+    let s = show::end_line(out, r);
+    show::flush(out, s);
 }
 
 pub fn machine(label: &[u8], m: Machine) {
