@@ -1,12 +1,9 @@
 // Runs a schedule, from a file or from standard input, entry by entry, and writes what the machine holds after each.
 mod many;
-mod options;
-mod play;
 mod say;
 mod source;
-mod summary;
 
-use options::Options;
+use player::options::Options;
 
 // The file that the argument names.
 fn run_file(o: Options) {
@@ -39,13 +36,13 @@ fn run_from(o: Options, fd: i32, name: &[u8]) {
 }
 
 fn main() {
-    let o = options::read();
+    let o = player::options::read();
     if o.help {
-        options::help();
+        player::options::help();
         return;
     }
     if o.wrong != 0 {
-        options::complain(o.wrong);
+        player::options::complain(o.wrong);
         return;
     }
     if o.file != 0 {

@@ -1,6 +1,6 @@
 // One schedule, or one after another: each is read once to see that it can be run, and once more to run it.
-use crate::options::Options;
-use crate::play::Run;
+use player::options::Options;
+use player::play::Run;
 use crate::source::Reading;
 
 const STRIDE: u64 = 1000000;
@@ -123,7 +123,7 @@ fn goes_on(p: Playing) -> bool {
 
 // One piece of the schedule.
 fn play_some(run: Run, o: Options, odd: bool, list: &[u64], n: usize, out: &mut [u8]) -> Run {
-    let after = crate::play::pairs(run, o, odd, list, n, out);
+    let after = player::play::pairs(run, o, odd, list, n, out);
     progress(run.place, after.place);
     after
 }
@@ -171,7 +171,7 @@ fn play_in(
 fn play_begin(offset: u64, line: u64, at: usize) -> Playing {
     Playing {
         reading: crate::source::start(offset, line),
-        run: crate::play::start(at),
+        run: player::play::start(at),
         left: 0,
     }
 }
@@ -189,7 +189,7 @@ fn play(
     let mut list = [0u64; crate::source::NUMBERS];
     let begin = play_begin(offset, line, at);
     let run = play_in(begin, o, fd, odd, &mut bytes, &mut list, out);
-    crate::play::finish(run, o, out)
+    player::play::finish(run, o, out)
 }
 
 // Where the next schedule begins, and where the text to be written goes on.

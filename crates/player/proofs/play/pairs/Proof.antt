@@ -1,12 +1,12 @@
 use native.Mathlib.Omega.{arith}
 use lib.ListN.{length-take}
 use borrow.Author.Needs.{needs}
-use Rattle.replay.proofs.play.pairs.Statement.{statement}
-use Rattle.replay.proofs.play.pairs.Tie as tie
-use Rattle.replay.proofs.play.pairs.Reads as reads
-use Rattle.replay.proofs.play.pairs.Lts as lts
-use Rattle.replay.proofs.play.entries.Reads as entries-reads
-use Rattle.replay.proofs.play.first_pairs.Reads as first-pairs-reads
+use Rattle.player.proofs.play.pairs.Statement.{statement}
+use Rattle.player.proofs.play.pairs.Tie as tie
+use Rattle.player.proofs.play.pairs.Reads as reads
+use Rattle.player.proofs.play.pairs.Lts as lts
+use Rattle.player.proofs.play.entries.Reads as entries-reads
+use Rattle.player.proofs.play.first_pairs.Reads as first-pairs-reads
 
 -- src/play.rt:203:16
 sub-even : tie.Need-sub-even

@@ -3,15 +3,15 @@ use mathlib.Core.Path.{_≡_}
 use lib.ListN.{length}
 use native.Mathlib.Omega.{arith}
 use borrow.Author.Needs.{needs}
-use Rattle.replay.proofs.play.steps.Statement.{statement}
-use Rattle.replay.proofs.play.steps.Tie as tie
-use Rattle.replay.proofs.play.steps.Reads as reads
-use Rattle.replay.proofs.play.steps.Lts as lts
+use Rattle.player.proofs.play.steps.Statement.{statement}
+use Rattle.player.proofs.play.steps.Tie as tie
+use Rattle.player.proofs.play.steps.Reads as reads
+use Rattle.player.proofs.play.steps.Lts as lts
 use Rattle.bounded.proofs.run.Reads as run-reads
-use Rattle.replay.proofs.play.counted.Reads as counted-reads
-use Rattle.replay.proofs.play.line_unless.Reads as line-unless-reads
-use Rattle.replay.proofs.play.next_place.Reads as next-place-reads
-use Rattle.replay.proofs.play.turn_of.Reads as turn-of-reads
+use Rattle.player.proofs.play.counted.Reads as counted-reads
+use Rattle.player.proofs.play.line_unless.Reads as line-unless-reads
+use Rattle.player.proofs.play.next_place.Reads as next-place-reads
+use Rattle.player.proofs.play.turn_of.Reads as turn-of-reads
 use Rattle.show.proofs.seen_of.Reads as seen-of-reads
 
 abbrev Inv-loop : tie.InvT-loop

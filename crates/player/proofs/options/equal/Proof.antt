@@ -3,10 +3,10 @@ use mathlib.Core.Path.{_≡_}
 use lib.ListN.{length}
 use native.Mathlib.Omega.{arith}
 use borrow.Author.Needs.{needs}
-use Rattle.replay.proofs.options.equal.Statement.{statement}
-use Rattle.replay.proofs.options.equal.Tie as tie
-use Rattle.replay.proofs.options.equal.Reads as reads
-use Rattle.replay.proofs.options.equal.Lts as lts
+use Rattle.player.proofs.options.equal.Statement.{statement}
+use Rattle.player.proofs.options.equal.Tie as tie
+use Rattle.player.proofs.options.equal.Reads as reads
+use Rattle.player.proofs.options.equal.Lts as lts
 
 abbrev Inv-loop : tie.InvT-loop
 Inv-loop a b i₀ i = Unit {0}

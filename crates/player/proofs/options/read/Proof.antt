@@ -3,13 +3,13 @@ use mathlib.Core.Path.{_≡_}
 use lib.ListN.{length}
 use native.Mathlib.Omega.{arith}
 use borrow.Author.Needs.{needs}
-use Rattle.replay.proofs.options.read.Statement.{statement}
-use Rattle.replay.proofs.options.read.Tie as tie
-use Rattle.replay.proofs.options.read.Reads as reads
-use Rattle.replay.proofs.options.read.Lts as lts
+use Rattle.player.proofs.options.read.Statement.{statement}
+use Rattle.player.proofs.options.read.Tie as tie
+use Rattle.player.proofs.options.read.Reads as reads
+use Rattle.player.proofs.options.read.Lts as lts
 use Rattle.os.proofs.arg_count.Reads as arg-count-reads
-use Rattle.replay.proofs.options.none.Reads as none-reads
-use Rattle.replay.proofs.options.with_argument.Reads as with-argument-reads
+use Rattle.player.proofs.options.none.Reads as none-reads
+use Rattle.player.proofs.options.with_argument.Reads as with-argument-reads
 
 abbrev Inv-loop : tie.InvT-loop
 Inv-loop o₀ n i₀ o i = Unit {0}
