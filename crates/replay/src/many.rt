@@ -1,7 +1,7 @@
 // One schedule, or one after another: each is read once to see that it can be run, and once more to run it.
+use crate::source::Reading;
 use player::options::Options;
 use player::play::Run;
-use crate::source::Reading;
 
 const STRIDE: u64 = 1000000;
 
