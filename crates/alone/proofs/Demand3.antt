@@ -11,9 +11,8 @@ use Rattle.machine.specs.declared.Did.{Did}
 use Rattle.machine.specs.declared.Event.{Event}
 use Rattle.machine.specs.Machine.{placeOf, accepted}
 use Rattle.machine.specs.Run.{runFrom}
-use Rattle.demands.specs.Eight.{acts}
-use Rattle.demands.specs.EverySchedule.{machineAfter, actsOf}
-use Rattle.demands.specs.Alone.{mostOf, OtherHand, Demand3, ScheduledAlone}
+use Rattle.demands.specs.Notions.{document01, acts, machineAfter, actsOf, mostOf, OtherHand}
+use Rattle.demands.specs.Demands.{Demand3, ScheduledAlone}
 use Rattle.claims.proofs.Turns.{stood}
 use Rattle.claims.proofs.Pictured.{Base}
 use Rattle.claims.proofs.Reached.{Reached, lapsOf, base-of}
@@ -39,7 +38,7 @@ module _ (c n workers : ℕ) (base : Base c n workers) (m : Machine) (h : List E
       go false e (no free) =
           absurd (true≢false (sym late ∙ ap (λ (z : Machine). viewOf (stood z w) .busy) (idle-stays m 0 w (mostOf (stood m w)) e) ∙ e))
 
-  demanded : Demand3 m h
+  demanded : Demand3 document01 m h
   unfolding accepted
   demanded =
       record {
@@ -63,6 +62,6 @@ module _ (c n workers : ℕ) (base : Base c n workers) (m : Machine) (h : List E
         as-run = as-run m 0;
       }
 
-pub demand3 : ScheduledAlone
+pub demand3 : ScheduledAlone document01
 demand3 capacity workers a s =
-    demanded capacity (lapsOf capacity) workers (base-of capacity workers a) (machineAfter capacity workers s) (actsOf capacity workers s) (reached capacity workers a s)
+    demanded capacity (lapsOf capacity) workers (base-of capacity workers a) (machineAfter document01 capacity workers s) (actsOf document01 capacity workers s) (reached capacity workers a s)

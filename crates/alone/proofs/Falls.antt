@@ -19,7 +19,7 @@ use Rattle.places.specs.Places.{viewOf}
 use Rattle.acts.specs.declared.Acted.{Acted}
 use Rattle.acts.specs.Acts.{stay, tailTo, headTo, actOf, actP1, actP2, actP3, fullAt, countOf}
 use Rattle.machine.proofs.Kept.{either}
-use Rattle.demands.specs.Alone.{oneMore, mostOf}
+use Rattle.demands.specs.Notions.{oneMore, mostOf}
 use Rattle.alone.specs.Rank.{rankOf}
 
 -- What a stamp load finds. At P2 with the word of tail: free, or full a lap behind, and then head is a lap behind too. At O2

@@ -13,7 +13,7 @@ use Rattle.places.specs.declared.Place.{Place}
 use Rattle.places.specs.declared.Place.the-variants.{Idle, P1, P2, P3, P4, P5, P6, F6, F7, F8, F9, O1, O2, O3, O4, O5, O6, Len1, Len2, Len3, Empty1, Empty2, Full1, Full2, Close1, IsClosed1}
 use Rattle.places.specs.Places.{viewOf}
 use Rattle.machine.specs.Turn.{spotOf}
-use Rattle.demands.specs.EverySchedule.{InHand, handP4, handP5, handF7, handF8, handF9, handO4, handO5}
+use Rattle.demands.specs.Notions.{InHand, handP4, handP5, handF7, handF8, handF9, handO4, handO5}
 use Rattle.ring.proofs.Width.{Near, near-one, turn-long}
 use Rattle.ring.proofs.Ring.{Cell, Await, Hold, Hand, Mine, Shared, CellOk, ViewOk, Awaits, Holds, Inv}
 use Rattle.ring.proofs.Effects.{Loose}

@@ -31,8 +31,7 @@ use Rattle.machine.specs.History.{eventsOf}
 use Rattle.machine.proofs.Kept.{of-unbroken}
 use Rattle.bounded.specs.Bounded.{stepOf}
 use Rattle.demands.proofs.Refusals.{refused-unchanged}
-use Rattle.demands.specs.EverySchedule.{InHand, handP4, handP5, handF7, handF8, handF9, handO4, handO5}
-use Rattle.demands.specs.Alone.{mostOf, passed, actBy, ownActs, LetsGo}
+use Rattle.demands.specs.Notions.{document01, InHand, handP4, handP5, handF7, handF8, handF9, handO4, handO5, mostOf, passed, actBy, ownActs, LetsGo}
 use Rattle.claims.proofs.Turns.{Turned, began, did, turned, stood}
 use Rattle.claims.proofs.Pictured.{Base, acted-stood}
 use Rattle.claims.proofs.Reached.{Reached, entered}
@@ -76,7 +75,7 @@ unfolding begun
 begun-else m w v q ne = ap (λ (z : Worker). z .place) (getD-set-other (m .workers) w v _ idler ne)
 
 -- entries that are all accepted are passed as a schedule runs them
-pub as-run : (m : Machine) (place : ℕ) (entries : List ℕ) → runFrom m place entries .refusal ≡ 0 → passed m entries ≡ runFrom m place entries .machine
+pub as-run : (m : Machine) (place : ℕ) (entries : List ℕ) → runFrom m place entries .refusal ≡ 0 → passed document01 m entries ≡ runFrom m place entries .machine
 unfolding passed runFrom ran
 as-run m place [] e = refl
 as-run m place (first ∷ []) e = refl
@@ -85,10 +84,10 @@ as-run m place (first ∷ second ∷ rest) e = go (as-run next (place + 1) rest)
     next : Machine
     next = turnOf m first second .machine
 
-    go : (runFrom next (place + 1) rest .refusal ≡ 0 → passed next rest ≡ runFrom next (place + 1) rest .machine)
+    go : (runFrom next (place + 1) rest .refusal ≡ 0 → passed document01 next rest ≡ runFrom next (place + 1) rest .machine)
         → (b : Bool) → eqb (turnOf m first second .refusal) 0 ≡ b
         → cond b (runFrom next (place + 1) rest) (ran (turnOf m first second .refusal) place m) .refusal ≡ 0
-        → passed next rest ≡ cond b (runFrom next (place + 1) rest) (ran (turnOf m first second .refusal) place m) .machine
+        → passed document01 next rest ≡ cond b (runFrom next (place + 1) rest) (ran (turnOf m first second .refusal) place m) .machine
     go more true q z = more z
     go more false q z = absurd (eqb-false _ 0 q z)
 
@@ -146,8 +145,8 @@ module _ (c n workers : ℕ) (base : Base c n workers) (w : ℕ) where
             }
 
   -- one entry more before it
-  more : (m : Machine) (first second k : ℕ) (rest : List ℕ) → LetsGo (turnOf m first second .machine) w rest k
-      → LetsGo m w (first ∷ second ∷ rest) (part w m first second + k)
+  more : (m : Machine) (first second k : ℕ) (rest : List ℕ) → LetsGo document01 (turnOf m first second .machine) w rest k
+      → LetsGo document01 m w (first ∷ second ∷ rest) (part w m first second + k)
   unfolding passed ownActs
   more m first second k rest d =
       record {
@@ -160,12 +159,12 @@ module _ (c n workers : ℕ) (base : Base c n workers) (w : ℕ) where
       }
 
   -- none more
-  here : (m : Machine) (a : Answer) (rest : List ℕ) → stood m w ≡ Idle a → LetsGo m w rest 0
+  here : (m : Machine) (a : Answer) (rest : List ℕ) → stood m w ≡ Idle a → LetsGo document01 m w rest 0
   unfolding passed ownActs
   here m a rest e = record { before = []; after = rest; split = refl; own = refl; answer = a; ends = e }
 
   pub lets-go : (l : List ℕ) (m : Machine) (h : List Event) → Reached c n workers m h → (t : Stamp) → InHand (stood m w) t
-      → mostOf (stood m w) ≤ ownActs w m l → LetsGo m w l (mostOf (stood m w))
+      → mostOf (stood m w) ≤ ownActs document01 w m l → LetsGo document01 m w l (mostOf (stood m w))
   unfolding ownActs
   lets-go [] m h r t hand enough = absurd (omega (arith, hand-some (stood m w) t hand))
   lets-go (first ∷ []) m h r t hand enough = absurd (omega (arith, hand-some (stood m w) t hand))
@@ -177,13 +176,13 @@ module _ (c n workers : ℕ) (base : Base c n workers) (w : ℕ) where
       next : Machine
       next = turnOf m first second .machine
 
-      go : Was m w next (part w m first second) → ((u : Stamp) → InHand (stood next w) u → mostOf (stood next w) ≤ ownActs w next rest → LetsGo next w rest (mostOf (stood next w)))
-          → LetsGo m w (first ∷ second ∷ rest) (mostOf (stood m w))
+      go : Was m w next (part w m first second) → ((u : Stamp) → InHand (stood next w) u → mostOf (stood next w) ≤ ownActs document01 w next rest → LetsGo document01 next w rest (mostOf (stood next w)))
+          → LetsGo document01 m w (first ∷ second ∷ rest) (mostOf (stood m w))
       go (other e z) again =
           let k : mostOf (stood next w) ≡ mostOf (stood m w) = ap mostOf e in
           let d = again t (subst (λ (q : Place). InHand q t) (sym e) hand) (omega arith) in
-          subst (LetsGo m w (first ∷ second ∷ rest)) (omega arith) (more m first second (mostOf (stood next w)) rest d)
+          subst (LetsGo document01 m w (first ∷ second ∷ rest)) (omega arith) (more m first second (mostOf (stood next w)) rest d)
       go (own (holds u hand′ less) z) again =
-          subst (LetsGo m w (first ∷ second ∷ rest)) (omega arith) (more m first second (mostOf (stood next w)) rest (again u hand′ (omega arith)))
+          subst (LetsGo document01 m w (first ∷ second ∷ rest)) (omega arith) (more m first second (mostOf (stood next w)) rest (again u hand′ (omega arith)))
       go (own (gone a e one) z) again =
-          subst (LetsGo m w (first ∷ second ∷ rest)) (omega arith) (more m first second 0 rest (here next a rest e))
+          subst (LetsGo document01 m w (first ∷ second ∷ rest)) (omega arith) (more m first second 0 rest (here next a rest e))

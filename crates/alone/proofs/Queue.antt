@@ -24,8 +24,7 @@ use Rattle.machine.specs.declared.Machine.{Machine}
 use Rattle.machine.specs.declared.Event.{Event}
 use Rattle.machine.specs.Machine.{slot}
 use Rattle.machine.specs.Contents.{countIn}
-use Rattle.demands.specs.EverySchedule.{itemsOf, tally, waiting}
-use Rattle.demands.specs.Alone.{OtherHand, queueAnswer}
+use Rattle.demands.specs.Notions.{itemsOf, tally, waiting, OtherHand, queueAnswer}
 use Rattle.ring.proofs.Width.{near-one}
 use Rattle.ring.proofs.Ring.{Cell, Await, Hold, Shared, CellOk}
 use Rattle.ring.proofs.Effects.{Loose}

@@ -32,9 +32,7 @@ use Rattle.machine.specs.Broken.{recordFits}
 use Rattle.machine.specs.Turn.{verdictOf, carried, turnOf, spotOf, stored, acted}
 use Rattle.machine.specs.Run.{ran, runFrom}
 use Rattle.machine.specs.History.{event, historyOf}
-use Rattle.demands.specs.Eight.{acts}
-use Rattle.demands.specs.EverySchedule.{InHand, HandsOut, Truth, CallClaim, ItemIn}
-use Rattle.demands.specs.Alone.{OtherHand}
+use Rattle.demands.specs.Notions.{acts, InHand, HandsOut, Truth, CallClaim, ItemIn, OtherHand}
 use Rattle.ring.proofs.Ring.{Shared}
 use Rattle.ring.proofs.Effects.{Loose}
 use Rattle.picture.proofs.Stamps.{fixed}

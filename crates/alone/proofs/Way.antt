@@ -9,8 +9,7 @@ use Rattle.words.specs.declared.Stamp.{Stamp}
 use Rattle.words.specs.Limits.{workersMost}
 use Rattle.places.specs.declared.Place.{Place}
 use Rattle.machine.specs.declared.Machine.{Machine}
-use Rattle.demands.specs.EverySchedule.{InHand, handP4, handP5, handF7, handF8, handF9, handO4, handO5}
-use Rattle.demands.specs.Alone.{OtherHand}
+use Rattle.demands.specs.Notions.{InHand, handP4, handP5, handF7, handF8, handF9, handO4, handO5, OtherHand}
 use Rattle.ring.proofs.Ring.{Shared}
 use Rattle.picture.proofs.Sight.{Look, Calm, Sees, Laps, Tails, Counts, look, grips, HandAt}
 use Rattle.claims.proofs.Turns.{stood}

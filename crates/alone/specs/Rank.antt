@@ -7,7 +7,7 @@ use Rattle.words.specs.Words.{unmarkedOf, minus, same, lapBehind}
 use Rattle.places.specs.declared.Ends.{Ends}
 use Rattle.places.specs.declared.Place.{Place}
 use Rattle.places.specs.declared.Place.the-variants.{Idle, P1, P2, P3, P4, P5, P6, F6, F7, F8, F9, O1, O2, O3, O4, O5, O6, Len1, Len2, Len3, Empty1, Empty2, Full1, Full2, Close1, IsClosed1}
-use Rattle.demands.specs.Alone.{oneMore}
+use Rattle.demands.specs.Notions.{oneMore}
 
 -- A word that is not out of date costs fewer acts: then the rank is the first number, else the second.
 abbrev pub rankOf : Fixed → Ends → Place → ℕ

@@ -25,7 +25,7 @@ use Rattle.machine.specs.declared.Did.{Did}
 use Rattle.machine.specs.declared.Event.{Event}
 use Rattle.machine.specs.Machine.{slot, accepted}
 use Rattle.machine.specs.Turn.{spotOf, turn, turnOf, acted}
-use Rattle.demands.specs.EverySchedule.{Acts, Truth}
+use Rattle.demands.specs.Notions.{document01, Acts, Truth}
 use Rattle.ring.proofs.Width.{Near}
 use Rattle.picture.proofs.Stamps.{fixed, W, unmarked-tail, same-is, behind-is}
 use Rattle.picture.proofs.Sight.{look, answerIn, endsOf, Stands}
@@ -43,7 +43,7 @@ pub record Done (m : Machine) (w : ℕ) (lose : Bool) (next : Machine) : Type 0 
 done-by : (m : Machine) (w : ℕ) (lose : Bool) (next : Machine) (acts : List Event) → Turned m (Asks w (Act lose)) next acts → Done m w lose next
 done-by m w lose next acts (did v was l b e) = record { team = l; busy = b; early = e; is = refl }
 
-pub acts-done : (m : Machine) (w : ℕ) (next : Machine) (a : Acts m w next) → Done m w (a .lose) next
+pub acts-done : (m : Machine) (w : ℕ) (next : Machine) (a : Acts document01 m w next) → Done m w (a .lose) next
 unfolding turnOf accepted
 acts-done m w next a =
     let q : turn m (Asks w (Act (a .lose))) ≡ accepted next = ap (turn m) (sym (a .asks)) ∙ a .done in
@@ -52,7 +52,7 @@ acts-done m w next a =
     record { team = d .team; busy = d .busy; early = d .early; is = sym (ap (λ (z : Did). z .machine) q) ∙ d .is }
 
 module _ (c n workers : ℕ) (base : Base c n workers) (m : Machine) (h : List Event) (r : Reached c n workers m h) where
-  pub true-answers : (w : ℕ) (next : Machine) (a : Answer) → Acts m w next → stood next w ≡ Idle a → Truth (m .ring .fixed) (m .ring .ends) a
+  pub true-answers : (w : ℕ) (next : Machine) (a : Answer) → Acts document01 m w next → stood next w ≡ Idle a → Truth (m .ring .fixed) (m .ring .ends) a
   true-answers w next a act e =
       let d = acts-done m w next act in
       let pic = r .pictured in
@@ -64,7 +64,7 @@ module _ (c n workers : ℕ) (base : Base c n workers) (m : Machine) (h : List E
       subst (λ (f : Fixed). Truth f (m .ring .ends) a) (sym (pic .rule)) (subst (λ (z : Ends). Truth (fixed c (markOf c)) z a) (sym (pic .ends)) t)
 
   -- where the act of a worker at p leads
-  pub leads : (w : ℕ) (next : Machine) (p : Place) → Acts m w next → stood m w ≡ p
+  pub leads : (w : ℕ) (next : Machine) (p : Place) → Acts document01 m w next → stood m w ≡ p
       → (z : Slot) × (lose : Bool) × (stood next w ≡ actOf (fixed c (markOf c)) (endsOf c (markOf c) n (r .ring) (r .pictured .shut)) z p lose .place)
   leads w next p act e =
       let d = acts-done m w next act in
@@ -119,7 +119,7 @@ module _ (c n workers : ℕ) (base : Base c n workers) (m : Machine) (h : List E
       let even : r .ring .tail ≡ o .0 = omega (arith, o .3, inv .high) in
       ap (lapBehind F (E .head)) (unmarked-is ∙ ap (W c (markOf c) n) even) ∙ z
 
-  pub true-empty : (w : ℕ) (next : Machine) (t : Stamp) → stood m w ≡ Empty2 t → Acts m w next → stood next w ≡ Idle Yes
+  pub true-empty : (w : ℕ) (next : Machine) (t : Stamp) → stood m w ≡ Empty2 t → Acts document01 m w next → stood next w ≡ Idle Yes
       → unmarkedOf (m .ring .fixed) (m .ring .ends .tail) ≡ m .ring .ends .head
   unfolding stay
   true-empty w next t at act e =
@@ -128,7 +128,7 @@ module _ (c n workers : ℕ) (base : Base c n workers) (m : Machine) (h : List E
       subst (λ (f : Fixed). unmarkedOf f (m .ring .ends .tail) ≡ m .ring .ends .head) (sym (r .pictured .rule))
       (subst (λ (x : Ends). unmarkedOf F (x .tail) ≡ x .head) (sym (r .pictured .ends)) y)
 
-  pub true-full : (w : ℕ) (next : Machine) (t : Stamp) → stood m w ≡ Full2 t → Acts m w next → stood next w ≡ Idle Yes
+  pub true-full : (w : ℕ) (next : Machine) (t : Stamp) → stood m w ≡ Full2 t → Acts document01 m w next → stood next w ≡ Idle Yes
       → lapBehind (m .ring .fixed) (m .ring .ends .head) (unmarkedOf (m .ring .fixed) (m .ring .ends .tail)) ≡ true
   unfolding stay
   true-full w next t at act e =

@@ -24,7 +24,7 @@ use Rattle.machine.specs.Broken.{allIdle}
 use Rattle.machine.specs.Contents.{countIn, wrapped, itemAt, itemsFrom, contentsOf}
 use Rattle.machine.specs.History.{stockOf}
 use Rattle.machine.proofs.Kept.{every}
-use Rattle.demands.specs.EverySchedule.{itemsOf, tally, waiting}
+use Rattle.demands.specs.Notions.{itemsOf, tally, waiting}
 use Rattle.ring.proofs.Width.{index-word, near-one}
 use Rattle.ring.proofs.Ring.{Cell, Await, Hold, Hand, Mine, CellOk}
 use Rattle.picture.proofs.Stamps.{fixed}

@@ -21,7 +21,7 @@ use Rattle.machine.specs.Contents.{wrapped}
 use Rattle.machine.specs.History.{movedOf, tallyOf}
 use Rattle.machine.specs.History as history
 use Rattle.machine.proofs.Kept.{either}
-use Rattle.demands.specs.EverySchedule.{tailBy, headBy, tailersOf, takersOf, tally}
+use Rattle.demands.specs.Notions.{tailBy, headBy, tailersOf, takersOf, tally}
 use Rattle.ring.proofs.Width.{Near, index-word, turn-long}
 use Rattle.picture.proofs.Stamps.{Ground, fixed, W, tailWord, index-tail, unmarked-tail, same-is}
 

@@ -17,7 +17,8 @@ use Rattle.machine.specs.Turn.{turnOf}
 use Rattle.machine.specs.Run.{ran, runFrom, runOf}
 use Rattle.machine.specs.History.{eventsOf, historyOf}
 use Rattle.machine.proofs.Kept.{of-unbroken}
-use Rattle.demands.specs.EverySchedule.{Allowed, machineAfter, actsOf, Demand2, UnderEverySchedule, ActByAct, WholeSchedules}
+use Rattle.demands.specs.Notions.{document01, Allowed, machineAfter, actsOf}
+use Rattle.demands.specs.Demands.{Demand2, UnderEverySchedule, ActByAct, WholeSchedules}
 use Rattle.claims.proofs.Reached.{Reached, lapsOf, base-of, ring0, fresh-pictured, fresh-logged, fresh-metered, entries}
 use Rattle.claims.proofs.Pictured.{Base}
 use Rattle.claims.proofs.Counts.{tally-tail, tally-head}
@@ -29,7 +30,7 @@ use Rattle.claims.proofs.Plain.{plainly}
 
 -- every schedule
 pub reached : (capacity workers : ℕ) → Allowed capacity workers → (s : List ℕ)
-    → Reached capacity (lapsOf capacity) workers (machineAfter capacity workers s) (actsOf capacity workers s)
+    → Reached capacity (lapsOf capacity) workers (machineAfter document01 capacity workers s) (actsOf document01 capacity workers s)
 reached capacity workers a s =
     let base = base-of capacity workers a in
     entries capacity (lapsOf capacity) workers base s (freshOf capacity workers) [] 0
@@ -37,7 +38,7 @@ reached capacity workers a s =
 
 -- what a reached machine has behind it is the demand
 module _ (c n workers : ℕ) (base : Base c n workers) (m : Machine) (h : List Event) (r : Reached c n workers m h) where
-  demanded : Demand2 c workers m h
+  demanded : Demand2 document01 c workers m h
   demanded =
       record {
         made = r .pictured .rule;
@@ -60,11 +61,11 @@ module _ (c n workers : ℕ) (base : Base c n workers) (m : Machine) (h : List E
         full = true-full c n workers base m h r;
       }
 
-pub demand2 : UnderEverySchedule
+pub demand2 : UnderEverySchedule document01
 demand2 capacity workers a s =
-    demanded capacity (lapsOf capacity) workers (base-of capacity workers a) (machineAfter capacity workers s) (actsOf capacity workers s) (reached capacity workers a s)
+    demanded capacity (lapsOf capacity) workers (base-of capacity workers a) (machineAfter document01 capacity workers s) (actsOf document01 capacity workers s) (reached capacity workers a s)
 
-pub act-by-act : ActByAct
+pub act-by-act : ActByAct document01
 unfolding runFrom historyOf ran
 act-by-act m s first second even e taken =
     let o = onward s (first ∷ second ∷ []) m 0 even e in
@@ -77,7 +78,7 @@ made-whole : (capacity workers : ℕ) → Allowed capacity workers → brokenOf 
 unfolding runFrom ran
 made-whole capacity workers a = demand2 capacity workers a [] .unbroken
 
-pub whole-schedules : WholeSchedules
+pub whole-schedules : WholeSchedules document01
 unfolding runOf ran
 whole-schedules capacity workers a s =
     let b = made-whole capacity workers a in (

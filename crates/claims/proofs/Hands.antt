@@ -13,7 +13,7 @@ use Rattle.places.specs.declared.Place.{Place}
 use Rattle.machine.specs.declared.Machine.{Machine}
 use Rattle.machine.specs.declared.Event.{Event}
 use Rattle.machine.specs.Machine.{slot}
-use Rattle.demands.specs.EverySchedule.{InHand, handP4, handP5, handF7, handF8, handF9, handO4, handO5, Reads, readO4, readF8, valueAt, takersOf, LatestIn, ItemIn, WrittenIn}
+use Rattle.demands.specs.Notions.{InHand, handP4, handP5, handF7, handF8, handF9, handO4, handO5, Reads, readO4, readF8, valueAt, takersOf, LatestIn, ItemIn, WrittenIn}
 use Rattle.ring.proofs.Ring.{Stage, Fill, Filled, Take, Grab, Swap, Swapped, Cell, Hand, Mine, mine-one, Shared, Latest, Valued, Inv, CellOk}
 use Rattle.picture.proofs.Stamps.{Ground, fixed, word-slot, lap-slot}
 use Rattle.picture.proofs.Sight.{look, Stands}

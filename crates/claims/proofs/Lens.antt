@@ -28,7 +28,8 @@ use Rattle.machine.specs.Machine.{idler}
 use Rattle.machine.specs.Turn.{turnOf, begun, acted, stored}
 use Rattle.machine.specs.Run.{ran, runFrom}
 use Rattle.machine.specs.History.{event, eventsOf, historyOf, movedOf}
-use Rattle.demands.specs.EverySchedule.{machineAfter, actsOf, Acts, Unmoved, LenTrue, tailBy, tailersOf}
+use Rattle.demands.specs.Notions.{document01, machineAfter, actsOf, Acts, Unmoved, tailBy, tailersOf}
+use Rattle.demands.specs.Demands.{LenTrue}
 use Rattle.ring.proofs.Width.{Near}
 use Rattle.picture.proofs.Stamps.{fixed, W, tailWord, tails-one}
 use Rattle.picture.proofs.Sight.{look, endsOf, Stands}
@@ -99,7 +100,7 @@ module _ (c n workers : ℕ) (base : Base c n workers) (m : Machine) (h : List E
   mark = markOf c
 
   -- the head load
-  module _ (t : Stamp) (at : stood m w ≡ Len2 t) (loaded : Machine) (load : Acts m w loaded) where
+  module _ (t : Stamp) (at : stood m w ≡ Len2 t) (loaded : Machine) (load : Acts document01 m w loaded) where
     done : Done m w (load .lose) loaded
     done = acts-done m w loaded load
 
@@ -117,7 +118,7 @@ module _ (c n workers : ℕ) (base : Base c n workers) (m : Machine) (h : List E
 
     -- the answer, on a machine on which no fewer tail claims were made
     pub counted : (m₂ : Machine) (h₂ : List Event) (r₂ : Reached c n workers m₂ h₂) → r .ring .tail ≤ r₂ .ring .tail
-        → stood m₂ w ≡ Len3 t (W c mark n (r .ring .head)) → (answered : Machine) → Acts m₂ w answered → (k : ℕ) → stood answered w ≡ Idle (Len k)
+        → stood m₂ w ≡ Len3 t (W c mark n (r .ring .head)) → (answered : Machine) → Acts document01 m₂ w answered → (k : ℕ) → stood answered w ≡ Idle (Len k)
         → k ≡ r .ring .tail - r .ring .head
     counted m₂ h₂ r₂ up stays answered act k is =
         let E = endsOf c mark n (r₂ .ring) (r₂ .pictured .shut) in
@@ -133,12 +134,12 @@ module _ (c n workers : ℕ) (base : Base c n workers) (m : Machine) (h : List E
         ∙ count-is c mark n (base .ground) (r .ring .head) (tail-seen .0) (tail-seen .1) (omega (arith, r .pictured .inv .low)) (omega (arith, r .pictured .inv .high))
         ∙ ap (λ (z : ℕ). z - r .ring .head) (sym now)
 
-pub len-true : LenTrue
+pub len-true : LenTrue document01
 len-true capacity workers a s w k o =
     let n = lapsOf capacity in
     let base = base-of capacity workers a in
-    let m = machineAfter capacity workers s in
-    let h = actsOf capacity workers s in
+    let m = machineAfter document01 capacity workers s in
+    let h = actsOf document01 capacity workers s in
     let r = reached capacity workers a s in
     let e = event w (stood m w) (stood (o .loaded) w) in
     let r₁ = reached-loaded capacity n workers base m h r w (o .tail) (o .loads) (o .loaded) (o .load) in

@@ -7,7 +7,7 @@ use native.Mathlib.Omega.{arith}
 use native.Mathlib.Decide.{decLt, ℕ-discrete}
 use lib.ListN.{length, getD, length-append, List·getD-append}
 use lib.Seq.{getD-append-seam}
-use Rattle.demands.specs.EverySchedule.{LatestIn}
+use Rattle.demands.specs.Notions.{LatestIn}
 use Rattle.ring.proofs.Upd.{upd, upd-at, upd-else}
 use Rattle.ring.proofs.Ring.{Latest}
 

@@ -16,7 +16,7 @@ use Rattle.machine.specs.declared.Event.{Event}
 use Rattle.machine.specs.declared.Moved.{Moved}
 use Rattle.machine.specs.declared.Moved.the-variants as end
 use Rattle.machine.specs.History.{event, movedOf}
-use Rattle.demands.specs.EverySchedule.{HandsOut, popped, displaced, Writes, itemIn, tailBy, headBy, itemsOf, tailersOf, takersOf, LatestIn, ItemIn, WrittenIn, Unanswered, CallClaim, waiting, Fifo, enqueue, dequeue, rest}
+use Rattle.demands.specs.Notions.{HandsOut, popped, displaced, Writes, itemIn, tailBy, headBy, itemsOf, tailersOf, takersOf, LatestIn, ItemIn, WrittenIn, Unanswered, CallClaim, waiting, Fifo, enqueue, dequeue, rest}
 use Rattle.ring.proofs.Upd.{upd-else, upd-same}
 use Rattle.ring.proofs.Ring.{Stage, Fill, Filled, Take, Grab, Swap, Swapped, taking, Hold, Hand, Mine, number, Shared, Latest, Inv}
 use Rattle.ring.proofs.Effects.{Effect, Still, Tailed, Taken, Grabbed, Forced, Fills, Swaps, Frees, Gives, after, Fits, loose-mine, Course, same, moved, course, tail-course, cell-course, number-course, ok-at}

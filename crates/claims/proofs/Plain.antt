@@ -16,7 +16,7 @@ use Rattle.places.specs.declared.Ends.{Ends}
 use Rattle.machine.specs.declared.Machine.{Machine}
 use Rattle.machine.specs.declared.Event.{Event}
 use Rattle.machine.specs.Machine.{slot}
-use Rattle.demands.specs.EverySchedule.{Plain, plainWord, tally}
+use Rattle.demands.specs.Notions.{Plain, plainWord, tally}
 use Rattle.ring.proofs.Width.{word, word-plain}
 use Rattle.ring.proofs.Ring.{number}
 use Rattle.picture.proofs.Stamps.{fixed, unmarked-tail}

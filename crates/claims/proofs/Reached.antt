@@ -28,7 +28,7 @@ use Rattle.machine.specs.Turn.{turnOf, begun, acted, stored}
 use Rattle.machine.specs.Run.{ran, runFrom}
 use Rattle.machine.specs.History.{event, eventsOf, historyOf, tallyOf}
 use Rattle.machine.proofs.Kept.{Unbroken, ends-of}
-use Rattle.demands.specs.EverySchedule.{Allowed, start, itemsOf, tailersOf, takersOf}
+use Rattle.demands.specs.Notions.{Allowed, start, itemsOf, tailersOf, takersOf}
 use Rattle.ring.proofs.Width.{word, word-first}
 use Rattle.ring.proofs.Ring.{Await, Shared}
 use Rattle.picture.proofs.Stamps.{fixed, tailWord, index-tail, marked-tail}

@@ -7,7 +7,7 @@ use Rattle.machine.specs.Machine.{emptySlots, stamped, freshSlots, idlers, fres
 use Rattle.machine.specs.Broken.{all, inLimits, byRule, endsFit, recordFits, recordsFit, brokenOf}
 use Rattle.machine.specs.Turn.{begun, stored, acted, turnOf}
 use Rattle.machine.specs.Run.{ran, runFrom, runOf}
-use Rattle.demands.specs.Eight.{acts}
+use Rattle.demands.specs.Notions.{acts}
 use Rattle.demands.specs.Attained.{Attained, attained, seenIn, sightOf, needed, othersIdle}
 
 pub numbers-attained : Attained

@@ -10,7 +10,8 @@ use Rattle.machine.specs.Turn.{begun, stored, acted, turnOf}
 use Rattle.machine.specs.Run.{ran, runFrom, runOf}
 use Rattle.machine.specs.History.{historyOf, tallyOf, stockOf}
 use Rattle.bounded.specs.Bounded.{makeOf}
-use Rattle.demands.specs.Eight.{EightRuns, found, foundIn, acts, table}
+use Rattle.demands.specs.Notions.{acts}
+use Rattle.demands.specs.Eight.{EightRuns, found, foundIn, table}
 
 pub eight-runs : EightRuns
 unfolding doubled markOf markedOf unmarkedOf plus minus withMark nextOf same onePast lapBehind lapBehindOnePast inside strayOf orderOf entryOf stay tailTo headTo stampTo valueTo countOf emptySlots stamped freshSlots idlers freshOf blank refused accepted all inLimits byRule endsFit recordFits recordsFit brokenOf allIdle told countIn wrapped itemAt itemsFrom contentsOf begun stored acted turnOf ran runFrom runOf historyOf tallyOf stockOf makeOf found foundIn acts table

@@ -16,8 +16,7 @@ use Rattle.machine.specs.Machine.{freshOf, placeOf}
 use Rattle.machine.specs.Broken.{all}
 use Rattle.machine.specs.Turn.{turnOf}
 use Rattle.machine.specs.Run.{runOf}
-use Rattle.demands.specs.Eight.{acts}
-use Rattle.demands.specs.Alone.{mostOf}
+use Rattle.demands.specs.Notions.{acts, mostOf}
 
 -- Acts of worker w alone, code 8, until it is idle; no more than so many are tried.
 unfoldable pub needed : ℕ → Machine → ℕ → ℕ

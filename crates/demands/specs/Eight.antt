@@ -1,5 +1,5 @@
 -- "Eight runs on paper" of document 01, as one table.
-use Prim.Native.Nat.{ℕ, zero, suc, _+_, _*_}
+use Prim.Native.Nat.{ℕ, _+_, _*_}
 use mathlib.Core.Path.{_≡_}
 use mathlib.Core.List.{List, [], _∷_, _++_, map}
 use lib.ListN.{getD, length}
@@ -16,6 +16,7 @@ use Rattle.machine.specs.Contents.{contentsOf}
 use Rattle.machine.specs.Run.{runOf}
 use Rattle.machine.specs.History.{historyOf, tallyOf, stockOf}
 use Rattle.bounded.specs.Bounded.{makeOf}
+use Rattle.demands.specs.Notions.{acts}
 
 -- What the text says of a run.
 pub data Fact : Type 0 where
@@ -65,13 +66,8 @@ unfoldable pub foundIn : Row → List Fact
 foundIn r =
     map (found (runOf (freshOf (r .capacity) (r .workers)) (r .schedule)) (historyOf (freshOf (r .capacity) (r .workers)) (r .schedule))) (r .facts)
 
--- An entry, and so many acts of a worker.
 abbrev entry : ℕ → ℕ → ℕ → List ℕ
 entry worker code item = (16 * worker + code) ∷ item ∷ []
-
-unfoldable pub acts : ℕ → ℕ → List ℕ
-acts worker zero = []
-acts worker (suc n) = (16 * worker + 8) ∷ 0 ∷ acts worker n
 
 abbrev push : ℕ → ℕ → List ℕ
 push item n = entry 0 0 item ++ acts 0 n

@@ -1,5 +1,4 @@
+pub mod Notions
 pub mod Demands
 pub mod Eight
-pub mod EverySchedule
-pub mod Alone
 pub mod Attained

@@ -1,9 +1,7 @@
--- The demands of document 01, each with its statement's name and its proof's. The statements, in document 01's words, are
--- short files of crates/demands/specs: Demands.antt (1), EverySchedule.antt (2), Alone.antt and Attained.antt (3), Eight.antt
--- (the runs on paper). docs/PROMISES.md says in plain words what each says and what not.
-use Rattle.demands.specs.Demands.{RefusedUnchanged, Numbered, StaysUnbroken, OnlyOne}
-use Rattle.demands.specs.EverySchedule.{UnderEverySchedule, ActByAct, WholeSchedules, LenTrue}
-use Rattle.demands.specs.Alone.{ScheduledAlone}
+-- The demands of document 01, proved. What they say, in document 01's words, is crates/demands/specs/Demands.antt; the table of
+-- attained numbers and the runs on paper are Attained.antt and Eight.antt beside it.
+use Rattle.demands.specs.Notions.{document01}
+use Rattle.demands.specs.Demands.{RefusedUnchanged, Numbered, StaysUnbroken, OnlyOne, UnderEverySchedule, ActByAct, WholeSchedules, LenTrue, ScheduledAlone}
 use Rattle.demands.specs.Attained.{Attained}
 use Rattle.demands.specs.Eight.{EightRuns}
 use Rattle.demands.proofs.Refusals.{refused-unchanged, numbered, stays-unbroken, only-one}
@@ -20,12 +18,12 @@ demand-1 = (refused-unchanged, numbered, stays-unbroken, only-one)
 
 -- 2. Under every schedule from a fresh machine: each act is the one action of document 01; the claim rule; no slot in two hands;
 -- Empty, Full and Closed true at the act that decided them; stock and contents.
-pub demand-2 : UnderEverySchedule × ActByAct × WholeSchedules × LenTrue
+pub demand-2 : UnderEverySchedule document01 × ActByAct document01 × WholeSchedules document01 × LenTrue document01
 demand-2 = (demand2, act-by-act, whole-schedules, len-true)
 
 -- 3. Alone, a call ends within seven acts with the right answer; a worker with a slot in hand lets go within three acts of its
 -- own; and the numbers are attained.
-pub demand-3 : ScheduledAlone × Attained
+pub demand-3 : ScheduledAlone document01 × Attained
 demand-3 = (demand3, numbers-attained)
 
 -- The eight runs on paper.

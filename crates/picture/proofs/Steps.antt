@@ -21,7 +21,7 @@ use Rattle.acts.specs.declared.Acted.{Acted}
 use Rattle.acts.specs.Acts.{stay, tailTo, headTo, stampTo, valueTo, actOf, actP1, actP2, actP3, actP5, actP6, actF6, actF7, actF8, actF9, actO2, actO3, actO5, actO6, actLen3, actClose1, fullAt, yesNo, countOf}
 use Rattle.machine.specs.Turn.{spotOf}
 use Rattle.machine.proofs.Kept.{either}
-use Rattle.demands.specs.EverySchedule.{Truth, Writes, writeP4, writeF8}
+use Rattle.demands.specs.Notions.{Truth, Writes, writeP4, writeF8}
 use Rattle.ring.proofs.Width.{word, Near, index-word, turn-long}
 use Rattle.ring.proofs.Upd.{upd, upd-same}
 use Rattle.ring.proofs.Ring.{Stage, Fill, Filled, Take, Grab, Swap, Swapped, Cell, Await, Hold, Hand, number, Mine, Shared, Latest, Awaits, Holds, Forces, Owns, Keeps, ViewOk, CellOk, Owned, Inv}

@@ -1,34 +1,54 @@
--- Demand 2, "under EVERY schedule": claims, hands, and answers that are true. Said of the machine's own struct, of the
--- words of a schedule and of the history of its acts. Proofs: crate claims, `demand2` of proofs/Demand2.antt.
-use Prim.Native.Nat.{ℕ, _+_, _*_, _/_, _%_, _≤_, _<_}
+-- The notions that the demands are said in: history, claim, hand, stock and the rest, of the machine's own struct, of the words of
+-- a schedule and of the history of its acts. The demands themselves are Demands.antt.
+use Prim.Native.Nat.{ℕ, zero, suc, _+_, _*_, _/_, _%_, _≤_, _<_}
 use mathlib.Core.Bool.{Bool, true, false, cond}
 use mathlib.Core.List.{List, [], _∷_, _++_}
 use mathlib.Core.Path.{_≡_}
 use mathlib.Core.Logic.{_≢_}
+use lib.Dec.{eqb}
 use lib.ListN.{length, getD, drop}
 use Rattle.words.specs.declared.Stamp.{Stamp}
 use Rattle.words.specs.declared.Fixed.{Fixed}
 use Rattle.words.specs.Limits.{slotsMost, workersMost, wide}
-use Rattle.words.specs.Words.{claim, fixedOf, indexOf, markedOf, unmarkedOf, lapBehind}
+use Rattle.words.specs.Words.{claim, indexOf, markedOf, unmarkedOf, lapBehind}
 use Rattle.places.specs.declared.Ends.{Ends}
+use Rattle.places.specs.declared.Kind.{Kind}
+use Rattle.places.specs.declared.Kind.the-variants.{Push, Force}
 use Rattle.places.specs.declared.Answer.{Answer}
 use Rattle.places.specs.declared.Answer.the-variants.{Nothing, Pushed, Full, Closed, Displaced, Popped, Empty, PopClosed, Len, Yes, No}
 use Rattle.places.specs.declared.Place.{Place}
 use Rattle.places.specs.declared.Place.the-variants.{Idle, P1, P2, P3, P4, P5, P6, F6, F7, F8, F9, O1, O2, O3, O4, O5, O6, Len1, Len2, Len3, Empty1, Empty2, Full1, Full2, Close1, IsClosed1}
-use Rattle.places.specs.declared.Order.the-variants.{Act}
-use Rattle.places.specs.declared.Entry.the-variants.{Asks}
+use Rattle.places.specs.declared.Call.{Call}
+use Rattle.places.specs.declared.Call.the-variants as call
+use Rattle.places.specs.declared.Order.the-variants.{Begin, Act}
+use Rattle.places.specs.declared.Entry.{Entry}
+use Rattle.places.specs.declared.Entry.the-variants.{Unreadable, Asks}
 use Rattle.places.specs.Places.{viewOf, entryOf}
+use Rattle.acts.specs.Acts.{yesNo}
 use Rattle.machine.specs.declared.Machine.{Machine}
+use Rattle.machine.specs.declared.Did.{Did}
+use Rattle.machine.specs.declared.Ran.{Ran}
 use Rattle.machine.specs.declared.Event.{Event}
 use Rattle.machine.specs.declared.Moved.{Moved}
 use Rattle.machine.specs.declared.Moved.the-variants.{Neither, Tail, Head}
 use Rattle.machine.specs.declared.Tally.{Tally}
 use Rattle.machine.specs.Machine.{slot, freshOf, placeOf, accepted}
-use Rattle.machine.specs.Broken.{brokenOf, allIdle}
 use Rattle.machine.specs.Turn.{turnOf}
-use Rattle.machine.specs.Run.{runFrom, runOf}
-use Rattle.machine.specs.Contents.{countIn, contentsOf}
-use Rattle.machine.specs.History.{eventsOf, historyOf, movedOf, tallyOf, stockOf}
+use Rattle.machine.specs.Run.{runFrom}
+use Rattle.machine.specs.History.{historyOf, movedOf, tallyOf}
+
+-- ---- definitions and schedules
+
+-- What a definition of the machine says: what an entry makes of a machine, what the entries of a schedule make of it up to the
+-- first refusal, and their acts, oldest first. The demands are said of any definition, so that crate slips can say them of
+-- one with a row changed; they are met by document 01's.
+pub record Definition : Type 0 where
+  pub turn : Machine → ℕ → ℕ → Did
+  pub run : Machine → ℕ → List ℕ → Ran
+  pub history : Machine → List ℕ → List Event
+
+abbrev pub document01 : Definition
+document01 = record { turn = turnOf; run = runFrom; history = historyOf }
 
 -- Every capacity and every number of workers that making accepts.
 pub record Allowed (capacity workers : ℕ) : Type 0 where
@@ -37,22 +57,27 @@ pub record Allowed (capacity workers : ℕ) : Type 0 where
   pub worker-some : 0 < workers
   pub worker-most : workers ≤ workersMost
 
--- What the entries of a schedule, up to the first refusal, make of a fresh machine; and their acts, oldest first.
-abbrev pub machineAfter : ℕ → ℕ → List ℕ → Machine
-machineAfter capacity workers s = runFrom (freshOf capacity workers) 0 s .machine
+-- What a schedule makes of a fresh machine, and its acts.
+abbrev pub machineAfter : Definition → ℕ → ℕ → List ℕ → Machine
+machineAfter d capacity workers s = d .run (freshOf capacity workers) 0 s .machine
 
-abbrev pub actsOf : ℕ → ℕ → List ℕ → List Event
-actsOf capacity workers s = historyOf (freshOf capacity workers) s
+abbrev pub actsOf : Definition → ℕ → ℕ → List ℕ → List Event
+actsOf d capacity workers s = d .history (freshOf capacity workers) s
 
 -- An act of worker w that is accepted takes the machine m to the machine next.
-pub record Acts (m : Machine) (w : ℕ) (next : Machine) : Type 0 where
+pub record Acts (d : Definition) (m : Machine) (w : ℕ) (next : Machine) : Type 0 where
   pub first : ℕ
   pub second : ℕ
   pub lose : Bool
   pub asks : entryOf first second ≡ Asks w (Act lose)
-  pub done : turnOf m first second ≡ accepted next
+  pub done : d .turn m first second ≡ accepted next
 
--- ---- places
+-- The entries of so many acts of one worker.
+unfoldable pub acts : ℕ → ℕ → List ℕ
+acts worker zero = []
+acts worker (suc n) = (16 * worker + 8) ∷ 0 ∷ acts worker n
+
+-- ---- hands and places
 
 -- In hand: from a won exchange until that worker's stamp store; the slot is the one at the index of the word.
 pub data InHand : Place → Stamp → Type 0 where
@@ -217,89 +242,102 @@ pub record Plain (m : Machine) (h : List Event) : Type 0 where
 abbrev pub valueAt : Machine → Stamp → ℕ
 valueAt m t = getD (m .ring .slots) (indexOf (m .ring .fixed) t) (slot 0 0) .value
 
--- ---- the demand
+-- ---- calls and their answers
 
--- What holds of every machine that a schedule reaches from a fresh one, and of the acts behind it.
-pub record Demand2 (capacity workers : ℕ) (m : Machine) (h : List Event) : Type 0 where
-  -- It is the machine that was made, and its meter counts the acts.
-  pub made : m .ring .fixed ≡ fixedOf capacity
-  pub team : m .count ≡ workers
-  pub meter : m .meter ≡ length h
-  -- No machine so reached is broken, and no stamp wraps.
-  pub unbroken : brokenOf m ≡ false
-  pub plain : Plain m h
-  -- The lists of claims are as long as the tally says.
-  pub tails : length (itemsOf h) ≡ tally h .tail .0
-  pub heads : length (takersOf h) ≡ tally h .head .0
-  -- The claim rule: a value handed out is the item of the tail claim that has the number of the call's head claim.
-  pub claim-rule : (earlier later : List Event) (act : Event) (v : ℕ) → h ≡ earlier ++ act ∷ later → HandsOut (act .after) v
-      → (k : ℕ) × CallClaim earlier (act .worker) k × LatestIn (takersOf earlier) (act .worker) k × ItemIn earlier k v
-  -- No two of these answers share that number.
-  pub once-out : (earlier between later : List Event) (act again : Event) (v u k : ℕ) → h ≡ earlier ++ act ∷ between ++ again ∷ later
-      → HandsOut (act .after) v → HandsOut (again .after) u
-      → LatestIn (takersOf earlier) (act .worker) k → LatestIn (takersOf (earlier ++ act ∷ between)) (again .worker) k → ⊥
-  -- No slot is in two hands at any moment.
-  pub one-hand : (v w : ℕ) (t u : Stamp) → InHand (placeOf (m .workers) v) t → InHand (placeOf (m .workers) w) u
-      → indexOf (m .ring .fixed) t ≡ indexOf (m .ring .fixed) u → v ≡ w
-  -- O4 and F8 read only a value that was written for that claim.
-  pub reads : (w : ℕ) (t : Stamp) → Reads (placeOf (m .workers) w) t
-      → (k : ℕ) × LatestIn (takersOf h) w k × ItemIn h k (valueAt m t) × WrittenIn h k (valueAt m t)
-  -- Empty, Full and Closed are true of the words at the load or exchange that decided them.
-  pub answers : (w : ℕ) (next : Machine) (a : Answer) → Acts m w next → placeOf (next .workers) w ≡ Idle a
-      → Truth (m .ring .fixed) (m .ring .ends) a
-  -- Stock is `len`'s count of the words at every moment. With all workers idle it equals the number of contents, and
-  -- contents are, in order, the items of the claims not yet taken.
-  pub stock : stockOf (tally h) ≡ countIn m
-  pub number : allIdle (m .workers) ≡ true → stockOf (tally h) ≡ length (contentsOf m)
-  pub contents : allIdle (m .workers) ≡ true → contentsOf m ≡ waiting h
-  -- Beside the demand: every run is one of a plain queue, and a yes of is_empty and of is_full is true at its last load.
-  pub fifo : Fifo h (waiting h)
-  pub empty : (w : ℕ) (next : Machine) (t : Stamp) → placeOf (m .workers) w ≡ Empty2 t → Acts m w next → placeOf (next .workers) w ≡ Idle Yes
-      → unmarkedOf (m .ring .fixed) (m .ring .ends .tail) ≡ m .ring .ends .head
-  pub full : (w : ℕ) (next : Machine) (t : Stamp) → placeOf (m .workers) w ≡ Full2 t → Acts m w next → placeOf (next .workers) w ≡ Idle Yes
-      → lapBehind (m .ring .fixed) (m .ring .ends .head) (unmarkedOf (m .ring .fixed) (m .ring .ends .tail)) ≡ true
-
--- Every capacity, every number of workers, every schedule.
-abbrev pub UnderEverySchedule : Type 0
-UnderEverySchedule =
-    (capacity workers : ℕ) → Allowed capacity workers → (s : List ℕ)
-    → Demand2 capacity workers (machineAfter capacity workers s) (actsOf capacity workers s)
-
--- Each act is the one action that document 01 reads out of the source: of entries that are accepted, each is one turn of the
--- definition, on the machine and on the history; and a schedule of whole entries is run so.
-abbrev pub ActByAct : Type 0
-ActByAct =
-    (m : Machine) (s : List ℕ) (first second : ℕ) → length s % 2 ≡ 0 → runFrom m 0 s .refusal ≡ 0
-    → turnOf (runFrom m 0 s .machine) first second .refusal ≡ 0
-    → (runFrom m 0 (s ++ first ∷ second ∷ []) .machine ≡ turnOf (runFrom m 0 s .machine) first second .machine)
-    × (historyOf m (s ++ first ∷ second ∷ [])
-    ≡ historyOf m s ++ eventsOf (runFrom m 0 s .machine) (entryOf first second) (turnOf (runFrom m 0 s .machine) first second .machine))
-
-abbrev pub WholeSchedules : Type 0
-WholeSchedules =
-    (capacity workers : ℕ) → Allowed capacity workers → (s : List ℕ)
-    → (length s % 2 ≡ 0 → runOf (freshOf capacity workers) s ≡ runFrom (freshOf capacity workers) 0 s)
-    × (length s % 2 ≡ 1 → runOf (freshOf capacity workers) s .machine ≡ freshOf capacity workers)
+-- What a plain queue answers: closed or not, of this capacity, with these items waiting.
+abbrev pub queueAnswer : Call → Bool → ℕ → List ℕ → Answer
+queueAnswer (call.Push x) closed capacity q = cond closed (Closed x) (cond (eqb (length q) capacity) (Full x) Pushed)
+queueAnswer (call.ForcePush x) closed capacity [] = cond closed (Closed x) Pushed
+queueAnswer (call.ForcePush x) closed capacity (v ∷ q) = cond closed (Closed x) (cond (eqb (length (v ∷ q)) capacity) (Displaced v) Pushed)
+queueAnswer call.Pop closed capacity [] = cond closed PopClosed Empty
+queueAnswer call.Pop closed capacity (v ∷ q) = Popped v
+queueAnswer call.Len closed capacity q = Len (length q)
+queueAnswer call.IsEmpty closed capacity q = yesNo (eqb (length q) 0)
+queueAnswer call.IsFull closed capacity q = yesNo (eqb (length q) capacity)
+queueAnswer call.Close closed capacity q = cond closed No Yes
+queueAnswer call.IsClosed closed capacity q = yesNo closed
 
 -- Worker w did none of these acts.
 abbrev pub Unmoved : ℕ → List Event → Type 0
 Unmoved w [] = Unit {0}
 Unmoved w (e ∷ h) = (e .worker ≢ w) × Unmoved w h
 
--- Beside the demand: `len`'s count is true at its head load. The load is worker w's act on the machine after s; in the
--- entries `rest` it does not act; its next act answers n.
-pub record LenAnswers (capacity workers : ℕ) (s : List ℕ) (w n : ℕ) : Type 0 where
+-- A call of `len` by worker w that answers n: its head load is w's act on the machine after s; in the entries `rest` it does not
+-- act; its next act answers.
+pub record LenAnswers (d : Definition) (capacity workers : ℕ) (s : List ℕ) (w n : ℕ) : Type 0 where
   pub tail : Stamp
-  pub loads : placeOf (machineAfter capacity workers s .workers) w ≡ Len2 tail
+  pub loads : placeOf (machineAfter d capacity workers s .workers) w ≡ Len2 tail
   pub loaded : Machine
-  pub load : Acts (machineAfter capacity workers s) w loaded
+  pub load : Acts d (machineAfter d capacity workers s) w loaded
   pub rest : List ℕ
-  pub still : Unmoved w (historyOf loaded rest)
+  pub still : Unmoved w (d .history loaded rest)
   pub answered : Machine
-  pub answer : Acts (runFrom loaded 0 rest .machine) w answered
+  pub answer : Acts d (d .run loaded 0 rest .machine) w answered
   pub is : placeOf (answered .workers) w ≡ Idle (Len n)
 
-abbrev pub LenTrue : Type 0
-LenTrue =
-    (capacity workers : ℕ) → Allowed capacity workers → (s : List ℕ) (w n : ℕ) → LenAnswers capacity workers s w n
-    → n ≡ stockOf (tally (actsOf capacity workers s))
+-- ---- waiting
+
+-- Most acts to the end, from each place: push at most 6, force_push 7, pop 6, len 5, is_empty 2, is_full 2, close 1,
+-- is_closed 1; in hand P4 2, F7 3, O4 2. A word that is out of date costs the acts up to the next load.
+abbrev pub oneMore : Kind → ℕ
+oneMore Push = 0
+oneMore Force = 1
+
+abbrev pub mostOf : Place → ℕ
+mostOf (Idle a) = 0
+mostOf (P1 k x) = 5 + oneMore k
+mostOf (P2 k t x) = 6 + oneMore k
+mostOf (P3 k t x) = 5 + oneMore k
+mostOf (P4 t x) = 2
+mostOf (P5 t) = 1
+mostOf (P6 t x) = 6
+mostOf (F6 t x) = 7
+mostOf (F7 t x) = 3
+mostOf (F8 t x) = 2
+mostOf (F9 t old) = 1
+mostOf O1 = 5
+mostOf (O2 h) = 6
+mostOf (O3 h) = 5
+mostOf (O4 h) = 2
+mostOf (O5 h v) = 1
+mostOf (O6 h) = 6
+mostOf Len1 = 3
+mostOf (Len2 t) = 5
+mostOf (Len3 t h) = 4
+mostOf Empty1 = 2
+mostOf (Empty2 h) = 1
+mostOf Full1 = 2
+mostOf (Full2 t) = 1
+mostOf Close1 = 1
+mostOf IsClosed1 = 1
+
+-- What stands in the way: another worker has a slot in hand.
+abbrev pub OtherHand : Machine → ℕ → Type 0
+OtherHand m w = (v : ℕ) × (v ≢ w) × (t : Stamp) × InHand (placeOf (m .workers) v) t
+
+-- Entries one after another, refused ones passed over.
+unfoldable pub passed : Definition → Machine → List ℕ → Machine
+passed d m [] = m
+passed d m (first ∷ []) = m
+passed d m (first ∷ second ∷ others) = passed d (d .turn m first second .machine) others
+
+-- How many of them are acts of w, and accepted.
+abbrev pub actBy : ℕ → Entry → ℕ
+actBy w Unreadable = 0
+actBy w (Asks v (Begin c)) = 0
+actBy w (Asks v (Act lose)) = cond (eqb v w) 1 0
+
+unfoldable pub ownActs : Definition → ℕ → Machine → List ℕ → ℕ
+ownActs d w m [] = 0
+ownActs d w m (first ∷ []) = 0
+ownActs d w m (first ∷ second ∷ others) =
+    cond (eqb (d .turn m first second .refusal) 0) (actBy w (entryOf first second)) 0 + ownActs d w (d .turn m first second .machine) others
+
+-- Among these entries worker w's call ends, with so many acts of its own.
+pub record LetsGo (d : Definition) (m : Machine) (w : ℕ) (entries : List ℕ) (n : ℕ) : Type 0 where
+  pub before : List ℕ
+  pub after : List ℕ
+  pub split : entries ≡ before ++ after
+  pub own : ownActs d w m before ≡ n
+  pub answer : Answer
+  pub ends : placeOf (passed d m before .workers) w ≡ Idle answer
