@@ -82,7 +82,7 @@ out-giving c q v popped = refl
 out-giving c q v displaced = refl
 
 -- one act more
-items-end : (h : List Event) (e : Event) → itemsOf (h ++ e ∷ []) ≡ itemsOf h ++ itemIn (e .after)
+pub items-end : (h : List Event) (e : Event) → itemsOf (h ++ e ∷ []) ≡ itemsOf h ++ itemIn (e .after)
 unfolding itemsOf
 items-end [] e = append-nil (itemIn (e .after))
 items-end (a ∷ h) e = rw (items-end h e) (sym (append-assoc (itemIn (a .after)) (itemsOf h) (itemIn (e .after))))
@@ -93,7 +93,7 @@ tailers-end [] e = append-nil (tailBy (movedOf (e .after)) (e .worker))
 tailers-end (a ∷ h) e =
     rw (tailers-end h e) (sym (append-assoc (tailBy (movedOf (a .after)) (a .worker)) (tailersOf h) (tailBy (movedOf (e .after)) (e .worker))))
 
-takers-end : (h : List Event) (e : Event) → takersOf (h ++ e ∷ []) ≡ takersOf h ++ headBy (movedOf (e .after)) (e .worker)
+pub takers-end : (h : List Event) (e : Event) → takersOf (h ++ e ∷ []) ≡ takersOf h ++ headBy (movedOf (e .after)) (e .worker)
 unfolding takersOf
 takers-end [] e = append-nil (headBy (movedOf (e .after)) (e .worker))
 takers-end (a ∷ h) e =

@@ -72,7 +72,7 @@ base-of c workers a =
 
 -- The fresh machine.
 
-idle-all : (n i : ℕ) → getD (replicate n idler) i idler ≡ idler
+pub idle-all : (n i : ℕ) → getD (replicate n idler) i idler ≡ idler
 idle-all zero i = refl
 idle-all (suc n) zero = refl
 idle-all (suc n) (suc i) = idle-all n i
