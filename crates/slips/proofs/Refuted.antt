@@ -20,7 +20,7 @@ use Rattle.machine.specs.Turn.{begun, stored, acted, turnOf}
 use Rattle.machine.specs.Run.{ran, runFrom, runOf}
 use Rattle.machine.specs.History.{event, historyOf, tallyOf, stockOf}
 use Rattle.demands.specs.Notions.{acts, itemsOf, tailersOf, takersOf, handP4, handO4, readO4, popped, passed, ownActs, actsOf, Allowed}
-use Rattle.slips.specs.Slips.{turnWith, runWith, historyWith, slipped, emptyUnseen, fullUnseen, closedUnseen, emptyTailFirst, fullHeadFirst, lenLooksOnce, popKeepsItsWord, lostForceKeepsItsWord, lostForceTakesTheHead, unstamped, releasesWithNext, neverLetsGo, tailUnmoved, unwritten, handsOutAgain, readsAfterItsStore, stampBeforeValue}
+use Rattle.slips.specs.Slips.{turnWith, runWith, historyWith, slipped, emptyUnseen, fullUnseen, closedUnseen, emptyTailFirst, fullHeadFirst, lenLooksOnce, popKeepsItsWord, lostForceKeepsItsWord, lostForceTakesTheHead, unstamped, releasesWithNext, neverLetsGo, tailUnmoved, unwritten, handsOutAgain, readsAfterItsStore, stampBeforeValue, pushWritesLate}
 use Rattle.slips.specs.Refuted.{Trial, trial, reached, past, does, Refuted, twoPushes, popReadsLate, forceWritesLate, twoPops, popOfNothing, popLooksLate, pushLooksLate, pushLoses, pushClaims, forceClaims, onePush, emptyLooks, fullLooks, popAfterPush, secondLap, popOutOfDate, forceOutOfDate, popInHand, lenLooks}
 use Rattle.slips.proofs.Ways.{busyAt, nowhere, wrong-item, unclaimed, sole, acting, said, no-cons, untouched, quiet, no-hand, stillBusy, late, rests, at-once, busyAlong, holds-on}
 
@@ -38,7 +38,8 @@ refuted =
       act-by-act = λ a. true≢false (sym (ap (λ (m : Machine). busyAt m 0) (a (freshOf 1 2) [] 0 5 refl refl refl .0)));
       whole-schedules = λ w. true≢false (ap (λ (r : Ran). busyAt (r .machine) 0) (w 1 2 one-two (0 ∷ 5 ∷ []) .0 refl));
       claim-rule = λ r. wrong-item _ 1 6 refl (r (actsOf (slipped readsAfterItsStore) 1 2 (does 0 0 5 5 ++ does 1 2 0 4 ++ does 0 0 6 5)) [] (event 1 (O5 (stamp 0) 0) (Idle (Popped 6))) 6 refl popped);
-      claim-rule-too = λ r. wrong-item _ 0 5 refl (r (actsOf (slipped stampBeforeValue) 1 2 (does 0 0 5 5 ++ does 1 1 6 5 ++ does 0 2 0 4)) [] (event 0 (O5 (stamp 4) 5) (Idle (Popped 5))) 5 refl popped);
+      claim-rule-push = λ r. wrong-item _ 1 0 refl (r (actsOf (slipped pushWritesLate) 1 2 (does 0 0 5 4 ++ does 1 2 0 4)) [] (event 1 (O5 (stamp 0) 0) (Idle (Popped 0))) 0 refl popped);
+      claim-rule-force = λ r. wrong-item _ 0 5 refl (r (actsOf (slipped stampBeforeValue) 1 2 (does 0 0 5 5 ++ does 1 1 6 5 ++ does 0 2 0 4)) [] (event 0 (O5 (stamp 4) 5) (Idle (Popped 5))) 5 refl popped);
       once-out =
           λ o.
           o (actsOf (slipped handsOutAgain) 1 2 (does 0 0 5 5 ++ does 0 2 0 4)) (event 0 O1 (O2 (stamp 4)) ∷ event 0 (O2 (stamp 4)) (O6 (stamp 4)) ∷ []) []

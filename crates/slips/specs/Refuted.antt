@@ -9,7 +9,7 @@ use Rattle.machine.specs.declared.Event.{Event}
 use Rattle.machine.specs.Broken.{brokenOf}
 use Rattle.demands.specs.Notions.{Plain, machineAfter, actsOf, acts}
 use Rattle.demands.specs.Demands.{ClaimRule, OnceOut, OneHand, ReadsWritten, AnswersTrue, StockCounts, StockIsNumber, ContentsWait, PlainQueue, EmptyTrue, FullTrue, ActByAct, WholeSchedules, LenTrue, NeverRefused, AloneEnds, InTheWay, HandLetsGo, PassedAsRun}
-use Rattle.slips.specs.Slips.{none, lostPushGoesOn, closedUnseen, unwrapped, tailUnmoved, unwritten, unstamped, fullUnseen, tailBeforeHead, lostForceKeepsItsWord, lostForceTakesTheHead, stampBeforeValue, stampUntested, readsAfterItsStore, releasesWithNext, neverLetsGo, emptyUnseen, handsOutAgain, popKeepsItsWord, lenLooksOnce, emptyTailFirst, fullHeadFirst, slipped, deaf, refusing}
+use Rattle.slips.specs.Slips.{none, lostPushGoesOn, closedUnseen, unwrapped, tailUnmoved, unwritten, unstamped, fullUnseen, tailBeforeHead, lostForceKeepsItsWord, lostForceTakesTheHead, stampBeforeValue, stampUntested, readsAfterItsStore, releasesWithNext, neverLetsGo, emptyUnseen, handsOutAgain, popKeepsItsWord, lenLooksOnce, emptyTailFirst, fullHeadFirst, pushWritesLate, slipped, deaf, refusing}
 
 -- A schedule for a machine of this capacity with two workers, with this slip.
 pub record Trial : Type 0 where
@@ -40,7 +40,11 @@ twoPushes = trial lostPushGoesOn 1 (does 0 0 5 2 ++ does 1 0 6 2 ++ acts 0 1 ++ 
 abbrev pub popReadsLate : Trial
 popReadsLate = trial readsAfterItsStore 1 (does 0 0 5 5 ++ does 1 2 0 4 ++ does 0 0 6 5 ++ acts 1 1)
 
--- the slot is stamped before it is written, and read in between
+-- the slot of a push is stamped before it is written, and read in between
+abbrev pub popReadsEarly : Trial
+popReadsEarly = trial pushWritesLate 1 (does 0 0 5 4 ++ does 1 2 0 5)
+
+-- the same of a force_push
 abbrev pub forceWritesLate : Trial
 forceWritesLate = trial stampBeforeValue 1 (does 0 0 5 5 ++ does 1 1 6 5 ++ does 0 2 0 5)
 
@@ -118,7 +122,8 @@ pub record Refuted : Type 0 where
   pub whole-schedules : WholeSchedules deaf → ⊥
   -- 2. the claim rule
   pub claim-rule : ClaimRule (past popReadsLate) → ⊥
-  pub claim-rule-too : ClaimRule (past forceWritesLate) → ⊥
+  pub claim-rule-push : ClaimRule (past popReadsEarly) → ⊥
+  pub claim-rule-force : ClaimRule (past forceWritesLate) → ⊥
   pub once-out : OnceOut (past twoPops) → ⊥
   -- 3. no slot in two hands
   pub one-hand : OneHand (reached twoPushes) → ⊥

@@ -119,6 +119,10 @@ emptyTailFirst = 20
 abbrev pub fullHeadFirst : ℕ
 fullHeadFirst = 21
 
+-- P5 before P4: the stamp is stored before the item is written (which is carried at F9, since P5 holds none)
+abbrev pub pushWritesLate : ℕ
+pushWritesLate = 22
+
 -- The row of document 01, but for this slip.
 abbrev but : ℕ → ℕ → Acted → Acted → Acted
 but n slip wrong right = cond (eqb n slip) wrong right
@@ -133,7 +137,8 @@ actWith n f e s (P3 k t x) lose =
     (but n closedUnseen (cond (same (e .tail) t) (actOf f e s (P3 k t x) lose) (stay e s (Idle (Closed x))))
     (but n unwrapped (stay (tailTo e (plus t 1)) s (P4 t x))
     (but n tailUnmoved (stay e s (P4 t x)) (actOf f e s (P3 k t x) lose))))
-actWith n f e s (P4 t x) lose = but n unwritten (stay e s (P5 t)) (actOf f e s (P4 t x) lose)
+actWith n f e s (P4 t x) lose =
+    but n unwritten (stay e s (P5 t)) (but n pushWritesLate (stay e (stampTo s (plus t 1)) (F9 t x)) (actOf f e s (P4 t x) lose))
 actWith n f e s (P5 t) lose = but n unstamped (stay e s (Idle Pushed)) (actOf f e s (P5 t) lose)
 actWith n f e s (P6 t x) lose = but n fullUnseen (stay e s (Idle (Full x))) (actOf f e s (P6 t x) lose)
 actWith n f e s (F6 t x) lose =
@@ -146,7 +151,8 @@ actWith n f e s (F7 t x) lose =
     (cond (same (e .head) (minus t (f .lap))) (stay (headTo e (minus (nextOf f t) (f .lap))) s (F8 t x)) (stay e s (P1 Force x)))
     (actOf f e s (F7 t x) lose)
 actWith n f e s (F8 t x) lose = but n stampBeforeValue (stay e (stampTo s (plus t 1)) (F9 t x)) (actOf f e s (F8 t x) lose)
-actWith n f e s (F9 t x) lose = but n stampBeforeValue (stay e (valueTo s x) (Idle (Displaced (s .value)))) (actOf f e s (F9 t x) lose)
+actWith n f e s (F9 t x) lose = but n stampBeforeValue (stay e (valueTo s x) (Idle (Displaced (s .value))))
+    (but n pushWritesLate (stay e (valueTo s x) (Idle Pushed)) (actOf f e s (F9 t x) lose))
 actWith n f e s O1 lose = actOf f e s O1 lose
 actWith n f e s (O2 h) lose = but n stampUntested (stay e s (O3 h)) (actOf f e s (O2 h) lose)
 actWith n f e s (O3 h) lose = actOf f e s (O3 h) lose
