@@ -149,7 +149,7 @@ pub fn run(m: Machine, schedule: &[u64]) -> Ran
                 let held = view.held;
                 let k = machine::spot(f, held) as usize;
                 let slot = slots[k];
-                let a = acts::act_at(f, ends, slot, p, lose);
+                let a = table::act_at(f, ends, slot, p, lose);
                 let slot_after = a.slot;
                 let place_after = a.place;
                 ends = a.ends;

@@ -18,7 +18,7 @@ use Rattle.bounded.proofs.run.Statement.{statement}
 use Rattle.bounded.proofs.run.Tie as tie
 use Rattle.bounded.proofs.run.Reads as reads
 use Rattle.bounded.proofs.run.Lts as lts
-use Rattle.acts.proofs.act_at.Reads as act-at-reads
+use Rattle.table.proofs.act_at.Reads as act-at-reads
 use Rattle.bounded.proofs.ran.Reads as ran-reads
 use Rattle.machine.proofs.broken.Reads as broken-reads
 use Rattle.machine.proofs.spot.Reads as spot-reads
