@@ -1,21 +1,19 @@
 -- What `search` is given at the returns of an act: the parts of what it leaves, one at a time.
 use Prim.Native.Nat.{ℕ, _+_, _-_, _<_, _≤_}
-use mathlib.Core.Path.{_≡_, refl, sym, ap, _∙_, subst}
-use mathlib.Core.Bool.{Bool, true, false, cond}
-use borrow.Author.Tests.{ltb-true}
+use mathlib.Core.Path.{_≡_, refl, sym, ap, _∙_}
+use mathlib.Core.Bool.{Bool, true, false}
 use Rattle.words.specs.declared.Stamp.{Stamp}
 use Rattle.words.specs.declared.Fixed.{Fixed}
-use Rattle.words.specs.Words.{Indexed, indexOf, same, unmarkedOf}
-use Rattle.words.proofs.Pick.{along, yes, no, below, above, both-left, both-right}
+use Rattle.words.specs.Words.{Indexed, same, unmarkedOf}
+use Rattle.words.proofs.Pick.{along, yes, no, below, above}
 use Rattle.places.specs.declared.Slot.{Slot}
 use Rattle.places.specs.declared.Ends.{Ends}
 use Rattle.places.specs.declared.Kind.{Kind}
 use Rattle.places.specs.declared.Place.{Place}
 use Rattle.acts.specs.declared.Acted.{Acted}
-use Rattle.places.specs.declared.Place.the-variants.{Idle, Len3}
+use Rattle.places.specs.declared.Place.the-variants.{Idle}
 use Rattle.places.specs.declared.Answer.the-variants.{Len, Yes, No}
-use Rattle.places.specs.Places.{inside, fitsOf, viewOf}
-use Rattle.acts.specs.Acts.{stay, tailTo, headTo, stampTo, yesNo, countOf, actOf, fullAt, Fits, Within}
+use Rattle.acts.specs.Acts.{stay, tailTo, headTo, stampTo, yesNo, countOf, fullAt}
 
 pub ends : (e e′ : Ends) (s : Slot) (p : Place) (r : Acted) → r ≡ stay e′ s p → e′ ≡ e → r ≡ stay e s p
 ends e e′ s p r q h = q ∙ ap (λ (x : Ends). stay x s p) h
@@ -27,9 +25,6 @@ pub places : (e : Ends) (s : Slot) (p p′ : Place) (r : Acted) → r ≡ stay e
 places e s p p′ r q h = q ∙ ap (λ (x : Place). stay e s x) h
 
 pub ruleset parts = (ends, slots, places)
-
-pub along-act : (f : Fixed) (e : Ends) (s : Slot) (p q : Place) (lose : Bool) (r : Acted) → p ≡ q → r ≡ actOf f e s q lose → r ≡ actOf f e s p lose
-along-act f e s p q lose = along (λ (x : Place). actOf f e s x lose) p q
 
 pub along-kind : (k q : Kind) (t : Stamp) (x : ℕ) (r : Place) → k ≡ q → r ≡ fullAt q t x → r ≡ fullAt k t x
 along-kind k q t x = along (λ (j : Kind). fullAt j t x) k q
@@ -78,11 +73,3 @@ module _ (f : Fixed) (t h : Stamp) (tix hix : ℕ) (x : Indexed f h hix) (y : In
     pub count-all : b ≡ false → f .capacity ≡ countOf f t h
     unfolding countOf
     count-all k = rw (← x .is, ← y .is) (above hix tix _ _ _ g (above tix hix _ _ _ l (no _ b _ _ _ e k refl)))
-
--- what `count` asks, of the words that len holds
-pub within : (f : Fixed) (p : Place) (t h : Stamp) → Fits f p → p ≡ Len3 t h → Within f t h
-unfolding inside
-within f p t h x e = go (subst (λ (q : Place). fitsOf f (viewOf q .held) ≡ true) e (x .held))
-  where
-    go : cond (inside f t) (inside f h) false ≡ true → Within f t h
-    go k = record { fair = x .fair; low = ltb-true (indexOf f h) (f .capacity) (both-right (inside f t) (inside f h) k); high = ltb-true (indexOf f t) (f .capacity) (both-left (inside f t) (inside f h) k) }

@@ -1,9 +1,9 @@
 // One act: the action of the source at a worker's place, with the local decisions up to the next.
-// Document 01's tables, one function for each place that decides something.
+// One function for each place of document 01's tables that decides something; crate table has which is taken where.
 ghost use mathlib.Core.Path.{_≡_};
 ghost use Rattle.words.specs.Words.{Fair, plus, minus, nextOf, withMark};
 ghost use Rattle.places.specs.declared.Place.the-variants.{Idle};
-ghost use Rattle.acts.specs.Acts.{stay, tailTo, headTo, stampTo, valueTo, fullAt, countOf, yesNo, actP1, actP2, actP3, actP5, actP6, actF6, actF7, actF8, actF9, actO2, actO3, actO5, actO6, actLen3, actEmpty2, actFull2, actClose1, actIsClosed1, actOf, Fits, Within};
+ghost use Rattle.acts.specs.Acts.{stay, tailTo, headTo, stampTo, valueTo, fullAt, countOf, yesNo, actP1, actP2, actP3, actP5, actP6, actF6, actF7, actF8, actF9, actO2, actO3, actO5, actO6, actLen3, actEmpty2, actFull2, actClose1, actIsClosed1, Within};
 use places::Answer;
 use places::Ends;
 use places::Kind;
@@ -19,7 +19,7 @@ pub struct Acted {
     pub place: Place,
 }
 
-fn stay(e: Ends, s: Slot, p: Place) -> Acted
+pub fn stay(e: Ends, s: Slot, p: Place) -> Acted
     ensures { λ r. ⌜ r ≡ stay e s p ⌝ }
 {
     Acted {
@@ -81,7 +81,7 @@ fn head_to_lap_before_next(f: Fixed, e: Ends, t: Stamp) -> Ends
     }
 }
 
-fn stamp_to(s: Slot, w: Stamp, by: u64) -> Slot
+pub fn stamp_to(s: Slot, w: Stamp, by: u64) -> Slot
     ensures { λ r. ⌜ r ≡ stampTo s (plus w by) ⌝ }
 {
     let n = words::later(w, by);
@@ -91,7 +91,7 @@ fn stamp_to(s: Slot, w: Stamp, by: u64) -> Slot
     }
 }
 
-fn value_to(s: Slot, v: u64) -> Slot
+pub fn value_to(s: Slot, v: u64) -> Slot
     ensures { λ r. ⌜ r ≡ valueTo s v ⌝ }
 {
     let w = s.stamp;
@@ -100,7 +100,7 @@ fn value_to(s: Slot, v: u64) -> Slot
 
 // push and force_push
 
-fn p1(f: Fixed, e: Ends, s: Slot, k: Kind, item: u64) -> Acted
+pub fn p1(f: Fixed, e: Ends, s: Slot, k: Kind, item: u64) -> Acted
     requires { ⌜ Fair f ⌝ }
     ensures { λ r. ⌜ r ≡ actP1 f e s k item ⌝ }
 {
@@ -121,7 +121,7 @@ fn full_at(k: Kind, t: Stamp, item: u64) -> Place
     }
 }
 
-fn p2(f: Fixed, e: Ends, s: Slot, k: Kind, t: Stamp, item: u64) -> Acted
+pub fn p2(f: Fixed, e: Ends, s: Slot, k: Kind, t: Stamp, item: u64) -> Acted
     ensures { λ r. ⌜ r ≡ actP2 f e s k t item ⌝ }
 {
     let seen = s.stamp;
@@ -135,7 +135,7 @@ fn p2(f: Fixed, e: Ends, s: Slot, k: Kind, t: Stamp, item: u64) -> Acted
     }
 }
 
-fn p3(f: Fixed, e: Ends, s: Slot, k: Kind, t: Stamp, item: u64, lose: bool) -> Acted
+pub fn p3(f: Fixed, e: Ends, s: Slot, k: Kind, t: Stamp, item: u64, lose: bool) -> Acted
     requires { ⌜ Fair f ⌝ }
     ensures { λ r. ⌜ r ≡ actP3 f e s k t item lose ⌝ }
 {
@@ -151,13 +151,13 @@ fn p3(f: Fixed, e: Ends, s: Slot, k: Kind, t: Stamp, item: u64, lose: bool) -> A
     }
 }
 
-fn p5(e: Ends, s: Slot, t: Stamp) -> Acted
+pub fn p5(e: Ends, s: Slot, t: Stamp) -> Acted
     ensures { λ r. ⌜ r ≡ actP5 e s t ⌝ }
 {
     stay(e, stamp_to(s, t, 1), Place::Idle(Answer::Pushed))
 }
 
-fn p6(f: Fixed, e: Ends, s: Slot, t: Stamp, item: u64) -> Acted
+pub fn p6(f: Fixed, e: Ends, s: Slot, t: Stamp, item: u64) -> Acted
     ensures { λ r. ⌜ r ≡ actP6 f e s t item ⌝ }
 {
     let h = e.head;
@@ -168,7 +168,7 @@ fn p6(f: Fixed, e: Ends, s: Slot, t: Stamp, item: u64) -> Acted
     }
 }
 
-fn f6(f: Fixed, e: Ends, s: Slot, t: Stamp, item: u64, lose: bool) -> Acted
+pub fn f6(f: Fixed, e: Ends, s: Slot, t: Stamp, item: u64, lose: bool) -> Acted
     requires { ⌜ Fair f ⌝ }
     ensures { λ r. ⌜ r ≡ actF6 f e s t item lose ⌝ }
 {
@@ -185,21 +185,21 @@ fn f6(f: Fixed, e: Ends, s: Slot, t: Stamp, item: u64, lose: bool) -> Acted
     }
 }
 
-fn f7(f: Fixed, e: Ends, s: Slot, t: Stamp, item: u64) -> Acted
+pub fn f7(f: Fixed, e: Ends, s: Slot, t: Stamp, item: u64) -> Acted
     requires { ⌜ Fair f ⌝ }
     ensures { λ r. ⌜ r ≡ actF7 f e s t item ⌝ }
 {
     stay(tail_to_next(f, e, t), s, Place::F8(t, item))
 }
 
-fn f8(e: Ends, s: Slot, t: Stamp, item: u64) -> Acted
+pub fn f8(e: Ends, s: Slot, t: Stamp, item: u64) -> Acted
     ensures { λ r. ⌜ r ≡ actF8 e s t item ⌝ }
 {
     let old = s.value;
     stay(e, value_to(s, item), Place::F9(t, old))
 }
 
-fn f9(e: Ends, s: Slot, t: Stamp, old: u64) -> Acted
+pub fn f9(e: Ends, s: Slot, t: Stamp, old: u64) -> Acted
     ensures { λ r. ⌜ r ≡ actF9 e s t old ⌝ }
 {
     stay(e, stamp_to(s, t, 1), Place::Idle(Answer::Displaced(old)))
@@ -207,7 +207,7 @@ fn f9(e: Ends, s: Slot, t: Stamp, old: u64) -> Acted
 
 // pop
 
-fn o2(e: Ends, s: Slot, h: Stamp) -> Acted
+pub fn o2(e: Ends, s: Slot, h: Stamp) -> Acted
     ensures { λ r. ⌜ r ≡ actO2 e s h ⌝ }
 {
     let seen = s.stamp;
@@ -221,7 +221,7 @@ fn o2(e: Ends, s: Slot, h: Stamp) -> Acted
     }
 }
 
-fn o3(f: Fixed, e: Ends, s: Slot, h: Stamp, lose: bool) -> Acted
+pub fn o3(f: Fixed, e: Ends, s: Slot, h: Stamp, lose: bool) -> Acted
     requires { ⌜ Fair f ⌝ }
     ensures { λ r. ⌜ r ≡ actO3 f e s h lose ⌝ }
 {
@@ -237,13 +237,13 @@ fn o3(f: Fixed, e: Ends, s: Slot, h: Stamp, lose: bool) -> Acted
     }
 }
 
-fn o5(f: Fixed, e: Ends, s: Slot, h: Stamp, value: u64) -> Acted
+pub fn o5(f: Fixed, e: Ends, s: Slot, h: Stamp, value: u64) -> Acted
     ensures { λ r. ⌜ r ≡ actO5 f e s h value ⌝ }
 {
     stay(e, stamp_to(s, h, f.lap), Place::Idle(Answer::Popped(value)))
 }
 
-fn o6(f: Fixed, e: Ends, s: Slot, h: Stamp) -> Acted
+pub fn o6(f: Fixed, e: Ends, s: Slot, h: Stamp) -> Acted
     requires { ⌜ Fair f ⌝ }
     ensures { λ r. ⌜ r ≡ actO6 f e s h ⌝ }
 {
@@ -282,7 +282,7 @@ pub fn count(f: Fixed, tail: Stamp, head: Stamp) -> u64
     }
 }
 
-fn len3(f: Fixed, e: Ends, s: Slot, t: Stamp, h: Stamp) -> Acted
+pub fn len3(f: Fixed, e: Ends, s: Slot, t: Stamp, h: Stamp) -> Acted
     requires { ⌜ Within f t h ⌝ }
     ensures { λ r. ⌜ r ≡ actLen3 f e s t h ⌝ }
 {
@@ -294,7 +294,7 @@ fn len3(f: Fixed, e: Ends, s: Slot, t: Stamp, h: Stamp) -> Acted
     }
 }
 
-fn empty2(f: Fixed, e: Ends, s: Slot, h: Stamp) -> Acted
+pub fn empty2(f: Fixed, e: Ends, s: Slot, h: Stamp) -> Acted
     requires { ⌜ Fair f ⌝ }
     ensures { λ r. ⌜ r ≡ actEmpty2 f e s h ⌝ }
 {
@@ -302,7 +302,7 @@ fn empty2(f: Fixed, e: Ends, s: Slot, h: Stamp) -> Acted
     told(e, s, words::unmarked_is(f, t, h))
 }
 
-fn full2(f: Fixed, e: Ends, s: Slot, t: Stamp) -> Acted
+pub fn full2(f: Fixed, e: Ends, s: Slot, t: Stamp) -> Acted
     requires { ⌜ Fair f ⌝ }
     ensures { λ r. ⌜ r ≡ actFull2 f e s t ⌝ }
 {
@@ -310,7 +310,7 @@ fn full2(f: Fixed, e: Ends, s: Slot, t: Stamp) -> Acted
     told(e, s, words::lap_behind_unmarked(f, h, t))
 }
 
-fn close1(f: Fixed, e: Ends, s: Slot) -> Acted
+pub fn close1(f: Fixed, e: Ends, s: Slot) -> Acted
     requires { ⌜ Fair f ⌝ }
     ensures { λ r. ⌜ r ≡ actClose1 f e s ⌝ }
 {
@@ -322,47 +322,10 @@ fn close1(f: Fixed, e: Ends, s: Slot) -> Acted
     }
 }
 
-fn is_closed1(f: Fixed, e: Ends, s: Slot) -> Acted
+pub fn is_closed1(f: Fixed, e: Ends, s: Slot) -> Acted
     requires { ⌜ Fair f ⌝ }
     ensures { λ r. ⌜ r ≡ actIsClosed1 f e s ⌝ }
 {
     let t = e.tail;
     told(e, s, words::marked(f, t))
-}
-
-// One act of a worker that stands at p, on the ends and on the slot at its word; lose: its weak exchange fails.
-pub fn act_at(f: Fixed, e: Ends, s: Slot, p: Place, lose: bool) -> Acted
-    requires { ⌜ Fits f p ⌝ }
-    ensures { λ r. ⌜ r ≡ actOf f e s p lose ⌝ }
-{
-    let head = e.head;
-    let tail = e.tail;
-    match p {
-        Place::Idle(a) => stay(e, s, Place::Idle(a)),
-        Place::P1(k, item) => p1(f, e, s, k, item),
-        Place::P2(k, t, item) => p2(f, e, s, k, t, item),
-        Place::P3(k, t, item) => p3(f, e, s, k, t, item, lose),
-        Place::P4(t, item) => stay(e, value_to(s, item), Place::P5(t)),
-        Place::P5(t) => p5(e, s, t),
-        Place::P6(t, item) => p6(f, e, s, t, item),
-        Place::F6(t, item) => f6(f, e, s, t, item, lose),
-        Place::F7(t, item) => f7(f, e, s, t, item),
-        Place::F8(t, item) => f8(e, s, t, item),
-        Place::F9(t, old) => f9(e, s, t, old),
-        Place::O1 => stay(e, s, Place::O2(head)),
-        Place::O2(h) => o2(e, s, h),
-        Place::O3(h) => o3(f, e, s, h, lose),
-        Place::O4(h) => stay(e, s, Place::O5(h, s.value)),
-        Place::O5(h, value) => o5(f, e, s, h, value),
-        Place::O6(h) => o6(f, e, s, h),
-        Place::Len1 => stay(e, s, Place::Len2(tail)),
-        Place::Len2(t) => stay(e, s, Place::Len3(t, head)),
-        Place::Len3(t, h) => len3(f, e, s, t, h),
-        Place::Empty1 => stay(e, s, Place::Empty2(head)),
-        Place::Empty2(h) => empty2(f, e, s, h),
-        Place::Full1 => stay(e, s, Place::Full2(tail)),
-        Place::Full2(t) => full2(f, e, s, t),
-        Place::Close1 => close1(f, e, s),
-        Place::IsClosed1 => is_closed1(f, e, s),
-    }
 }

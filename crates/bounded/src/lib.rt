@@ -1,27 +1,19 @@
 // The public face: what a user calls. Each function takes anything and answers, or refuses with document 01's number.
 ghost use mathlib.Core.Path.{_≡_};
 ghost use lib.ListN.{length};
-ghost use Rattle.machine.specs.Machine.{machineOf};
 ghost use Rattle.machine.specs.Broken.{brokenOf};
 ghost use Rattle.machine.specs.Contents.{told, countIn, contentsRefusal, written, capacityOf};
-ghost use Rattle.machine.specs.Run.{ran, runOf};
+ghost use Rattle.machine.specs.Run.{runOf};
 ghost use Rattle.machine.specs.History.{movedOf, stockOf};
 ghost use Rattle.bounded.specs.Bounded.{makeOf, stepOf, beginOf, actOf, nextClaim, talliedOf};
 use machine::Did;
 use machine::Machine;
 use machine::Moved;
 use machine::Ran;
-use machine::Ring;
 use machine::Tally;
 use machine::Told;
-use machine::Verdict;
-use places::Ends;
-use places::Entry;
 use places::Place;
-use places::Slot;
-use places::Worker;
 use words::Claim;
-use words::Fixed;
 
 // A fresh machine, or refusal 1 or 2 with the blank one.
 pub fn make(capacity: u64, workers: u64) -> Did
@@ -77,90 +69,11 @@ pub fn contents(m: Machine, buffer: &mut [u64]) -> Told
     Told::Number(n)
 }
 
-fn ran(
-    refusal: u64,
-    place: usize,
-    f: Fixed,
-    e: Ends,
-    slots: [Slot; words::SLOTS],
-    workers: [Worker; words::WORKERS],
-    count: u64,
-    meter: u64,
-) -> Ran
-    ensures { λ r. ⌜ r ≡ ran refusal place (machineOf f e slots workers count meter) ⌝ }
-{
-    Ran {
-        refusal: refusal,
-        place: place as u64,
-        machine: Machine {
-            ring: Ring {
-                fixed: f,
-                ends: e,
-                slots: slots,
-            },
-            workers: workers,
-            count: count,
-            meter: meter,
-        },
-    }
-}
-
 // A schedule, entry by entry, to its end or to the first refusal.
 pub fn run(m: Machine, schedule: &[u64]) -> Ran
     ensures { λ r. ⌜ r ≡ runOf m (now (schedule .entry)) ⌝ }
 {
-    let ring = m.ring;
-    let f = ring.fixed;
-    let mut ends = ring.ends;
-    let mut slots = ring.slots;
-    let mut workers = m.workers;
-    let count = m.count;
-    let mut meter = m.meter;
-    if machine::broken(m) {
-        return ran(6, 0, f, ends, slots, workers, count, meter);
-    }
-    if schedule.len() % 2 == 1 {
-        return ran(11, 0, f, ends, slots, workers, count, meter);
-    }
-    let n = schedule.len() / 2;
-    let mut i = 0;
-    while i < n {
-        let Entry::Asks(worker, order) = places::entry_of(schedule[2 * i], schedule[2 * i + 1])
-        else {
-            return ran(9, i, f, ends, slots, workers, count, meter);
-        };
-        if count <= worker {
-            return ran(3, i, f, ends, slots, workers, count, meter);
-        }
-        let w = worker as usize;
-        let record = workers[w];
-        let p = record.place;
-        let verdict = machine::verdict_of(meter, p, order);
-        match verdict {
-            Verdict::Refuse(number) => {
-                return ran(number, i, f, ends, slots, workers, count, meter);
-            }
-            Verdict::Start(first) => {
-                workers[w] = Worker { place: first };
-                i += 1;
-            }
-            Verdict::Move(lose) => {
-                let view = places::view_of(p);
-                let held = view.held;
-                let k = machine::spot(f, held) as usize;
-                let slot = slots[k];
-                let a = acts::act_at(f, ends, slot, p, lose);
-                let slot_after = a.slot;
-                let place_after = a.place;
-                ends = a.ends;
-                slots[k] = slot_after;
-                workers[w] = Worker { place: place_after };
-                meter += 1;
-                i += 1;
-            }
-        }
-    }
-    ran(0, i, f, ends, slots, workers, count, meter)
+    runs::run(m, schedule)
 }
 
 // One entry of a schedule, by its two words.

@@ -33,7 +33,7 @@ use Rattle.words.proofs.Fits.{Plain, plain}
 use Rattle.machine.proofs.Laws.{ruled-of}
 use Rattle.machine.proofs.Kept.{ends-of, either, Unbroken, unbroken-of, of-unbroken, begun-unbroken, acted-unbroken}
 use Rattle.bounded.proofs.Steps.{turn-unchanged}
-use Rattle.bounded.proofs.Turns.{start-begins, move-busy}
+use Rattle.runs.proofs.Turns.{start-begins, move-busy}
 use Rattle.bounded.specs.Bounded as face
 use Rattle.demands.specs.Demands.{RefusedUnchanged, Numbered, StaysUnbroken, OnlyOne}
 

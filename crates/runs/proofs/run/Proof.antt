@@ -13,13 +13,13 @@ use Rattle.machine.specs.Machine.{machineOf, placeOf}
 use Rattle.machine.specs.Turn.{spotOf, begun, stored}
 use Rattle.machine.specs.Run.{runFrom, runOf}
 use Rattle.machine.proofs.Kept.{Unbroken, unbroken-of, fair-in}
-use Rattle.bounded.proofs.Turns.{broken-run, odd-run, even-run, stop-9, stop-3, stop, start, move, ended, worker-below, fits-in, spot-below, started-unbroken, moved-unbroken, move-busy, move-in-time}
-use Rattle.bounded.proofs.run.Statement.{statement}
-use Rattle.bounded.proofs.run.Tie as tie
-use Rattle.bounded.proofs.run.Reads as reads
-use Rattle.bounded.proofs.run.Lts as lts
-use Rattle.acts.proofs.act_at.Reads as act-at-reads
-use Rattle.bounded.proofs.ran.Reads as ran-reads
+use Rattle.runs.proofs.Turns.{broken-run, odd-run, even-run, stop-9, stop-3, stop, start, move, ended, worker-below, fits-in, spot-below, started-unbroken, moved-unbroken, move-busy, move-in-time}
+use Rattle.runs.proofs.run.Statement.{statement}
+use Rattle.runs.proofs.run.Tie as tie
+use Rattle.runs.proofs.run.Reads as reads
+use Rattle.runs.proofs.run.Lts as lts
+use Rattle.table.proofs.act_at.Reads as act-at-reads
+use Rattle.runs.proofs.ran.Reads as ran-reads
 use Rattle.machine.proofs.broken.Reads as broken-reads
 use Rattle.machine.proofs.spot.Reads as spot-reads
 use Rattle.machine.proofs.verdict_of.Reads as verdict-of-reads

@@ -1,9 +1,9 @@
 use mathlib.Core.Path.{refl}
 use Rattle.machine.specs.Run.{ran}
-use Rattle.bounded.proofs.ran.Statement.{statement}
-use Rattle.bounded.proofs.ran.Tie as tie
-use Rattle.bounded.proofs.ran.Reads as reads
-use Rattle.bounded.proofs.ran.Lts as lts
+use Rattle.runs.proofs.ran.Statement.{statement}
+use Rattle.runs.proofs.ran.Tie as tie
+use Rattle.runs.proofs.ran.Reads as reads
+use Rattle.runs.proofs.ran.Lts as lts
 
 -- src/lib.rt:81:1
 returns : tie.Need-returns
