@@ -102,8 +102,8 @@ def copy_of(machine):
     return replace(machine, ring=replace(machine.ring, slots=list(machine.ring.slots)), workers=list(machine.workers))
 
 
-# Acts. Each may change the ring and returns the worker's record after it; `fails` is code 9. The words t and h of an unbroken machine
-# have an index below capacity, hence below mark - 1, so t + 1 and h + 1 never wrap.
+# Acts. Each may change the ring and returns the worker's record after it; `fails` is code 9. In an unbroken machine t and h have an
+# index below capacity, which is below mark, so t + 1 and h + 1 never wrap.
 
 def answers(*answer):
     return Worker(answer=answer)
@@ -374,8 +374,8 @@ def act_refusal(machine, number, code, item):
     return 0
 
 
-# The document does not say what begin and act are handed. docs/DECISIONS.md does: an entry's two words, as step is, and a code of the
-# other kind cannot be read.
+# The document does not say what begin and act are handed. docs/DECISIONS.md does: an entry's two words, as step is, and a code of
+# the other kind cannot be read.
 
 def begin(machine, first, item):
     number, code = divmod(first, 16)
