@@ -28,7 +28,7 @@ use Rattle.machine.specs.Contents.{told, countIn, contentsOf, contentsRefusal, 
 use Rattle.machine.specs.Run.{runOf}
 use Rattle.machine.specs.History.{eventsOf, movedOf, stockOf}
 use Rattle.bounded.specs.Bounded.{makeOf, stepOf, beginOf, actOf, talliedOf}
-use Rattle.demands.specs.Notions.{Definition, document01, Allowed, machineAfter, actsOf, Acts, acts, InHand, HandsOut, Reads, Truth, itemsOf, takersOf, LatestIn, ItemIn, WrittenIn, CallClaim, tally, waiting, Fifo, Plain, valueAt, queueAnswer, LenAnswers, mostOf, OtherHand, passed, ownActs, LetsGo}
+use Rattle.demands.specs.Notions.{Definition, Allowed, machineAfter, actsOf, Acts, acts, InHand, HandsOut, Reads, Truth, itemsOf, takersOf, LatestIn, ItemIn, WrittenIn, CallClaim, tally, waiting, Fifo, Plain, valueAt, queueAnswer, LenAnswers, mostOf, OtherHand, passed, ownActs, LetsGo}
 
 -- ==== 1. Any machine, entry or schedule handed in gets an answer or a numbered refusal; a refused step changes nothing.
 -- That each gets an answer is what the functions of crate bounded promise: none has a `requires`, and each answer is equal to a
@@ -189,17 +189,16 @@ LenTrue d =
 -- ==== 3. Nobody waits without a holder. Said of the same machines and acts.
 
 -- Worker w's call, if only acts of w are scheduled (code 8), ends within so many of them, none refused; its answer is true
--- of the words at the act that decided it and keeps the claim rule, and that of a call only begun is a plain queue's. (The
--- run's places are counted from `from`.)
-pub record EndsAlone (d : Definition) (m : Machine) (h : List Event) (from w most : ℕ) : Type 0 where
+-- of the words at the act that decided it and keeps the claim rule, and that of a call only begun is a plain queue's.
+pub record EndsAlone (d : Definition) (m : Machine) (h : List Event) (w most : ℕ) : Type 0 where
   -- the acts before the last
   pub before : ℕ
   pub within : before + 1 ≤ most
-  pub accepted : d .run m from (acts w (suc before)) .refusal ≡ 0
-  pub busy : places.viewOf (placeOf (d .run m from (acts w before) .machine .workers) w) .busy ≡ true
+  pub accepted : d .run m 0 (acts w (suc before)) .refusal ≡ 0
+  pub busy : places.viewOf (placeOf (d .run m 0 (acts w before) .machine .workers) w) .busy ≡ true
   pub answer : Answer
-  pub ends : placeOf (d .run m from (acts w (suc before)) .machine .workers) w ≡ Idle answer
-  pub true-then : Truth (m .ring .fixed) (d .run m from (acts w before) .machine .ring .ends) answer
+  pub ends : placeOf (d .run m 0 (acts w (suc before)) .machine .workers) w ≡ Idle answer
+  pub true-then : Truth (m .ring .fixed) (d .run m 0 (acts w before) .machine .ring .ends) answer
   -- a value handed out is the item of the tail claim that has the number of the call's head claim
   pub claim-rule : (v : ℕ) → HandsOut (Idle answer) v
       → (k : ℕ) × CallClaim (h ++ d .history m (acts w before)) w k × ItemIn (h ++ d .history m (acts w before)) k v
@@ -215,7 +214,7 @@ NeverRefused d m =
 abbrev pub AloneEnds : Definition → Machine → List Event → Type 0
 AloneEnds d m h =
     (w : ℕ) → places.viewOf (placeOf (m .workers) w) .busy ≡ true → m .meter + 7 ≤ meterMost → (OtherHand m w → ⊥)
-    → EndsAlone d m h 0 w (mostOf (placeOf (m .workers) w))
+    → EndsAlone d m h w (mostOf (placeOf (m .workers) w))
 
 -- One that is still under way after those acts has another worker's hand on a slot.
 abbrev pub InTheWay : Definition → Machine → Type 0

@@ -138,7 +138,7 @@ busy-by d m w (suc n) k b l = go (ℕ-discrete k n) (λ e. busy-by d m w n k (bo
     go (yes e) on = subst (λ (z : ℕ). busyAt (d .run m 0 (acts w (suc z)) .machine) w ≡ true) (sym e) (both (busyAt (d .run m 0 (acts w (suc n)) .machine) w) (stillBusy d m w n) b .0)
     go (no e) on = on e
 
-pub late : (d : Definition) (m : Machine) (h : List Event) (w most : ℕ) → stillBusy d m w most ≡ true → EndsAlone d m h 0 w most → ⊥
+pub late : (d : Definition) (m : Machine) (h : List Event) (w most : ℕ) → stillBusy d m w most ≡ true → EndsAlone d m h w most → ⊥
 late d m h w most b e =
     absurd (true≢false (sym (busy-by d m w most (e .before) b (e .within)) ∙ ap (λ (p : Place). viewOf p .busy) (e .ends)))
 
@@ -152,7 +152,7 @@ rests slip m place w (suc k) e = rw e
 pub at-once : (d : Definition) (m : Machine) (h : List Event) (w most : ℕ) (a : Answer)
     → placeOf (d .run m 0 (acts w 1) .machine .workers) w ≡ Idle a
     → ((n : ℕ) → busyAt (d .run m 0 (acts w (suc n)) .machine) w ≡ false)
-    → EndsAlone d m h 0 w most → Truth (m .ring .fixed) (d .run m 0 (acts w 0) .machine .ring .ends) a
+    → EndsAlone d m h w most → Truth (m .ring .fixed) (d .run m 0 (acts w 0) .machine .ring .ends) a
 at-once d m h w most a ends idle e = go (e .before) refl
   where
     go : (n : ℕ) → e .before ≡ n → Truth (m .ring .fixed) (d .run m 0 (acts w 0) .machine .ring .ends) a
