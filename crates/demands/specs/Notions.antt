@@ -1,5 +1,5 @@
--- The notions that the demands are said in: history, claim, hand, stock and the rest, of the machine's own struct, of the words of
--- a schedule and of the history of its acts. The demands themselves are Demands.antt.
+-- The notions that the demands are said in: claim, hand, truth and the rest, of the machine's own struct, of the words of a schedule and
+-- of the history of its acts (history, tally of claims and stock: crates/machine/specs/History.antt). The demands are Demands.antt.
 use Prim.Native.Nat.{ℕ, zero, suc, _+_, _*_, _/_, _%_, _≤_, _<_}
 use mathlib.Core.Bool.{Bool, true, false, cond}
 use mathlib.Core.List.{List, [], _∷_, _++_}
