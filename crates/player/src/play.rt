@@ -1,7 +1,7 @@
 // A machine, run pair by pair. The first pair of numbers makes it; every other is an entry.
 use crate::summary::Summary;
-use input::options::Options;
 use machine::Machine;
+use options::Options;
 
 pub struct Run {
     pub machine: Machine,

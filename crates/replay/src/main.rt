@@ -1,7 +1,7 @@
 // Runs a schedule, from a file or from standard input, entry by entry, and writes what the machine holds after each.
 mod many;
 
-use input::options::Options;
+use options::Options;
 
 // The file that the argument names.
 fn run_file(o: Options) {
@@ -34,13 +34,13 @@ fn run_from(o: Options, fd: i32, name: &[u8]) {
 }
 
 fn main() {
-    let o = input::options::read();
+    let o = options::read();
     if o.help {
-        input::options::help();
+        options::help();
         return;
     }
     if o.wrong != 0 {
-        input::options::complain(o.wrong);
+        options::complain(o.wrong);
         return;
     }
     if o.file != 0 {

@@ -1,6 +1,6 @@
 // One schedule, or one after another: each is read once to see that it can be run, and once more to run it.
-use input::options::Options;
 use input::source::Reading;
+use options::Options;
 use player::play::Run;
 
 const STRIDE: u64 = 1000000;

@@ -3,10 +3,10 @@ use mathlib.Core.Path.{_≡_}
 use lib.ListN.{length}
 use native.Mathlib.Omega.{arith}
 use borrow.Author.Needs.{needs}
-use Rattle.input.proofs.options.equal.Statement.{statement}
-use Rattle.input.proofs.options.equal.Tie as tie
-use Rattle.input.proofs.options.equal.Reads as reads
-use Rattle.input.proofs.options.equal.Lts as lts
+use Rattle.options.proofs.equal.Statement.{statement}
+use Rattle.options.proofs.equal.Tie as tie
+use Rattle.options.proofs.equal.Reads as reads
+use Rattle.options.proofs.equal.Lts as lts
 
 abbrev Inv-loop : tie.InvT-loop
 Inv-loop a b i₀ i = Unit {0}
@@ -14,39 +14,39 @@ Inv-loop a b i₀ i = Unit {0}
 abbrev μ-loop : tie.MeasureT-loop
 μ-loop a b i₀ i = length a - i
 
--- src/options.rt:16:9
+-- src/lib.rt:16:9
 returns : tie.Need-returns Inv-loop μ-loop
 returns c = search needs
 
--- src/options.rt:19:5
+-- src/lib.rt:19:5
 loop-holds : tie.Need-loop-holds Inv-loop μ-loop
 loop-holds c = search needs
 
--- src/options.rt:20:12
+-- src/lib.rt:20:12
 shared-slice-read-if2 : tie.Need-shared-slice-read-if2 Inv-loop μ-loop
 shared-slice-read-if2 c = search needs
 
--- src/options.rt:20:20
+-- src/lib.rt:20:20
 shared-slice-read-if2-2 : tie.Need-shared-slice-read-if2-2 Inv-loop μ-loop
 shared-slice-read-if2-2 c = search needs
 
--- src/options.rt:21:13
+-- src/lib.rt:21:13
 returns-2 : tie.Need-returns-2 Inv-loop μ-loop
 returns-2 c = search needs
 
--- src/options.rt:23:9
+-- src/lib.rt:23:9
 add-i : tie.Need-add-i Inv-loop μ-loop
 add-i c = search needs
 
--- src/options.rt:19:5
+-- src/lib.rt:19:5
 loop-less : tie.Need-loop-less Inv-loop μ-loop
 loop-less c = search needs
 
--- src/options.rt:19:5
+-- src/lib.rt:19:5
 loop-again : tie.Need-loop-again Inv-loop μ-loop
 loop-again c = search needs
 
--- src/options.rt:14:1
+-- src/lib.rt:14:1
 returns-3 : tie.Need-returns-3 Inv-loop μ-loop
 returns-3 c = search needs
 

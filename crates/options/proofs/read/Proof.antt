@@ -3,13 +3,13 @@ use mathlib.Core.Path.{_≡_}
 use lib.ListN.{length}
 use native.Mathlib.Omega.{arith}
 use borrow.Author.Needs.{needs}
-use Rattle.input.proofs.options.read.Statement.{statement}
-use Rattle.input.proofs.options.read.Tie as tie
-use Rattle.input.proofs.options.read.Reads as reads
-use Rattle.input.proofs.options.read.Lts as lts
+use Rattle.options.proofs.read.Statement.{statement}
+use Rattle.options.proofs.read.Tie as tie
+use Rattle.options.proofs.read.Reads as reads
+use Rattle.options.proofs.read.Lts as lts
 use Rattle.os.proofs.arg_count.Reads as arg-count-reads
-use Rattle.input.proofs.options.none.Reads as none-reads
-use Rattle.input.proofs.options.with_argument.Reads as with-argument-reads
+use Rattle.options.proofs.none.Reads as none-reads
+use Rattle.options.proofs.with_argument.Reads as with-argument-reads
 
 abbrev Inv-loop : tie.InvT-loop
 Inv-loop o₀ n i₀ o i = Unit {0}
@@ -17,35 +17,35 @@ Inv-loop o₀ n i₀ o i = Unit {0}
 abbrev μ-loop : tie.MeasureT-loop
 μ-loop o₀ n i₀ o i = n - i
 
--- src/options.rt:84:9
+-- src/lib.rt:84:9
 none-requires : tie.Need-none-requires Inv-loop μ-loop
 none-requires c κs = search needs
 
--- src/options.rt:85:9
+-- src/lib.rt:85:9
 arg-count-requires : tie.Need-arg-count-requires Inv-loop μ-loop
 arg-count-requires c κs = search needs
 
--- src/options.rt:87:5
+-- src/lib.rt:87:5
 loop-holds : tie.Need-loop-holds Inv-loop μ-loop
 loop-holds c = search needs
 
--- src/options.rt:88:9
+-- src/lib.rt:88:9
 with-argument-requires : tie.Need-with-argument-requires Inv-loop μ-loop
 with-argument-requires c κs = search needs
 
--- src/options.rt:89:9
+-- src/lib.rt:89:9
 add-i : tie.Need-add-i Inv-loop μ-loop
 add-i c = search needs
 
--- src/options.rt:87:5
+-- src/lib.rt:87:5
 loop-less : tie.Need-loop-less Inv-loop μ-loop
 loop-less c = search needs
 
--- src/options.rt:87:5
+-- src/lib.rt:87:5
 loop-again : tie.Need-loop-again Inv-loop μ-loop
 loop-again c = search needs
 
--- src/options.rt:83:1
+-- src/lib.rt:83:1
 returns : tie.Need-returns Inv-loop μ-loop
 returns c = search needs
 

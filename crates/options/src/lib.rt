@@ -1,4 +1,4 @@
-// The arguments.
+// The arguments of replay.
 
 pub struct Options {
     pub quiet: bool,
