@@ -1,16 +1,9 @@
 // Demand 3's numbers on the compiled code: schedules that leave worker 0 where its call, alone, needs exactly so many acts.
 // The numbers of `stdout` are document 01's.
 use machine::Machine;
-use places::Place;
-
-fn place(m: Machine) -> Place {
-    let workers = m.workers;
-    let record = workers[0];
-    record.place
-}
 
 fn busy(m: Machine) -> bool {
-    let v = places::view_of(place(m));
+    let v = places::view_of(whole::place_of(m, 0));
     v.busy
 }
 
@@ -31,20 +24,20 @@ fn needed(m: Machine) -> u64 {
 }
 
 // CALL at PLACE: ACTS
-fn say(call: &[u8], capacity: u64, schedule: &[u64]) {
-    let made = bounded::make(capacity, 2);
-    let fresh = made.machine;
-    let r = bounded::run(fresh, schedule);
-    let m = r.machine;
+fn tell(call: &[u8], m: Machine) {
     let mut out = [0u8; 512];
-    let p = show::text(&mut out, 0, call);
-    let q = show::place(&mut out, p, place(m));
-    let s = show::text(&mut out, q, b": ");
-    let t = show::number(&mut out, s, needed(m));
-    let u = show::end_line(&mut out, t);
-    show::flush(&out, u);
+    let n = needed(m);
+    let p = ink::text(&mut out, 0, call);
+    let q = parts::text::place(&mut out, p, whole::place_of(m, 0));
+    let r = ink::form(&mut out, q, b": #", &[n]);
+    ink::end(&mut out, r);
 }
 
+fn say(call: &[u8], capacity: u64, schedule: &[u64]) {
+    let made = bounded::make(capacity, 2);
+    let r = bounded::run(made.machine, schedule);
+    tell(call, r.machine);
+}
 // A word of tail that another push has put out of date.
 fn pushes() {
     say(

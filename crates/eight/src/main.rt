@@ -1,6 +1,6 @@
 // Document 01's eight runs, A to H, on the compiled code. The file `stdout` is written from the document.
-ghost use Prim.Native.Nat.{_<_};
 use machine::Machine;
+use machine::Ran;
 use machine::Tally;
 use words::Claim;
 
@@ -31,22 +31,13 @@ fn claims(before: Tally, m: Machine, first: u64) -> Tally {
     if first % 16 < 8 {
         return before;
     }
-    let w = (first / 16) as usize;
-    if w < words::WORKERS {
-        let workers = m.workers;
-        let record = workers[w];
-        let after = record.place;
-        return bounded::tally(before, after);
-    }
-    before
+    bounded::tally(before, whole::place_of(m, first / 16))
 }
 
 fn entry(s: Scene, first: u64, second: u64, acts: u64) -> Scene {
-    let before = s.machine;
-    let did = bounded::step(before, first, second);
+    let did = bounded::step(s.machine, first, second);
+    let counted = claims(s.tally, did.machine, first);
     let after = did.machine;
-    let tally = s.tally;
-    let counted = claims(tally, after, first);
     Scene {
         machine: after,
         tally: counted,
@@ -55,223 +46,150 @@ fn entry(s: Scene, first: u64, second: u64, acts: u64) -> Scene {
     }
 }
 
+fn word(worker: u64, code: u64) -> u64 {
+    16 * (worker % 16) + code % 16
+}
+
 // As many acts of one worker.
-fn go_on(s: Scene, worker: u64, acts: u64) -> Scene
-    requires { ⌜ worker < 16 ⌝ }
-{
+fn go_on(s: Scene, worker: u64, acts: u64) -> Scene {
     let mut now = s;
     let mut i = 0;
     while i < acts {
-        now = entry(now, 16 * worker + 8, 0, i + 1);
+        now = entry(now, word(worker, 8), 0, i + 1);
         i += 1;
     }
     now
 }
 
-fn begin(s: Scene, worker: u64, code: u64, item: u64) -> Scene
-    requires { ⌜ worker < 16 ⌝ }
-    requires { ⌜ code < 16 ⌝ }
-{
-    entry(s, 16 * worker + code, item, 0)
+// A call begun, by its code, and as many of its acts; the code of an act begins none.
+fn call(s: Scene, worker: u64, code: u64, item: u64, acts: u64) -> Scene {
+    if code == 8 {
+        return go_on(s, worker, acts);
+    }
+    go_on(entry(s, word(worker, code), item, 0), worker, acts)
 }
 
-fn call(s: Scene, worker: u64, code: u64, item: u64, acts: u64) -> Scene
-    requires { ⌜ worker < 16 ⌝ }
-    requires { ⌜ code < 16 ⌝ }
-{
-    go_on(begin(s, worker, code, item), worker, acts)
+// The n-th call of the runs from B to G: its worker, code, item and acts.
+fn part(n: usize, which: usize) -> u64 {
+    let calls = b"0055 \
+        0065 0205 0075 0083 \
+        0186 \
+        0601 0091 0205 0205 0203 \
+        0075 0182 1601 0804 1701 \
+        0075 0183 1303 1402 1200 1801 1801 ";
+    let at = 5 * (n % 32) + which % 4;
+    if at < calls.len() {
+        return (calls[at] % 16) as u64;
+    }
+    0
+}
+
+fn label(out: &mut [u8], n: usize, acts: u64, refusal: u64) -> usize {
+    let labels = b"B push 5|\
+        C push 6|C pop|C push 7|C push 8|\
+        D force_push 8|\
+        E close|E push 9|E pop|E pop|E pop|\
+        F push 7|F force_push 8, P1 and P2|F close|F force_push 8, to its end|F is_closed|\
+        G push 7|G force_push 8, before F7|G len|G is_empty|G pop begun|G pop|G pop|";
+    let none = [0u64; 0];
+    let p = ink::nth(out, 0, labels, n, &none);
+    ink::form(out, p, b": # acts, refusal #, ", &[acts, refusal])
 }
 
 // LABEL: ACTS acts, refusal R, h=H t=T m=M wN=PLACE
-fn say(label: &[u8], s: Scene, worker: u64) {
+fn say(n: usize, s: Scene, worker: u64) {
     let mut out = [0u8; 512];
-    let m = s.machine;
-    let p = show::text(&mut out, 0, label);
-    let q = show::text(&mut out, p, b": ");
-    let r = show::number(&mut out, q, s.acts);
-    let t = show::text(&mut out, r, b" acts, refusal ");
-    let u = show::number(&mut out, t, s.refusal);
-    let v = show::text(&mut out, u, b", ");
-    let w = show::ends(&mut out, v, m);
-    let x = show::byte(&mut out, w, b' ');
-    let y = show::worker(&mut out, x, m, worker);
-    let z = show::end_line(&mut out, y);
-    show::flush(&out, z);
-}
-
-fn say_slots(m: Machine) {
-    let mut out = [0u8; 512];
-    let p = show::slots(&mut out, 0, m);
-    let q = show::contents(&mut out, p, m);
-    show::flush(&out, q);
+    let p = label(&mut out, n, s.acts, s.refusal);
+    let q = whole::text::standing(&mut out, p, worker, s.machine);
+    ink::end(&mut out, q);
 }
 
 fn say_claims(t: Tally) {
-    let mut out = [0u8; 128];
     let tail = t.tail;
     let head = t.head;
-    let p = show::named(&mut out, 0, b"tail claims", tail.0);
-    let q = show::named(&mut out, p, b" head claims", head.0);
-    let r = show::named(&mut out, q, b" stock", bounded::stock(t));
-    let s = show::end_line(&mut out, r);
-    show::flush(&out, s);
+    let claims = [tail.0, head.0, bounded::stock(t)];
+    ink::say(b"tail claims=# head claims=# stock=#\n", &claims);
 }
 
-// All of a scene.
-fn tell(label: &[u8], s: Scene, worker: u64) {
-    say(label, s, worker);
-    let m = s.machine;
-    let t = s.tally;
-    say_slots(m);
-    say_claims(t);
+// All of a scene; its first line alone while G's pop is under way.
+fn tell(n: usize, s: Scene, worker: u64) {
+    say(n, s, worker);
+    if n < 20 {
+        trial::entry::slots(s.machine);
+        say_claims(s.tally);
+    }
 }
 
-// NAME NUMBER NUMBER: A's constants, H's makings.
-fn say_pair(name: &[u8], a: u64, b: u64) {
-    let mut out = [0u8; 128];
-    let p = show::text(&mut out, 0, name);
-    let q = show::number(&mut out, p, a);
-    let r = show::byte(&mut out, q, b' ');
-    let s = show::number(&mut out, r, b);
-    let t = show::end_line(&mut out, s);
-    show::flush(&out, t);
+fn turn(s: Scene, n: usize) -> Scene {
+    let after = call(s, part(n, 0), part(n, 1), part(n, 2), part(n, 3));
+    tell(n, after, part(n, 0));
+    after
 }
 
-fn constants(label: &[u8], capacity: u64) {
+// The calls from one number up to another.
+fn play(begin: Scene, from: usize, to: usize) {
+    let mut s = begin;
+    let mut n = from;
+    while n < to {
+        s = turn(s, n);
+        n += 1;
+    }
+}
+
+fn constants(capacity: u64) {
     let made = bounded::make(capacity, 1);
-    let m = made.machine;
-    let ring = m.ring;
-    let f = ring.fixed;
-    say_pair(label, f.mark, f.lap);
+    let n = whole::numbers(made.machine);
+    ink::say(b"A capacity #: mark and lap # #\n", &[capacity, n[4], n[5]]);
 }
 
 fn run_a() {
-    constants(b"A capacity 1: mark and lap ", 1);
-    constants(b"A capacity 2: mark and lap ", 2);
-    constants(b"A capacity 3: mark and lap ", 3);
-    constants(b"A capacity 4: mark and lap ", 4);
-    constants(b"A capacity 255: mark and lap ", 255);
-    constants(b"A capacity 256: mark and lap ", 256);
+    constants(1);
+    constants(2);
+    constants(3);
+    constants(4);
+    constants(255);
+    constants(256);
+}
+
+fn say_ran(r: Ran) {
+    let mut out = [0u8; 512];
+    let p = ink::text(&mut out, 0, b"B as one schedule: ");
+    let q = whole::text::entry(&mut out, p, r.place, r.refusal, 0, r.machine);
+    ink::end(&mut out, q);
+    trial::entry::slots(r.machine);
 }
 
 // B by the document's own words, as one schedule.
 fn run_b_whole() {
     let made = bounded::make(2, 1);
     let words_of = [0, 5, 8, 0, 8, 0, 8, 0, 8, 0, 8, 0];
-    let ran = bounded::run(made.machine, &words_of);
-    let m = ran.machine;
-    let mut out = [0u8; 512];
-    let p = show::text(&mut out, 0, b"B as one schedule: ");
-    let q = show::report(&mut out, p, ran.place, ran.refusal, m);
-    let r = show::byte(&mut out, q, b' ');
-    let s = show::worker(&mut out, r, m, 0);
-    let t = show::end_line(&mut out, s);
-    show::flush(&out, t);
-    say_slots(m);
-}
-
-fn run_b() -> Scene {
-    let b = call(opened(2, 1), 0, 0, 5, 5);
-    tell(b"B push 5", b, 0);
-    b
-}
-
-fn run_c(b: Scene) -> Scene {
-    let c1 = call(b, 0, 0, 6, 5);
-    tell(b"C push 6", c1, 0);
-    let c2 = call(c1, 0, 2, 0, 5);
-    tell(b"C pop", c2, 0);
-    let c3 = call(c2, 0, 0, 7, 5);
-    tell(b"C push 7", c3, 0);
-    let c4 = call(c3, 0, 0, 8, 3);
-    tell(b"C push 8", c4, 0);
-    c4
-}
-
-fn run_d(c: Scene) -> Scene {
-    let d = call(c, 0, 1, 8, 6);
-    tell(b"D force_push 8", d, 0);
-    d
-}
-
-fn run_e(d: Scene) {
-    let e1 = call(d, 0, 6, 0, 1);
-    tell(b"E close", e1, 0);
-    let e2 = call(e1, 0, 0, 9, 1);
-    tell(b"E push 9", e2, 0);
-    let e3 = call(e2, 0, 2, 0, 5);
-    tell(b"E pop", e3, 0);
-    let e4 = call(e3, 0, 2, 0, 5);
-    tell(b"E pop", e4, 0);
-    let e5 = call(e4, 0, 2, 0, 3);
-    tell(b"E pop", e5, 0);
-}
-
-fn run_f() {
-    let f1 = call(opened(1, 2), 0, 0, 7, 5);
-    tell(b"F push 7", f1, 0);
-    let f2 = call(f1, 0, 1, 8, 2);
-    tell(b"F force_push 8, P1 and P2", f2, 0);
-    let f3 = call(f2, 1, 6, 0, 1);
-    tell(b"F close", f3, 1);
-    let f4 = go_on(f3, 0, 4);
-    tell(b"F force_push 8, to its end", f4, 0);
-    let f5 = call(f4, 1, 7, 0, 1);
-    tell(b"F is_closed", f5, 1);
-}
-
-fn run_g() {
-    let g1 = call(opened(1, 2), 0, 0, 7, 5);
-    tell(b"G push 7", g1, 0);
-    let g2 = call(g1, 0, 1, 8, 3);
-    tell(b"G force_push 8, before F7", g2, 0);
-    let g3 = call(g2, 1, 3, 0, 3);
-    tell(b"G len", g3, 1);
-    let g4 = call(g3, 1, 4, 0, 2);
-    tell(b"G is_empty", g4, 1);
-    run_g_pop(g4);
-}
-
-fn run_g_pop(g4: Scene) {
-    let g5 = begin(g4, 1, 2, 0);
-    say(b"G pop begun", g5, 1);
-    let g6 = go_on(g5, 1, 1);
-    say(b"G pop", g6, 1);
-    let g7 = go_on(g6, 1, 1);
-    say(b"G pop", g7, 1);
+    say_ran(bounded::run(made.machine, &words_of));
 }
 
 // H CAPACITY WORKERS: REFUSAL, and the numbers of workers and slots that came of it.
-fn making(label: &[u8], capacity: u64, workers: u64) {
+fn making(capacity: u64, workers: u64) {
     let made = bounded::make(capacity, workers);
-    let m = made.machine;
-    let ring = m.ring;
-    let f = ring.fixed;
-    let mut out = [0u8; 128];
-    let p = show::text(&mut out, 0, label);
-    let q = show::number(&mut out, p, made.refusal);
-    let r = show::named(&mut out, q, b" capacity", f.capacity);
-    let s = show::named(&mut out, r, b" workers", m.count);
-    let t = show::end_line(&mut out, s);
-    show::flush(&out, t);
+    let n = whole::numbers(made.machine);
+    let numbers = [capacity, workers, made.refusal, n[3], n[6]];
+    ink::say(b"H make # #: # capacity=# workers=#\n", &numbers);
 }
 
 fn run_h() {
-    making(b"H make 0 1: ", 0, 1);
-    making(b"H make 257 1: ", 257, 1);
-    making(b"H make 1 1: ", 1, 1);
-    making(b"H make 256 1: ", 256, 1);
-    making(b"H make 1 0: ", 1, 0);
-    making(b"H make 1 17: ", 1, 17);
-    making(b"H make 1 1: ", 1, 1);
-    making(b"H make 1 16: ", 1, 16);
+    making(0, 1);
+    making(257, 1);
+    making(1, 1);
+    making(256, 1);
+    making(1, 0);
+    making(1, 17);
+    making(1, 1);
+    making(1, 16);
 }
 
 fn main() {
     run_a();
     run_b_whole();
-    run_e(run_d(run_c(run_b())));
-    run_f();
-    run_g();
+    play(opened(2, 1), 0, 11);
+    play(opened(1, 2), 11, 16);
+    play(opened(1, 2), 16, 23);
     run_h();
 }

@@ -6,7 +6,8 @@ mod orders;
 mod schedules;
 
 fn main() {
-    entries::all();
-    orders::all();
-    schedules::all();
+    let m = trial::base::base();
+    entries::all(m);
+    orders::all(m);
+    schedules::all(m);
 }

@@ -1,151 +1,166 @@
-// Where several refusals apply, which comes first; the meter; and weak exchanges that fail.
+// Where several refusals apply, which comes first; the meter; and weak exchanges that fail. A label's entry stands in the
+// list below it: the function that it is handed to, and its two words.
 use machine::Machine;
 use places::Kind;
 use places::Place;
+use trial::entry::ACT;
+use trial::entry::BEGIN;
+use trial::entry::STEP;
 use words::Stamp;
 
-const LAST: u64 = 4294967295;
-
-fn pushing() -> Machine {
-    trial::build::at(Place::P1(Kind::Push, 5))
+fn full(m: Machine) -> Machine {
+    whole::build::with_meter(m, 4294967295)
 }
 
-fn begins() {
-    let m = pushing();
-    crate::entries::begin(b"busy: ", m, 0, 9);
-    crate::entries::begin(b"busy: ", m, 2, 0);
-    crate::entries::begin(b"busy, 9 before 4: ", m, 10, 0);
-    crate::entries::begin(b"busy, 9 before 4: ", m, 2, 7);
-    crate::entries::begin(b"busy, another: ", m, 16, 9);
-    crate::entries::begin(b"9 before 3: ", m, 42, 0);
-    crate::entries::begin(b"9 before 3: ", m, 34, 1);
-    crate::entries::begin(b"3: ", m, 32, 1);
-}
-
-fn acts() {
-    let m = trial::build::base();
-    let full = trial::build::with_meter(m, LAST);
-    crate::entries::act(b"9 before 3: ", m, 42, 0);
-    crate::entries::act(b"9 before 3: ", m, 40, 1);
-    crate::entries::act(b"3 before 5: ", m, 40, 0);
-    crate::entries::act(b"9 before 5: ", m, 8, 1);
-    crate::entries::act(b"3 before 7: ", full, 41, 0);
-    crate::entries::act(b"5 before 7: ", full, 8, 0);
-    crate::entries::act(b"5 before 7 and 8: ", full, 9, 0);
-    crate::entries::act(b"5 before 8: ", m, 9, 0);
-}
-
-fn acts_of_busy() {
-    let m = pushing();
-    let full = trial::build::with_meter(m, LAST);
-    crate::entries::act(b"9 before 7: ", full, 8, 1);
-    crate::entries::act(b"7 before 8: ", full, 9, 0);
-    crate::entries::act(b"8: ", m, 9, 0);
-    crate::entries::step(b"7 before 8: ", full, 9, 0);
-    crate::entries::step(b"8: ", m, 9, 0);
-}
-
-fn six_first() {
-    let m = trial::build::with_ends(pushing(), 4, 1);
-    crate::entries::begin(b"6 before 9: ", m, 10, 1);
-    crate::entries::begin(b"6 before 3: ", m, 32, 1);
-    crate::entries::begin(b"6 before 4: ", m, 0, 1);
-    crate::entries::act(b"6 before 9: ", m, 10, 1);
-    crate::entries::act(b"6 before 3: ", m, 40, 0);
-    crate::entries::act(b"6 before 5: ", m, 24, 0);
-    crate::entries::act(b"6 before 7: ", trial::build::with_meter(m, LAST), 8, 0);
-    crate::entries::act(b"6 before 8: ", m, 9, 0);
-    crate::entries::step(b"6 before 9: ", m, 47, 3);
-}
-
-fn meters() {
-    let m = pushing();
-    crate::entries::act(
-        b"meter 4294967293: ",
-        trial::build::with_meter(m, 4294967293),
-        8,
-        0,
-    );
-    crate::entries::act(
-        b"meter 4294967294: ",
-        trial::build::with_meter(m, 4294967294),
-        8,
-        0,
-    );
-    crate::entries::act(
-        b"meter 4294967295: ",
-        trial::build::with_meter(m, LAST),
-        8,
-        0,
-    );
-    crate::entries::act(
-        b"meter 4294967296: ",
-        trial::build::with_meter(m, 4294967296),
-        8,
-        0,
-    );
-    crate::entries::act(
-        b"meter 18446744073709551615: ",
-        trial::build::with_meter(m, 18446744073709551615),
-        8,
-        0,
-    );
-    crate::entries::begin(
-        b"meter 4294967295: ",
-        trial::build::with_meter(m, LAST),
-        16,
-        7,
-    );
-    crate::entries::step(
-        b"meter 4294967294: ",
-        trial::build::with_meter(m, 4294967294),
-        8,
-        0,
-    );
-    crate::entries::step(
-        b"meter 4294967295: ",
-        trial::build::with_meter(m, LAST),
-        8,
-        0,
+fn begins(m: Machine) {
+    trial::entry::all(
+        b"busy: |busy: |busy, 9 before 4: |busy, 9 before 4: |\
+        busy, another: |9 before 3: |9 before 3: |3: |",
+        &[
+            BEGIN,
+            0,
+            9,
+            BEGIN,
+            2,
+            0,
+            BEGIN,
+            10,
+            0,
+            BEGIN,
+            2,
+            7,
+            BEGIN,
+            16,
+            9,
+            BEGIN,
+            42,
+            0,
+            BEGIN,
+            34,
+            1,
+            BEGIN,
+            32,
+            1,
+        ],
+        m,
     );
 }
 
-fn both(label: &[u8], m: Machine) {
-    crate::entries::act(label, m, 8, 0);
-    crate::entries::act(label, m, 9, 0);
+fn acts(m: Machine) {
+    trial::entry::all(
+        b"9 before 3: |9 before 3: |3 before 5: |9 before 5: |",
+        &[ACT, 42, 0, ACT, 40, 1, ACT, 40, 0, ACT, 8, 1],
+        m,
+    );
+    trial::entry::all(
+        b"3 before 7: |5 before 7: |5 before 7 and 8: |",
+        &[ACT, 41, 0, ACT, 8, 0, ACT, 9, 0],
+        full(m),
+    );
+    trial::entry::all(b"5 before 8: |", &[ACT, 9, 0], m);
+}
+
+fn acts_of_busy(m: Machine) {
+    trial::entry::all(
+        b"9 before 7: |7 before 8: |",
+        &[ACT, 8, 1, ACT, 9, 0],
+        full(m),
+    );
+    trial::entry::all(b"8: |", &[ACT, 9, 0], m);
+    trial::entry::all(b"7 before 8: |", &[STEP, 9, 0], full(m));
+    trial::entry::all(b"8: |", &[STEP, 9, 0], m);
+}
+
+fn six_first(m: Machine) {
+    trial::entry::all(
+        b"6 before 9: |6 before 3: |6 before 4: |6 before 9: |6 before 3: |6 before 5: |",
+        &[
+            BEGIN,
+            10,
+            1,
+            BEGIN,
+            32,
+            1,
+            BEGIN,
+            0,
+            1,
+            ACT,
+            10,
+            1,
+            ACT,
+            40,
+            0,
+            ACT,
+            24,
+            0,
+        ],
+        m,
+    );
+    trial::entry::all(b"6 before 7: |", &[ACT, 8, 0], full(m));
+    trial::entry::all(b"6 before 8: |6 before 9: |", &[ACT, 9, 0, STEP, 47, 3], m);
+}
+
+fn meter(m: Machine, which: u64, meter: u64, first: u64, second: u64) {
+    let metered = whole::build::with_meter(m, meter);
+    trial::entry::one(b"meter #: |", 0, &[meter], which, metered, first, second);
+}
+
+fn meters(m: Machine) {
+    meter(m, ACT, 4294967293, 8, 0);
+    meter(m, ACT, 4294967294, 8, 0);
+    meter(m, ACT, 4294967295, 8, 0);
+    meter(m, ACT, 4294967296, 8, 0);
+    meter(m, ACT, 18446744073709551615, 8, 0);
+    meter(m, BEGIN, 4294967295, 16, 7);
+    meter(m, STEP, 4294967294, 8, 0);
+    meter(m, STEP, 4294967295, 8, 0);
+}
+
+fn weak(n: usize) -> Place {
+    match n {
+        0 => Place::P3(Kind::Push, Stamp(1), 5),
+        1 => Place::P3(Kind::Push, Stamp(0), 5),
+        2 => Place::P3(Kind::Force, Stamp(1), 5),
+        3 => Place::F6(Stamp(8), 9),
+        4 => Place::F6(Stamp(16), 9),
+        5 => Place::O3(Stamp(0)),
+        _ => Place::O3(Stamp(8)),
+    }
+}
+
+fn both(n: usize, m: Machine) {
+    let labels = b"P3, words agree: |P3, words differ: |P3, closed meanwhile: |\
+        F6, words agree: |F6, words differ: |O3, words agree: |O3, words differ: |";
+    let none = [0u64; 0];
+    trial::entry::one(labels, n, &none, ACT, m, 8, 0);
+    trial::entry::one(labels, n, &none, ACT, m, 9, 0);
+}
+
+// The third is closed.
+fn exchange(n: usize) {
+    let m = trial::base::at(weak(n));
+    if n == 2 {
+        both(n, whole::build::with_ends(m, 0, 5));
+    } else {
+        both(n, m);
+    }
 }
 
 // Code 9 fails a weak exchange; where the words differ anyway it does what code 8 does.
 fn exchanges() {
-    both(
-        b"P3, words agree: ",
-        trial::build::at(Place::P3(Kind::Push, Stamp(1), 5)),
-    );
-    both(
-        b"P3, words differ: ",
-        trial::build::at(Place::P3(Kind::Push, Stamp(0), 5)),
-    );
-    both(
-        b"P3, closed meanwhile: ",
-        trial::build::with_ends(trial::build::at(Place::P3(Kind::Force, Stamp(1), 5)), 0, 5),
-    );
-    both(
-        b"F6, words agree: ",
-        trial::build::at(Place::F6(Stamp(8), 9)),
-    );
-    both(
-        b"F6, words differ: ",
-        trial::build::at(Place::F6(Stamp(16), 9)),
-    );
-    both(b"O3, words agree: ", trial::build::at(Place::O3(Stamp(0))));
-    both(b"O3, words differ: ", trial::build::at(Place::O3(Stamp(8))));
+    let mut n = 0;
+    while n < 7 {
+        exchange(n);
+        n += 1;
+    }
 }
 
-pub fn all() {
-    begins();
-    acts();
-    acts_of_busy();
-    six_first();
-    meters();
+pub fn all(m: Machine) {
+    let pushing = trial::base::at(Place::P1(Kind::Push, 5));
+    begins(pushing);
+    acts(m);
+    acts_of_busy(pushing);
+    six_first(whole::build::with_ends(pushing, 4, 1));
+    meters(pushing);
     exchanges();
 }

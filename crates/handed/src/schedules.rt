@@ -2,16 +2,18 @@
 use machine::Machine;
 
 fn run(label: &[u8], m: Machine, schedule: &[u64]) {
-    trial::judge::ran(label, bounded::run(m, schedule));
+    trial::entry::ran(label, bounded::run(m, schedule));
 }
 
-fn stops() {
-    let m = trial::build::base();
+fn stops(m: Machine) {
     run(b"to its end", m, &[0, 6, 8, 0, 8, 0]);
     run(b"4 at 2", m, &[0, 6, 8, 0, 0, 7, 8, 0]);
     run(b"5 at 0", m, &[8, 0, 0, 6]);
     run(b"5 at 1", m, &[0, 6, 24, 0]);
     run(b"8 at 1", m, &[0, 6, 9, 0]);
+}
+
+fn more_stops(m: Machine) {
     run(b"8 at 4", m, &[0, 6, 8, 0, 8, 0, 8, 0, 9, 0]);
     run(b"9 by its code, at 1", m, &[0, 6, 10, 0, 8, 0]);
     run(b"9 by its item, at 2", m, &[0, 6, 8, 0, 8, 1]);
@@ -19,8 +21,7 @@ fn stops() {
     run(b"3 at 2", m, &[16, 6, 24, 0, 40, 0]);
 }
 
-fn lost() {
-    let m = trial::build::base();
+fn lost(m: Machine) {
     run(
         b"one exchange lost",
         m,
@@ -33,33 +34,32 @@ fn lost() {
     );
 }
 
-fn odd() {
-    let m = trial::build::base();
+fn odd(m: Machine) {
     run(b"11, one word", m, &[0]);
     run(b"11, three words", m, &[0, 6, 8]);
     run(b"11 before 9", m, &[10, 0, 8]);
-    run(b"6 before 11", trial::build::with_count(m, 0), &[0]);
-    run(b"6", trial::build::with_count(m, 17), &[0, 6]);
+    run(b"6 before 11", whole::build::with_count(m, 0), &[0]);
+    run(b"6", whole::build::with_count(m, 17), &[0, 6]);
     let none = [0u64; 0];
     run(b"empty", m, &none);
-    run(b"6, empty", trial::build::with_count(m, 0), &none);
+    run(b"6, empty", whole::build::with_count(m, 0), &none);
 }
 
-fn meters() {
-    let m = trial::build::base();
-    let last = trial::build::with_meter(m, 4294967294);
+fn meters(m: Machine) {
+    let last = whole::build::with_meter(m, 4294967294);
     run(b"7 at 2", last, &[0, 6, 8, 0, 8, 0]);
     run(b"7 at 3", last, &[0, 6, 8, 0, 16, 7, 24, 0]);
     run(
         b"7 at 1",
-        trial::build::with_meter(m, 4294967295),
+        whole::build::with_meter(m, 4294967295),
         &[0, 6, 8, 0],
     );
 }
 
-pub fn all() {
-    stops();
-    lost();
-    odd();
-    meters();
+pub fn all(m: Machine) {
+    stops(m);
+    more_stops(m);
+    lost(m);
+    odd(m);
+    meters(m);
 }

@@ -4,38 +4,58 @@ use machine::Told;
 use places::Place;
 
 // LABEL: REFUSAL or ok COUNT, then the buffer
-fn told(label: &[u8], m: Machine, buffer: &mut [u64]) {
+fn say(label: &[u8], numbers: &[u64], t: Told, buffer: &[u64]) {
     let mut out = [0u8; 512];
-    let p = show::text(&mut out, 0, label);
-    let t = bounded::contents(m, buffer);
-    let q = trial::judge::say_told(&mut out, p, b": ", t);
+    let p = ink::form(&mut out, 0, label, numbers);
+    let q = ink::text(&mut out, p, b": ");
+    let r = trial::judge::say_told(&mut out, q, t);
     let n = buffer.len() as u64;
-    let r = show::told(&mut out, q, b", buffer", buffer, Told::Number(n));
-    show::flush(&out, r);
+    let s = whole::text::told(&mut out, r, b", buffer", buffer, Told::Number(n));
+    ink::flush(&out, s);
+}
+
+fn told(label: &[u8], numbers: &[u64], m: Machine, buffer: &mut [u64]) {
+    let t = bounded::contents(m, buffer);
+    say(label, numbers, t, buffer);
 }
 
 fn lengths(label: &[u8], m: Machine) {
+    let number = [0u64; 0];
     let mut none = [0u64; 0];
-    told(label, m, &mut none);
+    told(label, &number, m, &mut none);
     let mut one = [77u64];
-    told(label, m, &mut one);
+    told(label, &number, m, &mut one);
     let mut two = [77u64, 77];
-    told(label, m, &mut two);
+    told(label, &number, m, &mut two);
     let mut three = [77u64, 77, 77];
-    told(label, m, &mut three);
+    told(label, &number, m, &mut three);
 }
 
 // Document 01's run D: 7 and 8 from index 0 on.
 fn d() -> Machine {
     let made = bounded::make(2, 2);
-    let m = made.machine;
-    let ends = trial::build::with_ends(m, 8, 16);
-    trial::build::with_slot(trial::build::with_slot(ends, 0, 9, 7), 1, 10, 8)
+    let ends = whole::build::with_ends(made.machine, 8, 16);
+    whole::build::with_slot(whole::build::with_slot(ends, 0, 9, 7), 1, 10, 8)
 }
 
-fn ends(label: &[u8], head: u64, tail: u64) {
+fn end(m: Machine, head: u64, tail: u64) {
     let mut three = [77u64, 77, 77];
-    told(label, trial::build::with_ends(d(), head, tail), &mut three);
+    told(
+        b"head #, tail #",
+        &[head, tail],
+        whole::build::with_ends(m, head, tail),
+        &mut three,
+    );
+}
+
+fn ends(m: Machine) {
+    end(m, 9, 17);
+    end(m, 9, 21);
+    end(m, 9, 8);
+    end(m, 16, 8);
+    end(m, 9, 9);
+    end(m, 9, 13);
+    end(m, 9, 1);
 }
 
 // 256 items, the most there are.
@@ -44,54 +64,55 @@ fn full() -> Machine {
     let mut m = made.machine;
     let mut i = 0;
     while i < 256 {
-        m = trial::build::with_slot(m, i, i as u64 + 1, i as u64 + 1000);
+        m = whole::build::with_slot(m, i, i as u64 + 1, i as u64 + 1000);
         i += 1;
     }
-    trial::build::with_ends(m, 0, 1024)
+    whole::build::with_ends(m, 0, 1024)
 }
 
-// LABEL: REFUSAL or ok COUNT, then the buffer's first word, its 256th and its last
-fn many(label: &[u8], m: Machine, buffer: &mut [u64]) {
+// LABEL: REFUSAL or ok COUNT, then the buffer's first word, its 255th and its last
+fn say_many(t: Told, buffer: &[u64]) {
     let mut out = [0u8; 512];
-    let p = show::text(&mut out, 0, label);
-    let t = bounded::contents(m, buffer);
-    let q = trial::judge::say_told(&mut out, p, b": ", t);
     let n = buffer.len();
     if 255 <= n {
-        let r = show::named(&mut out, q, b" first", buffer[0]);
-        let s = show::named(&mut out, r, b" 255th", buffer[254]);
-        let u = show::named(&mut out, s, b" last", buffer[n - 1]);
-        let v = show::end_line(&mut out, u);
-        show::flush(&out, v);
+        let numbers = [n as u64, buffer[0], buffer[254], buffer[n - 1]];
+        let p = ink::form(&mut out, 0, b"256 items, buffer #: ", &numbers);
+        let q = trial::judge::say_told(&mut out, p, t);
+        let r = ink::form(&mut out, q, b" first=# 255th=# last=#", &numbers[1..]);
+        ink::end(&mut out, r);
     }
 }
 
-fn most() {
-    let m = full();
+fn many(m: Machine, buffer: &mut [u64]) {
+    let t = bounded::contents(m, buffer);
+    say_many(t, buffer);
+}
+
+fn most(m: Machine) {
     let mut short = [77u64; 255];
-    many(b"256 items, buffer 255", m, &mut short);
+    many(m, &mut short);
     let mut exact = [77u64; 256];
-    many(b"256 items, buffer 256", m, &mut exact);
+    many(m, &mut exact);
     let mut longer = [77u64; 257];
-    many(b"256 items, buffer 257", m, &mut longer);
+    many(m, &mut longer);
+}
+
+fn busy(m: Machine) {
+    lengths(b"4 before 10", m);
+    lengths(b"6 before 4 and 10", whole::build::with_ends(m, 12, 16));
+}
+
+fn idle(m: Machine) {
+    lengths(b"7 and 8", m);
+    lengths(b"closed, 7 and 8", whole::build::with_ends(m, 8, 20));
+    lengths(b"8", whole::build::with_ends(m, 9, 16));
+    lengths(b"nothing", whole::build::with_ends(m, 16, 16));
 }
 
 pub fn all() {
-    lengths(b"7 and 8", d());
-    lengths(b"closed, 7 and 8", trial::build::with_ends(d(), 8, 20));
-    lengths(b"8", trial::build::with_ends(d(), 9, 16));
-    lengths(b"nothing", trial::build::with_ends(d(), 16, 16));
-    lengths(b"4 before 10", trial::build::with_place(d(), 1, Place::O1));
-    lengths(
-        b"6 before 4 and 10",
-        trial::build::with_ends(trial::build::with_place(d(), 1, Place::O1), 12, 16),
-    );
-    ends(b"head 9, tail 17", 9, 17);
-    ends(b"head 9, tail 21", 9, 21);
-    ends(b"head 9, tail 8", 9, 8);
-    ends(b"head 16, tail 8", 16, 8);
-    ends(b"head 9, tail 9", 9, 9);
-    ends(b"head 9, tail 13", 9, 13);
-    ends(b"head 9, tail 1", 9, 1);
-    most();
+    let m = d();
+    idle(m);
+    busy(whole::build::with_place(m, 1, Place::O1));
+    ends(m);
+    most(full());
 }

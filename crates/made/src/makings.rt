@@ -1,55 +1,45 @@
 // Refusals 1 and 2.
 use machine::Machine;
 
-// What came of a making: the blank machine, or one with these constants.
-fn stands(out: &mut [u8], at: usize, refusal: u64, m: Machine) -> usize {
-    if refusal != 0 {
-        if alike::machines(m, trial::build::zeroed()) {
-            return show::text(out, at, b" blank");
-        }
-        return show::text(out, at, b" NOT BLANK");
+fn say_blank(out: &mut [u8], at: usize, blank: bool) {
+    if blank {
+        let p = ink::text(out, at, b" blank\n");
+        ink::flush(out, p);
+    } else {
+        let p = ink::text(out, at, b" NOT BLANK\n");
+        ink::flush(out, p);
     }
-    let ring = m.ring;
-    let f = ring.fixed;
-    let p = show::named(out, at, b" capacity", f.capacity);
-    let q = show::named(out, p, b" mark", f.mark);
-    let r = show::named(out, q, b" lap", f.lap);
-    let s = show::named(out, r, b" workers", m.count);
-    let t = show::byte(out, s, b' ');
-    show::ends(out, t, m)
+}
+
+fn say_made(out: &mut [u8], at: usize, n: [u64; 7]) {
+    let numbers = [n[3], n[4], n[5], n[6], n[0], n[1], n[2]];
+    let p = ink::form(
+        out,
+        at,
+        b" capacity=# mark=# lap=# workers=# h=# t=# m=#",
+        &numbers,
+    );
+    ink::end(out, p);
+}
+
+// What came of a making: the blank machine, or one with these constants.
+fn stands(out: &mut [u8], at: usize, refusal: u64, m: Machine) {
+    if refusal == 0 {
+        say_made(out, at, whole::numbers(m));
+    } else {
+        say_blank(out, at, whole::alike::machines(m, whole::build::zeroed()));
+    }
 }
 
 fn make(capacity: u64, workers: u64) {
     let mut out = [0u8; 512];
     let made = bounded::make(capacity, workers);
-    let m = made.machine;
-    let p = show::text(&mut out, 0, b"make ");
-    let q = show::number(&mut out, p, capacity);
-    let r = show::byte(&mut out, q, b' ');
-    let s = show::number(&mut out, r, workers);
-    let t = show::text(&mut out, s, b": ");
-    let u = show::number(&mut out, t, made.refusal);
-    let v = stands(&mut out, u, made.refusal, m);
-    let w = show::end_line(&mut out, v);
-    show::flush(&out, w);
+    let numbers = [capacity, workers, made.refusal];
+    let p = ink::form(&mut out, 0, b"make # #: #", &numbers);
+    stands(&mut out, p, made.refusal, made.machine);
 }
 
-// Every worker of a fresh machine is idle and has no answer; so is every record past the count.
-fn fresh(capacity: u64, workers: u64) {
-    let made = bounded::make(capacity, workers);
-    let m = made.machine;
-    let mut out = [0u8; 4096];
-    let p = show::worker(&mut out, 0, m, 0);
-    let q = show::byte(&mut out, p, b' ');
-    let r = show::worker(&mut out, q, m, 15);
-    let s = show::byte(&mut out, r, b' ');
-    let t = show::worker(&mut out, s, m, 16);
-    let u = show::end_line(&mut out, t);
-    show::flush(&out, u);
-    trial::judge::slots(m);
-}
-
-pub fn all() {
+fn makings() {
     make(0, 1);
     make(1, 1);
     make(2, 1);
@@ -65,6 +55,27 @@ pub fn all() {
     make(257, 17);
     make(0, 17);
     make(257, 0);
+}
+
+fn say_workers(m: Machine) {
+    let mut out = [0u8; 512];
+    let p = whole::text::worker(&mut out, 0, 0, m);
+    let q = ink::byte(&mut out, p, b' ');
+    let r = whole::text::worker(&mut out, q, 15, m);
+    let s = ink::byte(&mut out, r, b' ');
+    let t = whole::text::worker(&mut out, s, 16, m);
+    ink::end(&mut out, t);
+}
+
+// Every worker of a fresh machine is idle and has no answer; so is every record past the count.
+fn fresh(capacity: u64, workers: u64) {
+    let made = bounded::make(capacity, workers);
+    say_workers(made.machine);
+    trial::entry::slots(made.machine);
+}
+
+pub fn all() {
+    makings();
     fresh(3, 16);
     fresh(3, 15);
     fresh(256, 1);

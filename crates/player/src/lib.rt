@@ -1,4 +1,3 @@
-// What replay is made of: its options, the entries run and written line by line, and the counts of a run.
-pub mod options;
+// What replay is made of: the entries run and written line by line, and the counts of a run.
 pub mod play;
 pub mod summary;

@@ -1,8 +1,7 @@
 // A machine, run pair by pair. The first pair of numbers makes it; every other is an entry.
-use crate::options::Options;
 use crate::summary::Summary;
 use machine::Machine;
-use show::Seen;
+use options::Options;
 
 pub struct Run {
     pub machine: Machine,
@@ -37,12 +36,6 @@ fn of_the_whole(m: Machine, odd: bool) -> u64 {
     if odd { 11 } else { 0 }
 }
 
-fn tell_made(out: &mut [u8], at: usize, refusal: u64) -> usize {
-    let p = show::text(out, at, b"made ");
-    let q = show::number(out, p, refusal);
-    show::end_line(out, q)
-}
-
 fn refused_of(refusal: u64) -> Summary {
     let none = crate::summary::none();
     if refusal == 0 {
@@ -51,11 +44,8 @@ fn refused_of(refusal: u64) -> Summary {
     crate::summary::refused(none)
 }
 
-fn make(capacity: u64, workers: u64, odd: bool, out: &mut [u8], at: usize) -> Run {
-    let did = bounded::make(capacity, workers);
-    let m = did.machine;
+fn made(m: Machine, odd: bool, at: usize) -> Run {
     let refusal = of_the_whole(m, odd);
-    let end = tell_made(out, at, did.refusal);
     let summary = refused_of(refusal);
     Run {
         machine: m,
@@ -63,63 +53,55 @@ fn make(capacity: u64, workers: u64, odd: bool, out: &mut [u8], at: usize) -> Ru
         place: 0,
         refusal: refusal,
         whole: refusal != 0,
-        at: end,
+        at: at,
         summary: summary,
     }
 }
 
-// An entry: its place, what was said of it, its first word, and what was seen of its worker before and after.
-struct Turn {
-    place: u64,
+fn make(capacity: u64, workers: u64, odd: bool, out: &mut [u8], at: usize) -> Run {
+    let did = bounded::make(capacity, workers);
+    let end = ink::form(out, at, b"made #\n", &[did.refusal]);
+    made(did.machine, odd, end)
+}
+
+// The summary after an entry of this first word, which led from one machine to the other.
+fn counted(
+    asked: bool,
+    s: Summary,
     refusal: u64,
     first: u64,
-    before: Seen,
-    after: Seen,
-}
-
-fn turn_of(place: u64, refusal: u64, first: u64, before: Seen, after: Seen) -> Turn {
-    Turn {
-        place: place,
-        refusal: refusal,
-        first: first,
-        before: before,
-        after: after,
-    }
-}
-
-// The summary after an entry.
-fn counted(asked: bool, s: Summary, t: Turn) -> Summary {
-    let before = t.before;
-    let after = t.after;
-    let p = before.place;
-    let q = after.place;
+    before: Machine,
+    after: Machine,
+) -> Summary {
     if !asked {
         return s;
     }
-    if t.refusal != 0 {
+    if refusal != 0 {
         return crate::summary::refused(s);
     }
-    if t.first % 16 < 8 {
+    if first % 16 < 8 {
         return crate::summary::begun(s);
     }
-    crate::summary::acted(s, p, q)
+    let w = first / 16;
+    crate::summary::acted(s, whole::place_of(before, w), whole::place_of(after, w))
 }
 
 // PLACE R h=H t=T m=M wN=S
-fn line(out: &mut [u8], at: usize, t: Turn) -> usize {
-    let after = t.after;
-    let p = show::report_of(out, at, t.place, t.refusal, after);
-    let q = show::byte(out, p, b' ');
-    let r = show::stands(out, q, t.first / 16, after);
-    let s = show::end_line(out, r);
-    show::settle(out, s)
-}
-
-fn line_unless(quiet: bool, out: &mut [u8], at: usize, t: Turn) -> usize {
+fn line_unless(
+    quiet: bool,
+    out: &mut [u8],
+    at: usize,
+    place: u64,
+    refusal: u64,
+    w: u64,
+    m: Machine,
+) -> usize {
     if quiet {
         return at;
     }
-    line(out, at, t)
+    let p = whole::text::entry(out, at, place, refusal, w, m);
+    let q = ink::byte(out, p, b'\n');
+    ink::settle(out, q)
 }
 
 fn next_place(place: u64, refusal: u64) -> u64 {
@@ -146,15 +128,13 @@ fn steps(r: Run, o: Options, list: &[u64], from: usize, out: &mut [u8]) -> Run {
         let second = list[i + 1];
         i += 2;
         let pair = [first, second];
-        let before = show::seen_of(m, first / 16);
         let ran = bounded::run(m, &pair);
         let now = ran.machine;
-        m = now;
         refusal = ran.refusal;
-        let turn = turn_of(place, refusal, first, before, show::seen_of(m, first / 16));
-        s = counted(o.summary, s, turn);
-        at = line_unless(o.quiet, out, at, turn);
+        s = counted(o.summary, s, refusal, first, m, now);
+        at = line_unless(o.quiet, out, at, place, refusal, first / 16, now);
         place = next_place(place, refusal);
+        m = now;
     }
     Run {
         machine: m,
@@ -221,41 +201,47 @@ pub fn pairs(r: Run, o: Options, odd: bool, list: &[u64], n: usize, out: &mut [u
 }
 
 // The report of the whole, where there was none for each entry.
-fn tell_whole(r: Run, quiet: bool, out: &mut [u8], at: usize) -> usize {
-    let m = r.machine;
-    if quiet {
-        let p = show::report(out, at, r.place, r.refusal, m);
-        return show::end_line(out, p);
+fn tell_whole(r: Run, quiet: bool, out: &mut [u8]) -> usize {
+    if !quiet {
+        if !r.whole {
+            return r.at;
+        }
     }
-    if r.whole {
-        let p = show::report(out, at, r.place, r.refusal, m);
-        return show::end_line(out, p);
-    }
-    at
+    whole::text::report(out, r.at, r.place, r.refusal, r.machine)
 }
 
-fn tell_summary(r: Run, asked: bool, out: &mut [u8], at: usize) -> usize {
-    let s = r.summary;
+// contents x y ..., through a buffer that any list fits
+fn contents(out: &mut [u8], at: usize, m: Machine) -> usize {
+    let mut items = [0u64; words::SLOTS];
+    let t = bounded::contents(m, &mut items);
+    whole::text::told(out, at, b"contents", &items, t)
+}
+
+fn tell_summary(s: Summary, asked: bool, out: &mut [u8], at: usize) -> usize {
     if asked {
         return crate::summary::tell(out, at, s);
     }
     at
 }
 
-// What stands at the end, and what follows the output of one of many.
-pub fn finish(r: Run, o: Options, out: &mut [u8]) -> usize {
-    let m = r.machine;
-    let p = tell_whole(r, o.quiet, out, r.at);
-    let q = show::slots(out, p, m);
-    let t = show::contents(out, q, m);
-    let u = tell_summary(r, o.summary, out, t);
-    let v = tell_mark(out, u, o.many);
-    show::settle(out, v)
-}
-
+// What follows the output of one of many.
 fn tell_mark(out: &mut [u8], at: usize, many: bool) -> usize {
     if many {
-        return show::text(out, at, b"%\n");
+        return ink::text(out, at, b"%\n");
     }
     at
+}
+
+fn tell_end(s: Summary, o: Options, out: &mut [u8], at: usize) -> usize {
+    let p = tell_summary(s, o.summary, out, at);
+    let q = tell_mark(out, p, o.many);
+    ink::settle(out, q)
+}
+
+// What stands at the end.
+pub fn finish(r: Run, o: Options, out: &mut [u8]) -> usize {
+    let p = tell_whole(r, o.quiet, out);
+    let q = whole::text::slots(out, p, r.machine);
+    let t = contents(out, q, r.machine);
+    tell_end(r.summary, o, out, t)
 }

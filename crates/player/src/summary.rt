@@ -1,6 +1,6 @@
 // What a run came to: counts over its entries.
 use machine::Tally;
-use places::Answer;
+use parts::code::Coded;
 use places::Place;
 use words::Claim;
 
@@ -36,44 +36,24 @@ fn up_if(n: u64, it: bool) -> u64 {
     if it { up(n) } else { n }
 }
 
-fn number_of(a: Answer) -> usize {
-    match a {
-        Answer::Nothing => 0,
-        Answer::Pushed => 1,
-        Answer::Full(_) => 2,
-        Answer::Closed(_) => 3,
-        Answer::Displaced(_) => 4,
-        Answer::Popped(_) => 5,
-        Answer::Empty => 6,
-        Answer::PopClosed => 7,
-        Answer::Len(_) => 8,
-        Answer::Yes => 9,
-        Answer::No => 10,
-    }
-}
-
-fn answered(before: [u64; 11], after: Place) -> [u64; 11] {
+fn answered(before: [u64; 11], after: Coded) -> [u64; 11] {
     let mut answers = before;
-    match after {
-        Place::Idle(a) => {
-            let i = number_of(a);
-            if i < 11 {
-                answers[i] = up(answers[i]);
-            }
-            answers
+    if after.case == 0 {
+        let i = after.more % 18;
+        if parts::code::ANSWERS <= i {
+            let n = i - parts::code::ANSWERS;
+            answers[n] = up(answers[n]);
         }
-        _ => answers,
     }
+    answers
 }
 
 // An act after which a call is back at an earlier place of its table.
-fn is_retry(before: Place, after: Place) -> bool {
-    let x = alike::code_of(before);
-    let y = alike::code_of(after);
-    if y.case == 0 {
+fn is_retry(before: Coded, after: Coded) -> bool {
+    if after.case == 0 {
         return false;
     }
-    y.case < x.case
+    after.case < before.case
 }
 
 // One more act, from place to place.
@@ -81,11 +61,12 @@ pub fn acted(s: Summary, before: Place, after: Place) -> Summary {
     let tally = s.tally;
     let answers = s.answers;
     let tallied = bounded::tally(tally, after);
-    let counted = answered(answers, after);
+    let code = parts::code::of(after);
+    let counted = answered(answers, code);
     Summary {
         entries: up(s.entries),
         acts: up(s.acts),
-        retries: up_if(s.retries, is_retry(before, after)),
+        retries: up_if(s.retries, is_retry(parts::code::of(before), code)),
         refusals: s.refusals,
         tally: tallied,
         answers: counted,
@@ -105,48 +86,27 @@ pub fn refused(s: Summary) -> Summary {
 }
 
 fn tell_counts(out: &mut [u8], at: usize, s: Summary) -> usize {
-    let p = show::named(out, at, b"summary entries", s.entries);
-    let q = show::named(out, p, b" acts", s.acts);
-    let r = show::named(out, q, b" retries", s.retries);
-    let t = show::named(out, r, b" refusals", s.refusals);
-    show::end_line(out, t)
+    let counts = [s.entries, s.acts, s.retries, s.refusals];
+    let form = b"summary entries=# acts=# retries=# refusals=#\n";
+    ink::form(out, at, form, &counts)
 }
 
-fn tell_pushes(out: &mut [u8], at: usize, answers: [u64; 11]) -> usize {
-    let p = show::named(out, at, b"answers pushed", answers[1]);
-    let q = show::named(out, p, b" full", answers[2]);
-    let r = show::named(out, q, b" closed", answers[3]);
-    show::named(out, r, b" displaced", answers[4])
-}
-
-fn tell_pops(out: &mut [u8], at: usize, answers: [u64; 11]) -> usize {
-    let p = show::named(out, at, b" popped", answers[5]);
-    let q = show::named(out, p, b" empty", answers[6]);
-    show::named(out, q, b" pop-closed", answers[7])
-}
-
-fn tell_looks(out: &mut [u8], at: usize, answers: [u64; 11]) -> usize {
-    let p = show::named(out, at, b" len", answers[8]);
-    let q = show::named(out, p, b" yes", answers[9]);
-    let r = show::named(out, q, b" no", answers[10]);
-    show::end_line(out, r)
+fn tell_answers(out: &mut [u8], at: usize, answers: [u64; 11]) -> usize {
+    let form =
+        b"answers pushed=# full=# closed=# displaced=# popped=# empty=# pop-closed=# len=# yes=# no=#\n";
+    ink::form(out, at, form, &answers[1..])
 }
 
 fn tell_claims(out: &mut [u8], at: usize, t: Tally) -> usize {
     let tail = t.tail;
     let head = t.head;
-    let p = show::named(out, at, b"claims tail", tail.0);
-    let q = show::named(out, p, b" head", head.0);
-    let r = show::named(out, q, b" stock", bounded::stock(t));
-    show::end_line(out, r)
+    let claims = [tail.0, head.0, bounded::stock(t)];
+    ink::form(out, at, b"claims tail=# head=# stock=#\n", &claims)
 }
 
 pub fn tell(out: &mut [u8], at: usize, s: Summary) -> usize {
     let answers = s.answers;
-    let tally = s.tally;
     let p = tell_counts(out, at, s);
-    let q = tell_pushes(out, p, answers);
-    let r = tell_pops(out, q, answers);
-    let t = tell_looks(out, r, answers);
-    tell_claims(out, t, tally)
+    let q = tell_answers(out, p, answers);
+    tell_claims(out, q, s.tally)
 }

@@ -1,9 +1,7 @@
 // Runs a schedule, from a file or from standard input, entry by entry, and writes what the machine holds after each.
 mod many;
-mod say;
-mod source;
 
-use player::options::Options;
+use options::Options;
 
 // The file that the argument names.
 fn run_file(o: Options) {
@@ -28,7 +26,7 @@ fn run_from(o: Options, fd: i32, name: &[u8]) {
         many::run_all(o, fd, name);
         return;
     }
-    let kept = source::kept(fd, name);
+    let kept = input::source::kept(fd, name);
     if 0 <= kept {
         many::run_all(o, kept, name);
         libc::close(kept);
@@ -36,13 +34,13 @@ fn run_from(o: Options, fd: i32, name: &[u8]) {
 }
 
 fn main() {
-    let o = player::options::read();
+    let o = options::read();
     if o.help {
-        player::options::help();
+        options::help();
         return;
     }
     if o.wrong != 0 {
-        player::options::complain(o.wrong);
+        options::complain(o.wrong);
         return;
     }
     if o.file != 0 {

@@ -1,6 +1,6 @@
 // One schedule, or one after another: each is read once to see that it can be run, and once more to run it.
-use crate::source::Reading;
-use player::options::Options;
+use input::source::Reading;
+use options::Options;
 use player::play::Run;
 
 const STRIDE: u64 = 1000000;
@@ -16,7 +16,7 @@ fn survey_in(fd: i32, many: bool, begin: Reading, bytes: &mut [u8], list: &mut [
     let mut count = 0;
     let mut turns = u64::MAX;
     while turns > 0 && r.event == scan::NOTHING {
-        r = crate::source::turn(fd, many, r, bytes, list, 0);
+        r = input::source::turn(fd, many, r, bytes, list, 0);
         count = std::num::wrapping_add_u64(count, r.count as u64);
         turns -= 1;
     }
@@ -27,12 +27,12 @@ fn survey_in(fd: i32, many: bool, begin: Reading, bytes: &mut [u8], list: &mut [
 }
 
 fn surveyed(fd: i32, many: bool, offset: u64, line: u64) -> Survey {
-    let mut bytes = [0u8; crate::source::BYTES];
-    let mut list = [0u64; crate::source::NUMBERS];
+    let mut bytes = [0u8; input::source::BYTES];
+    let mut list = [0u64; input::source::NUMBERS];
     survey_in(
         fd,
         many,
-        crate::source::start(offset, line),
+        input::source::start(offset, line),
         &mut bytes,
         &mut list,
     )
@@ -44,12 +44,12 @@ fn is_sound(s: Survey, name: &[u8]) -> bool {
     let scan = r.scan;
     let event = r.event;
     match event {
-        crate::source::FAILED => {
+        input::source::FAILED => {
             os::fail(name);
             return false;
         }
         scan::NO_NUMBER => {
-            crate::say::fault(
+            input::say::fault(
                 name,
                 scan.line,
                 scan.start,
@@ -58,7 +58,7 @@ fn is_sound(s: Survey, name: &[u8]) -> bool {
             return false;
         }
         scan::TOO_LARGE => {
-            crate::say::fault(
+            input::say::fault(
                 name,
                 scan.line,
                 scan.start,
@@ -69,11 +69,11 @@ fn is_sound(s: Survey, name: &[u8]) -> bool {
         _ => {}
     }
     if s.count == 0 {
-        crate::say::fault(name, scan.line, scan.column, b"the capacity is missing");
+        input::say::fault(name, scan.line, scan.column, b"the capacity is missing");
         return false;
     }
     if s.count == 1 {
-        crate::say::fault(
+        input::say::fault(
             name,
             scan.line,
             scan.column,
@@ -99,7 +99,7 @@ fn carry(list: &mut [u64], count: usize) -> usize {
 fn progress(before: u64, after: u64) {
     if before / STRIDE != after / STRIDE {
         if libc::isatty(libc::STDERR_FILENO) == 1 {
-            crate::say::progress(after);
+            input::say::progress(after);
         }
     }
 }
@@ -139,7 +139,7 @@ fn read_and_play(
 ) -> Playing {
     let before = p.reading;
     let run = p.run;
-    let r = crate::source::turn(fd, o.many, before, bytes, list, p.left);
+    let r = input::source::turn(fd, o.many, before, bytes, list, p.left);
     let after = play_some(run, o, odd, list, r.count, out);
     let left = carry(list, r.count);
     Playing {
@@ -170,7 +170,7 @@ fn play_in(
 
 fn play_begin(offset: u64, line: u64, at: usize) -> Playing {
     Playing {
-        reading: crate::source::start(offset, line),
+        reading: input::source::start(offset, line),
         run: player::play::start(at),
         left: 0,
     }
@@ -185,8 +185,8 @@ fn play(
     out: &mut [u8],
     at: usize,
 ) -> usize {
-    let mut bytes = [0u8; crate::source::BYTES];
-    let mut list = [0u64; crate::source::NUMBERS];
+    let mut bytes = [0u8; input::source::BYTES];
+    let mut list = [0u64; input::source::NUMBERS];
     let begin = play_begin(offset, line, at);
     let run = play_in(begin, o, fd, odd, &mut bytes, &mut list, out);
     player::play::finish(run, o, out)
@@ -238,7 +238,7 @@ fn unless_at_end(fd: i32, n: Next) -> Next {
     let mut byte = [0u8; 1];
     let mut m = n;
     if n.more {
-        let got = libc::pread(fd, &mut byte, crate::source::to_offset(n.offset));
+        let got = libc::pread(fd, &mut byte, input::source::to_offset(n.offset));
         if got == 0 {
             m.more = false;
         }
@@ -259,7 +259,7 @@ fn run_in(o: Options, fd: i32, name: &[u8], out: &mut [u8]) {
         n = unless_at_end(fd, n);
         turns -= 1;
     }
-    show::flush(out, n.at);
+    ink::flush(out, n.at);
 }
 
 pub fn run_all(o: Options, fd: i32, name: &[u8]) {

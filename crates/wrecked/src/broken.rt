@@ -5,200 +5,223 @@ use places::Kind;
 use places::Place;
 use words::Stamp;
 
-fn fixed(label: &[u8], capacity: u64, mark: u64, lap: u64) {
+fn fixed(m: Machine, capacity: u64, mark: u64, lap: u64) {
     trial::judge::machine(
-        label,
-        trial::build::with_fixed(trial::build::base(), capacity, mark, lap),
+        b"capacity #, mark #, lap #",
+        &[capacity, mark, lap],
+        whole::build::with_fixed(m, capacity, mark, lap),
     );
 }
 
-fn constants() {
-    fixed(b"capacity 0, mark 1, lap 2", 0, 1, 2);
-    fixed(b"capacity 257, mark 512, lap 1024", 257, 512, 1024);
-    fixed(
-        b"capacity 18446744073709551615, mark 4, lap 8",
-        18446744073709551615,
-        4,
-        8,
-    );
-    fixed(b"capacity 2, mark 0, lap 0", 2, 0, 0);
-    fixed(b"capacity 2, mark 2, lap 4", 2, 2, 4);
-    fixed(b"capacity 2, mark 3, lap 8", 2, 3, 8);
-    fixed(b"capacity 2, mark 8, lap 16", 2, 8, 16);
-    fixed(b"capacity 2, mark 4, lap 4", 2, 4, 4);
-    fixed(b"capacity 2, mark 4, lap 7", 2, 4, 7);
-    fixed(b"capacity 2, mark 4, lap 9", 2, 4, 9);
-    fixed(b"capacity 2, mark 4, lap 16", 2, 4, 16);
-    fixed(b"capacity 4, mark 4, lap 8", 4, 4, 8);
-    fixed(b"capacity 2, mark 4, lap 8", 2, 4, 8);
-    fixed(b"capacity 3, mark 4, lap 8", 3, 4, 8);
-    fixed(b"capacity 4, mark 8, lap 16", 4, 8, 16);
-    fixed(b"capacity 256, mark 512, lap 1024", 256, 512, 1024);
+fn constants(m: Machine) {
+    fixed(m, 0, 1, 2);
+    fixed(m, 257, 512, 1024);
+    fixed(m, 18446744073709551615, 4, 8);
+    fixed(m, 2, 0, 0);
+    fixed(m, 2, 2, 4);
+    fixed(m, 2, 3, 8);
+    fixed(m, 2, 8, 16);
+    fixed(m, 2, 4, 4);
+    fixed(m, 2, 4, 7);
+    fixed(m, 2, 4, 9);
+    fixed(m, 2, 4, 16);
+    fixed(m, 4, 4, 8);
+    fixed(m, 2, 4, 8);
+    fixed(m, 3, 4, 8);
+    fixed(m, 4, 8, 16);
+    fixed(m, 256, 512, 1024);
 }
 
-fn count(label: &[u8], n: u64) {
-    trial::judge::machine(label, trial::build::with_count(trial::build::base(), n));
+fn count(m: Machine, n: u64) {
+    trial::judge::machine(b"workers #", &[n], whole::build::with_count(m, n));
 }
 
-fn counts() {
-    count(b"workers 0", 0);
-    count(b"workers 1", 1);
-    count(b"workers 16", 16);
-    count(b"workers 17", 17);
-    count(b"workers 18446744073709551615", 18446744073709551615);
+fn counts(m: Machine) {
+    count(m, 0);
+    count(m, 1);
+    count(m, 16);
+    count(m, 17);
+    count(m, 18446744073709551615);
 }
 
-fn ends(label: &[u8], head: u64, tail: u64) {
+fn end(m: Machine, head: u64, tail: u64) {
     trial::judge::machine(
-        label,
-        trial::build::with_ends(trial::build::base(), head, tail),
+        b"head #, tail #",
+        &[head, tail],
+        whole::build::with_ends(m, head, tail),
     );
 }
 
-fn heads() {
-    ends(b"head 0, tail 0", 0, 0);
-    ends(b"head 1, tail 1", 1, 1);
-    ends(b"head 2, tail 1", 2, 1);
-    ends(b"head 3, tail 1", 3, 1);
-    ends(b"head 4, tail 1", 4, 1);
-    ends(b"head 5, tail 1", 5, 1);
-    ends(b"head 7, tail 1", 7, 1);
-    ends(b"head 8, tail 8", 8, 8);
-    ends(b"head 9, tail 8", 9, 8);
-    ends(
-        b"head 18446744073709551615, tail 1",
-        18446744073709551615,
-        1,
-    );
-    ends(
-        b"head 18446744073709551608, tail 1",
-        18446744073709551608,
-        1,
-    );
+fn heads(m: Machine) {
+    end(m, 0, 0);
+    end(m, 1, 1);
+    end(m, 2, 1);
+    end(m, 3, 1);
+    end(m, 4, 1);
+    end(m, 5, 1);
+    end(m, 7, 1);
+    end(m, 8, 8);
+    end(m, 9, 8);
+    end(m, 18446744073709551615, 1);
+    end(m, 18446744073709551608, 1);
 }
 
-fn tails() {
-    ends(b"head 0, tail 2", 0, 2);
-    ends(b"head 0, tail 3", 0, 3);
-    ends(b"head 0, tail 4", 0, 4);
-    ends(b"head 0, tail 5", 0, 5);
-    ends(b"head 0, tail 6", 0, 6);
-    ends(b"head 0, tail 7", 0, 7);
-    ends(b"head 0, tail 8", 0, 8);
-    ends(
-        b"head 0, tail 18446744073709551615",
-        0,
-        18446744073709551615,
-    );
-    ends(
-        b"head 0, tail 18446744073709551613",
-        0,
-        18446744073709551613,
-    );
+fn tails(m: Machine) {
+    end(m, 0, 2);
+    end(m, 0, 3);
+    end(m, 0, 4);
+    end(m, 0, 5);
+    end(m, 0, 6);
+    end(m, 0, 7);
+    end(m, 0, 8);
+    end(m, 0, 18446744073709551615);
+    end(m, 0, 18446744073709551613);
 }
 
-fn pushing(t: u64) {
-    trial::judge::place(Place::P2(Kind::Push, Stamp(t), 9));
-    trial::judge::place(Place::P2(Kind::Force, Stamp(t), 9));
-    trial::judge::place(Place::P3(Kind::Push, Stamp(t), 9));
-    trial::judge::place(Place::P3(Kind::Force, Stamp(t), 9));
-    trial::judge::place(Place::P4(Stamp(t), 9));
-    trial::judge::place(Place::P5(Stamp(t)));
-    trial::judge::place(Place::P6(Stamp(t), 9));
-    trial::judge::place(Place::F6(Stamp(t), 9));
-    trial::judge::place(Place::F7(Stamp(t), 9));
-    trial::judge::place(Place::F8(Stamp(t), 9));
-    trial::judge::place(Place::F9(Stamp(t), 9));
+// The places that hold a word of tail, then those that hold one of head.
+fn holding_of(n: u64, w: u64) -> Place {
+    match n {
+        0 => Place::P2(Kind::Push, Stamp(w), 9),
+        1 => Place::P2(Kind::Force, Stamp(w), 9),
+        2 => Place::P3(Kind::Push, Stamp(w), 9),
+        3 => Place::P3(Kind::Force, Stamp(w), 9),
+        4 => Place::P4(Stamp(w), 9),
+        5 => Place::P5(Stamp(w)),
+        6 => Place::P6(Stamp(w), 9),
+        7 => Place::F6(Stamp(w), 9),
+        8 => Place::F7(Stamp(w), 9),
+        9 => Place::F8(Stamp(w), 9),
+        10 => Place::F9(Stamp(w), 9),
+        11 => Place::O2(Stamp(w)),
+        12 => Place::O3(Stamp(w)),
+        13 => Place::O4(Stamp(w)),
+        14 => Place::O5(Stamp(w), 9),
+        _ => Place::O6(Stamp(w)),
+    }
 }
 
-fn popping(h: u64) {
-    trial::judge::place(Place::O2(Stamp(h)));
-    trial::judge::place(Place::O3(Stamp(h)));
-    trial::judge::place(Place::O4(Stamp(h)));
-    trial::judge::place(Place::O5(Stamp(h), 9));
-    trial::judge::place(Place::O6(Stamp(h)));
+fn holding(w: u64) {
+    let mut n = 0;
+    while n < 16 {
+        trial::judge::place(holding_of(n, w));
+        n += 1;
+    }
 }
 
-fn both(w: u64) {
-    pushing(w);
-    popping(w);
+fn all_holding() {
+    holding(0);
+    holding(1);
+    holding(2);
+    holding(3);
+    holding(4);
+    holding(5);
+    holding(8);
+    holding(18446744073709551609);
+    holding(18446744073709551610);
+    holding(18446744073709551612);
+}
+
+fn holding_none_of(n: u64) -> Place {
+    match n {
+        0 => Place::P1(Kind::Push, 9),
+        1 => Place::P1(Kind::Force, 9),
+        2 => Place::O1,
+        3 => Place::Len1,
+        4 => Place::Empty1,
+        5 => Place::Full1,
+        6 => Place::Close1,
+        _ => Place::IsClosed1,
+    }
 }
 
 fn holding_none() {
-    trial::judge::place(Place::P1(Kind::Push, 9));
-    trial::judge::place(Place::P1(Kind::Force, 9));
-    trial::judge::place(Place::O1);
-    trial::judge::place(Place::Len1);
-    trial::judge::place(Place::Empty1);
-    trial::judge::place(Place::Full1);
-    trial::judge::place(Place::Close1);
-    trial::judge::place(Place::IsClosed1);
+    let mut n = 0;
+    while n < 8 {
+        trial::judge::place(holding_none_of(n));
+        n += 1;
+    }
 }
 
 // Of len only the index counts; of is_empty and is_full nothing does.
+fn looking_of(n: u64) -> Place {
+    match n {
+        0 => Place::Len2(Stamp(1)),
+        1 => Place::Len2(Stamp(2)),
+        2 => Place::Len2(Stamp(4)),
+        3 => Place::Len2(Stamp(6)),
+        4 => Place::Len3(Stamp(1), Stamp(1)),
+        5 => Place::Len3(Stamp(2), Stamp(1)),
+        6 => Place::Len3(Stamp(1), Stamp(2)),
+        7 => Place::Len3(Stamp(5), Stamp(4)),
+        8 => Place::Len3(Stamp(5), Stamp(7)),
+        9 => Place::Empty2(Stamp(2)),
+        10 => Place::Empty2(Stamp(7)),
+        11 => Place::Full2(Stamp(2)),
+        _ => Place::Full2(Stamp(7)),
+    }
+}
+
 fn looking() {
-    trial::judge::place(Place::Len2(Stamp(1)));
-    trial::judge::place(Place::Len2(Stamp(2)));
-    trial::judge::place(Place::Len2(Stamp(4)));
-    trial::judge::place(Place::Len2(Stamp(6)));
-    trial::judge::place(Place::Len3(Stamp(1), Stamp(1)));
-    trial::judge::place(Place::Len3(Stamp(2), Stamp(1)));
-    trial::judge::place(Place::Len3(Stamp(1), Stamp(2)));
-    trial::judge::place(Place::Len3(Stamp(5), Stamp(4)));
-    trial::judge::place(Place::Len3(Stamp(5), Stamp(7)));
-    trial::judge::place(Place::Empty2(Stamp(2)));
-    trial::judge::place(Place::Empty2(Stamp(7)));
-    trial::judge::place(Place::Full2(Stamp(2)));
-    trial::judge::place(Place::Full2(Stamp(7)));
+    let mut n = 0;
+    while n < 13 {
+        trial::judge::place(looking_of(n));
+        n += 1;
+    }
 }
 
-fn record(label: &[u8], count: u64, i: usize, p: Place) {
-    let m = trial::build::with_count(trial::build::base(), count);
-    trial::judge::machine(label, trial::build::with_place(m, i, p));
+fn record(label: &[u8], count: u64, i: usize, m: Machine, p: Place) {
+    let none = [0u64; 0];
+    let counted = whole::build::with_count(m, count);
+    trial::judge::machine(label, &none, whole::build::with_place(counted, i, p));
 }
 
-fn past_the_count() {
-    record(b"1 worker, record 1 at O1", 1, 1, Place::O1);
+fn past_the_count(m: Machine) {
+    record(b"1 worker, record 1 at O1", 1, 1, m, Place::O1);
     record(
         b"1 worker, record 15 at P1",
         1,
         15,
+        m,
         Place::P1(Kind::Push, 1),
     );
-    record(b"1 worker, record 1 at is_closed", 1, 1, Place::IsClosed1);
+    record(
+        b"1 worker, record 1 at is_closed",
+        1,
+        1,
+        m,
+        Place::IsClosed1,
+    );
     record(
         b"1 worker, record 1 idle",
         1,
         1,
+        m,
         Place::Idle(Answer::Popped(3)),
     );
-    record(b"2 workers, record 1 at O1", 2, 1, Place::O1);
-    record(b"15 workers, record 15 at O1", 15, 15, Place::O1);
-    record(b"16 workers, record 15 at O1", 16, 15, Place::O1);
+}
+
+fn at_the_count(m: Machine) {
+    record(b"2 workers, record 1 at O1", 2, 1, m, Place::O1);
+    record(b"15 workers, record 15 at O1", 15, 15, m, Place::O1);
+    record(b"16 workers, record 15 at O1", 16, 15, m, Place::O1);
     record(
         b"16 workers, record 15 at O2, h 2",
         16,
         15,
+        m,
         Place::O2(Stamp(2)),
     );
 }
 
 pub fn all() {
-    constants();
-    counts();
-    heads();
-    tails();
+    let m = trial::base::base();
+    constants(m);
+    counts(m);
+    heads(m);
+    tails(m);
     holding_none();
-    both(0);
-    both(1);
-    both(2);
-    both(3);
-    both(4);
-    both(5);
-    both(8);
-    both(18446744073709551609);
-    both(18446744073709551610);
-    both(18446744073709551612);
+    all_holding();
     looking();
-    past_the_count();
+    past_the_count(m);
+    at_the_count(m);
 }

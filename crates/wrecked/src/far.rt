@@ -1,66 +1,56 @@
 // Machines that no schedule reaches, with words near 2 to the power 64: laps wrap, and the tables still hold.
 use machine::Machine;
-use machine::Ran;
 
 // Capacity 2, empty, one step below the last lap's end.
 fn late() -> Machine {
     let made = bounded::make(2, 1);
     let m = made.machine;
-    let ends = trial::build::with_ends(m, 18446744073709551608, 18446744073709551608);
-    let first = trial::build::with_slot(ends, 0, 18446744073709551608, 0);
-    trial::build::with_slot(first, 1, 18446744073709551609, 0)
+    let ends = whole::build::with_ends(m, 18446744073709551608, 18446744073709551608);
+    let first = whole::build::with_slot(ends, 0, 18446744073709551608, 0);
+    whole::build::with_slot(first, 1, 18446744073709551609, 0)
 }
 
-fn told(label: &[u8], r: Ran) -> Machine {
-    trial::judge::ran(label, r);
+fn told(label: &[u8], from: Machine, schedule: &[u64]) -> Machine {
+    let r = bounded::run(from, schedule);
+    trial::entry::ran(label, r);
     let m = r.machine;
-    trial::judge::slots(m);
+    trial::entry::slots(m);
     m
 }
 
 fn fill() -> Machine {
-    let a = told(
-        b"push 5",
-        bounded::run(late(), &[0, 5, 8, 0, 8, 0, 8, 0, 8, 0, 8, 0]),
-    );
+    let a = told(b"push 5", late(), &[0, 5, 8, 0, 8, 0, 8, 0, 8, 0, 8, 0]);
     let b = told(
         b"push 6, next wraps",
-        bounded::run(a, &[0, 6, 8, 0, 8, 0, 8, 0, 8, 0, 8, 0]),
+        a,
+        &[0, 6, 8, 0, 8, 0, 8, 0, 8, 0, 8, 0],
     );
-    let c = told(b"is_full", bounded::run(b, &[5, 0, 8, 0, 8, 0]));
-    told(
-        b"push 7, h + lap wraps",
-        bounded::run(c, &[0, 7, 8, 0, 8, 0, 8, 0]),
-    )
+    let c = told(b"is_full", b, &[5, 0, 8, 0, 8, 0]);
+    told(b"push 7, h + lap wraps", c, &[0, 7, 8, 0, 8, 0, 8, 0])
 }
 
 fn displace(c: Machine) -> Machine {
     let d = told(
         b"force_push 7, t - lap wraps",
-        bounded::run(c, &[1, 7, 8, 0, 8, 0, 8, 0, 8, 0, 8, 0, 8, 0]),
+        c,
+        &[1, 7, 8, 0, 8, 0, 8, 0, 8, 0, 8, 0, 8, 0],
     );
-    told(b"len", bounded::run(d, &[3, 0, 8, 0, 8, 0, 8, 0]))
+    told(b"len", d, &[3, 0, 8, 0, 8, 0, 8, 0])
 }
 
 fn drain(d: Machine) {
-    let e = told(
-        b"pop, next wraps",
-        bounded::run(d, &[2, 0, 8, 0, 8, 0, 8, 0, 8, 0, 8, 0]),
-    );
-    let f = told(
-        b"pop",
-        bounded::run(e, &[2, 0, 8, 0, 8, 0, 8, 0, 8, 0, 8, 0]),
-    );
-    let g = told(b"pop", bounded::run(f, &[2, 0, 8, 0, 8, 0, 8, 0]));
-    told(b"is_empty", bounded::run(g, &[4, 0, 8, 0, 8, 0]));
+    let e = told(b"pop, next wraps", d, &[2, 0, 8, 0, 8, 0, 8, 0, 8, 0, 8, 0]);
+    let f = told(b"pop", e, &[2, 0, 8, 0, 8, 0, 8, 0, 8, 0, 8, 0]);
+    let g = told(b"pop", f, &[2, 0, 8, 0, 8, 0, 8, 0]);
+    told(b"is_empty", g, &[4, 0, 8, 0, 8, 0]);
 }
 
 // Slots that no run leaves: each call goes back to its first load.
 fn astray() {
-    let m = trial::build::with_slot(late(), 0, 3, 0);
-    told(b"push, stamp 3", bounded::run(m, &[0, 5, 8, 0, 8, 0]));
-    told(b"pop, stamp 3", bounded::run(m, &[2, 0, 8, 0, 8, 0]));
-    told(b"close", bounded::run(m, &[6, 0, 8, 0]));
+    let m = whole::build::with_slot(late(), 0, 3, 0);
+    told(b"push, stamp 3", m, &[0, 5, 8, 0, 8, 0]);
+    told(b"pop, stamp 3", m, &[2, 0, 8, 0, 8, 0]);
+    told(b"close", m, &[6, 0, 8, 0]);
 }
 
 pub fn all() {

@@ -1,15 +1,12 @@
-use Prim.Native.Nat.{_≤_, _<_, _-_, _+_}
-use mathlib.Core.Path.{_≡_}
-use lib.ListN.{length}
-use native.Mathlib.Omega.{arith}
+use Prim.Native.Nat.{_-_}
 use borrow.Author.Needs.{needs}
 use Rattle.made.proofs.buffers.full.Statement.{statement}
 use Rattle.made.proofs.buffers.full.Tie as tie
 use Rattle.made.proofs.buffers.full.Reads as reads
 use Rattle.made.proofs.buffers.full.Lts as lts
 use Rattle.bounded.proofs.make.Reads as make-reads
-use Rattle.trial.proofs.build.with_ends.Reads as with-ends-reads
-use Rattle.trial.proofs.build.with_slot.Reads as with-slot-reads
+use Rattle.whole.proofs.build.with_ends.Reads as with-ends-reads
+use Rattle.whole.proofs.build.with_slot.Reads as with-slot-reads
 
 abbrev Inv-loop : tie.InvT-loop
 Inv-loop m₀ i₀ m i = Unit {0}
@@ -17,43 +14,43 @@ Inv-loop m₀ i₀ m i = Unit {0}
 abbrev μ-loop : tie.MeasureT-loop
 μ-loop m₀ i₀ m i = 256 - i
 
--- src/buffers.rt:43:9
+-- src/buffers.rt:63:9
 make-requires : tie.Need-make-requires Inv-loop μ-loop
 make-requires c κs = search needs
 
--- src/buffers.rt:46:5
+-- src/buffers.rt:66:5
 loop-holds : tie.Need-loop-holds Inv-loop μ-loop
 loop-holds c = search needs
 
--- src/buffers.rt:47:43
+-- src/buffers.rt:67:43
 add-with-slot : tie.Need-add-with-slot Inv-loop μ-loop
 add-with-slot c = search needs
 
--- src/buffers.rt:47:57
+-- src/buffers.rt:67:57
 add-with-slot-2 : tie.Need-add-with-slot-2 Inv-loop μ-loop
 add-with-slot-2 c = search needs
 
--- src/buffers.rt:47:9
+-- src/buffers.rt:67:9
 with-slot-requires : tie.Need-with-slot-requires Inv-loop μ-loop
 with-slot-requires c κs = search needs
 
--- src/buffers.rt:48:9
+-- src/buffers.rt:68:9
 add-i : tie.Need-add-i Inv-loop μ-loop
 add-i c = search needs
 
--- src/buffers.rt:46:5
+-- src/buffers.rt:66:5
 loop-less : tie.Need-loop-less Inv-loop μ-loop
 loop-less c = search needs
 
--- src/buffers.rt:46:5
+-- src/buffers.rt:66:5
 loop-again : tie.Need-loop-again Inv-loop μ-loop
 loop-again c = search needs
 
--- src/buffers.rt:50:5
+-- src/buffers.rt:70:5
 with-ends-requires : tie.Need-with-ends-requires Inv-loop μ-loop
 with-ends-requires c κs = search needs
 
--- src/buffers.rt:42:1
+-- src/buffers.rt:62:1
 returns : tie.Need-returns Inv-loop μ-loop
 returns c = search needs
 

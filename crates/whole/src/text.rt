@@ -1,0 +1,52 @@
+// What a machine holds, as text in a buffer that the caller lends, as `ink` has it.
+use machine::Machine;
+use machine::Told;
+
+// wN=PLACE; "-" where there is no such worker
+pub fn worker(out: &mut [u8], at: usize, w: u64, m: Machine) -> usize {
+    let p = ink::form(out, at, b"w#=", &[w]);
+    if w < m.count {
+        return parts::text::place(out, p, crate::place_of(m, w));
+    }
+    ink::byte(out, p, b'-')
+}
+
+// h=H t=T m=M wN=PLACE
+pub fn standing(out: &mut [u8], at: usize, w: u64, m: Machine) -> usize {
+    let p = ink::form(out, at, b"h=# t=# m=# ", &crate::numbers(m));
+    worker(out, p, w, m)
+}
+
+// PLACE R h=H t=T m=M wN=PLACE
+pub fn entry(out: &mut [u8], at: usize, place: u64, refusal: u64, w: u64, m: Machine) -> usize {
+    let p = ink::form(out, at, b"# # ", &[place, refusal]);
+    standing(out, p, w, m)
+}
+
+// PLACE R h=H t=T m=M, and the line's end
+pub fn report(out: &mut [u8], at: usize, place: u64, refusal: u64, m: Machine) -> usize {
+    let p = ink::form(out, at, b"# # ", &[place, refusal]);
+    ink::form(out, p, b"h=# t=# m=#\n", &crate::numbers(m))
+}
+
+// slots (stamp,value) ...
+pub fn slots(out: &mut [u8], at: usize, m: Machine) -> usize {
+    let ring = m.ring;
+    let f = ring.fixed;
+    let list = ring.slots;
+    let p = ink::text(out, at, b"slots");
+    let q = parts::text::slots(out, p, list, f.capacity);
+    ink::byte(out, q, b'\n')
+}
+
+// NAME x y ..., or: NAME refused N
+pub fn told(out: &mut [u8], at: usize, name: &[u8], items: &[u64], t: Told) -> usize {
+    let p = ink::text(out, at, name);
+    match t {
+        Told::Number(n) => {
+            let q = parts::text::items(out, p, items, n);
+            ink::byte(out, q, b'\n')
+        }
+        Told::Refused(refusal) => ink::form(out, p, b" refused #\n", &[refusal]),
+    }
+}
