@@ -2,6 +2,7 @@
 use crate::summary::Summary;
 use machine::Machine;
 use options::Options;
+use places::Place;
 
 pub struct Run {
     pub machine: Machine,
@@ -64,14 +65,14 @@ fn make(capacity: u64, workers: u64, odd: bool, out: &mut [u8], at: usize) -> Ru
     made(did.machine, odd, end)
 }
 
-// The summary after an entry of this first word, which led from one machine to the other.
+// The summary after an entry of this first word, which led its worker from one place to the other.
 fn counted(
     asked: bool,
     s: Summary,
     refusal: u64,
     first: u64,
-    before: Machine,
-    after: Machine,
+    before: Place,
+    after: Place,
 ) -> Summary {
     if !asked {
         return s;
@@ -82,8 +83,7 @@ fn counted(
     if first % 16 < 8 {
         return crate::summary::begun(s);
     }
-    let w = first / 16;
-    crate::summary::acted(s, whole::place_of(before, w), whole::place_of(after, w))
+    crate::summary::acted(s, before, after)
 }
 
 // PLACE R h=H t=T m=M wN=S
@@ -94,12 +94,13 @@ fn line_unless(
     place: u64,
     refusal: u64,
     w: u64,
-    m: Machine,
+    numbers: [u64; 7],
+    s: Place,
 ) -> usize {
     if quiet {
         return at;
     }
-    let p = whole::text::entry(out, at, place, refusal, w, m);
+    let p = whole::text::entry_of(out, at, place, refusal, w, numbers, s);
     let q = ink::byte(out, p, b'\n');
     ink::settle(out, q)
 }
@@ -127,14 +128,25 @@ fn steps(r: Run, o: Options, list: &[u64], from: usize, out: &mut [u8]) -> Run {
         let first = list[i];
         let second = list[i + 1];
         i += 2;
+        let w = first / 16;
         let pair = [first, second];
+        let before = whole::place_of(m, w);
         let ran = bounded::run(m, &pair);
-        let now = ran.machine;
+        m = ran.machine;
         refusal = ran.refusal;
-        s = counted(o.summary, s, refusal, first, m, now);
-        at = line_unless(o.quiet, out, at, place, refusal, first / 16, now);
+        let after = whole::place_of(m, w);
+        s = counted(o.summary, s, refusal, first, before, after);
+        at = line_unless(
+            o.quiet,
+            out,
+            at,
+            place,
+            refusal,
+            w,
+            whole::numbers(m),
+            after,
+        );
         place = next_place(place, refusal);
-        m = now;
     }
     Run {
         machine: m,

@@ -1,5 +1,6 @@
 // Machines as wholes: what one holds, as text; whether two are the same; and machines built by hand, field by field.
 use machine::Machine;
+use places::Answer;
 use places::Place;
 
 pub mod alike;
@@ -16,10 +17,13 @@ pub fn numbers(m: Machine) -> [u64; 7] {
     [head.0, tail.0, m.meter, f.capacity, f.mark, f.lap, m.count]
 }
 
-// Where a worker stands; its number is taken modulo the number of records.
+// Where a worker stands; idle without an answer where there is no such record.
 pub fn place_of(m: Machine, w: u64) -> Place {
     let workers = m.workers;
-    let i = w % 16;
-    let record = workers[i as usize];
-    record.place
+    let i = w as usize;
+    if i < words::WORKERS {
+        let record = workers[i];
+        return record.place;
+    }
+    Place::Idle(Answer::Nothing)
 }

@@ -1,23 +1,47 @@
 // What a machine holds, as text in a buffer that the caller lends, as `ink` has it.
 use machine::Machine;
 use machine::Told;
+use places::Place;
 
-// wN=PLACE; "-" where there is no such worker
-pub fn worker(out: &mut [u8], at: usize, w: u64, m: Machine) -> usize {
+// wN=PLACE; "-" where there is no such worker among so many
+fn stands(out: &mut [u8], at: usize, w: u64, count: u64, s: Place) -> usize {
     let p = ink::form(out, at, b"w#=", &[w]);
-    if w < m.count {
-        return parts::text::place(out, p, crate::place_of(m, w));
+    if w < count {
+        return parts::text::place(out, p, s);
     }
     ink::byte(out, p, b'-')
 }
 
-// h=H t=T m=M wN=PLACE
+pub fn worker(out: &mut [u8], at: usize, w: u64, m: Machine) -> usize {
+    let count = m.count;
+    stands(out, at, w, count, crate::place_of(m, w))
+}
+
+// h=H t=T m=M wN=PLACE, of the numbers of a machine and the place of its worker: handing these on is cheaper than the machine
+fn standing_of(out: &mut [u8], at: usize, w: u64, numbers: [u64; 7], s: Place) -> usize {
+    let p = ink::form(out, at, b"h=# t=# m=# ", &numbers);
+    stands(out, p, w, numbers[6], s)
+}
+
 pub fn standing(out: &mut [u8], at: usize, w: u64, m: Machine) -> usize {
-    let p = ink::form(out, at, b"h=# t=# m=# ", &crate::numbers(m));
-    worker(out, p, w, m)
+    let numbers = crate::numbers(m);
+    standing_of(out, at, w, numbers, crate::place_of(m, w))
 }
 
 // PLACE R h=H t=T m=M wN=PLACE
+pub fn entry_of(
+    out: &mut [u8],
+    at: usize,
+    place: u64,
+    refusal: u64,
+    w: u64,
+    numbers: [u64; 7],
+    s: Place,
+) -> usize {
+    let p = ink::form(out, at, b"# # ", &[place, refusal]);
+    standing_of(out, p, w, numbers, s)
+}
+
 pub fn entry(out: &mut [u8], at: usize, place: u64, refusal: u64, w: u64, m: Machine) -> usize {
     let p = ink::form(out, at, b"# # ", &[place, refusal]);
     standing(out, p, w, m)
