@@ -8,7 +8,8 @@ use Rattle.machine.specs.Broken.{all, inLimits, byRule, endsFit, recordFits, re
 use Rattle.machine.specs.Turn.{begun, stored, acted, turnOf}
 use Rattle.machine.specs.Run.{ran, runFrom, runOf}
 use Rattle.demands.specs.Notions.{acts}
-use Rattle.demands.specs.Attained.{Attained, attained, seenIn, sightOf, needed, othersIdle}
+use Rattle.demands.specs.Attained.{attained, seenIn, sightOf, needed, othersIdle}
+use Rattle.demands.specs.Demands.{Attained}
 
 pub numbers-attained : Attained
 unfolding doubled markOf markedOf unmarkedOf plus minus withMark nextOf same onePast lapBehind lapBehindOnePast inside strayOf orderOf entryOf stay tailTo headTo stampTo valueTo countOf emptySlots stamped freshSlots idlers freshOf refused accepted all inLimits byRule endsFit recordFits recordsFit brokenOf begun stored acted turnOf ran runFrom runOf acts attained seenIn sightOf needed othersIdle

@@ -1,5 +1,5 @@
--- Demand 3's numbers are attained: for each place a schedule after which worker 0 stands there, every other worker is idle,
--- and the call needs exactly `mostOf` acts more. One table; its proof is proofs/Attained.antt.
+-- The table of demand 3's numbers: for each place a schedule after which worker 0 stands there, every other worker is idle, and
+-- the call needs exactly `mostOf` acts more. What is said of it: `Attained` of Demands.antt, proved in proofs/Attained.antt.
 use Prim.Native.Nat.{ℕ, zero, suc, _+_, _*_}
 use mathlib.Core.Bool.{Bool, true, cond, not}
 use mathlib.Core.Path.{_≡_}
@@ -104,6 +104,3 @@ attained =
     ∷ needs 2 (its 6 0) Close1 1
     ∷ needs 2 (its 7 0) IsClosed1 1
     ∷ []
-
-abbrev pub Attained : Type 0
-Attained = map seenIn attained ≡ map (λ (r : Case). exactly (r .place) (r .number)) attained

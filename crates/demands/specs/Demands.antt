@@ -3,7 +3,7 @@
 -- what not.
 use Prim.Native.Nat.{ℕ, suc, _+_, _*_, _%_, _≤_, _<_}
 use mathlib.Core.Bool.{Bool, true, false}
-use mathlib.Core.List.{List, [], _∷_, _++_}
+use mathlib.Core.List.{List, [], _∷_, _++_, map}
 use mathlib.Core.Path.{_≡_}
 use lib.ListN.{length, take}
 use Rattle.words.specs.declared.Stamp.{Stamp}
@@ -29,6 +29,7 @@ use Rattle.machine.specs.Run.{runOf}
 use Rattle.machine.specs.History.{eventsOf, movedOf, stockOf}
 use Rattle.bounded.specs.Bounded.{makeOf, stepOf, beginOf, actOf, talliedOf}
 use Rattle.demands.specs.Notions.{Definition, Allowed, machineAfter, actsOf, Acts, acts, InHand, HandsOut, Reads, Truth, itemsOf, takersOf, LatestIn, ItemIn, WrittenIn, CallClaim, tally, waiting, Fifo, Plain, valueAt, queueAnswer, LenAnswers, mostOf, OtherHand, passed, ownActs, LetsGo}
+use Rattle.demands.specs.Attained.{Case, seenIn, attained, exactly}
 
 -- ==== 1. Any machine, entry or schedule handed in gets an answer or a numbered refusal; a refused step changes nothing.
 -- That each gets an answer is what the functions of crate bounded promise: none has a `requires`, and each answer is equal to a
@@ -239,8 +240,11 @@ pub record Demand3 (d : Definition) (m : Machine) (h : List Event) : Type 0 wher
   pub lets-go : HandLetsGo d m
   pub as-run : PassedAsRun d m
 
--- (That the numbers are attained is a table of its own, Attained.antt.)
 abbrev pub ScheduledAlone : Definition → Type 0
 ScheduledAlone d =
     (capacity workers : ℕ) → Allowed capacity workers → (s : List ℕ)
     → Demand3 d (machineAfter d capacity workers s) (actsOf d capacity workers s)
+
+-- The numbers are attained: each schedule of the table leads to its place, alone, and the call there needs exactly its number of acts.
+abbrev pub Attained : Type 0
+Attained = map seenIn attained ≡ map (λ (c : Case). exactly (c .place) (c .number)) attained

@@ -1,8 +1,7 @@
--- The demands of document 01, proved. What they say, in document 01's words, is crates/demands/specs/Demands.antt; the table of
--- attained numbers and the runs on paper are Attained.antt and Eight.antt beside it.
+-- The demands of document 01, proved. What they say, in document 01's words, is crates/demands/specs/Demands.antt; the
+-- runs on paper are Eight.antt beside it.
 use Rattle.demands.specs.Notions.{document01}
-use Rattle.demands.specs.Demands.{RefusedUnchanged, Numbered, StaysUnbroken, OnlyOne, UnderEverySchedule, ActByAct, WholeSchedules, LenTrue, ScheduledAlone}
-use Rattle.demands.specs.Attained.{Attained}
+use Rattle.demands.specs.Demands.{RefusedUnchanged, Numbered, StaysUnbroken, OnlyOne, UnderEverySchedule, ActByAct, WholeSchedules, LenTrue, ScheduledAlone, Attained}
 use Rattle.demands.specs.Eight.{EightRuns}
 use Rattle.demands.proofs.Refusals.{refused-unchanged, numbered, stays-unbroken, only-one}
 use Rattle.demands.proofs.Attained.{numbers-attained}
