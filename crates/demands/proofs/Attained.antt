@@ -1,5 +1,5 @@
 -- Demand 3's numbers, computed from the definitions.
-use mathlib.Core.Path.{_≡_, refl}
+use mathlib.Core.Path.{refl}
 use Rattle.words.specs.Words.{doubled, markOf, markedOf, unmarkedOf, plus, minus, withMark, nextOf, same, onePast, lapBehind, lapBehindOnePast}
 use Rattle.places.specs.Places.{inside, strayOf, orderOf, entryOf}
 use Rattle.acts.specs.Acts.{stay, tailTo, headTo, stampTo, valueTo, countOf}

@@ -1,7 +1,7 @@
 -- Demand 1: refusals are numbered and change nothing, and only one answer meets a promise.
 use Prim.Native.Nat.{ℕ, zero, suc, _+_, _-_, _*_, _%_, _<_, _≤_}
 use mathlib.Core.Path.{_≡_, refl, sym, ap, _∙_, subst}
-use mathlib.Core.Bool.{Bool, true, false, cond, true≢false}
+use mathlib.Core.Bool.{Bool, true, false, cond}
 use mathlib.Core.List.{List, [], _∷_}
 use native.Mathlib.Omega.{arith}
 use native.Mathlib.Nat.{zero-mod}
@@ -23,7 +23,7 @@ use Rattle.machine.specs.declared.Verdict.{Verdict}
 use Rattle.machine.specs.declared.Verdict.the-variants.{Refuse, Start, Move}
 use Rattle.machine.specs.Machine.{starts, idler, idlers, placeOf, freshOf, blank, refused, accepted}
 use Rattle.machine.specs.Broken.{inLimits, byRule, endsFit, recordFits, brokenOf, allIdle}
-use Rattle.machine.specs.Contents.{countIn, contentsOf, contentsRefusal, written}
+use Rattle.machine.specs.Contents.{countIn, contentsRefusal, written}
 use Rattle.machine.specs.Turn.{verdictOf, carried, turn, turnOf, begun, acted}
 use Rattle.machine.specs.Run.{ran, runFrom, runOf}
 use Rattle.words.specs.declared.Stamp.{Stamp}

@@ -2,8 +2,7 @@
 -- the call needs exactly `mostOf` acts more. What is said of it: `Attained` of Demands.antt, proved in proofs/Attained.antt.
 use Prim.Native.Nat.{ℕ, zero, suc, _+_, _*_}
 use mathlib.Core.Bool.{Bool, true, cond, not}
-use mathlib.Core.Path.{_≡_}
-use mathlib.Core.List.{List, [], _∷_, _++_, map}
+use mathlib.Core.List.{List, [], _∷_, _++_}
 use lib.Dec.{eqb}
 use Rattle.words.specs.Limits.{workersMost}
 use Rattle.words.specs.Words.{stamp}

@@ -2,15 +2,13 @@
 use Prim.Native.Nat.{ℕ, _+_, _*_}
 use mathlib.Core.Path.{_≡_}
 use mathlib.Core.List.{List, [], _∷_, _++_, map}
-use lib.ListN.{getD, length}
+use lib.ListN.{getD}
 use Rattle.words.specs.Words.{stamp, claim, markOf, lapOf}
 use Rattle.places.specs.declared.Place.{Place}
 use Rattle.places.specs.declared.Place.the-variants.{Idle, O1, O2}
 use Rattle.places.specs.declared.Answer.the-variants.{Pushed, Full, Closed, Displaced, Popped, PopClosed, Len, Yes, No}
-use Rattle.machine.specs.declared.Machine.{Machine}
 use Rattle.machine.specs.declared.Ran.{Ran}
 use Rattle.machine.specs.declared.Event.{Event}
-use Rattle.machine.specs.declared.Tally.{Tally}
 use Rattle.machine.specs.Machine.{slot, freshOf, placeOf}
 use Rattle.machine.specs.Contents.{contentsOf}
 use Rattle.machine.specs.Run.{runOf}

@@ -1,25 +1,20 @@
 -- One turn of the schedule's loop, from what is left of the run.
-use Prim.Native.Nat.{ℕ, zero, suc, _+_, _-_, _*_, _/_, _%_, _<_, _≤_}
+use Prim.Native.Nat.{ℕ, suc, _+_, _-_, _*_, _%_, _<_, _≤_}
 use mathlib.Core.Path.{_≡_, refl, sym, ap, _∙_, subst}
-use mathlib.Core.Bool.{Bool, true, false, cond, true≢false}
-use mathlib.Core.List.{List, [], _∷_}
+use mathlib.Core.Bool.{Bool, true, false}
+use mathlib.Core.List.{List, _∷_}
 use native.Mathlib.Omega.{arith}
 use native.Mathlib.Numerals.{add-one}
-use lib.Dec.{ltb, eqb}
-use lib.ListN.{getD, set, length, drop, drop-of-length-le}
+use lib.Dec.{ltb}
+use lib.ListN.{getD, length, drop, drop-of-length-le}
 use lib.Seq.{drop-cons}
 use borrow.Author.Tests.{ne-eqb, eq-eqb, ltb-true}
-use Rattle.words.specs.declared.Fixed.{Fixed}
 use Rattle.words.specs.Limits.{slotsMost, workersMost, meterMost}
-use Rattle.words.specs.Words.{Fair, indexOf}
-use Rattle.words.proofs.Pick.{below, above, yes, no, on, off, other}
-use Rattle.places.specs.declared.Ends.{Ends}
+use Rattle.words.proofs.Pick.{below, above, yes, no}
 use Rattle.places.specs.declared.Slot.{Slot}
 use Rattle.places.specs.declared.Place.{Place}
 use Rattle.places.specs.declared.Held.{Held}
 use Rattle.places.specs.declared.Held.the-variants as held
-use Rattle.places.specs.declared.View.{View}
-use Rattle.places.specs.declared.Worker.{Worker}
 use Rattle.places.specs.declared.Call.{Call}
 use Rattle.places.specs.declared.Order.{Order}
 use Rattle.places.specs.declared.Order.the-variants.{Begin, Act}
@@ -29,15 +24,14 @@ use Rattle.places.specs.Places.{viewOf, fitsOf, beginOf, entryOf}
 use Rattle.acts.specs.declared.Acted.{Acted}
 use Rattle.acts.specs.Acts.{actOf, Fits}
 use Rattle.machine.specs.declared.Machine.{Machine}
-use Rattle.machine.specs.declared.Did.{Did}
 use Rattle.machine.specs.declared.Ran.{Ran}
 use Rattle.machine.specs.declared.Verdict.{Verdict}
 use Rattle.machine.specs.declared.Verdict.the-variants.{Refuse, Start, Move}
-use Rattle.machine.specs.Machine.{slot, machineOf, placeOf, refused, accepted}
+use Rattle.machine.specs.Machine.{slot, placeOf, refused, accepted}
 use Rattle.machine.specs.Broken.{brokenOf}
 use Rattle.machine.specs.Turn.{verdictOf, spotOf, begun, stored, acted, carried, turn, turnOf}
 use Rattle.machine.specs.Run.{ran, runFrom, runOf}
-use Rattle.machine.proofs.Kept.{Unbroken, unbroken-of, fair-in, ruled-in, few-workers, begun-unbroken, stored-unbroken, Ok, keeps, word-fits-in, fits-plain, either}
+use Rattle.machine.proofs.Kept.{Unbroken, fair-in, ruled-in, few-workers, begun-unbroken, stored-unbroken, Ok, keeps, word-fits-in, fits-plain, either}
 
 -- ---- what a verdict tells: a refusal has a number, a start is a call's first place, a move is a busy worker's in time
 abbrev Sense : ℕ → Place → Verdict → Type 0

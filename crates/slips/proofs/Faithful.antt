@@ -15,7 +15,6 @@ use Rattle.places.specs.declared.Order.the-variants.{Begin, Act}
 use Rattle.places.specs.declared.Entry.{Entry}
 use Rattle.places.specs.declared.Entry.the-variants.{Unreadable, Asks}
 use Rattle.places.specs.Places.{viewOf, entryOf}
-use Rattle.acts.specs.declared.Acted.{Acted}
 use Rattle.acts.specs.Acts.{actOf}
 use Rattle.machine.specs.declared.Machine.{Machine}
 use Rattle.machine.specs.declared.Did.{Did}
@@ -23,7 +22,7 @@ use Rattle.machine.specs.declared.Ran.{Ran}
 use Rattle.machine.specs.declared.Event.{Event}
 use Rattle.machine.specs.declared.Verdict.the-variants.{Refuse, Move}
 use Rattle.machine.specs.Machine.{placeOf, refused, accepted}
-use Rattle.machine.specs.Turn.{acted, turn, turnOf, stored, spotOf, verdictOf, carried}
+use Rattle.machine.specs.Turn.{acted, turn, turnOf, stored, spotOf, carried}
 use Rattle.machine.specs.Run.{ran, runFrom}
 use Rattle.machine.specs.History.{eventsOf, historyOf}
 use Rattle.words.specs.Limits.{meterMost}

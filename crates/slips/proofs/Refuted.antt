@@ -1,12 +1,12 @@
 -- Each slip, refuted by computing its schedule.
 use Prim.Native.Nat.{ℕ, _≤_}
 use native.Mathlib.Omega.{arith}
-use mathlib.Core.Bool.{Bool, true, false, true≢false}
+use mathlib.Core.Bool.{true≢false}
 use mathlib.Core.List.{List, [], _∷_, _++_}
-use mathlib.Core.Path.{_≡_, refl, sym, ap, _∙_}
+use mathlib.Core.Path.{_≡_, refl, sym, ap}
 use lib.ListN.{getD}
 use Rattle.words.specs.declared.Stamp.{Stamp}
-use Rattle.words.specs.Words.{doubled, markOf, lapOf, fixedOf, indexOf, markedOf, unmarkedOf, plus, minus, withMark, nextOf, same, onePast, lapBehind, lapBehindOnePast, stamp}
+use Rattle.words.specs.Words.{doubled, markOf, markedOf, unmarkedOf, plus, minus, withMark, nextOf, same, onePast, lapBehind, lapBehindOnePast, stamp}
 use Rattle.places.specs.declared.Answer.the-variants.{Full, Closed, Popped, Empty}
 use Rattle.places.specs.declared.Place.the-variants.{Idle, O1, O2, O5, O6}
 use Rattle.places.specs.Places.{inside, strayOf, orderOf, entryOf}
@@ -20,8 +20,8 @@ use Rattle.machine.specs.Turn.{begun, stored, acted, turnOf}
 use Rattle.machine.specs.Run.{ran, runFrom, runOf}
 use Rattle.machine.specs.History.{event, historyOf, tallyOf, stockOf}
 use Rattle.demands.specs.Notions.{acts, itemsOf, tailersOf, takersOf, handP4, handO4, readO4, popped, passed, ownActs, actsOf, Allowed}
-use Rattle.slips.specs.Slips.{turnWith, runWith, historyWith, slipped, emptyUnseen, fullUnseen, closedUnseen, emptyTailFirst, fullHeadFirst, lenLooksOnce, popKeepsItsWord, lostForceKeepsItsWord, lostForceTakesTheHead, unstamped, releasesWithNext, neverLetsGo, tailUnmoved, unwritten, handsOutAgain, readsAfterItsStore, stampBeforeValue, pushWritesLate}
-use Rattle.slips.specs.Refuted.{Trial, trial, reached, past, does, Refuted, twoPushes, popReadsLate, forceWritesLate, twoPops, popOfNothing, popLooksLate, pushLooksLate, pushLoses, pushClaims, forceClaims, onePush, emptyLooks, fullLooks, popAfterPush, secondLap, popOutOfDate, forceOutOfDate, popInHand, lenLooks}
+use Rattle.slips.specs.Slips.{turnWith, runWith, historyWith, slipped, emptyUnseen, fullUnseen, closedUnseen, emptyTailFirst, fullHeadFirst, lenLooksOnce, popKeepsItsWord, lostForceKeepsItsWord, lostForceTakesTheHead, unstamped, releasesWithNext, neverLetsGo, handsOutAgain, readsAfterItsStore, stampBeforeValue, pushWritesLate}
+use Rattle.slips.specs.Refuted.{Trial, reached, past, does, Refuted, popOfNothing, popLooksLate, pushLooksLate, pushLoses, emptyLooks, fullLooks, popAfterPush, secondLap, popOutOfDate, forceOutOfDate, popInHand, lenLooks}
 use Rattle.slips.proofs.Ways.{busyAt, nowhere, wrong-item, unclaimed, sole, acting, said, no-cons, untouched, quiet, no-hand, stillBusy, late, rests, at-once, busyAlong, holds-on}
 
 one-two : Allowed 1 2

@@ -9,7 +9,6 @@ use mathlib.Core.Logic.{_≢_}
 use lib.Dec.{eqb}
 use borrow.Author.Tests.{eq-eqb, ne-eqb}
 use lib.ListN.{length, getD, replicate}
-use Rattle.words.specs.declared.Stamp.{Stamp}
 use Rattle.places.specs.declared.Answer.{Answer}
 use Rattle.places.specs.declared.Answer.the-variants.{Nothing}
 use Rattle.places.specs.declared.Worker.{Worker}
@@ -20,11 +19,9 @@ use Rattle.places.specs.declared.Entry.the-variants.{Asks}
 use Rattle.places.specs.Places.{viewOf, entryOf}
 use Rattle.machine.specs.declared.Machine.{Machine}
 use Rattle.machine.specs.declared.Event.{Event}
-use Rattle.machine.specs.declared.Moved.the-variants.{Neither, Head}
 use Rattle.machine.specs.Machine.{idler, placeOf, accepted}
 use Rattle.machine.specs.Run.{ran}
-use Rattle.machine.specs.History.{movedOf}
-use Rattle.demands.specs.Notions.{Definition, Acts, acts, InHand, handP4, handP5, handF7, handF8, handF9, handO4, handO5, Truth, itemIn, headBy, itemsOf, takersOf, LatestIn, ItemIn, WrittenIn, CallClaim, Fifo, start, enqueue, dequeue, rest, OtherHand, passed, LetsGo}
+use Rattle.demands.specs.Notions.{Definition, Acts, acts, Truth, itemIn, itemsOf, takersOf, LatestIn, ItemIn, WrittenIn, CallClaim, Fifo, start, enqueue, dequeue, rest, OtherHand, passed, LetsGo}
 use Rattle.demands.specs.Demands.{AnswersTrue, EndsAlone}
 use Rattle.claims.proofs.Logged.{items-end, takers-end}
 use Rattle.claims.proofs.Reached.{idle-all}

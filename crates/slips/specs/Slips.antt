@@ -1,6 +1,6 @@
 -- Document 01's tables with a slip in one row, all else as it is; and definitions of the machine made of them.
 use Prim.Native.Nat.{ℕ, _+_}
-use mathlib.Core.Bool.{Bool, true, false, cond}
+use mathlib.Core.Bool.{Bool, cond}
 use mathlib.Core.List.{List, [], _∷_, _++_}
 use mathlib.Core.Path.{_≡_}
 use lib.Dec.{eqb}
@@ -127,6 +127,10 @@ pushWritesLate = 22
 abbrev but : ℕ → ℕ → Acted → Acted → Acted
 but n slip wrong right = cond (eqb n slip) wrong right
 
+-- What a won exchange leaves, in place of document 01's; one that is lost stays lost.
+abbrev onWin : Bool → Bool → Acted → Acted → Acted
+onWin found lose wrong right = cond found (cond lose right wrong) right
+
 -- The tables with slip number n.
 abbrev pub actWith : ℕ → Fixed → Ends → Slot → Place → Bool → Acted
 actWith n f e s (Idle a) lose = actOf f e s (Idle a) lose
@@ -135,8 +139,8 @@ actWith n f e s (P2 k t x) lose = actOf f e s (P2 k t x) lose
 actWith n f e s (P3 k t x) lose =
     but n lostPushGoesOn (stay (tailTo e (nextOf f t)) s (P4 t x))
     (but n closedUnseen (cond (same (e .tail) t) (actOf f e s (P3 k t x) lose) (stay e s (Idle (Closed x))))
-    (but n unwrapped (stay (tailTo e (plus t 1)) s (P4 t x))
-    (but n tailUnmoved (stay e s (P4 t x)) (actOf f e s (P3 k t x) lose))))
+    (but n unwrapped (onWin (same (e .tail) t) lose (stay (tailTo e (plus t 1)) s (P4 t x)) (actOf f e s (P3 k t x) lose))
+    (but n tailUnmoved (onWin (same (e .tail) t) lose (stay e s (P4 t x)) (actOf f e s (P3 k t x) lose)) (actOf f e s (P3 k t x) lose))))
 actWith n f e s (P4 t x) lose =
     but n unwritten (stay e s (P5 t)) (but n pushWritesLate (stay e (stampTo s (plus t 1)) (F9 t x)) (actOf f e s (P4 t x) lose))
 actWith n f e s (P5 t) lose = but n unstamped (stay e s (Idle Pushed)) (actOf f e s (P5 t) lose)
@@ -163,7 +167,7 @@ actWith n f e s (O5 h v) lose =
     (but n neverLetsGo (stay e s (O4 h)) (actOf f e s (O5 h v) lose)))
 actWith n f e s (O6 h) lose =
     but n emptyUnseen (stay e s (Idle Empty))
-    (but n handsOutAgain (stay e s (Idle (Popped (s .value))))
+    (but n handsOutAgain (cond (same (unmarkedOf f (e .tail)) h) (stay e s (Idle (Popped (s .value)))) (actOf f e s (O6 h) lose))
     (but n popKeepsItsWord (cond (same (unmarkedOf f (e .tail)) h) (actOf f e s (O6 h) lose) (stay e s (O2 h)))
     (actOf f e s (O6 h) lose)))
 actWith n f e s Len1 lose = actOf f e s Len1 lose

@@ -43,8 +43,8 @@ pub fn entry_of(
 }
 
 pub fn entry(out: &mut [u8], at: usize, place: u64, refusal: u64, w: u64, m: Machine) -> usize {
-    let p = ink::form(out, at, b"# # ", &[place, refusal]);
-    standing(out, p, w, m)
+    let numbers = crate::numbers(m);
+    entry_of(out, at, place, refusal, w, numbers, crate::place_of(m, w))
 }
 
 // PLACE R h=H t=T m=M, and the line's end
