@@ -7,29 +7,29 @@ use native.Mathlib.Omega.{arith}
 use native.Mathlib.Nat.{mod-eq-of-lt}
 use lib.Dec.{ltb, eqb}
 use borrow.Author.Tests.{eqb-true}
-use Rattle.words.specs.declared.Claim.{Claim}
-use Rattle.words.specs.Limits.{wide}
-use Rattle.words.specs.Words.{claim}
-use Rattle.words.proofs.Pick.{along, yes, no, below, above}
-use Rattle.places.specs.declared.Place.{Place}
-use Rattle.places.specs.declared.Order.{Order}
-use Rattle.places.specs.declared.Entry.{Entry}
-use Rattle.places.specs.declared.Entry.the-variants.{Unreadable, Asks}
-use Rattle.places.specs.Places.{entryOf}
-use Rattle.machine.specs.declared.Machine.{Machine}
-use Rattle.machine.specs.declared.Did.{Did}
-use Rattle.machine.specs.declared.Ran.{Ran}
-use Rattle.machine.specs.declared.Moved.{Moved}
-use Rattle.machine.specs.declared.Moved.the-variants.{Neither, Tail, Head}
-use Rattle.machine.specs.declared.Tally.{Tally}
-use Rattle.machine.specs.declared.Verdict.{Verdict}
-use Rattle.machine.specs.declared.Verdict.the-variants.{Refuse, Start, Move}
-use Rattle.machine.specs.Machine.{placeOf, refused, accepted}
-use Rattle.machine.specs.Broken.{brokenOf}
-use Rattle.machine.specs.Turn.{verdictOf, carried, turn, turnOf, begun, acted}
-use Rattle.machine.specs.Run.{ran, runFrom, runOf}
-use Rattle.machine.specs.History.{movedOf, counted, stockOf}
-use Rattle.machine.proofs.Kept.{either}
+use Rattle.bounded_words.specs.declared.Claim.{Claim}
+use Rattle.bounded_words.specs.Limits.{wide}
+use Rattle.bounded_words.specs.Words.{claim}
+use Rattle.bounded_words.proofs.Pick.{along, yes, no, below, above}
+use Rattle.bounded_places.specs.declared.Place.{Place}
+use Rattle.bounded_places.specs.declared.Order.{Order}
+use Rattle.bounded_places.specs.declared.Entry.{Entry}
+use Rattle.bounded_places.specs.declared.Entry.the-variants.{Unreadable, Asks}
+use Rattle.bounded_places.specs.Places.{entryOf}
+use Rattle.bounded_machine.specs.declared.Machine.{Machine}
+use Rattle.bounded_machine.specs.declared.Did.{Did}
+use Rattle.bounded_machine.specs.declared.Ran.{Ran}
+use Rattle.bounded_machine.specs.declared.Moved.{Moved}
+use Rattle.bounded_machine.specs.declared.Moved.the-variants.{Neither, Tail, Head}
+use Rattle.bounded_machine.specs.declared.Tally.{Tally}
+use Rattle.bounded_machine.specs.declared.Verdict.{Verdict}
+use Rattle.bounded_machine.specs.declared.Verdict.the-variants.{Refuse, Start, Move}
+use Rattle.bounded_machine.specs.Machine.{placeOf, refused, accepted}
+use Rattle.bounded_machine.specs.Broken.{brokenOf}
+use Rattle.bounded_machine.specs.Turn.{verdictOf, carried, turn, turnOf, begun, acted}
+use Rattle.bounded_machine.specs.Run.{ran, runFrom, runOf}
+use Rattle.bounded_machine.specs.History.{movedOf, counted, stockOf}
+use Rattle.bounded_machine.proofs.Kept.{either}
 use Rattle.bounded.specs.Bounded.{stepOf, beginOf, actOf, nextClaim, talliedOf}
 
 -- ---- a refused entry changes nothing

@@ -1,7 +1,7 @@
 // Runs a schedule, from a file or from standard input, entry by entry, and writes what the machine holds after each.
 mod many;
 
-use options::Options;
+use replay_options::Options;
 
 // The file that the argument names.
 fn run_file(o: Options) {
@@ -26,7 +26,7 @@ fn run_from(o: Options, fd: i32, name: &[u8]) {
         many::run_all(o, fd, name);
         return;
     }
-    let kept = input::source::kept(fd, name);
+    let kept = replay_input::source::kept(fd, name);
     if 0 <= kept {
         many::run_all(o, kept, name);
         libc::close(kept);
@@ -34,13 +34,13 @@ fn run_from(o: Options, fd: i32, name: &[u8]) {
 }
 
 fn main() {
-    let o = options::read();
+    let o = replay_options::read();
     if o.help {
-        options::help();
+        replay_options::help();
         return;
     }
     if o.wrong != 0 {
-        options::complain(o.wrong);
+        replay_options::complain(o.wrong);
         return;
     }
     if o.file != 0 {

@@ -9,7 +9,7 @@ use Rattle.replay.proofs.many.run_in.Reads as reads
 use Rattle.replay.proofs.many.run_in.Lts as lts
 use Rattle.replay.proofs.many.one.Reads as one-reads
 use Rattle.replay.proofs.many.unless_at_end.Reads as unless-at-end-reads
-use Rattle.ink.proofs.flush.Reads as flush-reads
+use Rattle.text_output.proofs.flush.Reads as flush-reads
 
 abbrev Inv-loop : tie.InvT-loop
 Inv-loop o fd name out₀ n₀ turns₀ out n turns = length out ≡ length out₀
