@@ -1,9 +1,10 @@
 -- Making, beginning and acting, one call at a time.
 use Prim.Native.Nat.{ℕ, _+_, _%_}
-use mathlib.Core.Bool.{Bool, true, false, cond}
+use mathlib.Core.Bool.{cond}
 use lib.Dec.{ltb}
+use Rattle.queue_entries.specs.Limits.{workersMost, inLimits}
 use Rattle.bounded_words.specs.declared.Claim.{Claim}
-use Rattle.bounded_words.specs.Limits.{slotsMost, workersMost, wide}
+use Rattle.bounded_words.specs.Limits.{slotsMost, wide}
 use Rattle.bounded_words.specs.Words.{claim}
 use Rattle.bounded_machine.specs.declared.Machine.{Machine}
 use Rattle.bounded_machine.specs.declared.Did.{Did}
@@ -11,7 +12,7 @@ use Rattle.bounded_machine.specs.declared.Moved.{Moved}
 use Rattle.bounded_machine.specs.declared.Moved.the-variants.{Neither, Tail, Head}
 use Rattle.bounded_machine.specs.declared.Tally.{Tally}
 use Rattle.bounded_machine.specs.Machine.{freshOf, blank, refused, accepted}
-use Rattle.bounded_machine.specs.Broken.{inLimits, brokenOf}
+use Rattle.bounded_machine.specs.Broken.{brokenOf}
 use Rattle.bounded_machine.specs.Turn.{turnOf}
 
 -- Order: making 1, 2. A refused making returns the blank machine.

@@ -2,7 +2,8 @@
 ghost use mathlib.Core.Path.{_≡_};
 ghost use lib.ListN.{length};
 ghost use Rattle.bounded_machine.specs.Broken.{brokenOf};
-ghost use Rattle.bounded_machine.specs.Contents.{told, countIn, contentsRefusal, written, capacityOf};
+ghost use Rattle.queue_entries.specs.Told.{told};
+ghost use Rattle.bounded_machine.specs.Contents.{countIn, contentsRefusal, written, capacityOf};
 ghost use Rattle.bounded_machine.specs.Run.{runOf};
 ghost use Rattle.bounded_machine.specs.History.{movedOf, stockOf};
 ghost use Rattle.bounded.specs.Bounded.{makeOf, stepOf, beginOf, actOf, nextClaim, talliedOf};
@@ -11,18 +12,18 @@ use bounded_machine::Machine;
 use bounded_machine::Moved;
 use bounded_machine::Ran;
 use bounded_machine::Tally;
-use bounded_machine::Told;
 use bounded_places::Place;
 use bounded_words::Claim;
+use queue_entries::Told;
 
 // A fresh machine, or refusal 1 or 2 with the blank one.
 pub fn make(capacity: u64, workers: u64) -> Did
     ensures { λ r. ⌜ r ≡ makeOf capacity workers ⌝ }
 {
-    if bounded_machine::in_limits(capacity, bounded_words::SLOTS as u64) {} else {
+    if queue_entries::in_limits(capacity, bounded_words::SLOTS as u64) {} else {
         return bounded_machine::refuse(bounded_machine::blank(), 1);
     }
-    if bounded_machine::in_limits(workers, bounded_words::WORKERS as u64) {} else {
+    if queue_entries::in_limits(workers, queue_entries::WORKERS as u64) {} else {
         return bounded_machine::refuse(bounded_machine::blank(), 2);
     }
     bounded_machine::accept(bounded_machine::fresh(capacity, workers))

@@ -1,18 +1,18 @@
 -- What `search` is given at the returns of an act: the parts of what it leaves, one at a time.
-use Prim.Native.Nat.{ℕ, _+_, _-_, _<_, _≤_}
+use Prim.Native.Nat.{ℕ, _+_, _<_, _≤_, _-_}
 use mathlib.Core.Path.{_≡_, refl, sym, ap, _∙_}
 use mathlib.Core.Bool.{Bool, true, false}
+use Rattle.queue_entries.proofs.Pick.{along, yes, no, below, above}
 use Rattle.bounded_words.specs.declared.Stamp.{Stamp}
 use Rattle.bounded_words.specs.declared.Fixed.{Fixed}
 use Rattle.bounded_words.specs.Words.{Indexed, same, unmarkedOf}
-use Rattle.bounded_words.proofs.Pick.{along, yes, no, below, above}
 use Rattle.bounded_places.specs.declared.Slot.{Slot}
 use Rattle.bounded_places.specs.declared.Ends.{Ends}
 use Rattle.bounded_places.specs.declared.Kind.{Kind}
 use Rattle.bounded_places.specs.declared.Place.{Place}
-use Rattle.bounded_acts.specs.declared.Acted.{Acted}
 use Rattle.bounded_places.specs.declared.Place.the-variants.{Idle}
 use Rattle.bounded_places.specs.declared.Answer.the-variants.{Len, Yes, No}
+use Rattle.bounded_acts.specs.declared.Acted.{Acted}
 use Rattle.bounded_acts.specs.Acts.{stay, tailTo, headTo, stampTo, yesNo, countOf, fullAt}
 
 pub ends : (e e′ : Ends) (s : Slot) (p : Place) (r : Acted) → r ≡ stay e′ s p → e′ ≡ e → r ≡ stay e s p

@@ -1,5 +1,5 @@
 -- Demand 1: refusals are numbered and change nothing, and only one answer meets a promise.
-use Prim.Native.Nat.{ℕ, zero, suc, _+_, _-_, _*_, _%_, _<_, _≤_}
+use Prim.Native.Nat.{ℕ, zero, suc, _+_, _*_, _%_, _<_, _≤_}
 use mathlib.Core.Path.{_≡_, refl, sym, ap, _∙_, subst}
 use mathlib.Core.Bool.{Bool, true, false, cond}
 use mathlib.Core.List.{List, [], _∷_}
@@ -9,31 +9,34 @@ use lib.Dec.{ltb, eqb}
 use native.Mathlib.Decide.{decLt}
 use lib.ListN.{length, take, length-take, getD-replicate}
 use borrow.Author.Tests.{ne-eqb, eq-eqb, lt-ltb, ltb-true}
-use Rattle.bounded_words.specs.Limits.{slotsMost, workersMost, meterMost}
-use Rattle.bounded_places.specs.declared.Place.{Place}
-use Rattle.bounded_places.specs.declared.Order.{Order}
-use Rattle.bounded_places.specs.declared.Order.the-variants.{Begin, Act}
-use Rattle.bounded_places.specs.declared.Entry.{Entry}
-use Rattle.bounded_places.specs.declared.Entry.the-variants.{Unreadable, Asks}
-use Rattle.bounded_places.specs.Places.{viewOf, inside, beginOf, entryOf}
-use Rattle.bounded_machine.specs.declared.Machine.{Machine}
-use Rattle.bounded_machine.specs.declared.Did.{Did}
-use Rattle.bounded_machine.specs.declared.Ran.{Ran}
-use Rattle.bounded_machine.specs.declared.Verdict.{Verdict}
-use Rattle.bounded_machine.specs.declared.Verdict.the-variants.{Refuse, Start, Move}
-use Rattle.bounded_machine.specs.Machine.{starts, idler, idlers, placeOf, freshOf, blank, refused, accepted}
-use Rattle.bounded_machine.specs.Broken.{inLimits, byRule, endsFit, recordFits, brokenOf, allIdle}
-use Rattle.bounded_machine.specs.Contents.{countIn, contentsRefusal, written}
-use Rattle.bounded_machine.specs.Turn.{verdictOf, carried, turn, turnOf, begun, acted}
-use Rattle.bounded_machine.specs.Run.{ran, runFrom, runOf}
+use Rattle.queue_entries.specs.Schedules.{runBy, scheduleBy}
+use Rattle.queue_entries.specs.Limits.{workersMost, meterMost, inLimits}
+use Rattle.queue_entries.specs.declared.Order.{Order}
+use Rattle.queue_entries.specs.declared.Order.the-variants.{Begin, Act}
+use Rattle.queue_entries.specs.declared.Entry.{Entry}
+use Rattle.queue_entries.specs.declared.Entry.the-variants.{Unreadable, Asks}
+use Rattle.queue_entries.specs.Entries.{entryOf}
+use Rattle.queue_entries.specs.declared.Verdict.{Verdict}
+use Rattle.queue_entries.specs.declared.Verdict.the-variants.{Refuse, Start, Move}
+use Rattle.bounded_words.specs.Limits.{slotsMost}
 use Rattle.bounded_words.specs.declared.Stamp.{Stamp}
 use Rattle.bounded_words.specs.declared.Fixed.{Fixed}
 use Rattle.bounded_words.specs.Words.{stamp, markOf, lapOf, fixedOf}
 use Rattle.bounded_words.proofs.Fits.{Plain, plain}
+use Rattle.bounded_places.specs.declared.Place.{Place}
+use Rattle.bounded_places.specs.Places.{viewOf, inside, beginOf}
+use Rattle.bounded_machine.specs.declared.Machine.{Machine}
+use Rattle.bounded_machine.specs.declared.Did.{Did}
+use Rattle.bounded_machine.specs.declared.Ran.{Ran}
+use Rattle.bounded_machine.specs.Machine.{starts, idler, idlers, placeOf, freshOf, blank, refused, accepted}
+use Rattle.bounded_machine.specs.Broken.{byRule, endsFit, recordFits, brokenOf, allIdle}
+use Rattle.bounded_machine.specs.Contents.{countIn, contentsRefusal, written}
+use Rattle.bounded_machine.specs.Turn.{verdictOf, carried, turn, turnOf, begun, acted}
+use Rattle.bounded_machine.specs.Run.{ran, runFrom, runOf}
 use Rattle.bounded_machine.proofs.Laws.{ruled-of}
 use Rattle.bounded_machine.proofs.Kept.{ends-of, either, Unbroken, unbroken-of, of-unbroken, begun-unbroken, acted-unbroken}
+use Rattle.bounded_runs.proofs.Turns.{move-busy}
 use Rattle.bounded.proofs.Steps.{turn-unchanged}
-use Rattle.bounded_runs.proofs.Turns.{start-begins, move-busy}
 use Rattle.bounded.specs.Bounded as face
 use Rattle.bounded_demands.specs.Demands.{RefusedUnchanged, Numbered, StaysUnbroken, OnlyOne}
 
@@ -74,11 +77,11 @@ accepted-low m = omega arith
 
 abbrev Sure : Verdict → Type 0
 Sure (Refuse k) = k ≤ 11
-Sure (Start q) = 0 ≤ 11
+Sure (Start c) = 0 ≤ 11
 Sure (Move lose) = 0 ≤ 11
 
 sure : (meter : ℕ) (p : Place) (o : Order) → Sure (verdictOf meter p o)
-sure meter p (Begin c) = picked Sure (viewOf p .busy) (Refuse 4) (Start (beginOf c)) (omega arith) (omega arith)
+sure meter p (Begin c) = picked Sure (viewOf p .busy) (Refuse 4) (Start c) (omega arith) (omega arith)
 sure meter p (Act lose) =
     picked Sure (viewOf p .busy) _ (Refuse 5)
     (picked Sure (ltb meter meterMost) _ (Refuse 7)
@@ -88,7 +91,7 @@ sure meter p (Act lose) =
 
 carried-low : (m : Machine) (w : ℕ) (p : Place) (v : Verdict) → Sure v → carried m w p v .refusal ≤ 11
 carried-low m w p (Refuse k) h = refused-low k m h
-carried-low m w p (Start q) h = accepted-low (begun m w q)
+carried-low m w p (Start c) h = accepted-low (begun m w (beginOf c))
 carried-low m w p (Move lose) h = accepted-low (acted m w p lose)
 
 turn-low : (m : Machine) (x : Entry) → turn m x .refusal ≤ 11
@@ -102,7 +105,7 @@ unfolding turnOf
 turn-of-low m a b = turn-low m (entryOf a b)
 
 from-low : (m : Machine) (i : ℕ) (s : List ℕ) → runFrom m i s .refusal ≤ 11
-unfolding runFrom ran
+unfolding runBy ran
 from-low m i [] = omega arith
 from-low m i (a ∷ []) = omega arith
 from-low m i (a ∷ b ∷ s) =
@@ -134,7 +137,7 @@ make-low c w =
     (refused-low 1 blank (omega arith))
 
 run-low : (m : Machine) (s : List ℕ) → runOf m s .refusal ≤ 11
-unfolding runOf ran
+unfolding scheduleBy ran
 run-low m s =
     picked (λ (r : Ran). r .refusal ≤ 11) (brokenOf m) (ran 6 0 m) _ (omega arith)
     (picked (λ (r : Ran). r .refusal ≤ 11) (eqb (length s % 2) 1) (ran 11 0 m) (runFrom m 0 s) (omega arith) (from-low m 0 s))
@@ -194,7 +197,7 @@ contents-kept m buffer h = simp (ne-eqb _ _ h)
 
 -- a run that is refused leaves what the entries before leave
 places-rise : (m : Machine) (i : ℕ) (s : List ℕ) → i ≤ runFrom m i s .place
-unfolding runFrom ran
+unfolding runBy ran
 places-rise m i [] = omega arith
 places-rise m i (a ∷ []) = omega arith
 places-rise m i (a ∷ b ∷ s) =
@@ -203,19 +206,19 @@ places-rise m i (a ∷ b ∷ s) =
 
 module _ (m : Machine) (i a b : ℕ) (s : List ℕ) where
   went : eqb (turnOf m a b .refusal) 0 ≡ true → runFrom m i (a ∷ b ∷ s) ≡ runFrom (turnOf m a b .machine) (i + 1) s
-  unfolding runFrom
+  unfolding runBy
   went e = simp e
 
   halted : eqb (turnOf m a b .refusal) 0 ≡ false → runFrom m i (a ∷ b ∷ s) ≡ ran (turnOf m a b .refusal) i m
-  unfolding runFrom
+  unfolding runBy
   halted e = simp e
 
 nothing-run : (m : Machine) (i : ℕ) → runFrom m i [] .machine ≡ m
-unfolding runFrom ran
+unfolding runBy ran
 nothing-run m i = refl
 
 stands : (s : List ℕ) (m : Machine) (i j : ℕ) → (runFrom m i s .refusal ≡ 0 → ⊥) → runFrom m i s .place ≡ i + j → runFrom m i s .machine ≡ runFrom m i (take (2 * j) s) .machine
-unfolding runFrom ran
+unfolding runBy ran
 stands [] m i j h p = absurd (h refl)
 stands (a ∷ []) m i j h p = absurd (h refl)
 stands (a ∷ b ∷ s) m i j h p =
@@ -243,7 +246,7 @@ even-part n s h e = omega (arith, length-take (2 * n) s)
 
 module _ (m : Machine) (s : List ℕ) where
   run-kept : (runOf m s .refusal ≡ 0 → ⊥) → runOf m s .machine ≡ runOf m (take (2 * runOf m s .place) s) .machine
-  unfolding runOf ran
+  unfolding scheduleBy ran
   run-kept = go (brokenOf m) refl
     where
       whole : Bool → List ℕ → Ran
@@ -279,9 +282,7 @@ module _ (m : Machine) (u : Unbroken m) where
   carried-unbroken : (w : ℕ) → w < m .count → (o : Order) (v : Verdict) → v ≡ verdictOf (m .meter) (placeOf (m .workers) w) o → Unbroken (carried m w (placeOf (m .workers) w) v .machine)
   unfolding refused accepted
   carried-unbroken w l o (Refuse k) e = u
-  carried-unbroken w l o (Start q) e =
-      let b = start-begins (m .meter) (placeOf (m .workers) w) o (Start q) e q refl in
-      subst (λ (x : Place). Unbroken (begun m w x)) (sym (b .1)) (begun-unbroken m u w l (b .0))
+  carried-unbroken w l o (Start c) e = begun-unbroken m u w l c
   carried-unbroken w l o (Move lose) e = acted-unbroken m u w l lose (move-busy (m .meter) (placeOf (m .workers) w) o (Move lose) e lose refl)
 
   turn-unbroken : (x : Entry) → Unbroken (turn m x .machine)
@@ -296,7 +297,7 @@ module _ (m : Machine) (u : Unbroken m) where
   turn-of-unbroken a b = turn-unbroken (entryOf a b)
 
 from-unbroken : (s : List ℕ) (m : Machine) (i : ℕ) → Unbroken m → Unbroken (runFrom m i s .machine)
-unfolding runFrom ran
+unfolding runBy ran
 from-unbroken [] m i u = u
 from-unbroken (a ∷ []) m i u = u
 from-unbroken (a ∷ b ∷ s) m i u =
@@ -310,7 +311,7 @@ step-unbroken m a b h =
     (of-unbroken (turnOf m a b .machine) (turn-of-unbroken m (unbroken-of m h) a b))
 
 pub run-unbroken : (m : Machine) (s : List ℕ) → brokenOf m ≡ false → brokenOf (runOf m s .machine) ≡ false
-unfolding runOf ran
+unfolding scheduleBy ran
 run-unbroken m s h =
     picked (λ (r : Ran). brokenOf (r .machine) ≡ false) (brokenOf m) (ran 6 0 m) _ h
     (picked (λ (r : Ran). brokenOf (r .machine) ≡ false) (eqb (length s % 2) 1) (ran 11 0 m) (runFrom m 0 s) h

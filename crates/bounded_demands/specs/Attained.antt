@@ -4,7 +4,7 @@ use Prim.Native.Nat.{ℕ, zero, suc, _+_, _*_}
 use mathlib.Core.Bool.{Bool, true, cond, not}
 use mathlib.Core.List.{List, [], _∷_, _++_}
 use lib.Dec.{eqb}
-use Rattle.bounded_words.specs.Limits.{workersMost}
+use Rattle.queue_entries.specs.Limits.{workersMost, all}
 use Rattle.bounded_words.specs.Words.{stamp}
 use Rattle.bounded_places.specs.declared.Kind.the-variants.{Push, Force}
 use Rattle.bounded_places.specs.declared.Place.{Place}
@@ -12,7 +12,6 @@ use Rattle.bounded_places.specs.declared.Place.the-variants.{P1, P2, P3, P4, P5
 use Rattle.bounded_places.specs.Places.{viewOf}
 use Rattle.bounded_machine.specs.declared.Machine.{Machine}
 use Rattle.bounded_machine.specs.Machine.{freshOf, placeOf}
-use Rattle.bounded_machine.specs.Broken.{all}
 use Rattle.bounded_machine.specs.Turn.{turnOf}
 use Rattle.bounded_machine.specs.Run.{runOf}
 use Rattle.bounded_demands.specs.Notions.{acts, mostOf}

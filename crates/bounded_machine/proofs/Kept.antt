@@ -1,18 +1,22 @@
 -- No accepted begin or act breaks an unbroken machine, reached or not.
-use Prim.Native.Nat.{ℕ, zero, suc, _+_, _-_, _*_, _<_, _≤_}
+use Prim.Native.Nat.{ℕ, zero, suc, _+_, _<_, _≤_}
 use mathlib.Core.Path.{_≡_, refl, sym, ap, _∙_, subst}
 use mathlib.Core.Bool.{Bool, true, false, cond, not, true≢false}
 use mathlib.Core.List.{List, [], _∷_}
 use native.Mathlib.Omega.{arith}
 use native.Mathlib.Decide.{decLt}
-use lib.Dec.{ltb, leb, eqb}
+use lib.Dec.{ltb}
 use lib.ListN.{getD, set}
 use borrow.Author.Tests.{lt-ltb, ltb-true, not-false}
+use Rattle.queue_entries.specs.Limits.{workersMost, all, inLimits}
+use Rattle.queue_entries.proofs.Pick.{both-left, both-right}
+use Rattle.queue_entries.specs.declared.Call.{Call}
+use Rattle.queue_entries.specs.declared.Call.the-variants as call
+use Rattle.queue_entries.proofs.Limits.{limit-most}
 use Rattle.bounded_words.specs.declared.Stamp.{Stamp}
 use Rattle.bounded_words.specs.declared.Fixed.{Fixed}
-use Rattle.bounded_words.specs.Limits.{slotsMost, workersMost}
-use Rattle.bounded_words.specs.Words.{indexOf, markedOf, unmarkedOf, nextOf, plus, minus, withMark, same, onePast, lapBehind, lapBehindOnePast, Fair}
-use Rattle.bounded_words.proofs.Pick.{both-left, both-right}
+use Rattle.bounded_words.specs.Limits.{slotsMost}
+use Rattle.bounded_words.specs.Words.{markedOf, unmarkedOf, nextOf, plus, minus, withMark, same, onePast, lapBehind, lapBehindOnePast, Fair}
 use Rattle.bounded_words.proofs.Marks.{Ruled, fair}
 use Rattle.bounded_words.proofs.Fits.{Plain, next-plain, minus-plain, mark-index}
 use Rattle.bounded_places.specs.declared.Slot.{Slot}
@@ -24,16 +28,14 @@ use Rattle.bounded_places.specs.declared.Place.{Place}
 use Rattle.bounded_places.specs.declared.Place.the-variants.{Idle, P1, P2, P3, P4, P5, P6, F6, F7, F8, F9, O1, O2, O3, O4, O5, O6, Len1, Len2, Len3, Empty1, Empty2, Full1, Full2, Close1, IsClosed1}
 use Rattle.bounded_places.specs.declared.Held.the-variants as held
 use Rattle.bounded_places.specs.declared.Worker.{Worker}
-use Rattle.bounded_places.specs.declared.Call.{Call}
-use Rattle.bounded_places.specs.declared.Call.the-variants as call
 use Rattle.bounded_places.specs.Places.{viewOf, inside, fitsOf, beginOf}
 use Rattle.bounded_acts.specs.declared.Acted.{Acted}
-use Rattle.bounded_acts.specs.Acts.{stay, tailTo, headTo, stampTo, valueTo, actOf, actP1, fullAt, yesNo, countOf, Fits, Within}
+use Rattle.bounded_acts.specs.Acts.{stay, tailTo, headTo, stampTo, valueTo, actOf, actP1, fullAt, yesNo, countOf}
 use Rattle.bounded_machine.specs.declared.Machine.{Machine}
-use Rattle.bounded_machine.specs.Machine.{placeOf, machineOf, slot, idler}
-use Rattle.bounded_machine.specs.Broken.{all, inLimits, byRule, endsFit, recordFits, recordsFit, brokenOf}
-use Rattle.bounded_machine.specs.Turn.{begun, stored, acted, spotOf}
-use Rattle.bounded_machine.proofs.Laws.{ruled-of, limit-most, limit-some}
+use Rattle.bounded_machine.specs.Machine.{placeOf, idler}
+use Rattle.bounded_machine.specs.Broken.{byRule, endsFit, recordFits, recordsFit, brokenOf}
+use Rattle.bounded_machine.specs.Turn.{begun, stored, acted, actedBy}
+use Rattle.bounded_machine.proofs.Laws.{ruled-of}
 
 -- ---- tests and facts
 
@@ -303,6 +305,6 @@ module _ (m : Machine) (u : Unbroken m) (w : ℕ) (l : w < m .count) where
       record { capacity = u .capacity; count = u .count; rule = u .rule; ends = k .ends; records = records-with (a .place) (k .held) }
 
   pub acted-unbroken : (lose : Bool) → viewOf (placeOf (m .workers) w) .busy ≡ true → Unbroken (acted m w (placeOf (m .workers) w) lose)
-  unfolding acted
+  unfolding actedBy
   acted-unbroken lose h =
       stored-unbroken _ _ (keeps (m .ring .fixed) (ruled-in m u) (m .ring .ends) _ (u .ends) (placeOf (m .workers) w) lose (word-fits-in h))

@@ -1,47 +1,29 @@
 -- What the machine's functions rest on.
-use Prim.Native.Nat.{ℕ, zero, suc, _+_, _-_, _*_, _<_, _≤_}
-use mathlib.Core.Path.{_≡_, refl, sym, ap, _∙_, subst}
-use mathlib.Core.Bool.{Bool, true, false, cond, not, true≢false}
+use Prim.Native.Nat.{ℕ, _*_}
+use mathlib.Core.Path.{_≡_, refl, sym, ap, _∙_}
+use mathlib.Core.Bool.{Bool, true, false, not}
 use mathlib.Core.List.{List}
-use native.Mathlib.Omega.{arith}
-use lib.Dec.{ltb, leb, eqb}
-use borrow.Author.Tests.{leb-true, eqb-true}
+use lib.Dec.{eqb}
+use borrow.Author.Tests.{eqb-true}
+use lib.ListN.{replicate}
+use Rattle.queue_entries.specs.Limits.{workersMost, inLimits}
+use Rattle.queue_entries.proofs.Pick.{yes, no, on, off, equal, other, both-left, both-right}
+use Rattle.queue_entries.proofs.Limits.{limit-some, limit-most}
 use Rattle.bounded_words.specs.declared.Stamp.{Stamp}
 use Rattle.bounded_words.specs.declared.Fixed.{Fixed}
-use Rattle.bounded_words.specs.Limits.{slotsMost, workersMost, meterMost}
-use Rattle.bounded_words.specs.Words.{markOf, lapOf, indexOf, Indexed, Fair}
-use Rattle.bounded_words.proofs.Pick.{along, yes, no, on, off, below, above, equal, other, both-left, both-right}
+use Rattle.bounded_words.specs.Limits.{slotsMost}
+use Rattle.bounded_words.specs.Words.{markOf, lapOf, Indexed, Fair}
 use Rattle.bounded_words.proofs.Marks.{Ruled, ruled, fair}
 use Rattle.bounded_places.specs.declared.Place.{Place}
 use Rattle.bounded_places.specs.declared.Held.{Held}
 use Rattle.bounded_places.specs.declared.Held.the-variants as held
 use Rattle.bounded_places.specs.declared.View.{View}
-use Rattle.bounded_places.specs.declared.Call.{Call}
-use Rattle.bounded_places.specs.declared.Order.{Order}
-use Rattle.bounded_places.specs.declared.Order.the-variants.{Begin, Act}
-use Rattle.bounded_places.specs.Places.{viewOf, fitsOf, beginOf}
-use Rattle.bounded_machine.specs.declared.Verdict.{Verdict}
-use Rattle.bounded_machine.specs.declared.Verdict.the-variants.{Refuse, Start, Move}
-use Rattle.bounded_machine.specs.declared.Machine.{Machine}
-use Rattle.bounded_machine.specs.Broken.{all, inLimits, byRule, endsFit, recordFits, recordsFit, brokenOf}
-use Rattle.bounded_machine.specs.Turn.{spotOf, verdictOf}
-use Rattle.bounded_machine.specs.Machine.{machineOf, starts, freshSlots, freshOf, idler, idlers}
+use Rattle.bounded_places.specs.Places.{viewOf, fitsOf}
 use Rattle.bounded_places.specs.declared.Slot.{Slot}
-use lib.ListN.{replicate}
-
--- every test from the i-th on: one more passed, one failed, none left
-module _ (test : ℕ → Bool) (n i : ℕ) (b : Bool) (back : all (n - i) i test ≡ b) where
-  pub all-more : (t : Bool) → i < n → t ≡ test i → t ≡ true → all (n - (i + 1)) (i + 1) test ≡ b
-  unfolding all
-  all-more t l e h = let left : n - i ≡ suc (n - (i + 1)) = omega arith in sym (simp (sym e ∙ h)) ∙ (rw left at back)
-
-  pub all-failed : (t : Bool) → i < n → t ≡ test i → t ≡ false → false ≡ b
-  unfolding all
-  all-failed t l e h = let left : n - i ≡ suc (n - (i + 1)) = omega arith in sym (simp (sym e ∙ h)) ∙ (rw left at back)
-
-  pub all-passed : n ≤ i → true ≡ b
-  unfolding all
-  all-passed h = let z : n - i ≡ 0 = omega arith in rw z at back
+use Rattle.bounded_machine.specs.declared.Machine.{Machine}
+use Rattle.bounded_machine.specs.Broken.{byRule, endsFit, recordFits, recordsFit, brokenOf}
+use Rattle.bounded_machine.specs.Turn.{spotOf}
+use Rattle.bounded_machine.specs.Machine.{machineOf, starts, freshSlots, freshOf, idler, idlers}
 
 -- mark and lap by rule
 module _ (f : Fixed) (m : ℕ) (e : m ≡ markOf (f .capacity)) where
@@ -68,49 +50,11 @@ module _ (p : Place) (v : View) (e : v ≡ viewOf p) where
     unfolding recordFits
     word-fits r h k q = rw (← e) (on (v .busy) _ _ _ h (on counted _ _ _ k q))
 
-  module _ (meter : ℕ) (o : Order) where
-    pub begin-busy : (c : Call) → o ≡ Begin c → v .busy ≡ true → Refuse 4 ≡ verdictOf meter p o
-    begin-busy c q h = rw (q, ← e) (on (v .busy) _ _ _ h refl)
-
-    pub begin-idle : (c : Call) (s : Place) → o ≡ Begin c → v .busy ≡ false → s ≡ beginOf c → Start s ≡ verdictOf meter p o
-    begin-idle c s q h k = rw (q, ← e) (off (v .busy) _ _ _ h (ap Start k))
-
-    module _ (lose : Bool) (q : o ≡ Act lose) where
-      pub act-idle : v .busy ≡ false → Refuse 5 ≡ verdictOf meter p o
-      act-idle h = rw (q, ← e) (off (v .busy) _ _ _ h refl)
-
-      module _ (h : v .busy ≡ true) where
-        pub act-late : meterMost ≤ meter → Refuse 7 ≡ verdictOf meter p o
-        act-late k = rw (q, ← e) (on (v .busy) _ _ _ h (above meter meterMost _ _ _ k refl))
-
-        module _ (k : meter < meterMost) where
-          pub act-plain : lose ≡ false → Move false ≡ verdictOf meter p o
-          act-plain l = rw (q, ← e) (on (v .busy) _ _ _ h (below meter meterMost _ _ _ k (off lose _ _ _ l refl)))
-
-          pub act-weak : lose ≡ true → v .weak ≡ true → Move true ≡ verdictOf meter p o
-          act-weak l w = rw (q, ← e) (on (v .busy) _ _ _ h (below meter meterMost _ _ _ k (on lose _ _ _ l (on (v .weak) _ _ _ w refl))))
-
-          pub act-strong : lose ≡ true → v .weak ≡ false → Refuse 8 ≡ verdictOf meter p o
-          act-strong l w = rw (q, ← e) (on (v .busy) _ _ _ h (below meter meterMost _ _ _ k (on lose _ _ _ l (off (v .weak) _ _ _ w refl))))
-
 -- the slot of an end's word
 pub spot-at : (f : Fixed) (h : Held) (w : Stamp) (i : ℕ) → h ≡ held.End w → Indexed f w i → i ≡ spotOf f h
 spot-at f h w i e x = x .is ∙ ap (spotOf f) (sym e)
 
--- limits and constants, from the tests to the facts
-pub limit-some : (n most : ℕ) (b : Bool) → b ≡ inLimits n most → b ≡ true → 0 < n
-unfolding inLimits
-limit-some zero most b e h = absurd (true≢false (sym h ∙ e))
-limit-some (suc n) most b e h = omega arith
-
-pub limit-most : (n most : ℕ) (b : Bool) → b ≡ inLimits n most → b ≡ true → n ≤ most
-unfolding inLimits
-limit-most n most b e h = leb-true n most (both-other (eqb n 0) (leb n most) (sym e ∙ h))
-  where
-    both-other : (x y : Bool) → cond x false y ≡ true → y ≡ true
-    both-other true y k = absurd (true≢false (sym k))
-    both-other false y k = k
-
+-- constants, from the tests to the facts
 pub rule-facts : (f : Fixed) → byRule f ≡ true → (f .mark ≡ markOf (f .capacity)) × (f .lap ≡ lapOf (f .capacity))
 unfolding byRule
 rule-facts f h = (

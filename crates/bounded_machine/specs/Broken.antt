@@ -1,10 +1,11 @@
 -- "Broken" of document 01, clause by clause.
-use Prim.Native.Nat.{ℕ, zero, suc, _+_, _*_}
+use Prim.Native.Nat.{ℕ}
 use mathlib.Core.Bool.{Bool, true, false, cond, not}
 use mathlib.Core.List.{List}
-use lib.Dec.{ltb, leb, eqb}
+use lib.Dec.{ltb, eqb}
+use Rattle.queue_entries.specs.Limits.{workersMost, inLimits, all}
 use Rattle.bounded_words.specs.declared.Fixed.{Fixed}
-use Rattle.bounded_words.specs.Limits.{slotsMost, workersMost}
+use Rattle.bounded_words.specs.Limits.{slotsMost}
 use Rattle.bounded_words.specs.Words.{markOf, lapOf, markedOf}
 use Rattle.bounded_places.specs.declared.Ends.{Ends}
 use Rattle.bounded_places.specs.declared.Place.{Place}
@@ -12,15 +13,6 @@ use Rattle.bounded_places.specs.declared.Worker.{Worker}
 use Rattle.bounded_places.specs.Places.{viewOf, inside, fitsOf}
 use Rattle.bounded_machine.specs.declared.Machine.{Machine}
 use Rattle.bounded_machine.specs.Machine.{placeOf}
-
--- every test from the i-th on, so many of them
-unfoldable pub all : ℕ → ℕ → (ℕ → Bool) → Bool
-all zero i test = true
-all (suc more) i test = cond (test i) (all more (i + 1) test) false
-
--- capacity or worker count out of limits
-unfoldable pub inLimits : ℕ → ℕ → Bool
-inLimits n most = cond (eqb n 0) false (leb n most)
 
 -- mark or lap not by rule
 unfoldable pub byRule : Fixed → Bool

@@ -1,21 +1,17 @@
 -- "Contents" of document 01, as `Drop` walks, and `capacity`.
-use Prim.Native.Nat.{ℕ, zero, suc, _+_, _-_, _≤_}
-use mathlib.Core.Bool.{Bool, true, false, cond}
+use Prim.Native.Nat.{ℕ, zero, suc, _+_, _≤_, _-_}
+use mathlib.Core.Bool.{cond}
 use mathlib.Core.List.{List, [], _∷_, _++_}
 use mathlib.Core.Path.{_≡_}
 use lib.Dec.{ltb, eqb}
 use lib.ListN.{getD, length, drop}
+use Rattle.queue_entries.specs.Told.{told}
+use Rattle.queue_entries.specs.declared.Told.{Told}
 use Rattle.bounded_words.specs.Words.{indexOf}
 use Rattle.bounded_acts.specs.Acts.{countOf}
 use Rattle.bounded_machine.specs.declared.Machine.{Machine}
-use Rattle.bounded_machine.specs.declared.Told.{Told}
-use Rattle.bounded_machine.specs.declared.Told.the-variants.{Number, Refused}
 use Rattle.bounded_machine.specs.Machine.{slot}
 use Rattle.bounded_machine.specs.Broken.{brokenOf, allIdle}
-
--- The answer that this paper's number and value stand for: refusal 0 is none.
-unfoldable pub told : ℕ → ℕ → Told
-told number value = cond (eqb number 0) (Number value) (Refused number)
 
 -- `len`'s count of items
 unfoldable pub countIn : Machine → ℕ

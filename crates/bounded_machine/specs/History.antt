@@ -1,16 +1,15 @@
 -- The history of a run: its acts, oldest first, and what is counted from it.
-use Prim.Native.Nat.{ℕ, zero, suc, _+_, _-_}
-use mathlib.Core.Bool.{Bool, true, false, cond}
-use mathlib.Core.List.{List, [], _∷_, _++_}
-use lib.Dec.{eqb}
+use Prim.Native.Nat.{ℕ, _+_, _-_}
+use mathlib.Core.List.{List, [], _∷_}
+use Rattle.queue_entries.specs.declared.Order.the-variants.{Begin, Act}
+use Rattle.queue_entries.specs.declared.Entry.{Entry}
+use Rattle.queue_entries.specs.declared.Entry.the-variants.{Unreadable, Asks}
+use Rattle.queue_entries.specs.Schedules.{historyBy}
 use Rattle.bounded_words.specs.Words.{claim}
 use Rattle.bounded_places.specs.declared.Place.{Place}
 use Rattle.bounded_places.specs.declared.Place.the-variants.{Idle, P1, P2, P3, P4, P5, P6, F6, F7, F8, F9, O1, O2, O3, O4, O5, O6, Len1, Len2, Len3, Empty1, Empty2, Full1, Full2, Close1, IsClosed1}
-use Rattle.bounded_places.specs.declared.Order.the-variants.{Begin, Act}
-use Rattle.bounded_places.specs.declared.Entry.{Entry}
-use Rattle.bounded_places.specs.declared.Entry.the-variants.{Unreadable, Asks}
-use Rattle.bounded_places.specs.Places.{entryOf}
 use Rattle.bounded_machine.specs.declared.Machine.{Machine}
+use Rattle.bounded_machine.specs.declared.Did.{Did}
 use Rattle.bounded_machine.specs.declared.Event.{Event}
 use Rattle.bounded_machine.specs.declared.Moved.{Moved}
 use Rattle.bounded_machine.specs.declared.Moved.the-variants.{Neither, Tail, Head}
@@ -27,14 +26,12 @@ eventsOf m Unreadable next = []
 eventsOf m (Asks w (Begin c)) next = []
 eventsOf m (Asks w (Act lose)) next = event w (placeOf (m .workers) w) (placeOf (next .workers) w) ∷ []
 
--- The acts of a schedule's entries, up to the first that is refused.
-unfoldable pub historyOf : Machine → List ℕ → List Event
-historyOf m [] = []
-historyOf m (first ∷ []) = []
-historyOf m (first ∷ second ∷ rest) =
-    cond (eqb (turnOf m first second .refusal) 0)
-    (eventsOf m (entryOf first second) (turnOf m first second .machine) ++ historyOf (turnOf m first second .machine) rest)
-    []
+-- The acts of a schedule's entries, up to the first that is refused, each entry by what it makes of a machine.
+abbrev pub historyWith : (Machine → ℕ → ℕ → Did) → Machine → List ℕ → List Event
+historyWith turn = historyBy (λ (d : Did). d .refusal) (λ (d : Did). d .machine) turn eventsOf
+
+abbrev pub historyOf : Machine → List ℕ → List Event
+historyOf = historyWith turnOf
 
 -- Tail claims are won P3 and F7; head claims are won O3 and F6. A won P3 goes to P4 and a won O3 to O4, F7 to F8, and a
 -- won F6 to F7; no other act goes there.

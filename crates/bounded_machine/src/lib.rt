@@ -1,10 +1,12 @@
 // The machine: a ring, its workers' records and the meter; and what each rule asks of it.
 ghost use mathlib.Core.Path.{_≡_};
 ghost use Prim.Native.Nat.{_≤_, _<_};
-ghost use Rattle.bounded_words.specs.Limits.{slotsMost, workersMost};
+ghost use Rattle.queue_entries.specs.Limits.{workersMost};
+ghost use Rattle.bounded_words.specs.Limits.{slotsMost};
 ghost use Rattle.bounded_words.specs.Words.{Fair};
 ghost use Rattle.bounded_machine.specs.Machine.{freshSlots, freshOf, blank, refused, accepted};
-ghost use Rattle.bounded_machine.specs.Broken.{inLimits, byRule, endsFit, recordFits, recordsFit, allIdle, brokenOf};
+ghost use Rattle.queue_entries.specs.Limits.{inLimits};
+ghost use Rattle.bounded_machine.specs.Broken.{byRule, endsFit, recordFits, recordsFit, allIdle, brokenOf};
 ghost use mathlib.Core.Bool.{false};
 ghost use Rattle.bounded_machine.specs.Contents.{wrapped, itemAt, Counted};
 ghost use Rattle.bounded_machine.specs.Turn.{spotOf, verdictOf};
@@ -12,13 +14,14 @@ use bounded_acts::Acted;
 use bounded_places::Answer;
 use bounded_places::Ends;
 use bounded_places::Held;
-use bounded_places::Order;
 use bounded_places::Place;
 use bounded_places::Slot;
 use bounded_places::Worker;
 use bounded_words::Claim;
 use bounded_words::Fixed;
 use bounded_words::Stamp;
+use queue_entries::Order;
+use queue_entries::Verdict;
 
 // A ring by value: its constants, its two ends and its slots.
 pub struct Ring {
@@ -29,7 +32,7 @@ pub struct Ring {
 
 pub struct Machine {
     pub ring: Ring,
-    pub workers: [Worker; bounded_words::WORKERS],
+    pub workers: [Worker; queue_entries::WORKERS],
     // how many of the records are in use
     pub count: u64,
     // accepted acts since the machine was made
@@ -47,12 +50,6 @@ pub struct Ran {
     pub refusal: u64,
     pub place: u64,
     pub machine: Machine,
-}
-
-// A number that was asked for, or the number of the refusal.
-pub enum Told {
-    Number(u64),
-    Refused(u64),
 }
 
 // One act of a run.
@@ -134,7 +131,7 @@ pub fn fresh(capacity: u64, workers: u64) -> Machine
         },
         workers: [Worker {
             place: Place::Idle(Answer::Nothing),
-        }; bounded_words::WORKERS],
+        }; queue_entries::WORKERS],
         count: workers,
         meter: 0,
     }
@@ -162,19 +159,13 @@ pub fn blank() -> Machine
         },
         workers: [Worker {
             place: Place::Idle(Answer::Nothing),
-        }; bounded_words::WORKERS],
+        }; queue_entries::WORKERS],
         count: 0,
         meter: 0,
     }
 }
 
 // Broken, part by part.
-
-pub fn in_limits(n: u64, most: u64) -> bool
-    ensures { λ r. ⌜ r ≡ inLimits n most ⌝ }
-{
-    if n == 0 { false } else { n <= most }
-}
 
 fn by_rule(f: Fixed) -> bool
     requires { ⌜ f .capacity ≤ slotsMost ⌝ }
@@ -221,12 +212,12 @@ fn record_fits(f: Fixed, p: Place, counted: bool) -> bool
     }
 }
 
-fn records_fit(f: Fixed, count: u64, workers: [Worker; bounded_words::WORKERS]) -> bool
+fn records_fit(f: Fixed, count: u64, workers: [Worker; queue_entries::WORKERS]) -> bool
     requires { ⌜ Fair f ⌝ }
     ensures { λ r. ⌜ r ≡ recordsFit f count workers ⌝ }
 {
     let mut i = 0;
-    while i < bounded_words::WORKERS {
+    while i < queue_entries::WORKERS {
         let worker = workers[i];
         let p = worker.place;
         if record_fits(f, p, (i as u64) < count) {
@@ -245,10 +236,10 @@ pub fn broken(m: Machine) -> bool
     let f = ring.fixed;
     let e = ring.ends;
     let workers = m.workers;
-    if in_limits(f.capacity, bounded_words::SLOTS as u64) {} else {
+    if queue_entries::in_limits(f.capacity, bounded_words::SLOTS as u64) {} else {
         return true;
     }
-    if in_limits(m.count, bounded_words::WORKERS as u64) {} else {
+    if queue_entries::in_limits(m.count, queue_entries::WORKERS as u64) {} else {
         return true;
     }
     if by_rule(f) {} else {
@@ -264,11 +255,11 @@ pub fn broken(m: Machine) -> bool
     }
 }
 
-pub fn all_idle(workers: [Worker; bounded_words::WORKERS]) -> bool
+pub fn all_idle(workers: [Worker; queue_entries::WORKERS]) -> bool
     ensures { λ r. ⌜ r ≡ allIdle workers ⌝ }
 {
     let mut i = 0;
-    while i < bounded_words::WORKERS {
+    while i < queue_entries::WORKERS {
         let worker = workers[i];
         let p = worker.place;
         let v = bounded_places::view_of(p);
@@ -313,43 +304,12 @@ pub fn item_at(m: Machine, k: u64) -> u64
     s.value
 }
 
-// What becomes of an entry's worker: a refusal, the place of a new call, or an act.
-pub enum Verdict {
-    Refuse(u64),
-    Start(Place),
-    Move(bool),
-}
-
+// What becomes of a worker that stands at p.
 pub fn verdict_of(meter: u64, p: Place, o: Order) -> Verdict
     ensures { λ r. ⌜ r ≡ verdictOf meter p o ⌝ }
 {
     let v = bounded_places::view_of(p);
-    match o {
-        Order::Begin(c) => {
-            if v.busy {
-                Verdict::Refuse(4)
-            } else {
-                Verdict::Start(bounded_places::first_place(c))
-            }
-        }
-        Order::Act(lose) => {
-            if v.busy {} else {
-                return Verdict::Refuse(5);
-            }
-            if bounded_words::METER <= meter {
-                return Verdict::Refuse(7);
-            }
-            if lose {
-                if v.weak {
-                    Verdict::Move(true)
-                } else {
-                    Verdict::Refuse(8)
-                }
-            } else {
-                Verdict::Move(false)
-            }
-        }
-    }
+    queue_entries::verdict_for(meter, v.busy, v.weak, o)
 }
 
 // The index of the slot that the act of a worker with these words goes to; 0 where it goes to none.

@@ -1,26 +1,17 @@
 -- What document 01 says of a place, and of an entry's code.
-use Prim.Native.Nat.{ℕ, zero, suc, _+_, _/_, _%_}
-use mathlib.Core.Bool.{Bool, true, false, cond, _&&_, not}
-use mathlib.Core.List.{List, [], _∷_}
-use lib.Dec.{ltb, eqb}
-use lib.ListN.{getD}
+use mathlib.Core.Bool.{Bool, true, false, cond}
+use lib.Dec.{ltb}
+use Rattle.queue_entries.specs.declared.Call.{Call}
+use Rattle.queue_entries.specs.declared.Call.the-variants as call
 use Rattle.bounded_words.specs.declared.Stamp.{Stamp}
 use Rattle.bounded_words.specs.declared.Fixed.{Fixed}
 use Rattle.bounded_words.specs.Words.{indexOf, markedOf}
-use Rattle.bounded_places.specs.declared.Kind.{Kind}
 use Rattle.bounded_places.specs.declared.Kind.the-variants.{Push, Force}
-use Rattle.bounded_places.specs.declared.Answer.{Answer}
 use Rattle.bounded_places.specs.declared.Place.{Place}
 use Rattle.bounded_places.specs.declared.Place.the-variants.{Idle, P1, P2, P3, P4, P5, P6, F6, F7, F8, F9, O1, O2, O3, O4, O5, O6, Len1, Len2, Len3, Empty1, Empty2, Full1, Full2, Close1, IsClosed1}
 use Rattle.bounded_places.specs.declared.Held.{Held}
 use Rattle.bounded_places.specs.declared.Held.the-variants as held
 use Rattle.bounded_places.specs.declared.View.{View}
-use Rattle.bounded_places.specs.declared.Call.{Call}
-use Rattle.bounded_places.specs.declared.Call.the-variants as call
-use Rattle.bounded_places.specs.declared.Order.{Order}
-use Rattle.bounded_places.specs.declared.Order.the-variants.{Begin, Act}
-use Rattle.bounded_places.specs.declared.Entry.{Entry}
-use Rattle.bounded_places.specs.declared.Entry.the-variants.{Unreadable, Asks}
 
 abbrev pub at : Bool → Held → View
 at weak held = record { busy = true; weak = weak; held = held }
@@ -74,27 +65,3 @@ beginOf call.IsEmpty = Empty1
 beginOf call.IsFull = Full1
 beginOf call.Close = Close1
 beginOf call.IsClosed = IsClosed1
-
--- In order: push, force_push, pop, len, is_empty, is_full, close, is_closed.
-abbrev pub calls : ℕ → List Call
-calls x =
-    call.Push x ∷ call.ForcePush x ∷ call.Pop ∷ call.Len
-    ∷ call.IsEmpty ∷ call.IsFull ∷ call.Close ∷ call.IsClosed ∷ []
-
-abbrev pub callOf : ℕ → ℕ → Call
-callOf code x = getD (calls x) code call.IsClosed
-
--- Codes 0 to 7 begin a call, 8 and 9 act, 10 to 15 are refused: 8 is an act, 9 an act whose weak exchange fails.
-unfoldable pub orderOf : ℕ → ℕ → ℕ → Entry
-orderOf worker code x =
-    cond (ltb code 8) (Asks worker (Begin (callOf code x)))
-    (cond (ltb code 10) (Asks worker (Act (eqb code 9))) Unreadable)
-
--- The item must be 0 unless the code is 0 or 1.
-unfoldable pub strayOf : ℕ → ℕ → Bool
-strayOf code item = cond (ltb 1 code) (not (eqb item 0)) false
-
--- First = 16 × worker + code; second = item.
-unfoldable pub entryOf : ℕ → ℕ → Entry
-entryOf first item =
-    cond (strayOf (first % 16) item) Unreadable (orderOf (first / 16) (first % 16) item)

@@ -2,9 +2,10 @@
 ghost use mathlib.Core.Path.{_≡_};
 ghost use mathlib.Core.Bool.{true, false};
 ghost use Rattle.bounded_words.specs.Words.{Fair};
-ghost use Rattle.bounded_places.specs.Places.{at, viewOf, inside, fitsOf, beginOf, callOf, strayOf, entryOf};
+ghost use Rattle.bounded_places.specs.Places.{at, viewOf, inside, fitsOf, beginOf};
 use bounded_words::Fixed;
 use bounded_words::Stamp;
+use queue_entries::Call;
 
 // A slot of a ring.
 pub struct Slot {
@@ -174,18 +175,6 @@ pub fn fits(f: Fixed, held: Held) -> bool
     }
 }
 
-// The eight calls, with the item of the two that have one.
-pub enum Call {
-    Push(u64),
-    ForcePush(u64),
-    Pop,
-    Len,
-    IsEmpty,
-    IsFull,
-    Close,
-    IsClosed,
-}
-
 // The place at which a call begins.
 pub fn first_place(c: Call) -> Place
     ensures { λ r. ⌜ r ≡ beginOf c ⌝ }
@@ -199,56 +188,5 @@ pub fn first_place(c: Call) -> Place
         Call::IsFull => Place::Full1,
         Call::Close => Place::Close1,
         Call::IsClosed => Place::IsClosed1,
-    }
-}
-
-// What an entry asks of its worker: to begin a call, or to act; true: its weak exchange fails.
-pub enum Order {
-    Begin(Call),
-    Act(bool),
-}
-
-// An entry of a schedule: a worker's number and what is asked of it.
-pub enum Entry {
-    Unreadable,
-    Asks(u64, Order),
-}
-
-// The calls in the order of their codes.
-fn call_of(code: u64, item: u64) -> Call
-    ensures { λ r. ⌜ r ≡ callOf code item ⌝ }
-{
-    match code {
-        0 => Call::Push(item),
-        1 => Call::ForcePush(item),
-        2 => Call::Pop,
-        3 => Call::Len,
-        4 => Call::IsEmpty,
-        5 => Call::IsFull,
-        6 => Call::Close,
-        _ => Call::IsClosed,
-    }
-}
-
-// An item where none may be.
-fn stray(code: u64, item: u64) -> bool
-    ensures { λ r. ⌜ r ≡ strayOf code item ⌝ }
-{
-    if 1 < code { item != 0 } else { false }
-}
-
-// "First = 16 × worker + code; second = item."
-pub fn entry_of(first: u64, second: u64) -> Entry
-    ensures { λ r. ⌜ r ≡ entryOf first second ⌝ }
-{
-    let worker = first / 16;
-    let code = first % 16;
-    if stray(code, second) {
-        return Entry::Unreadable;
-    }
-    match code {
-        0..=7 => Entry::Asks(worker, Order::Begin(call_of(code, second))),
-        8..=9 => Entry::Asks(worker, Order::Act(code == 9)),
-        _ => Entry::Unreadable,
     }
 }

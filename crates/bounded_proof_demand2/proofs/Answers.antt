@@ -6,8 +6,10 @@ use Prim.Native.Nat.{ℕ, _+_, _*_, _<_}
 use native.Mathlib.Omega.{arith}
 use lib.ListN.{getD}
 use borrow.Author.Tests.{eqb-true}
+use Rattle.queue_entries.specs.Limits.{meterMost}
+use Rattle.queue_entries.specs.declared.Order.the-variants.{Act}
+use Rattle.queue_entries.specs.declared.Entry.the-variants.{Asks}
 use Rattle.bounded_words.specs.declared.Fixed.{Fixed}
-use Rattle.bounded_words.specs.Limits.{meterMost}
 use Rattle.bounded_words.specs.declared.Stamp.{Stamp}
 use Rattle.bounded_words.specs.Words.{markOf, unmarkedOf, same, lapBehind}
 use Rattle.bounded_places.specs.declared.Ends.{Ends}
@@ -15,8 +17,6 @@ use Rattle.bounded_places.specs.declared.Answer.{Answer}
 use Rattle.bounded_places.specs.declared.Answer.the-variants.{Yes}
 use Rattle.bounded_places.specs.declared.Place.{Place}
 use Rattle.bounded_places.specs.declared.Place.the-variants.{Idle, Empty2, Full2}
-use Rattle.bounded_places.specs.declared.Order.the-variants.{Act}
-use Rattle.bounded_places.specs.declared.Entry.the-variants.{Asks}
 use Rattle.bounded_places.specs.Places.{viewOf}
 use Rattle.bounded_places.specs.declared.Slot.{Slot}
 use Rattle.bounded_acts.specs.Acts.{actOf, stay, yesNo}

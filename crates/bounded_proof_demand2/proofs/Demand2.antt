@@ -7,15 +7,16 @@ use native.Mathlib.Omega.{arith}
 use lib.Dec.{eqb}
 use lib.ListN.{length}
 use borrow.Author.Tests.{eq-eqb, ne-eqb}
-use Rattle.bounded_places.specs.Places.{entryOf}
+use Rattle.queue_entries.specs.Schedules.{runBy, scheduleBy, historyBy}
+use Rattle.queue_entries.specs.Entries.{entryOf}
 use Rattle.bounded_machine.specs.declared.Machine.{Machine}
 use Rattle.bounded_machine.specs.declared.Ran.{Ran}
 use Rattle.bounded_machine.specs.declared.Event.{Event}
 use Rattle.bounded_machine.specs.Machine.{freshOf}
 use Rattle.bounded_machine.specs.Broken.{brokenOf}
 use Rattle.bounded_machine.specs.Turn.{turnOf}
-use Rattle.bounded_machine.specs.Run.{ran, runFrom, runOf}
-use Rattle.bounded_machine.specs.History.{eventsOf, historyOf}
+use Rattle.bounded_machine.specs.Run.{ran, runFrom}
+use Rattle.bounded_machine.specs.History.{eventsOf}
 use Rattle.bounded_machine.proofs.Kept.{of-unbroken}
 use Rattle.bounded_demands.specs.Notions.{document01, Allowed, machineAfter, actsOf}
 use Rattle.bounded_demands.specs.Demands.{Demand2, UnderEverySchedule, ActByAct, WholeSchedules}
@@ -66,7 +67,7 @@ demand2 capacity workers a s =
     demanded capacity (lapsOf capacity) workers (base-of capacity workers a) (machineAfter document01 capacity workers s) (actsOf document01 capacity workers s) (reached capacity workers a s)
 
 pub act-by-act : ActByAct document01
-unfolding runFrom historyOf ran
+unfolding runBy historyBy ran
 act-by-act m s first second even e taken =
     let o = onward s (first ∷ second ∷ []) m 0 even e in
     let t : eqb (turnOf (runFrom m 0 s .machine) first second .refusal) 0 ≡ true = eq-eqb _ 0 taken in (
@@ -75,11 +76,11 @@ act-by-act m s first second even e taken =
     )
 
 made-whole : (capacity workers : ℕ) → Allowed capacity workers → brokenOf (freshOf capacity workers) ≡ false
-unfolding runFrom ran
+unfolding runBy ran
 made-whole capacity workers a = demand2 capacity workers a [] .unbroken
 
 pub whole-schedules : WholeSchedules document01
-unfolding runOf ran
+unfolding scheduleBy ran
 whole-schedules capacity workers a s =
     let b = made-whole capacity workers a in (
       λ even. rw (b, ne-eqb (length s % 2) 1 (λ e. omega arith)),

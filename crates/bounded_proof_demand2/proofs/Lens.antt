@@ -3,12 +3,17 @@ use mathlib.Core.Path.{_≡_, refl, sym, ap, _∙_, subst}
 use mathlib.Core.Logic.{_≢_}
 use mathlib.Core.Bool.{Bool, true, false, cond, true≢false}
 use mathlib.Core.List.{List, [], _∷_, _++_}
-use Prim.Native.Nat.{ℕ, _+_, _*_, _-_, _≤_}
+use Prim.Native.Nat.{ℕ, _+_, _*_, _≤_, _-_}
 use native.Mathlib.Omega.{arith}
 use lib.Dec.{eqb}
 use lib.ListN.{length, length-append}
 use lib.Seq.{getD-set-other}
 use borrow.Author.Tests.{eqb-true}
+use Rattle.queue_entries.specs.Schedules.{runBy, historyBy}
+use Rattle.queue_entries.specs.declared.Order.the-variants.{Act}
+use Rattle.queue_entries.specs.declared.Entry.{Entry}
+use Rattle.queue_entries.specs.declared.Entry.the-variants.{Asks}
+use Rattle.queue_entries.specs.Entries.{entryOf}
 use Rattle.bounded_words.specs.declared.Stamp.{Stamp}
 use Rattle.bounded_words.specs.Words.{markOf, same}
 use Rattle.bounded_places.specs.declared.Ends.{Ends}
@@ -17,15 +22,12 @@ use Rattle.bounded_places.specs.declared.Answer.the-variants.{Len}
 use Rattle.bounded_places.specs.declared.Place.{Place}
 use Rattle.bounded_places.specs.declared.Place.the-variants.{Idle, Len1, Len2, Len3}
 use Rattle.bounded_places.specs.declared.Worker.{Worker}
-use Rattle.bounded_places.specs.declared.Order.the-variants.{Act}
-use Rattle.bounded_places.specs.declared.Entry.{Entry}
-use Rattle.bounded_places.specs.declared.Entry.the-variants.{Asks}
-use Rattle.bounded_places.specs.Places.{viewOf, entryOf, beginOf}
+use Rattle.bounded_places.specs.Places.{viewOf, beginOf}
 use Rattle.bounded_acts.specs.Acts.{stay, countOf}
 use Rattle.bounded_machine.specs.declared.Machine.{Machine}
 use Rattle.bounded_machine.specs.declared.Event.{Event}
 use Rattle.bounded_machine.specs.Machine.{idler}
-use Rattle.bounded_machine.specs.Turn.{turnOf, begun, acted, stored}
+use Rattle.bounded_machine.specs.Turn.{turnOf, begun, actedBy, stored}
 use Rattle.bounded_machine.specs.Run.{ran, runFrom}
 use Rattle.bounded_machine.specs.History.{event, eventsOf, historyOf, movedOf}
 use Rattle.bounded_demands.specs.Notions.{document01, machineAfter, actsOf, Acts, Unmoved, tailBy, tailersOf}
@@ -48,7 +50,7 @@ unmoved-split w (e ∷ a) b o = let r = unmoved-split w a b (o .1) in ((o .0, r 
 -- a busy worker that does not act stays where it is
 turn-stays : (m : Machine) (en : Entry) (next : Machine) (acts : List Event) (w : ℕ) → Turned m en next acts → Unmoved w acts
     → viewOf (stood m w) .busy ≡ true → stood next w ≡ stood m w
-unfolding begun acted stored
+unfolding begun actedBy stored
 turn-stays m en next acts w (began v call l idle) o busy =
     let far : w ≢ v = λ e. true≢false (sym busy ∙ ap (λ (z : ℕ). viewOf (stood m z) .busy) e ∙ idle) in
     ap (λ (z : Worker). z .place) (getD-set-other (m .workers) v w (record { place = beginOf call }) idler far)
@@ -64,7 +66,7 @@ one-stays m first second w e o busy = turn-stays m (entryOf first second) _ _ w 
 
 run-stays : (s : List ℕ) (m : Machine) (place w : ℕ) → Unmoved w (historyOf m s) → viewOf (stood m w) .busy ≡ true
     → stood (runFrom m place s .machine) w ≡ stood m w
-unfolding runFrom historyOf ran
+unfolding runBy historyBy ran
 run-stays [] m place w o busy = refl
 run-stays (first ∷ []) m place w o busy = refl
 run-stays (first ∷ second ∷ rest) m place w o busy =

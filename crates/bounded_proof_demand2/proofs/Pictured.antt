@@ -9,8 +9,11 @@ use native.Mathlib.Nat.{mul-le-mul-right}
 use native.Mathlib.Decide.{ℕ-discrete}
 use lib.ListN.{length, getD, set, length-set}
 use lib.Seq.{getD-set-same, getD-set-other}
+use Rattle.queue_entries.specs.Limits.{workersMost, meterMost}
+use Rattle.queue_entries.specs.declared.Call.{Call}
+use Rattle.queue_entries.specs.declared.Call.the-variants as call
 use Rattle.bounded_words.specs.declared.Fixed.{Fixed}
-use Rattle.bounded_words.specs.Limits.{slotsMost, workersMost, meterMost}
+use Rattle.bounded_words.specs.Limits.{slotsMost}
 use Rattle.bounded_words.specs.Words.{markOf}
 use Rattle.bounded_places.specs.declared.Slot.{Slot}
 use Rattle.bounded_places.specs.declared.Ends.{Ends}
@@ -21,14 +24,12 @@ use Rattle.bounded_places.specs.declared.Place.the-variants.{Idle, P1, P2, P3, 
 use Rattle.bounded_places.specs.declared.Held.{Held}
 use Rattle.bounded_places.specs.declared.Held.the-variants as held
 use Rattle.bounded_places.specs.declared.Worker.{Worker}
-use Rattle.bounded_places.specs.declared.Call.{Call}
-use Rattle.bounded_places.specs.declared.Call.the-variants as call
 use Rattle.bounded_places.specs.Places.{viewOf, fitsOf, beginOf}
 use Rattle.bounded_acts.specs.declared.Acted.{Acted}
 use Rattle.bounded_acts.specs.Acts.{actOf}
 use Rattle.bounded_machine.specs.declared.Machine.{Machine}
 use Rattle.bounded_machine.specs.Machine.{slot, placeOf, idler}
-use Rattle.bounded_machine.specs.Turn.{spotOf, begun, stored, acted}
+use Rattle.bounded_machine.specs.Turn.{spotOf, begun, stored, acted, actedBy}
 use Rattle.bounded_machine.proofs.Kept.{Unbroken, begun-unbroken, acted-unbroken, word-fits-in, fits-plain}
 use Rattle.bounded_proof_invariant.proofs.Ring.{Mine, Shared, Inv}
 use Rattle.bounded_proof_invariant.proofs.Effects.{Effect, Still, Tailed, Taken, Grabbed, Forced, Fills, Swaps, Frees, Gives, after, Course, course, inv-after, mine-after, cell-course, val-course}
@@ -265,7 +266,7 @@ module _ (c n workers : ℕ) (base : Base c n workers) (s : Shared) (m : Machine
         other v ne (no far) z = pic .back i l v (rw (cell-course c s next w spot coursed i far) at z)
 
     pub acted-pictured : m .meter < meterMost → Pictured c n workers next (acted m w (stood m w) lose)
-    unfolding acted stored
+    unfolding actedBy stored
     acted-pictured early =
         record {
           inv = inv-after c s w spot spot-small (pic .inv) effect (stepped .fits);
@@ -294,5 +295,5 @@ module _ (c n workers : ℕ) (base : Base c n workers) (s : Shared) (m : Machine
 
     -- where the acting worker stands afterwards
     pub acted-stood : stood (acted m w (stood m w) lose) w ≡ result .place
-    unfolding acted stored
+    unfolding actedBy stored
     acted-stood = ap (λ (z : Worker). z .place) (getD-set-same (m .workers) w (record { place = result .place }) idler seat)

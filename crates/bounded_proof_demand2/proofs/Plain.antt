@@ -6,9 +6,10 @@ use Prim.Native.Nat.{ℕ, _+_, _*_, _/_, _%_, _≤_, _<_}
 use native.Mathlib.Omega.{arith}
 use native.Mathlib.Nat.{mod-lt, div-le-self, mul-le-mul-left}
 use lib.ListN.{getD}
+use Rattle.queue_entries.specs.Limits.{meterMost}
 use Rattle.bounded_words.specs.declared.Stamp.{Stamp}
 use Rattle.bounded_words.specs.declared.Fixed.{Fixed}
-use Rattle.bounded_words.specs.Limits.{slotsMost, meterMost, wide}
+use Rattle.bounded_words.specs.Limits.{slotsMost, wide}
 use Rattle.bounded_words.specs.Words.{markOf, fixedOf, unmarkedOf}
 use Rattle.bounded_words.proofs.Marks.{Ruled, ruled}
 use Rattle.bounded_places.specs.declared.Slot.{Slot}

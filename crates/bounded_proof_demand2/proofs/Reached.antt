@@ -10,7 +10,11 @@ use lib.Dec.{ltb, eqb}
 use lib.ListN.{length, getD, set, replicate, length-append, length-set, length-replicate}
 use lib.Seq.{getD-set-same, getD-set-other}
 use borrow.Author.Tests.{eqb-true, eq-eqb, ne-eqb, le-leb, lt-ltb}
-use Rattle.bounded_words.specs.Limits.{slotsMost, workersMost, meterMost, wide}
+use Rattle.queue_entries.specs.Schedules.{runBy, historyBy}
+use Rattle.queue_entries.specs.Limits.{workersMost, meterMost, inLimits}
+use Rattle.queue_entries.specs.declared.Entry.{Entry}
+use Rattle.queue_entries.specs.Entries.{entryOf}
+use Rattle.bounded_words.specs.Limits.{slotsMost, wide}
 use Rattle.bounded_words.specs.Words.{stamp, markOf, lapOf, fixedOf, markedOf, indexOf}
 use Rattle.bounded_words.proofs.Marks.{Ruled, ruled}
 use Rattle.bounded_places.specs.declared.Slot.{Slot}
@@ -18,13 +22,12 @@ use Rattle.bounded_places.specs.declared.Place.{Place}
 use Rattle.bounded_places.specs.declared.Place.the-variants.{Idle}
 use Rattle.bounded_places.specs.declared.Answer.the-variants.{Nothing}
 use Rattle.bounded_places.specs.declared.Worker.{Worker}
-use Rattle.bounded_places.specs.declared.Entry.{Entry}
-use Rattle.bounded_places.specs.Places.{inside, entryOf, beginOf}
+use Rattle.bounded_places.specs.Places.{inside, beginOf}
 use Rattle.bounded_machine.specs.declared.Machine.{Machine}
 use Rattle.bounded_machine.specs.declared.Event.{Event}
 use Rattle.bounded_machine.specs.Machine.{slot, emptySlots, stamped, freshSlots, idler, idlers, starts, freshOf}
-use Rattle.bounded_machine.specs.Broken.{inLimits, byRule, endsFit, recordFits}
-use Rattle.bounded_machine.specs.Turn.{turnOf, begun, acted, stored}
+use Rattle.bounded_machine.specs.Broken.{byRule, endsFit, recordFits}
+use Rattle.bounded_machine.specs.Turn.{turnOf, begun, acted, actedBy, stored}
 use Rattle.bounded_machine.specs.Run.{ran, runFrom}
 use Rattle.bounded_machine.specs.History.{event, eventsOf, historyOf, tallyOf}
 use Rattle.bounded_machine.proofs.Kept.{Unbroken, ends-of}
@@ -214,7 +217,7 @@ unfolding begun
 begun-meter m w q = refl
 
 acted-meter : (m : Machine) (w : ℕ) (p : Place) (lose : Bool) → acted m w p lose .meter ≡ m .meter + 1
-unfolding acted stored
+unfolding actedBy stored
 acted-meter m w p lose = refl
 
 -- What every reached machine has behind it.
@@ -258,7 +261,7 @@ module _ (c n workers : ℕ) (base : Base c n workers) where
   -- and so does every list of entries
   pub entries : (s : List ℕ) (m : Machine) (h : List Event) (place : ℕ) → Reached c n workers m h
       → Reached c n workers (runFrom m place s .machine) (h ++ historyOf m s)
-  unfolding runFrom historyOf ran
+  unfolding runBy historyBy ran
   entries [] m h place r = rw (append-nil h) r
   entries (first ∷ []) m h place r = rw (append-nil h) r
   entries (first ∷ second ∷ rest) m h place r =

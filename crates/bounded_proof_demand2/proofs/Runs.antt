@@ -7,7 +7,8 @@ use native.Mathlib.Omega.{arith}
 use lib.Dec.{eqb}
 use lib.ListN.{length}
 use borrow.Author.Tests.{eqb-false}
-use Rattle.bounded_places.specs.Places.{entryOf}
+use Rattle.queue_entries.specs.Schedules.{runBy, historyBy}
+use Rattle.queue_entries.specs.Entries.{entryOf}
 use Rattle.bounded_machine.specs.declared.Machine.{Machine}
 use Rattle.bounded_machine.specs.declared.Event.{Event}
 use Rattle.bounded_machine.specs.Turn.{turnOf}
@@ -20,7 +21,7 @@ pub record Onward (m : Machine) (place : ℕ) (s t : List ℕ) : Type 0 where
   pub acts : historyOf m (s ++ t) ≡ historyOf m s ++ historyOf (runFrom m place s .machine) t
 
 pub onward : (s t : List ℕ) (m : Machine) (place : ℕ) → length s % 2 ≡ 0 → runFrom m place s .refusal ≡ 0 → Onward m place s t
-unfolding runFrom historyOf ran
+unfolding runBy historyBy ran
 onward [] t m place even e = record { run = refl; acts = refl }
 onward (first ∷ []) t m place even e = absurd (omega arith)
 onward (first ∷ second ∷ rest) t m place even e =

@@ -6,18 +6,18 @@ use Prim.Native.Nat.{ℕ, _<_}
 use native.Mathlib.Omega.{arith}
 use lib.Dec.{ltb}
 use borrow.Author.Tests.{ltb-true}
-use Rattle.bounded_words.specs.Limits.{meterMost}
+use Rattle.queue_entries.specs.Limits.{meterMost}
+use Rattle.queue_entries.specs.declared.Call.{Call}
+use Rattle.queue_entries.specs.declared.Order.the-variants.{Begin, Act}
+use Rattle.queue_entries.specs.declared.Entry.{Entry}
+use Rattle.queue_entries.specs.declared.Entry.the-variants.{Unreadable, Asks}
+use Rattle.queue_entries.specs.declared.Verdict.{Verdict}
+use Rattle.queue_entries.specs.declared.Verdict.the-variants.{Refuse, Start, Move}
 use Rattle.bounded_places.specs.declared.Place.{Place}
-use Rattle.bounded_places.specs.declared.Call.{Call}
-use Rattle.bounded_places.specs.declared.Order.the-variants.{Begin, Act}
-use Rattle.bounded_places.specs.declared.Entry.{Entry}
-use Rattle.bounded_places.specs.declared.Entry.the-variants.{Unreadable, Asks}
 use Rattle.bounded_places.specs.Places.{viewOf, beginOf}
 use Rattle.bounded_machine.specs.declared.Machine.{Machine}
 use Rattle.bounded_machine.specs.declared.Did.{Did}
 use Rattle.bounded_machine.specs.declared.Event.{Event}
-use Rattle.bounded_machine.specs.declared.Verdict.{Verdict}
-use Rattle.bounded_machine.specs.declared.Verdict.the-variants.{Refuse, Start, Move}
 use Rattle.bounded_machine.specs.Machine.{placeOf, refused, accepted}
 use Rattle.bounded_machine.specs.Turn.{verdictOf, carried, turn, begun, acted}
 use Rattle.bounded_machine.proofs.Kept.{either}
@@ -52,7 +52,7 @@ pub turned : (m : Machine) (e : Entry) → Result m e (turn m e)
 turned m Unreadable = refuses m Unreadable 9 (omega arith)
 turned m (Asks w (Begin call)) =
     either (Result m (Asks w (Begin call))) (ltb w (m .count)) (carried m w (stood m w) (verdictOf (m .meter) (stood m w) (Begin call))) (refused 3 m)
-    (λ l. either (λ (v : Verdict). Result m (Asks w (Begin call)) (carried m w (stood m w) v)) (viewOf (stood m w) .busy) (Refuse 4) (Start (beginOf call))
+    (λ l. either (λ (v : Verdict). Result m (Asks w (Begin call)) (carried m w (stood m w) v)) (viewOf (stood m w) .busy) (Refuse 4) (Start call)
     (λ b. refuses m (Asks w (Begin call)) 4 (omega arith))
     (λ b. begins m w call (ltb-true w (m .count) l) b))
     (λ l. refuses m (Asks w (Begin call)) 3 (omega arith))

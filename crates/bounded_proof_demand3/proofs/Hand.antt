@@ -9,6 +9,9 @@ use native.Mathlib.Decide.{ℕ-discrete}
 use lib.Dec.{eqb}
 use lib.Seq.{getD-set-other}
 use borrow.Author.Tests.{eq-eqb, ne-eqb, eqb-true, eqb-false}
+use Rattle.queue_entries.specs.Schedules.{runBy}
+use Rattle.queue_entries.specs.declared.Entry.{Entry}
+use Rattle.queue_entries.specs.Entries.{entryOf}
 use Rattle.bounded_words.specs.declared.Stamp.{Stamp}
 use Rattle.bounded_words.specs.declared.Fixed.{Fixed}
 use Rattle.bounded_places.specs.declared.Slot.{Slot}
@@ -18,8 +21,7 @@ use Rattle.bounded_places.specs.declared.Answer.the-variants.{Pushed, Displaced
 use Rattle.bounded_places.specs.declared.Place.{Place}
 use Rattle.bounded_places.specs.declared.Place.the-variants.{Idle}
 use Rattle.bounded_places.specs.declared.Worker.{Worker}
-use Rattle.bounded_places.specs.declared.Entry.{Entry}
-use Rattle.bounded_places.specs.Places.{viewOf, entryOf}
+use Rattle.bounded_places.specs.Places.{viewOf}
 use Rattle.bounded_acts.specs.Acts.{stay, actOf}
 use Rattle.bounded_machine.specs.declared.Machine.{Machine}
 use Rattle.bounded_machine.specs.declared.Did.{Did}
@@ -76,7 +78,7 @@ begun-else m w v q ne = ap (λ (z : Worker). z .place) (getD-set-other (m .worke
 
 -- entries that are all accepted are passed as a schedule runs them
 pub as-run : (m : Machine) (place : ℕ) (entries : List ℕ) → runFrom m place entries .refusal ≡ 0 → passed document01 m entries ≡ runFrom m place entries .machine
-unfolding passed runFrom ran
+unfolding passed runBy ran
 as-run m place [] e = refl
 as-run m place (first ∷ []) e = refl
 as-run m place (first ∷ second ∷ rest) e = go (as-run next (place + 1) rest) (eqb (turnOf m first second .refusal) 0) refl e

@@ -2,13 +2,15 @@
 use mathlib.Core.Path.{_≡_, refl, sym, ap, _∙_, subst}
 use mathlib.Core.Bool.{Bool, true, false}
 use mathlib.Core.List.{List, [], _∷_}
-use Prim.Native.Nat.{ℕ, _+_, _-_, _%_, _<_}
+use Prim.Native.Nat.{ℕ, _+_, _%_, _<_, _-_}
 use native.Mathlib.Omega.{arith}
 use native.Mathlib.Nat.{mod-lt}
 use lib.Dec.{eqb}
 use lib.ListN.{length, getD, length-drop}
 use lib.Seq.{getD-drop}
 use borrow.Author.Tests.{eq-eqb, ne-eqb, eqb-true, eqb-false}
+use Rattle.queue_entries.specs.declared.Call.{Call}
+use Rattle.queue_entries.specs.declared.Call.the-variants as call
 use Rattle.bounded_words.specs.declared.Stamp.{Stamp}
 use Rattle.bounded_words.specs.declared.Fixed.{Fixed}
 use Rattle.bounded_words.specs.Words.{markOf, indexOf, markedOf, unmarkedOf, same, lapBehind}
@@ -16,8 +18,6 @@ use Rattle.bounded_places.specs.declared.Slot.{Slot}
 use Rattle.bounded_places.specs.declared.Ends.{Ends}
 use Rattle.bounded_places.specs.declared.Answer.the-variants.{Popped, Len}
 use Rattle.bounded_places.specs.declared.Place.{Place}
-use Rattle.bounded_places.specs.declared.Call.{Call}
-use Rattle.bounded_places.specs.declared.Call.the-variants as call
 use Rattle.bounded_places.specs.Places.{viewOf, beginOf}
 use Rattle.bounded_acts.specs.Acts.{countOf, yesNo}
 use Rattle.bounded_machine.specs.declared.Machine.{Machine}
@@ -35,8 +35,8 @@ use Rattle.bounded_proof_demand2.proofs.Counts.{tally-head}
 use Rattle.bounded_proof_demand2.proofs.Contents.{count-in}
 use Rattle.bounded_proof_demand2.proofs.Pictured.{Base, first-turn}
 use Rattle.bounded_proof_demand2.proofs.Reached.{Reached}
-use Rattle.bounded_proof_demand3.proofs.Found.{tail-is, behind-is}
 use Rattle.bounded_proof_demand3.specs.Foretold.{foretoldOf}
+use Rattle.bounded_proof_demand3.proofs.Found.{tail-is, behind-is}
 use Rattle.bounded_proof_demand3.proofs.Solo.{headValue, ownSlot, foretold, loose}
 
 -- two tests that say the same

@@ -10,8 +10,12 @@ use lib.Dec.{ltb, eqb}
 use lib.ListN.{length, getD, set, List·getD-eq-default}
 use lib.Seq.{getD-set-same, getD-set-other}
 use borrow.Author.Tests.{lt-ltb, ltb-true}
+use Rattle.queue_entries.specs.Schedules.{runBy, historyBy}
+use Rattle.queue_entries.specs.Limits.{workersMost, meterMost}
+use Rattle.queue_entries.specs.declared.Order.the-variants.{Act}
+use Rattle.queue_entries.specs.declared.Entry.the-variants.{Asks}
+use Rattle.queue_entries.specs.Entries.{strayOf, orderOf, entryOf}
 use Rattle.bounded_words.specs.declared.Fixed.{Fixed}
-use Rattle.bounded_words.specs.Limits.{workersMost, meterMost}
 use Rattle.bounded_words.specs.Words.{markOf, indexOf}
 use Rattle.bounded_places.specs.declared.Slot.{Slot}
 use Rattle.bounded_places.specs.declared.Ends.{Ends}
@@ -19,9 +23,7 @@ use Rattle.bounded_places.specs.declared.Answer.{Answer}
 use Rattle.bounded_places.specs.declared.Place.{Place}
 use Rattle.bounded_places.specs.declared.Place.the-variants.{Idle}
 use Rattle.bounded_places.specs.declared.Worker.{Worker}
-use Rattle.bounded_places.specs.declared.Order.the-variants.{Act}
-use Rattle.bounded_places.specs.declared.Entry.the-variants.{Asks}
-use Rattle.bounded_places.specs.Places.{viewOf, strayOf, orderOf, entryOf}
+use Rattle.bounded_places.specs.Places.{viewOf}
 use Rattle.bounded_acts.specs.declared.Acted.{Acted}
 use Rattle.bounded_acts.specs.Acts.{actOf}
 use Rattle.bounded_machine.specs.declared.Machine.{Machine}
@@ -29,7 +31,7 @@ use Rattle.bounded_machine.specs.declared.Event.{Event}
 use Rattle.bounded_machine.specs.declared.Ran.{Ran}
 use Rattle.bounded_machine.specs.Machine.{slot, placeOf, idler, refused, accepted}
 use Rattle.bounded_machine.specs.Broken.{recordFits}
-use Rattle.bounded_machine.specs.Turn.{verdictOf, carried, turnOf, spotOf, stored, acted}
+use Rattle.bounded_machine.specs.Turn.{verdictOf, carried, turnOf, spotOf, stored, acted, actedBy}
 use Rattle.bounded_machine.specs.Run.{ran, runFrom}
 use Rattle.bounded_machine.specs.History.{event, historyOf}
 use Rattle.bounded_demands.specs.Notions.{acts, InHand, HandsOut, Truth, CallClaim, ItemIn, OtherHand}
@@ -42,9 +44,9 @@ use Rattle.bounded_proof_demand2.proofs.Pictured.{Base, Pictured, first-turn, s
 use Rattle.bounded_proof_demand2.proofs.Reached.{Reached, entered}
 use Rattle.bounded_proof_demand2.proofs.Answers.{true-answers}
 use Rattle.bounded_proof_demand3.specs.Rank.{rankOf}
+use Rattle.bounded_proof_demand3.specs.Foretold.{foretoldOf}
 use Rattle.bounded_proof_demand3.proofs.Falls.{Finds, falls}
 use Rattle.bounded_proof_demand3.proofs.Found.{hand-of, loose-of, finds}
-use Rattle.bounded_proof_demand3.specs.Foretold.{foretoldOf}
 use Rattle.bounded_proof_demand3.proofs.Leaves.{Leaves, leaves}
 
 -- code 8 of worker w
@@ -75,15 +77,15 @@ rank m w = rankOf (m .ring .fixed) (m .ring .ends) (stood m w)
 
 -- another worker stands where it stood
 pub acted-else : (m : Machine) (w v : ℕ) (p : Place) (lose : Bool) → v ≢ w → stood (acted m w p lose) v ≡ stood m v
-unfolding acted stored
+unfolding actedBy stored
 acted-else m w v p lose ne = ap (λ (z : Worker). z .place) (getD-set-other (m .workers) w v _ idler ne)
 
 pub acted-meter : (m : Machine) (w : ℕ) (p : Place) (lose : Bool) → acted m w p lose .meter ≡ m .meter + 1
-unfolding acted stored
+unfolding actedBy stored
 acted-meter m w p lose = refl
 
 pub acted-fixed : (m : Machine) (w : ℕ) (p : Place) (lose : Bool) → acted m w p lose .ring .fixed ≡ m .ring .fixed
-unfolding acted stored
+unfolding actedBy stored
 acted-fixed m w p lose = refl
 
 module _ (c n workers : ℕ) (base : Base c n workers) (s : Shared) (m : Machine) (pic : Pictured c n workers s m) (w : ℕ) (busy : viewOf (stood m w) .busy ≡ true) where
@@ -138,7 +140,7 @@ module _ (c n workers : ℕ) (base : Base c n workers) (s : Shared) (m : Machine
     next-stood = acted-stood c n workers base s m pic w team false busy
 
     pub rank-falls : rank next w < rank m w
-    unfolding acted stored
+    unfolding actedBy stored
     rank-falls =
         subst (λ (q : Place). rankOf (m .ring .fixed) (result .ends) q < rank m w) (sym next-stood) (falls (m .ring .fixed) (m .ring .ends) (ownSlot m p) p busy found)
 
@@ -153,7 +155,7 @@ module _ (c n workers : ℕ) (base : Base c n workers) (s : Shared) (m : Machine
     first e = ap (λ (j : ℕ). getD (m .ring .slots) j (slot 0 0) .value) (sym e)
 
     pub foretold-stays : foretold next w ≡ foretold m w
-    unfolding acted stored
+    unfolding actedBy stored
     foretold-stays =
         let f = m .ring .fixed in
         let k : Leaves f (m .ring .ends) (ownSlot m p) i (headValue m) first (foretold m w) result =
@@ -186,12 +188,12 @@ pub record Ended (m : Machine) (h : List Event) (from w most : ℕ) (a : Answer)
 
 -- one act more before it
 run-more : (m next : Machine) (from w k : ℕ) → turnOf m (16 * w + 8) 0 ≡ accepted next → runFrom m from (acts w (suc k)) ≡ runFrom next (from + 1) (acts w k)
-unfolding runFrom acts accepted
+unfolding runBy acts accepted
 run-more m next from w k e = rw e
 
 history-more : (m next : Machine) (h : List Event) (w k : ℕ) → turnOf m (16 * w + 8) 0 ≡ accepted next
     → (h ++ event w (stood m w) (stood next w) ∷ []) ++ historyOf next (acts w k) ≡ h ++ historyOf m (acts w (suc k))
-unfolding historyOf acts accepted
+unfolding historyBy acts accepted
 history-more m next h w k e =
     append-assoc h (event w (stood m w) (stood next w) ∷ []) (historyOf next (acts w k))
     ∙ ap (λ (l : List Event). h ++ l) (rw (e, act-entry w))
@@ -210,14 +212,14 @@ idle-refused m w idle = rw (act-entry w) (go (ltb w (m .count)))
     go false = refl
 
 pub idle-stays : (m : Machine) (from w k : ℕ) → viewOf (stood m w) .busy ≡ false → runFrom m from (acts w k) .machine ≡ m
-unfolding runFrom acts ran
+unfolding runBy acts ran
 idle-stays m from w zero idle = refl
 idle-stays m from w (suc k) idle = rw (idle-refused m w idle)
 
 -- the last act
 last : (m next : Machine) (h : List Event) (from w : ℕ) (a : Answer) → turnOf m (16 * w + 8) 0 ≡ accepted next → viewOf (stood m w) .busy ≡ true → stood next w ≡ Idle a
     → Truth (m .ring .fixed) (m .ring .ends) a → ((v : ℕ) → HandsOut (Idle a) v → Claims h w v) → (k : ℕ) → Ended m h from w (suc k) a
-unfolding runFrom historyOf acts ran accepted
+unfolding runBy historyBy acts ran accepted
 last m next h from w a taken busy e t claims k =
     record {
       before = 0;

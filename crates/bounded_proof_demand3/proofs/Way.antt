@@ -5,8 +5,8 @@ use mathlib.Core.Bool.{Bool, true, false, true≢false}
 use Prim.Native.Nat.{ℕ, zero, suc, _%_, _<_}
 use native.Mathlib.Omega.{arith}
 use native.Mathlib.Decide.{ℕ-discrete}
+use Rattle.queue_entries.specs.Limits.{workersMost}
 use Rattle.bounded_words.specs.declared.Stamp.{Stamp}
-use Rattle.bounded_words.specs.Limits.{workersMost}
 use Rattle.bounded_places.specs.declared.Place.{Place}
 use Rattle.bounded_machine.specs.declared.Machine.{Machine}
 use Rattle.bounded_demands.specs.Notions.{InHand, handP4, handP5, handF7, handF8, handF9, handO4, handO5, OtherHand}

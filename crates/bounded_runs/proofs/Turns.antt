@@ -1,5 +1,5 @@
 -- One turn of the schedule's loop, from what is left of the run.
-use Prim.Native.Nat.{ℕ, suc, _+_, _-_, _*_, _%_, _<_, _≤_}
+use Prim.Native.Nat.{ℕ, suc, _+_, _*_, _%_, _<_, _≤_}
 use mathlib.Core.Path.{_≡_, refl, sym, ap, _∙_, subst}
 use mathlib.Core.Bool.{Bool, true, false}
 use mathlib.Core.List.{List, _∷_}
@@ -9,38 +9,41 @@ use lib.Dec.{ltb}
 use lib.ListN.{getD, length, drop, drop-of-length-le}
 use lib.Seq.{drop-cons}
 use borrow.Author.Tests.{ne-eqb, eq-eqb, ltb-true}
-use Rattle.bounded_words.specs.Limits.{slotsMost, workersMost, meterMost}
-use Rattle.bounded_words.proofs.Pick.{below, above, yes, no}
+use Rattle.queue_entries.specs.Schedules.{runBy, scheduleBy}
+use Rattle.queue_entries.specs.Limits.{workersMost, meterMost}
+use Rattle.queue_entries.proofs.Pick.{below, above, yes, no}
+use Rattle.queue_entries.specs.declared.Call.{Call}
+use Rattle.queue_entries.specs.declared.Order.{Order}
+use Rattle.queue_entries.specs.declared.Order.the-variants.{Begin, Act}
+use Rattle.queue_entries.specs.declared.Entry.{Entry}
+use Rattle.queue_entries.specs.declared.Entry.the-variants.{Unreadable, Asks}
+use Rattle.queue_entries.specs.Entries.{entryOf}
+use Rattle.queue_entries.specs.declared.Verdict.{Verdict}
+use Rattle.queue_entries.specs.declared.Verdict.the-variants.{Refuse, Start, Move}
+use Rattle.bounded_words.specs.Limits.{slotsMost}
 use Rattle.bounded_places.specs.declared.Slot.{Slot}
 use Rattle.bounded_places.specs.declared.Place.{Place}
 use Rattle.bounded_places.specs.declared.Held.{Held}
 use Rattle.bounded_places.specs.declared.Held.the-variants as held
-use Rattle.bounded_places.specs.declared.Call.{Call}
-use Rattle.bounded_places.specs.declared.Order.{Order}
-use Rattle.bounded_places.specs.declared.Order.the-variants.{Begin, Act}
-use Rattle.bounded_places.specs.declared.Entry.{Entry}
-use Rattle.bounded_places.specs.declared.Entry.the-variants.{Unreadable, Asks}
-use Rattle.bounded_places.specs.Places.{viewOf, fitsOf, beginOf, entryOf}
+use Rattle.bounded_places.specs.Places.{viewOf, fitsOf, beginOf}
 use Rattle.bounded_acts.specs.declared.Acted.{Acted}
 use Rattle.bounded_acts.specs.Acts.{actOf, Fits}
 use Rattle.bounded_machine.specs.declared.Machine.{Machine}
 use Rattle.bounded_machine.specs.declared.Ran.{Ran}
-use Rattle.bounded_machine.specs.declared.Verdict.{Verdict}
-use Rattle.bounded_machine.specs.declared.Verdict.the-variants.{Refuse, Start, Move}
 use Rattle.bounded_machine.specs.Machine.{slot, placeOf, refused, accepted}
 use Rattle.bounded_machine.specs.Broken.{brokenOf}
-use Rattle.bounded_machine.specs.Turn.{verdictOf, spotOf, begun, stored, acted, carried, turn, turnOf}
+use Rattle.bounded_machine.specs.Turn.{verdictOf, spotOf, begun, stored, actedBy, carried, turn, turnOf}
 use Rattle.bounded_machine.specs.Run.{ran, runFrom, runOf}
 use Rattle.bounded_machine.proofs.Kept.{Unbroken, fair-in, ruled-in, few-workers, begun-unbroken, stored-unbroken, Ok, keeps, word-fits-in, fits-plain, either}
 
--- ---- what a verdict tells: a refusal has a number, a start is a call's first place, a move is a busy worker's in time
+-- ---- what a verdict tells: a refusal has a number, a move is a busy worker's in time
 abbrev Sense : ℕ → Place → Verdict → Type 0
 Sense meter p (Refuse k) = 0 < k
-Sense meter p (Start q) = (c : Call) × (q ≡ beginOf c)
+Sense meter p (Start c) = Unit {0}
 Sense meter p (Move lose) = (viewOf p .busy ≡ true) × (meter < meterMost)
 
 sense : (meter : ℕ) (p : Place) (o : Order) → Sense meter p (verdictOf meter p o)
-sense meter p (Begin c) = either (Sense meter p) (viewOf p .busy) (Refuse 4) (Start (beginOf c)) (λ b. omega arith) (λ b. (c, refl))
+sense meter p (Begin c) = either (Sense meter p) (viewOf p .busy) (Refuse 4) (Start c) (λ b. omega arith) (λ b. tt)
 sense meter p (Act lose) =
     either (Sense meter p) (viewOf p .busy) _ (Refuse 5)
     (λ b. either (Sense meter p) (ltb meter meterMost) _ (Refuse 7)
@@ -53,9 +56,6 @@ sense meter p (Act lose) =
 module _ (meter : ℕ) (p : Place) (o : Order) (v : Verdict) (e : v ≡ verdictOf meter p o) where
   pub number-positive : (k : ℕ) → v ≡ Refuse k → 0 < k
   number-positive k h = subst (Sense meter p) (sym e ∙ h) (sense meter p o)
-
-  pub start-begins : (q : Place) → v ≡ Start q → (c : Call) × (q ≡ beginOf c)
-  start-begins q h = subst (Sense meter p) (sym e ∙ h) (sense meter p o)
 
   pub move-busy : (lose : Bool) → v ≡ Move lose → viewOf p .busy ≡ true
   move-busy lose h = subst (Sense meter p) (sym e ∙ h) (sense meter p o) .0
@@ -93,11 +93,11 @@ module _ (s : List ℕ) (n i : ℕ) (m : Machine) (whole : Ran) (back : runFrom 
   whole-from = sym (ap (runFrom m i) split) ∙ back
 
   stopped : (k : ℕ) → 0 < k → turnOf m (getD s (2 * i) 0) (getD s (2 * i + 1) 0) ≡ refused k m → ran k i m ≡ whole
-  unfolding runFrom refused
+  unfolding runBy refused
   stopped k pos h = sym (simp (h, ne-eqb k 0 (λ z. omega arith))) ∙ whole-from
 
   went : (next : Machine) → turnOf m (getD s (2 * i) 0) (getD s (2 * i + 1) 0) ≡ accepted next → runFrom next (i + 1) (drop (2 * (i + 1)) s) ≡ whole
-  unfolding runFrom accepted
+  unfolding runBy accepted
   went next h = sym (simp h) ∙ whole-from
 
   module _ (x : Entry) (ex : x ≡ entryOf (getD s (2 * i) 0) (getD s (2 * i + 1) 0)) where
@@ -112,13 +112,13 @@ module _ (s : List ℕ) (n i : ℕ) (m : Machine) (whole : Ran) (back : runFrom 
         pub stop : (k : ℕ) → v ≡ Refuse k → ran k i m ≡ whole
         stop k q = stopped k (number-positive (m .meter) (placeOf (m .workers) w) o v e k q) (near m _ _ x ex w o h v g e ∙ ap (carried m w (placeOf (m .workers) w)) q)
 
-        pub start : (q : Place) → v ≡ Start q → runFrom (begun m w q) (i + 1) (drop (2 * (i + 1)) s) ≡ whole
-        start q k = went (begun m w q) (near m _ _ x ex w o h v g e ∙ ap (carried m w (placeOf (m .workers) w)) k)
+        pub start : (c : Call) (q : Place) → v ≡ Start c → q ≡ beginOf c → runFrom (begun m w q) (i + 1) (drop (2 * (i + 1)) s) ≡ whole
+        start c q k l = went (begun m w q) (near m _ _ x ex w o h v g e ∙ ap (carried m w (placeOf (m .workers) w)) k ∙ ap (λ (z : Place). accepted (begun m w z)) (sym l))
 
         pub move : (lose : Bool) (sp : ℕ) (a : Acted) → v ≡ Move lose → sp ≡ spotOf (m .ring .fixed) (viewOf (placeOf (m .workers) w) .held)
             → a ≡ actOf (m .ring .fixed) (m .ring .ends) (getD (m .ring .slots) sp (slot 0 0)) (placeOf (m .workers) w) lose
             → runFrom (stored m w sp a) (i + 1) (drop (2 * (i + 1)) s) ≡ whole
-        unfolding acted
+        unfolding actedBy
         move lose sp a k es ea =
             went (stored m w sp a)
             (near m _ _ x ex w o h v g e ∙ ap (carried m w (placeOf (m .workers) w)) k ∙ ap accepted (rw (ea, es)))
@@ -126,20 +126,20 @@ module _ (s : List ℕ) (n i : ℕ) (m : Machine) (whole : Ran) (back : runFrom 
 -- ---- before and after the loop
 module _ (m : Machine) (s : List ℕ) (b : Bool) (e : b ≡ brokenOf m) where
   pub broken-run : b ≡ true → ran 6 0 m ≡ runOf m s
-  unfolding runOf
+  unfolding scheduleBy
   broken-run h = yes _ b _ _ _ e h refl
 
   module _ (h : b ≡ false) where
     pub odd-run : length s % 2 ≡ 1 → ran 11 0 m ≡ runOf m s
-    unfolding runOf
+    unfolding scheduleBy
     odd-run k = no _ b _ _ _ e h (sym (simp (eq-eqb _ _ k)))
 
     pub even-run : (length s % 2 ≡ 1 → ⊥) → runFrom m 0 (drop 0 s) ≡ runOf m s
-    unfolding runOf
+    unfolding scheduleBy
     even-run k = no _ b _ _ _ e h (sym (simp (ne-eqb _ _ k)))
 
 pub ended : (s : List ℕ) (n i : ℕ) (m : Machine) (whole : Ran) → runFrom m i (drop (2 * i) s) ≡ whole → length s ≡ 2 * n → n ≤ i → ran 0 i m ≡ whole
-unfolding runFrom
+unfolding runBy
 ended s n i m whole back len ge = sym (ap (runFrom m i) (drop-of-length-le s {i = 2 * i} (omega arith))) ∙ back
 
 -- ---- what the loop may do on an unbroken machine
@@ -162,10 +162,8 @@ module _ (m : Machine) (u : Unbroken m) where
 
   -- and it stays unbroken
   module _ (w : ℕ) (l : w < m .count) where
-    pub started-unbroken : (o : Order) (v : Verdict) (q : Place) → v ≡ verdictOf (m .meter) (placeOf (m .workers) w) o → v ≡ Start q → Unbroken (begun m w q)
-    started-unbroken o v q e h =
-        let b = start-begins (m .meter) (placeOf (m .workers) w) o v e q h in
-        subst (λ (x : Place). Unbroken (begun m w x)) (sym (b .1)) (begun-unbroken m u w l (b .0))
+    pub started-unbroken : (c : Call) (q : Place) → q ≡ beginOf c → Unbroken (begun m w q)
+    started-unbroken c q e = subst (λ (x : Place). Unbroken (begun m w x)) (sym e) (begun-unbroken m u w l c)
 
     pub moved-unbroken : (sp : ℕ) (a : Acted) (s : Slot) (lose : Bool) → viewOf (placeOf (m .workers) w) .busy ≡ true → a ≡ actOf (m .ring .fixed) (m .ring .ends) s (placeOf (m .workers) w) lose → Unbroken (stored m w sp a)
     moved-unbroken sp a s lose h e =

@@ -5,12 +5,12 @@ ghost use Rattle.bounded_machine.specs.Run.{ran, runOf};
 use bounded_machine::Machine;
 use bounded_machine::Ran;
 use bounded_machine::Ring;
-use bounded_machine::Verdict;
 use bounded_places::Ends;
-use bounded_places::Entry;
 use bounded_places::Slot;
 use bounded_places::Worker;
 use bounded_words::Fixed;
+use queue_entries::Entry;
+use queue_entries::Verdict;
 
 fn ran(
     refusal: u64,
@@ -18,7 +18,7 @@ fn ran(
     f: Fixed,
     e: Ends,
     slots: [Slot; bounded_words::SLOTS],
-    workers: [Worker; bounded_words::WORKERS],
+    workers: [Worker; queue_entries::WORKERS],
     count: u64,
     meter: u64,
 ) -> Ran
@@ -60,7 +60,7 @@ pub fn run(m: Machine, schedule: &[u64]) -> Ran
     let n = schedule.len() / 2;
     let mut i = 0;
     while i < n {
-        let Entry::Asks(worker, order) = bounded_places::entry_of(
+        let Entry::Asks(worker, order) = queue_entries::entry_of(
             schedule[2 * i],
             schedule[2 * i + 1],
         ) else {
@@ -77,8 +77,10 @@ pub fn run(m: Machine, schedule: &[u64]) -> Ran
             Verdict::Refuse(number) => {
                 return ran(number, i, f, ends, slots, workers, count, meter);
             }
-            Verdict::Start(first) => {
-                workers[w] = Worker { place: first };
+            Verdict::Start(call) => {
+                workers[w] = Worker {
+                    place: bounded_places::first_place(call),
+                };
                 i += 1;
             }
             Verdict::Move(lose) => {

@@ -1,7 +1,7 @@
 // contents on buffers one short, exact and longer, each marked by 77.
 use bounded_machine::Machine;
-use bounded_machine::Told;
 use bounded_places::Place;
+use queue_entries::Told;
 
 // LABEL: REFUSAL or ok COUNT, then the buffer
 fn say(label: &[u8], numbers: &[u64], t: Told, buffer: &[u64]) {

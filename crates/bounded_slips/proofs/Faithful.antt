@@ -6,26 +6,28 @@ use mathlib.Core.Path.{_≡_, refl, sym, ap, subst, _∙_}
 use native.Mathlib.Omega.{arith}
 use lib.Dec.{eqb, ltb}
 use borrow.Author.Tests.{eqb-true}
+use Rattle.queue_entries.specs.Schedules.{runBy, historyBy}
+use Rattle.queue_entries.specs.declared.Order.the-variants.{Begin, Act}
+use Rattle.queue_entries.specs.declared.Entry.{Entry}
+use Rattle.queue_entries.specs.declared.Entry.the-variants.{Unreadable, Asks}
+use Rattle.queue_entries.specs.Entries.{entryOf}
+use Rattle.queue_entries.specs.declared.Verdict.the-variants.{Refuse, Move}
+use Rattle.queue_entries.specs.Limits.{meterMost}
 use Rattle.bounded_words.specs.declared.Fixed.{Fixed}
 use Rattle.bounded_places.specs.declared.Slot.{Slot}
 use Rattle.bounded_places.specs.declared.Ends.{Ends}
 use Rattle.bounded_places.specs.declared.Place.{Place}
 use Rattle.bounded_places.specs.declared.Place.the-variants.{Idle, P1, P2, P3, P4, P5, P6, F6, F7, F8, F9, O1, O2, O3, O4, O5, O6, Len1, Len2, Len3, Empty1, Empty2, Full1, Full2, Close1, IsClosed1}
-use Rattle.bounded_places.specs.declared.Order.the-variants.{Begin, Act}
-use Rattle.bounded_places.specs.declared.Entry.{Entry}
-use Rattle.bounded_places.specs.declared.Entry.the-variants.{Unreadable, Asks}
-use Rattle.bounded_places.specs.Places.{viewOf, entryOf}
+use Rattle.bounded_places.specs.Places.{viewOf}
 use Rattle.bounded_acts.specs.Acts.{actOf}
 use Rattle.bounded_machine.specs.declared.Machine.{Machine}
 use Rattle.bounded_machine.specs.declared.Did.{Did}
 use Rattle.bounded_machine.specs.declared.Ran.{Ran}
 use Rattle.bounded_machine.specs.declared.Event.{Event}
-use Rattle.bounded_machine.specs.declared.Verdict.the-variants.{Refuse, Move}
 use Rattle.bounded_machine.specs.Machine.{placeOf, refused, accepted}
-use Rattle.bounded_machine.specs.Turn.{acted, turn, turnOf, stored, spotOf, carried}
+use Rattle.bounded_machine.specs.Turn.{acted, actedBy, turn, turnOf, stored, spotOf, carried}
 use Rattle.bounded_machine.specs.Run.{ran, runFrom}
 use Rattle.bounded_machine.specs.History.{eventsOf, historyOf}
-use Rattle.bounded_words.specs.Limits.{meterMost}
 use Rattle.bounded_demands.specs.Demands.{UnderEverySchedule, ActByAct, WholeSchedules, LenTrue, ScheduledAlone}
 use Rattle.bounded_proof_demand2.proofs.Demand2.{demand2, act-by-act, whole-schedules}
 use Rattle.bounded_proof_demand2.proofs.Lens.{len-true}
@@ -62,7 +64,7 @@ same-act f e s Close1 lose = refl
 same-act f e s IsClosed1 lose = refl
 
 same-acted : (m : Machine) (w : ℕ) (p : Place) (lose : Bool) → actedWith planted m w p lose ≡ acted m w p lose
-unfolding acted
+unfolding actedBy
 same-acted m w p lose = ap (stored m w (spotOf (m .ring .fixed) (viewOf p .held))) (same-act (m .ring .fixed) (m .ring .ends) _ p lose)
 
 -- an act that is accepted
@@ -94,7 +96,7 @@ same-turn m first second = either-way (eqb (turn m (entryOf first second) .refus
     either-way false e = refl
 
 same-run : (m : Machine) (place : ℕ) (s : List ℕ) → runWith planted m place s ≡ runFrom m place s
-unfolding runWith runFrom
+unfolding runWith runBy
 same-run m place [] = refl
 same-run m place (first ∷ []) = refl
 same-run m place (first ∷ second ∷ rest) =
@@ -103,7 +105,7 @@ same-run m place (first ∷ second ∷ rest) =
     (same-run (turnOf m first second .machine) (place + 1) rest)
 
 same-history : (m : Machine) (s : List ℕ) → historyWith planted m s ≡ historyOf m s
-unfolding historyWith historyOf
+unfolding historyWith historyBy
 same-history m [] = refl
 same-history m (first ∷ []) = refl
 same-history m (first ∷ second ∷ rest) =

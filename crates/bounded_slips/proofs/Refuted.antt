@@ -5,20 +5,23 @@ use mathlib.Core.Bool.{true≢false}
 use mathlib.Core.List.{List, [], _∷_, _++_}
 use mathlib.Core.Path.{_≡_, refl, sym, ap}
 use lib.ListN.{getD}
+use Rattle.queue_entries.specs.Schedules.{runBy, scheduleBy, historyBy}
+use Rattle.queue_entries.specs.Entries.{strayOf, orderOf, entryOf}
+use Rattle.queue_entries.specs.Limits.{all, inLimits}
 use Rattle.bounded_words.specs.declared.Stamp.{Stamp}
 use Rattle.bounded_words.specs.Words.{doubled, markOf, markedOf, unmarkedOf, plus, minus, withMark, nextOf, same, onePast, lapBehind, lapBehindOnePast, stamp}
 use Rattle.bounded_places.specs.declared.Answer.the-variants.{Full, Closed, Popped, Empty}
 use Rattle.bounded_places.specs.declared.Place.the-variants.{Idle, O1, O2, O5, O6}
-use Rattle.bounded_places.specs.Places.{inside, strayOf, orderOf, entryOf}
+use Rattle.bounded_places.specs.Places.{inside}
 use Rattle.bounded_acts.specs.Acts.{stay, tailTo, headTo, stampTo, valueTo, countOf}
 use Rattle.bounded_machine.specs.declared.Machine.{Machine}
 use Rattle.bounded_machine.specs.declared.Ran.{Ran}
 use Rattle.bounded_machine.specs.Machine.{emptySlots, stamped, freshSlots, idlers, freshOf, refused, accepted}
-use Rattle.bounded_machine.specs.Broken.{all, inLimits, byRule, endsFit, recordFits, recordsFit, brokenOf, allIdle}
+use Rattle.bounded_machine.specs.Broken.{byRule, endsFit, recordFits, recordsFit, brokenOf, allIdle}
 use Rattle.bounded_machine.specs.Contents.{countIn, wrapped, itemAt, itemsFrom, contentsOf}
-use Rattle.bounded_machine.specs.Turn.{begun, stored, acted, turnOf}
-use Rattle.bounded_machine.specs.Run.{ran, runFrom, runOf}
-use Rattle.bounded_machine.specs.History.{event, historyOf, tallyOf, stockOf}
+use Rattle.bounded_machine.specs.Turn.{begun, stored, actedBy, turnOf}
+use Rattle.bounded_machine.specs.Run.{ran}
+use Rattle.bounded_machine.specs.History.{event, tallyOf, stockOf}
 use Rattle.bounded_demands.specs.Notions.{acts, itemsOf, tailersOf, takersOf, handP4, handO4, readO4, popped, passed, ownActs, actsOf, Allowed}
 use Rattle.bounded_slips.specs.Slips.{turnWith, runWith, historyWith, slipped, emptyUnseen, fullUnseen, closedUnseen, emptyTailFirst, fullHeadFirst, lenLooksOnce, popKeepsItsWord, lostForceKeepsItsWord, lostForceTakesTheHead, unstamped, releasesWithNext, neverLetsGo, handsOutAgain, readsAfterItsStore, stampBeforeValue, pushWritesLate}
 use Rattle.bounded_slips.specs.Refuted.{Trial, reached, past, does, Refuted, popOfNothing, popLooksLate, pushLooksLate, pushLoses, emptyLooks, fullLooks, popAfterPush, secondLap, popOutOfDate, forceOutOfDate, popInHand, lenLooks}
@@ -32,7 +35,7 @@ abbrev next : Trial → Machine
 next t = turnWith (t .slip) (reached t) 24 0 .machine
 
 pub refuted : Refuted
-unfolding doubled markOf markedOf unmarkedOf plus minus withMark nextOf same onePast lapBehind lapBehindOnePast inside strayOf orderOf entryOf stay tailTo headTo stampTo valueTo countOf emptySlots stamped freshSlots idlers freshOf refused accepted all inLimits byRule endsFit recordFits recordsFit brokenOf allIdle countIn wrapped itemAt itemsFrom contentsOf begun stored acted turnOf ran runFrom runOf historyOf tallyOf stockOf acts itemsOf tailersOf takersOf passed ownActs turnWith runWith historyWith nowhere stillBusy busyAlong
+unfolding doubled markOf markedOf unmarkedOf plus minus withMark nextOf same onePast lapBehind lapBehindOnePast inside strayOf orderOf entryOf stay tailTo headTo stampTo valueTo countOf emptySlots stamped freshSlots idlers freshOf refused accepted all inLimits byRule endsFit recordFits recordsFit brokenOf allIdle countIn wrapped itemAt itemsFrom contentsOf begun stored actedBy turnOf ran runBy scheduleBy historyBy tallyOf stockOf acts itemsOf tailersOf takersOf passed ownActs turnWith runWith historyWith nowhere stillBusy busyAlong
 refuted =
     record {
       act-by-act = λ a. true≢false (sym (ap (λ (m : Machine). busyAt m 0) (a (freshOf 1 2) [] 0 5 refl refl refl .0)));

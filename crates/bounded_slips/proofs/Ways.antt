@@ -9,24 +9,25 @@ use mathlib.Core.Logic.{_≢_}
 use lib.Dec.{eqb}
 use borrow.Author.Tests.{eq-eqb, ne-eqb}
 use lib.ListN.{length, getD, replicate}
+use Rattle.queue_entries.specs.declared.Order.the-variants.{Act}
+use Rattle.queue_entries.specs.declared.Entry.the-variants.{Asks}
+use Rattle.queue_entries.specs.Entries.{entryOf}
 use Rattle.bounded_places.specs.declared.Answer.{Answer}
 use Rattle.bounded_places.specs.declared.Answer.the-variants.{Nothing}
 use Rattle.bounded_places.specs.declared.Worker.{Worker}
 use Rattle.bounded_places.specs.declared.Place.{Place}
 use Rattle.bounded_places.specs.declared.Place.the-variants.{Idle}
-use Rattle.bounded_places.specs.declared.Order.the-variants.{Act}
-use Rattle.bounded_places.specs.declared.Entry.the-variants.{Asks}
-use Rattle.bounded_places.specs.Places.{viewOf, entryOf}
+use Rattle.bounded_places.specs.Places.{viewOf}
 use Rattle.bounded_machine.specs.declared.Machine.{Machine}
 use Rattle.bounded_machine.specs.declared.Event.{Event}
 use Rattle.bounded_machine.specs.Machine.{idler, placeOf, accepted}
 use Rattle.bounded_machine.specs.Run.{ran}
 use Rattle.bounded_demands.specs.Notions.{Definition, Acts, acts, Truth, itemIn, itemsOf, takersOf, LatestIn, ItemIn, WrittenIn, CallClaim, Fifo, start, enqueue, dequeue, rest, OtherHand, passed, LetsGo}
 use Rattle.bounded_demands.specs.Demands.{AnswersTrue, EndsAlone}
+use Rattle.bounded_proof_each_act.proofs.Sight.{look, answerIn}
 use Rattle.bounded_proof_demand2.proofs.Logged.{items-end, takers-end}
 use Rattle.bounded_proof_demand2.proofs.Reached.{idle-all}
 use Rattle.bounded_proof_demand3.proofs.Hand.{hand-busy}
-use Rattle.bounded_proof_each_act.proofs.Sight.{look, answerIn}
 use Rattle.bounded_slips.specs.Slips.{turnWith, runWith}
 
 abbrev pub busyAt : Machine → ℕ → Bool

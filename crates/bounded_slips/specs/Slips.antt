@@ -5,6 +5,10 @@ use mathlib.Core.List.{List, [], _∷_, _++_}
 use mathlib.Core.Path.{_≡_}
 use lib.Dec.{eqb}
 use lib.ListN.{getD}
+use Rattle.queue_entries.specs.declared.Order.the-variants.{Begin, Act}
+use Rattle.queue_entries.specs.declared.Entry.{Entry}
+use Rattle.queue_entries.specs.declared.Entry.the-variants.{Unreadable, Asks}
+use Rattle.queue_entries.specs.Entries.{entryOf}
 use Rattle.bounded_words.specs.declared.Fixed.{Fixed}
 use Rattle.bounded_words.specs.Words.{plus, minus, nextOf, same, unmarkedOf, lapBehind}
 use Rattle.bounded_places.specs.declared.Slot.{Slot}
@@ -13,10 +17,7 @@ use Rattle.bounded_places.specs.declared.Kind.the-variants.{Force}
 use Rattle.bounded_places.specs.declared.Answer.the-variants.{Pushed, Full, Closed, Displaced, Popped, Empty, Len}
 use Rattle.bounded_places.specs.declared.Place.{Place}
 use Rattle.bounded_places.specs.declared.Place.the-variants.{Idle, P1, P2, P3, P4, P5, P6, F6, F7, F8, F9, O1, O2, O3, O4, O5, O6, Len1, Len2, Len3, Empty1, Empty2, Full1, Full2, Close1, IsClosed1}
-use Rattle.bounded_places.specs.declared.Order.the-variants.{Begin, Act}
-use Rattle.bounded_places.specs.declared.Entry.{Entry}
-use Rattle.bounded_places.specs.declared.Entry.the-variants.{Unreadable, Asks}
-use Rattle.bounded_places.specs.Places.{viewOf, entryOf}
+use Rattle.bounded_places.specs.Places.{viewOf}
 use Rattle.bounded_acts.specs.declared.Acted.{Acted}
 use Rattle.bounded_acts.specs.Acts.{stay, tailTo, headTo, stampTo, valueTo, countOf, yesNo, actOf}
 use Rattle.bounded_machine.specs.declared.Machine.{Machine}

@@ -1,8 +1,8 @@
 // One machine handed to every function, and one line of what they said.
 use bounded_machine::Did;
 use bounded_machine::Machine;
-use bounded_machine::Told;
 use bounded_places::Place;
+use queue_entries::Told;
 
 // Worker 0 begins a push, acts, acts with a weak exchange that fails, and takes two of these steps.
 fn tried(k: usize, m: Machine) -> Did {

@@ -29,7 +29,7 @@ pub fn zeroed() -> Machine {
         },
         workers: [Worker {
             place: Place::Idle(Answer::Nothing),
-        }; bounded_words::WORKERS],
+        }; queue_entries::WORKERS],
         count: 0,
         meter: 0,
     }
@@ -103,7 +103,7 @@ pub fn with_slot(m: Machine, i: usize, stamp: u64, value: u64) -> Machine {
 pub fn with_place(m: Machine, i: usize, p: Place) -> Machine {
     let ring = m.ring;
     let mut workers = m.workers;
-    if i < bounded_words::WORKERS {
+    if i < queue_entries::WORKERS {
         workers[i] = Worker { place: p };
     }
     Machine {

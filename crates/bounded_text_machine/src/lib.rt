@@ -21,7 +21,7 @@ pub fn numbers(m: Machine) -> [u64; 7] {
 pub fn place_of(m: Machine, w: u64) -> Place {
     let workers = m.workers;
     let i = w as usize;
-    if i < bounded_words::WORKERS {
+    if i < queue_entries::WORKERS {
         let record = workers[i];
         return record.place;
     }

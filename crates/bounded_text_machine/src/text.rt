@@ -1,7 +1,7 @@
 // What a machine holds, as text in a buffer that the caller lends, as `ink` has it.
 use bounded_machine::Machine;
-use bounded_machine::Told;
 use bounded_places::Place;
+use queue_entries::Told;
 
 // wN=PLACE; "-" where there is no such worker among so many
 fn stands(out: &mut [u8], at: usize, w: u64, count: u64, s: Place) -> usize {

@@ -18,9 +18,9 @@ fn same(p: Place, q: Place) -> bool {
     x.b == y.b
 }
 
-pub fn workers(a: [Worker; bounded_words::WORKERS], b: [Worker; bounded_words::WORKERS]) -> bool {
+pub fn workers(a: [Worker; queue_entries::WORKERS], b: [Worker; queue_entries::WORKERS]) -> bool {
     let mut i = 0;
-    while i < bounded_words::WORKERS {
+    while i < queue_entries::WORKERS {
         let x = a[i];
         let y = b[i];
         let p = x.place;

@@ -19,12 +19,8 @@ pub struct Fixed {
     pub capacity: u64,
 }
 
-// The limits of document 01: the most slots, the most workers, the meter's last number.
+// The most slots.
 pub const SLOTS: usize = 256;
-
-pub const WORKERS: usize = 16;
-
-pub const METER: u64 = 4294967295;
 
 // "smallest power of two not below capacity + 1"
 pub fn mark_of(capacity: u64) -> u64

@@ -1,13 +1,13 @@
-use Rattle.bounded_words.proofs.Pick.{picks}
-use Rattle.bounded_acts.proofs.Arms.{parts}
 use borrow.Author.Needs.{needs}
+use Rattle.queue_entries.proofs.Pick.{picks}
+use Rattle.bounded_words.proofs.marked.Reads as marked-reads
+use Rattle.bounded_acts.proofs.Arms.{parts}
 use Rattle.bounded_acts.proofs.close1.Statement.{statement}
 use Rattle.bounded_acts.proofs.close1.Tie as tie
 use Rattle.bounded_acts.proofs.close1.Reads as reads
 use Rattle.bounded_acts.proofs.close1.Lts as lts
 use Rattle.bounded_acts.proofs.stay.Reads as stay-reads
 use Rattle.bounded_acts.proofs.tail_to_marked.Reads as tail-to-marked-reads
-use Rattle.bounded_words.proofs.marked.Reads as marked-reads
 
 -- src/lib.rt:313:8
 marked-requires : tie.Need-marked-requires

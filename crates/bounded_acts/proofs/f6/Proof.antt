@@ -1,13 +1,13 @@
-use Rattle.bounded_words.proofs.Pick.{picks}
-use Rattle.bounded_acts.proofs.Arms.{parts}
 use borrow.Author.Needs.{needs}
+use Rattle.queue_entries.proofs.Pick.{picks}
+use Rattle.bounded_words.proofs.is_lap_before.Reads as is-lap-before-reads
+use Rattle.bounded_acts.proofs.Arms.{parts}
 use Rattle.bounded_acts.proofs.f6.Statement.{statement}
 use Rattle.bounded_acts.proofs.f6.Tie as tie
 use Rattle.bounded_acts.proofs.f6.Reads as reads
 use Rattle.bounded_acts.proofs.f6.Lts as lts
 use Rattle.bounded_acts.proofs.head_to_lap_before_next.Reads as head-to-lap-before-next-reads
 use Rattle.bounded_acts.proofs.stay.Reads as stay-reads
-use Rattle.bounded_words.proofs.is_lap_before.Reads as is-lap-before-reads
 
 -- src/lib.rt:173:8
 is-lap-before-requires : tie.Need-is-lap-before-requires

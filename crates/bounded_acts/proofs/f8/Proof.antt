@@ -1,6 +1,6 @@
-use Rattle.bounded_words.proofs.Pick.{picks}
-use Rattle.bounded_acts.proofs.Arms.{parts}
 use borrow.Author.Needs.{needs}
+use Rattle.queue_entries.proofs.Pick.{picks}
+use Rattle.bounded_acts.proofs.Arms.{parts}
 use Rattle.bounded_acts.proofs.f8.Statement.{statement}
 use Rattle.bounded_acts.proofs.f8.Tie as tie
 use Rattle.bounded_acts.proofs.f8.Reads as reads

@@ -1,13 +1,13 @@
-use Rattle.bounded_words.proofs.Pick.{picks}
-use Rattle.bounded_acts.proofs.Arms.{len-is}
 use borrow.Author.Needs.{needs}
+use Rattle.queue_entries.proofs.Pick.{picks}
+use Rattle.bounded_words.proofs.same_word.Reads as same-word-reads
+use Rattle.bounded_acts.proofs.Arms.{len-is}
 use Rattle.bounded_acts.proofs.len3.Statement.{statement}
 use Rattle.bounded_acts.proofs.len3.Tie as tie
 use Rattle.bounded_acts.proofs.len3.Reads as reads
 use Rattle.bounded_acts.proofs.len3.Lts as lts
 use Rattle.bounded_acts.proofs.count.Reads as count-reads
 use Rattle.bounded_acts.proofs.stay.Reads as stay-reads
-use Rattle.bounded_words.proofs.same_word.Reads as same-word-reads
 
 -- src/lib.rt:285:8
 same-word-requires : tie.Need-same-word-requires

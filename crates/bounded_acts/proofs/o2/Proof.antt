@@ -1,13 +1,13 @@
-use Rattle.bounded_words.proofs.Pick.{picks}
-use Rattle.bounded_acts.proofs.Arms.{parts}
 use borrow.Author.Needs.{needs}
+use Rattle.queue_entries.proofs.Pick.{picks}
+use Rattle.bounded_words.proofs.one_past.Reads as one-past-reads
+use Rattle.bounded_words.proofs.same_word.Reads as same-word-reads
+use Rattle.bounded_acts.proofs.Arms.{parts}
 use Rattle.bounded_acts.proofs.o2.Statement.{statement}
 use Rattle.bounded_acts.proofs.o2.Tie as tie
 use Rattle.bounded_acts.proofs.o2.Reads as reads
 use Rattle.bounded_acts.proofs.o2.Lts as lts
 use Rattle.bounded_acts.proofs.stay.Reads as stay-reads
-use Rattle.bounded_words.proofs.one_past.Reads as one-past-reads
-use Rattle.bounded_words.proofs.same_word.Reads as same-word-reads
 
 -- src/lib.rt:176:8
 one-past-requires : tie.Need-one-past-requires

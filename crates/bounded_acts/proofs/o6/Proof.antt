@@ -1,13 +1,13 @@
-use Rattle.bounded_words.proofs.Pick.{picks}
-use Rattle.bounded_acts.proofs.Arms.{parts}
 use borrow.Author.Needs.{needs}
+use Rattle.queue_entries.proofs.Pick.{picks}
+use Rattle.bounded_words.proofs.marked.Reads as marked-reads
+use Rattle.bounded_words.proofs.unmarked_is.Reads as unmarked-is-reads
+use Rattle.bounded_acts.proofs.Arms.{parts}
 use Rattle.bounded_acts.proofs.o6.Statement.{statement}
 use Rattle.bounded_acts.proofs.o6.Tie as tie
 use Rattle.bounded_acts.proofs.o6.Reads as reads
 use Rattle.bounded_acts.proofs.o6.Lts as lts
 use Rattle.bounded_acts.proofs.stay.Reads as stay-reads
-use Rattle.bounded_words.proofs.marked.Reads as marked-reads
-use Rattle.bounded_words.proofs.unmarked_is.Reads as unmarked-is-reads
 
 -- src/lib.rt:247:8
 unmarked-is-requires : tie.Need-unmarked-is-requires

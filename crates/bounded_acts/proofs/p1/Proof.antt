@@ -1,12 +1,12 @@
-use Rattle.bounded_words.proofs.Pick.{picks}
-use Rattle.bounded_acts.proofs.Arms.{parts}
 use borrow.Author.Needs.{needs}
+use Rattle.queue_entries.proofs.Pick.{picks}
+use Rattle.bounded_words.proofs.marked.Reads as marked-reads
+use Rattle.bounded_acts.proofs.Arms.{parts}
 use Rattle.bounded_acts.proofs.p1.Statement.{statement}
 use Rattle.bounded_acts.proofs.p1.Tie as tie
 use Rattle.bounded_acts.proofs.p1.Reads as reads
 use Rattle.bounded_acts.proofs.p1.Lts as lts
 use Rattle.bounded_acts.proofs.stay.Reads as stay-reads
-use Rattle.bounded_words.proofs.marked.Reads as marked-reads
 
 -- src/lib.rt:70:8
 marked-requires : tie.Need-marked-requires

@@ -1,14 +1,14 @@
-use Rattle.bounded_words.proofs.Pick.{picks}
-use Rattle.bounded_acts.proofs.Arms.{parts}
 use borrow.Author.Needs.{needs}
+use Rattle.queue_entries.proofs.Pick.{picks}
+use Rattle.bounded_words.proofs.lap_behind_one_past.Reads as lap-behind-one-past-reads
+use Rattle.bounded_words.proofs.same_word.Reads as same-word-reads
+use Rattle.bounded_acts.proofs.Arms.{parts}
 use Rattle.bounded_acts.proofs.p2.Statement.{statement}
 use Rattle.bounded_acts.proofs.p2.Tie as tie
 use Rattle.bounded_acts.proofs.p2.Reads as reads
 use Rattle.bounded_acts.proofs.p2.Lts as lts
 use Rattle.bounded_acts.proofs.full_at.Reads as full-at-reads
 use Rattle.bounded_acts.proofs.stay.Reads as stay-reads
-use Rattle.bounded_words.proofs.lap_behind_one_past.Reads as lap-behind-one-past-reads
-use Rattle.bounded_words.proofs.same_word.Reads as same-word-reads
 
 -- src/lib.rt:90:8
 same-word-requires : tie.Need-same-word-requires

@@ -1,6 +1,7 @@
-use Rattle.bounded_words.proofs.Pick.{picks}
-use Rattle.bounded_acts.proofs.Arms.{parts}
 use borrow.Author.Needs.{needs}
+use Rattle.queue_entries.proofs.Pick.{picks}
+use Rattle.bounded_words.proofs.same_word.Reads as same-word-reads
+use Rattle.bounded_acts.proofs.Arms.{parts}
 use Rattle.bounded_acts.proofs.p3.Statement.{statement}
 use Rattle.bounded_acts.proofs.p3.Tie as tie
 use Rattle.bounded_acts.proofs.p3.Reads as reads
@@ -8,7 +9,6 @@ use Rattle.bounded_acts.proofs.p3.Lts as lts
 use Rattle.bounded_acts.proofs.p1.Reads as p1-reads
 use Rattle.bounded_acts.proofs.stay.Reads as stay-reads
 use Rattle.bounded_acts.proofs.tail_to_next.Reads as tail-to-next-reads
-use Rattle.bounded_words.proofs.same_word.Reads as same-word-reads
 
 -- src/lib.rt:140:8
 same-word-requires : tie.Need-same-word-requires

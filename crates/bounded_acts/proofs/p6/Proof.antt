@@ -1,12 +1,12 @@
-use Rattle.bounded_words.proofs.Pick.{picks}
-use Rattle.bounded_acts.proofs.Arms.{parts}
 use borrow.Author.Needs.{needs}
+use Rattle.queue_entries.proofs.Pick.{picks}
+use Rattle.bounded_words.proofs.lap_behind.Reads as lap-behind-reads
+use Rattle.bounded_acts.proofs.Arms.{parts}
 use Rattle.bounded_acts.proofs.p6.Statement.{statement}
 use Rattle.bounded_acts.proofs.p6.Tie as tie
 use Rattle.bounded_acts.proofs.p6.Reads as reads
 use Rattle.bounded_acts.proofs.p6.Lts as lts
 use Rattle.bounded_acts.proofs.stay.Reads as stay-reads
-use Rattle.bounded_words.proofs.lap_behind.Reads as lap-behind-reads
 
 -- src/lib.rt:126:8
 lap-behind-requires : tie.Need-lap-behind-requires

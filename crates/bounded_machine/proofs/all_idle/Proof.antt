@@ -1,20 +1,19 @@
 use native.Mathlib.Omega.{arith}
-use Rattle.bounded_places.specs.declared.View.{View}
 use Prim.Native.Nat.{ℕ, _≤_, _-_}
-use mathlib.Core.Path.{_≡_, refl, ap, _∙_}
+use mathlib.Core.Path.{_≡_, refl, ap}
 use mathlib.Core.Bool.{not}
-use lib.Dec.{ltb}
 use borrow.Author.Needs.{needs}
-use Rattle.bounded_words.specs.Limits.{workersMost}
+use Rattle.queue_entries.specs.Limits.{workersMost, all}
+use Rattle.queue_entries.proofs.Limits.{all-more, all-failed, all-passed}
+use Rattle.bounded_places.specs.declared.View.{View}
 use Rattle.bounded_places.specs.Places.{viewOf}
+use Rattle.bounded_places.proofs.view_of.Reads as view-of-reads
 use Rattle.bounded_machine.specs.Machine.{placeOf}
-use Rattle.bounded_machine.specs.Broken.{all, recordFits, recordsFit, allIdle}
-use Rattle.bounded_machine.proofs.Laws.{all-more, all-failed, all-passed}
+use Rattle.bounded_machine.specs.Broken.{allIdle}
 use Rattle.bounded_machine.proofs.all_idle.Statement.{statement}
 use Rattle.bounded_machine.proofs.all_idle.Tie as tie
 use Rattle.bounded_machine.proofs.all_idle.Reads as reads
 use Rattle.bounded_machine.proofs.all_idle.Lts as lts
-use Rattle.bounded_places.proofs.view_of.Reads as view-of-reads
 
 abbrev Inv-loop : tie.InvT-loop
 Inv-loop workers i₀ i =

@@ -1,12 +1,13 @@
-use Rattle.bounded_machine.proofs.Laws.{broken-capacity, broken-count, broken-rule, broken-ends, broken-record, unbroken, limit-most, fair-of}
 use borrow.Author.Needs.{needs}
+use Rattle.queue_entries.proofs.Limits.{limit-most}
+use Rattle.queue_entries.proofs.in_limits.Reads as in-limits-reads
+use Rattle.bounded_machine.proofs.Laws.{broken-capacity, broken-count, broken-rule, broken-ends, broken-record, unbroken, fair-of}
 use Rattle.bounded_machine.proofs.broken.Statement.{statement}
 use Rattle.bounded_machine.proofs.broken.Tie as tie
 use Rattle.bounded_machine.proofs.broken.Reads as reads
 use Rattle.bounded_machine.proofs.broken.Lts as lts
 use Rattle.bounded_machine.proofs.by_rule.Reads as by-rule-reads
 use Rattle.bounded_machine.proofs.ends_fit.Reads as ends-fit-reads
-use Rattle.bounded_machine.proofs.in_limits.Reads as in-limits-reads
 use Rattle.bounded_machine.proofs.records_fit.Reads as records-fit-reads
 
 -- src/lib.rt:223:8

@@ -1,12 +1,12 @@
-use Rattle.bounded_words.proofs.Pick.{picks}
-use Rattle.bounded_machine.specs.Broken.{endsFit}
 use borrow.Author.Needs.{needs}
+use Rattle.queue_entries.proofs.Pick.{picks}
+use Rattle.bounded_words.proofs.marked.Reads as marked-reads
+use Rattle.bounded_places.proofs.inside_of.Reads as inside-of-reads
+use Rattle.bounded_machine.specs.Broken.{endsFit}
 use Rattle.bounded_machine.proofs.ends_fit.Statement.{statement}
 use Rattle.bounded_machine.proofs.ends_fit.Tie as tie
 use Rattle.bounded_machine.proofs.ends_fit.Reads as reads
 use Rattle.bounded_machine.proofs.ends_fit.Lts as lts
-use Rattle.bounded_places.proofs.inside_of.Reads as inside-of-reads
-use Rattle.bounded_words.proofs.marked.Reads as marked-reads
 
 -- src/lib.rt:148:8
 marked-requires : tie.Need-marked-requires

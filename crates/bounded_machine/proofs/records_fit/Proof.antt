@@ -1,14 +1,12 @@
 use native.Mathlib.Omega.{arith}
 use Prim.Native.Nat.{ℕ, _≤_, _-_}
-use mathlib.Core.Path.{_≡_, refl, ap, _∙_}
-use mathlib.Core.Bool.{not}
+use mathlib.Core.Path.{_≡_, refl}
 use lib.Dec.{ltb}
 use borrow.Author.Needs.{needs}
-use Rattle.bounded_words.specs.Limits.{workersMost}
-use Rattle.bounded_places.specs.Places.{viewOf}
+use Rattle.queue_entries.specs.Limits.{workersMost, all}
+use Rattle.queue_entries.proofs.Limits.{all-more, all-failed, all-passed}
 use Rattle.bounded_machine.specs.Machine.{placeOf}
-use Rattle.bounded_machine.specs.Broken.{all, recordFits, recordsFit, allIdle}
-use Rattle.bounded_machine.proofs.Laws.{all-more, all-failed, all-passed}
+use Rattle.bounded_machine.specs.Broken.{recordFits, recordsFit}
 use Rattle.bounded_machine.proofs.records_fit.Statement.{statement}
 use Rattle.bounded_machine.proofs.records_fit.Tie as tie
 use Rattle.bounded_machine.proofs.records_fit.Reads as reads

@@ -1,68 +1,25 @@
-use Rattle.bounded_machine.proofs.Laws.{begin-busy, begin-idle, act-idle, act-late, act-plain, act-weak, act-strong}
+use mathlib.Core.Path.{_≡_, ap, _∙_}
 use borrow.Author.Needs.{needs}
+use Rattle.queue_entries.specs.Entries.{verdictFor}
+use Rattle.bounded_places.specs.declared.View.{View}
 use Rattle.bounded_machine.proofs.verdict_of.Statement.{statement}
 use Rattle.bounded_machine.proofs.verdict_of.Tie as tie
 use Rattle.bounded_machine.proofs.verdict_of.Reads as reads
 use Rattle.bounded_machine.proofs.verdict_of.Lts as lts
-use Rattle.bounded_places.proofs.first_place.Reads as first-place-reads
 use Rattle.bounded_places.proofs.view_of.Reads as view-of-reads
+use Rattle.queue_entries.proofs.verdict_for.Reads as verdict-for-reads
 
--- src/lib.rt:235:9
+-- src/lib.rt:311:9
 view-of-requires : tie.Need-view-of-requires
 view-of-requires c κs = search needs
 
--- src/lib.rt:237:22
-enum-known-o : tie.Need-enum-known-o
-enum-known-o c = search needs
+-- src/lib.rt:312:5
+verdict-for-requires : tie.Need-verdict-for-requires
+verdict-for-requires c κs = search needs
 
--- src/lib.rt:241:32
-first-place-requires : tie.Need-first-place-requires
-first-place-requires c κs = search needs
-
--- src/lib.rt:244:20
-enum-known-o-2 : tie.Need-enum-known-o-2
-enum-known-o-2 c = search needs
-
--- src/lib.rt:246:17
+-- src/lib.rt:308:1
 returns : tie.Need-returns
-returns c = search (needs, begin-busy, begin-idle, act-idle, act-late, act-plain, act-weak, act-strong)
-
--- src/lib.rt:249:17
-returns-2 : tie.Need-returns-2
-returns-2 c = search (needs, begin-busy, begin-idle, act-idle, act-late, act-plain, act-weak, act-strong)
-
--- src/lib.rt:232:1
-returns-3 : tie.Need-returns-3
-returns-3 c = search (needs, begin-busy, begin-idle, act-idle, act-late, act-plain, act-weak, act-strong)
-
--- src/lib.rt:232:1
-returns-4 : tie.Need-returns-4
-returns-4 c = search (needs, begin-busy, begin-idle, act-idle, act-late, act-plain, act-weak, act-strong)
-
--- src/lib.rt:232:1
-returns-5 : tie.Need-returns-5
-returns-5 c = search (needs, begin-busy, begin-idle, act-idle, act-late, act-plain, act-weak, act-strong)
-
--- src/lib.rt:232:1
-returns-6 : tie.Need-returns-6
-returns-6 c = search (needs, begin-busy, begin-idle, act-idle, act-late, act-plain, act-weak, act-strong)
-
--- src/lib.rt:232:1
-returns-7 : tie.Need-returns-7
-returns-7 c = search (needs, begin-busy, begin-idle, act-idle, act-late, act-plain, act-weak, act-strong)
+returns c = c .verdict-for .ensures ∙ ap (λ (v : View). verdictFor (c .before .before .args .meter) (v .busy) (v .weak) (c .before .before .args .o)) (c .before .view-of .ensures)
 
 pub verdict-of-spec : {M : Type 1} → statement M
-verdict-of-spec =
-    tie.close
-    (tie.spec
-    view-of-requires
-    enum-known-o
-    first-place-requires
-    enum-known-o-2
-    returns
-    returns-2
-    returns-3
-    returns-4
-    returns-5
-    returns-6
-    returns-7)
+verdict-of-spec = tie.close (tie.spec view-of-requires verdict-for-requires returns)

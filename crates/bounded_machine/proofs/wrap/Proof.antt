@@ -1,6 +1,6 @@
 use borrow.Author.Needs.{needs}
+use Rattle.queue_entries.proofs.Pick.{picks}
 use Rattle.bounded_machine.specs.Contents.{wrapped}
-use Rattle.bounded_words.proofs.Pick.{picks}
 use Rattle.bounded_machine.proofs.wrap.Statement.{statement}
 use Rattle.bounded_machine.proofs.wrap.Tie as tie
 use Rattle.bounded_machine.proofs.wrap.Reads as reads

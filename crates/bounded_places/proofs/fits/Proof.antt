@@ -1,12 +1,12 @@
-use Rattle.bounded_words.proofs.Pick.{picks}
-use Rattle.bounded_places.proofs.Along.{along-fits}
 use borrow.Author.Needs.{needs}
+use Rattle.queue_entries.proofs.Pick.{picks}
+use Rattle.bounded_words.proofs.marked.Reads as marked-reads
+use Rattle.bounded_places.proofs.Along.{along-fits}
 use Rattle.bounded_places.proofs.fits.Statement.{statement}
 use Rattle.bounded_places.proofs.fits.Tie as tie
 use Rattle.bounded_places.proofs.fits.Reads as reads
 use Rattle.bounded_places.proofs.fits.Lts as lts
 use Rattle.bounded_places.proofs.inside_of.Reads as inside-of-reads
-use Rattle.bounded_words.proofs.marked.Reads as marked-reads
 
 -- src/lib.rt:158:26
 enum-told : tie.Need-enum-told

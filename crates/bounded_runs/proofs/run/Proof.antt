@@ -1,30 +1,32 @@
-use Prim.Native.Nat.{ℕ, _+_, _≤_, _<_, _-_, _*_}
-use mathlib.Core.Path.{_≡_, refl, sym, ap, _∙_}
+use Prim.Native.Nat.{ℕ, _+_, _≤_, _<_, _*_, _-_}
+use mathlib.Core.Path.{_≡_, sym, ap, _∙_}
 use mathlib.Core.Bool.{true}
 use native.Mathlib.Omega.{arith}
 use borrow.Author.Needs.{needs}
 use lib.ListN.{length, drop}
-use Rattle.bounded_words.specs.Limits.{slotsMost, workersMost, meterMost}
+use Rattle.queue_entries.specs.Limits.{workersMost, meterMost}
+use Rattle.queue_entries.specs.declared.Entry.the-variants.{Asks}
+use Rattle.queue_entries.specs.declared.Verdict.the-variants.{Move}
+use Rattle.queue_entries.proofs.entry_of.Reads as entry-of-reads
+use Rattle.bounded_words.specs.Limits.{slotsMost}
 use Rattle.bounded_places.specs.declared.View.{View}
-use Rattle.bounded_places.specs.declared.Entry.the-variants.{Asks}
 use Rattle.bounded_places.specs.Places.{viewOf}
-use Rattle.bounded_machine.specs.declared.Verdict.the-variants.{Move}
+use Rattle.bounded_places.proofs.first_place.Reads as first-place-reads
+use Rattle.bounded_places.proofs.view_of.Reads as view-of-reads
+use Rattle.bounded_table.proofs.act_at.Reads as act-at-reads
 use Rattle.bounded_machine.specs.Machine.{machineOf, placeOf}
 use Rattle.bounded_machine.specs.Turn.{spotOf, begun, stored}
 use Rattle.bounded_machine.specs.Run.{runFrom, runOf}
 use Rattle.bounded_machine.proofs.Kept.{Unbroken, unbroken-of, fair-in}
+use Rattle.bounded_machine.proofs.broken.Reads as broken-reads
+use Rattle.bounded_machine.proofs.spot.Reads as spot-reads
+use Rattle.bounded_machine.proofs.verdict_of.Reads as verdict-of-reads
 use Rattle.bounded_runs.proofs.Turns.{broken-run, odd-run, even-run, stop-9, stop-3, stop, start, move, ended, worker-below, fits-in, spot-below, started-unbroken, moved-unbroken, move-busy, move-in-time}
 use Rattle.bounded_runs.proofs.run.Statement.{statement}
 use Rattle.bounded_runs.proofs.run.Tie as tie
 use Rattle.bounded_runs.proofs.run.Reads as reads
 use Rattle.bounded_runs.proofs.run.Lts as lts
-use Rattle.bounded_table.proofs.act_at.Reads as act-at-reads
 use Rattle.bounded_runs.proofs.ran.Reads as ran-reads
-use Rattle.bounded_machine.proofs.broken.Reads as broken-reads
-use Rattle.bounded_machine.proofs.spot.Reads as spot-reads
-use Rattle.bounded_machine.proofs.verdict_of.Reads as verdict-of-reads
-use Rattle.bounded_places.proofs.entry_of.Reads as entry-of-reads
-use Rattle.bounded_places.proofs.view_of.Reads as view-of-reads
 
 abbrev Inv-loop : tie.InvT-loop
 Inv-loop schedule f ends₀ slots₀ workers₀ count meter₀ n i₀ ends slots workers meter i =
@@ -49,7 +51,7 @@ moves-at c = search needs
 busy-at : (c : tie.After-known-told4 Inv-loop μ-loop) → viewOf (placeOf (c .before .before .before .before .before .before .before .before .before .before .before .before .before .loop .workers) (c .before .before .before .before .before .before .before .worker .given .0 .0)) .busy ≡ true
 busy-at c =
     let v = c .before .before .before .verdict-of in
-    move-busy _ _ (c .before .before .before .before .before .before .before .worker .given .0 .1 .0) (v .result) (v .ensures) (c .before .verdict3 .given .0 .0) (moves-at c)
+    move-busy (c .before .before .before .before .before .before .before .before .before .before .before .before .before .loop .meter) (placeOf (c .before .before .before .before .before .before .before .before .before .before .before .before .before .loop .workers) (c .before .before .before .before .before .before .before .worker .given .0 .0)) (c .before .before .before .before .before .before .before .worker .given .0 .1 .0) (v .result) (v .ensures) (c .before .verdict3 .given .0 .0) (moves-at c)
 
 in-time-at : (c : tie.After-known-told4 Inv-loop μ-loop) → c .before .before .before .before .before .before .before .before .before .before .before .before .before .loop .meter < meterMost
 in-time-at c =
@@ -180,12 +182,16 @@ enum-known-verdict-2 : tie.Need-enum-known-verdict-2 Inv-loop μ-loop
 enum-known-verdict-2 c = search needs
 
 -- src/lib.rt:143:17
+first-place-requires : tie.Need-first-place-requires Inv-loop μ-loop
+first-place-requires c κs = search needs
+
+-- src/lib.rt:143:17
 mul-workers : tie.Need-mul-workers Inv-loop μ-loop
-mul-workers c = let h = worker-below-at (c .before .before .before .before .before) in omega arith
+mul-workers c = let h = worker-below-at (c .before .before .before .before .before .before) in omega arith
 
 -- src/lib.rt:143:17
 array-set-from-workers : tie.Need-array-set-from-workers Inv-loop μ-loop
-array-set-from-workers c = worker-below-at (c .before .before .before .before .before)
+array-set-from-workers c = worker-below-at (c .before .before .before .before .before .before)
 
 -- src/lib.rt:144:17
 add-i : tie.Need-add-i Inv-loop μ-loop
@@ -198,12 +204,12 @@ loop-less c = search needs
 -- src/lib.rt:127:5
 loop-again : tie.Need-loop-again Inv-loop μ-loop
 unfolding begun
-loop-again c = let l = c .before .before .before .before .before .before .before .before .before .before .before .before .before .loop in
-    let e = c .before .before .before .before .before .before .before .before .before .entry-of in
-    let a = c .before .before .before .before .before .before .before .worker .given .0 in
-    let v = c .before .before .before .verdict-of in
-    let g = c .before .before .before .before .before .if3 .left in
-    (search needs, l .inv .1, started-unbroken _ (l .inv .2) (a .0) g (a .1 .0) (v .result) _ (v .ensures) (search needs), start _ _ _ _ _ (l .inv .3) (l .inv .1) (c .before .before .before .before .before .before .before .before .before .before .before .before .loop-test .taken) (e .result) (e .ensures) (a .0) (a .1 .0) (asks-at (c .before .before .before .before .before .before)) (v .result) g (v .ensures) _ (search needs))
+loop-again c = let l = c .before .before .before .before .before .before .before .before .before .before .before .before .before .before .loop in
+    let e = c .before .before .before .before .before .before .before .before .before .before .entry-of in
+    let a = c .before .before .before .before .before .before .before .before .worker .given .0 in
+    let v = c .before .before .before .before .verdict-of in
+    let g = c .before .before .before .before .before .before .if3 .left in
+    (search needs, l .inv .1, started-unbroken _ (l .inv .2) (a .0) g (c .before .before .verdict2 .given .0 .0) _ (c .first-place .ensures), start _ _ _ _ _ (l .inv .3) (l .inv .1) (c .before .before .before .before .before .before .before .before .before .before .before .before .before .loop-test .taken) (e .result) (e .ensures) (a .0) (a .1 .0) (asks-at (c .before .before .before .before .before .before .before)) (v .result) g (v .ensures) (c .before .before .verdict2 .given .0 .0) _ (search needs) (c .first-place .ensures))
 
 -- src/lib.rt:146:27
 enum-known-verdict-3 : tie.Need-enum-known-verdict-3 Inv-loop μ-loop
@@ -309,6 +315,7 @@ run-spec =
     ran-requires-5
     returns-5
     enum-known-verdict-2
+    first-place-requires
     mul-workers
     array-set-from-workers
     add-i

@@ -1,11 +1,10 @@
-use Rattle.bounded_places.proofs.Along.{past}
 use native.Mathlib.Omega.{arith}
-use Rattle.bounded_places.proofs.Along.{along-call, last-call}
 use borrow.Author.Needs.{needs}
-use Rattle.bounded_places.proofs.call_of.Statement.{statement}
-use Rattle.bounded_places.proofs.call_of.Tie as tie
-use Rattle.bounded_places.proofs.call_of.Reads as reads
-use Rattle.bounded_places.proofs.call_of.Lts as lts
+use Rattle.queue_entries.proofs.Reading.{past, along-call, last-call}
+use Rattle.queue_entries.proofs.call_of.Statement.{statement}
+use Rattle.queue_entries.proofs.call_of.Tie as tie
+use Rattle.queue_entries.proofs.call_of.Reads as reads
+use Rattle.queue_entries.proofs.call_of.Lts as lts
 
 -- src/lib.rt:184:1
 returns : tie.Need-returns

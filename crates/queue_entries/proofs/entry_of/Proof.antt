@@ -1,11 +1,11 @@
-use Rattle.bounded_places.proofs.Along.{astray, read, begins, acts, neither}
 use borrow.Author.Needs.{needs}
-use Rattle.bounded_places.proofs.entry_of.Statement.{statement}
-use Rattle.bounded_places.proofs.entry_of.Tie as tie
-use Rattle.bounded_places.proofs.entry_of.Reads as reads
-use Rattle.bounded_places.proofs.entry_of.Lts as lts
-use Rattle.bounded_places.proofs.call_of.Reads as call-of-reads
-use Rattle.bounded_places.proofs.stray.Reads as stray-reads
+use Rattle.queue_entries.proofs.Reading.{astray, read, begins, acts, neither}
+use Rattle.queue_entries.proofs.entry_of.Statement.{statement}
+use Rattle.queue_entries.proofs.entry_of.Tie as tie
+use Rattle.queue_entries.proofs.entry_of.Reads as reads
+use Rattle.queue_entries.proofs.entry_of.Lts as lts
+use Rattle.queue_entries.proofs.call_of.Reads as call-of-reads
+use Rattle.queue_entries.proofs.stray.Reads as stray-reads
 
 -- src/lib.rt:212:8
 stray-requires : tie.Need-stray-requires
