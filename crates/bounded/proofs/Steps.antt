@@ -17,6 +17,7 @@ use Rattle.bounded_words.specs.declared.Claim.{Claim}
 use Rattle.bounded_words.specs.Limits.{wide}
 use Rattle.bounded_words.specs.Words.{claim}
 use Rattle.bounded_places.specs.declared.Place.{Place}
+use Rattle.bounded_places.specs.Places as places
 use Rattle.bounded_machine.specs.declared.Machine.{Machine}
 use Rattle.bounded_machine.specs.declared.Did.{Did}
 use Rattle.bounded_machine.specs.declared.Ran.{Ran}
@@ -25,11 +26,10 @@ use Rattle.bounded_machine.specs.declared.Moved.the-variants.{Neither, Tail, He
 use Rattle.bounded_machine.specs.declared.Tally.{Tally}
 use Rattle.bounded_machine.specs.Machine.{placeOf, refused, accepted}
 use Rattle.bounded_machine.specs.Broken.{brokenOf}
-use Rattle.bounded_machine.specs.Turn.{verdictOf, carried, turn, turnOf, begun, acted}
+use Rattle.bounded_machine.specs.Turn.{verdictOf, carried, turn, turnOf, turnOfBy, begun, acted}
 use Rattle.bounded_machine.specs.Run.{ran, runFrom, runOf}
 use Rattle.bounded_machine.specs.History.{movedOf, counted}
 use Rattle.bounded_machine.proofs.Kept.{either}
-use Rattle.bounded_places.specs.Places as places
 use Rattle.bounded.specs.Bounded.{stepOf, beginOf, actOf, nextClaim, talliedOf}
 
 -- ---- a refused entry changes nothing
@@ -69,7 +69,7 @@ one m d h =
     go false e = ap (λ (x : Machine). record { refusal = d .refusal; machine = x }) (sym (h e))
 
 pub one-entry : (m : Machine) (first second : ℕ) (r : Ran) → r ≡ runOf m (first ∷ second ∷ []) → whole r ≡ stepOf m first second
-unfolding scheduleBy runBy stepOf refused turnOf ran
+unfolding scheduleBy runBy stepOf refused turnOfBy ran
 one-entry m first second r e = ap whole e ∙ go (brokenOf m)
   where
     go : (b : Bool) → whole (cond b (ran 6 0 m) (cond (eqb (2 % 2) 1) (ran 11 0 m) (runFrom m 0 (first ∷ second ∷ [])))) ≡ cond b (refused 6 m) (turnOf m first second)

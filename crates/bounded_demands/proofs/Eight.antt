@@ -10,7 +10,7 @@ use Rattle.bounded_acts.specs.Acts.{stay, tailTo, headTo, stampTo, valueTo, cou
 use Rattle.bounded_machine.specs.Machine.{emptySlots, stamped, freshSlots, idlers, freshOf, blank, refused, accepted}
 use Rattle.bounded_machine.specs.Broken.{byRule, endsFit, recordFits, recordsFit, brokenOf, allIdle}
 use Rattle.bounded_machine.specs.Contents.{countIn, wrapped, itemAt, itemsFrom, contentsOf}
-use Rattle.bounded_machine.specs.Turn.{begun, stored, actedBy, turnOf}
+use Rattle.bounded_machine.specs.Turn.{begun, stored, actedBy, turnOfBy}
 use Rattle.bounded_machine.specs.Run.{ran}
 use Rattle.bounded_machine.specs.History.{tallyOf, stockOf}
 use Rattle.bounded.specs.Bounded.{makeOf}
@@ -18,5 +18,5 @@ use Rattle.bounded_demands.specs.Notions.{acts}
 use Rattle.bounded_demands.specs.Eight.{EightRuns, found, foundIn, table}
 
 pub eight-runs : EightRuns
-unfolding doubled markOf markedOf unmarkedOf plus minus withMark nextOf same onePast lapBehind lapBehindOnePast inside strayOf orderOf entryOf stay tailTo headTo stampTo valueTo countOf emptySlots stamped freshSlots idlers freshOf blank refused accepted all inLimits byRule endsFit recordFits recordsFit brokenOf allIdle told countIn wrapped itemAt itemsFrom contentsOf begun stored actedBy turnOf ran runBy scheduleBy historyBy tallyOf stockOf makeOf found foundIn acts table
+unfolding doubled markOf markedOf unmarkedOf plus minus withMark nextOf same onePast lapBehind lapBehindOnePast inside strayOf orderOf entryOf stay tailTo headTo stampTo valueTo countOf emptySlots stamped freshSlots idlers freshOf blank refused accepted all inLimits byRule endsFit recordFits recordsFit brokenOf allIdle told countIn wrapped itemAt itemsFrom contentsOf begun stored actedBy turnOfBy ran runBy scheduleBy historyBy tallyOf stockOf makeOf found foundIn acts table
 eight-runs = refl

@@ -1,6 +1,6 @@
 -- Demand 1: refusals are numbered and change nothing, and only one answer meets a promise.
 use Prim.Native.Nat.{ℕ, zero, suc, _+_, _*_, _%_, _<_, _≤_}
-use mathlib.Core.Path.{_≡_, refl, sym, ap, _∙_, subst}
+use mathlib.Core.Path.{_≡_, refl, sym, ap, _∙_}
 use mathlib.Core.Bool.{Bool, true, false, cond}
 use mathlib.Core.List.{List, [], _∷_}
 use native.Mathlib.Omega.{arith}
@@ -31,7 +31,7 @@ use Rattle.bounded_machine.specs.declared.Ran.{Ran}
 use Rattle.bounded_machine.specs.Machine.{starts, idler, idlers, placeOf, freshOf, blank, refused, accepted}
 use Rattle.bounded_machine.specs.Broken.{byRule, endsFit, recordFits, brokenOf, allIdle}
 use Rattle.bounded_machine.specs.Contents.{countIn, contentsRefusal, written}
-use Rattle.bounded_machine.specs.Turn.{verdictOf, carried, turn, turnOf, begun, acted}
+use Rattle.bounded_machine.specs.Turn.{verdictOf, carried, turn, turnOf, turnOfBy, begun, acted}
 use Rattle.bounded_machine.specs.Run.{ran, runFrom, runOf}
 use Rattle.bounded_machine.proofs.Laws.{ruled-of}
 use Rattle.bounded_machine.proofs.Kept.{ends-of, either, Unbroken, unbroken-of, of-unbroken, begun-unbroken, acted-unbroken}
@@ -101,7 +101,7 @@ turn-low m (Asks w o) =
     (carried-low m w (placeOf (m .workers) w) (verdictOf (m .meter) (placeOf (m .workers) w) o) (sure (m .meter) (placeOf (m .workers) w) o)) (refused-low 3 m (omega arith))
 
 turn-of-low : (m : Machine) (a b : ℕ) → turnOf m a b .refusal ≤ 11
-unfolding turnOf
+unfolding turnOfBy
 turn-of-low m a b = turn-low m (entryOf a b)
 
 from-low : (m : Machine) (i : ℕ) (s : List ℕ) → runFrom m i s .refusal ≤ 11
@@ -164,7 +164,7 @@ unfolding accepted
 accepted-kept k m h = absurd (h refl)
 
 turn-kept : (m : Machine) (a b : ℕ) → Kept m (turnOf m a b)
-unfolding turnOf
+unfolding turnOfBy
 turn-kept m a b h = turn-unchanged m (entryOf a b) (ne-eqb _ _ h)
 
 module _ (m : Machine) (a b : ℕ) where
@@ -293,7 +293,7 @@ module _ (m : Machine) (u : Unbroken m) where
       (λ b. carried-unbroken w (ltb-true w (m .count) b) o (verdictOf (m .meter) (placeOf (m .workers) w) o) refl) (λ b. u)
 
   turn-of-unbroken : (a b : ℕ) → Unbroken (turnOf m a b .machine)
-  unfolding turnOf
+  unfolding turnOfBy
   turn-of-unbroken a b = turn-unbroken (entryOf a b)
 
 from-unbroken : (s : List ℕ) (m : Machine) (i : ℕ) → Unbroken m → Unbroken (runFrom m i s .machine)

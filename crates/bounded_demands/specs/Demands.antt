@@ -10,6 +10,7 @@ use Rattle.queue_entries.specs.Limits.{meterMost}
 use Rattle.queue_entries.specs.declared.Call.{Call}
 use Rattle.queue_entries.specs.declared.Told.{Told}
 use Rattle.queue_entries.specs.Told.{told}
+use Rattle.queue_entries.specs.Entries.{entryOf}
 use Rattle.bounded_words.specs.declared.Stamp.{Stamp}
 use Rattle.bounded_words.specs.Words.{fixedOf, indexOf, markedOf, unmarkedOf, lapBehind}
 use Rattle.bounded_places.specs.declared.Answer.{Answer}
@@ -30,6 +31,7 @@ use Rattle.bounded_machine.specs.Run.{runOf}
 use Rattle.bounded_machine.specs.History.{eventsOf, movedOf, stockOf}
 use Rattle.bounded.specs.Bounded.{makeOf, stepOf, beginOf, actOf, talliedOf}
 use Rattle.bounded_demands.specs.Notions.{Definition, Allowed, machineAfter, actsOf, Acts, acts, InHand, HandsOut, Reads, Truth, itemsOf, takersOf, LatestIn, ItemIn, WrittenIn, CallClaim, tally, waiting, Fifo, Plain, valueAt, queueAnswer, LenAnswers, mostOf, OtherHand, passed, ownActs, LetsGo}
+use Rattle.bounded_demands.specs.Foretold.{foretold, Telling, toldIn, tellings, asForetold}
 use Rattle.bounded_demands.specs.Attained.{Case, seenIn, attained, exactly}
 
 -- ==== 1. Any machine, entry or schedule handed in gets an answer or a numbered refusal; a refused step changes nothing.
@@ -174,7 +176,7 @@ ActByAct d =
     → d .turn (d .run m 0 s .machine) first second .refusal ≡ 0
     → (d .run m 0 (s ++ first ∷ second ∷ []) .machine ≡ d .turn (d .run m 0 s .machine) first second .machine)
     × (d .history m (s ++ first ∷ second ∷ [])
-    ≡ d .history m s ++ eventsOf (d .run m 0 s .machine) (places.entryOf first second) (d .turn (d .run m 0 s .machine) first second .machine))
+    ≡ d .history m s ++ eventsOf (d .run m 0 s .machine) (entryOf first second) (d .turn (d .run m 0 s .machine) first second .machine))
 
 abbrev pub WholeSchedules : Definition → Type 0
 WholeSchedules d =
@@ -190,8 +192,9 @@ LenTrue d =
 
 -- ==== 3. Nobody waits without a holder. Said of the same machines and acts.
 
--- Worker w's call, if only acts of w are scheduled (code 8), ends within so many of them, none refused; its answer is true
--- of the words at the act that decided it and keeps the claim rule, and that of a call only begun is a plain queue's.
+-- Worker w's call, if only acts of w are scheduled (code 8), ends within so many of them, none refused; its answer is the one that the
+-- words foretell (Foretold.antt), is true of the words at the act that decided it and keeps the claim rule, and that of a call only begun is a
+-- plain queue's.
 pub record EndsAlone (d : Definition) (m : Machine) (h : List Event) (w most : ℕ) : Type 0 where
   -- the acts before the last
   pub before : ℕ
@@ -200,6 +203,7 @@ pub record EndsAlone (d : Definition) (m : Machine) (h : List Event) (w most : �
   pub busy : places.viewOf (placeOf (d .run m 0 (acts w before) .machine .workers) w) .busy ≡ true
   pub answer : Answer
   pub ends : placeOf (d .run m 0 (acts w (suc before)) .machine .workers) w ≡ Idle answer
+  pub foretold-answer : answer ≡ foretold m w
   pub true-then : Truth (m .ring .fixed) (d .run m 0 (acts w before) .machine .ring .ends) answer
   -- a value handed out is the item of the tail claim that has the number of the call's head claim
   pub claim-rule : (v : ℕ) → HandsOut (Idle answer) v
@@ -249,3 +253,7 @@ ScheduledAlone d =
 -- The numbers are attained: each schedule of the table leads to its place, alone, and the call there needs exactly its number of acts.
 abbrev pub Attained : Type 0
 Attained = map seenIn attained ≡ map (λ (c : Case). exactly (c .place) (c .number)) attained
+
+-- Each schedule of the table leads to the answer that is foretold there.
+abbrev pub AsForetold : Type 0
+AsForetold = map toldIn tellings ≡ map (λ (r : Telling). asForetold (r .answer)) tellings

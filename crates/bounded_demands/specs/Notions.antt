@@ -26,7 +26,7 @@ use Rattle.bounded_places.specs.declared.Answer.the-variants.{Nothing, Pushed, 
 use Rattle.bounded_places.specs.declared.Place.{Place}
 use Rattle.bounded_places.specs.declared.Place.the-variants.{Idle, P1, P2, P3, P4, P5, P6, F6, F7, F8, F9, O1, O2, O3, O4, O5, O6, Len1, Len2, Len3, Empty1, Empty2, Full1, Full2, Close1, IsClosed1}
 use Rattle.bounded_places.specs.Places.{viewOf}
-use Rattle.bounded_acts.specs.Acts.{yesNo}
+use Rattle.bounded_acts.specs.Acts.{yesNo, actOf}
 use Rattle.bounded_machine.specs.declared.Machine.{Machine}
 use Rattle.bounded_machine.specs.declared.Did.{Did}
 use Rattle.bounded_machine.specs.declared.Ran.{Ran}
@@ -35,9 +35,9 @@ use Rattle.bounded_machine.specs.declared.Moved.{Moved}
 use Rattle.bounded_machine.specs.declared.Moved.the-variants.{Neither, Tail, Head}
 use Rattle.bounded_machine.specs.declared.Tally.{Tally}
 use Rattle.bounded_machine.specs.Machine.{slot, freshOf, placeOf, accepted}
-use Rattle.bounded_machine.specs.Turn.{turnOf}
-use Rattle.bounded_machine.specs.Run.{runFrom}
-use Rattle.bounded_machine.specs.History.{historyOf, movedOf, tallyOf}
+use Rattle.bounded_machine.specs.Turn.{Table, turnOfBy}
+use Rattle.bounded_machine.specs.Run.{runWith}
+use Rattle.bounded_machine.specs.History.{historyWith, movedOf, tallyOf}
 
 -- ---- definitions and schedules
 
@@ -49,8 +49,12 @@ pub record Definition : Type 0 where
   pub run : Machine → ℕ → List ℕ → Ran
   pub history : Machine → List ℕ → List Event
 
+-- By a table of what an act does at each place; document 01's table is `actOf`.
+abbrev pub byTable : Table → Definition
+byTable table = record { turn = turnOfBy table; run = runWith (turnOfBy table); history = historyWith (turnOfBy table) }
+
 abbrev pub document01 : Definition
-document01 = record { turn = turnOf; run = runFrom; history = historyOf }
+document01 = byTable actOf
 
 -- Every capacity and every number of workers that making accepts.
 pub record Allowed (capacity workers : ℕ) : Type 0 where

@@ -76,5 +76,8 @@ abbrev pub turn : Machine → Entry → Did
 turn = turnBy actOf
 
 -- The entry of two words, on a machine that is not broken.
-unfoldable pub turnOf : Machine → ℕ → ℕ → Did
-turnOf m first second = turn m (entryOf first second)
+unfoldable pub turnOfBy : Table → Machine → ℕ → ℕ → Did
+turnOfBy table m first second = turnBy table m (entryOf first second)
+
+abbrev pub turnOf : Machine → ℕ → ℕ → Did
+turnOf = turnOfBy actOf

@@ -1,10 +1,11 @@
 -- The demands of document 01, proved. What they say, in document 01's words, is crates/bounded_demands/specs/Demands.antt; the
 -- runs on paper are Eight.antt beside it.
 use Rattle.bounded_demands.specs.Notions.{document01}
-use Rattle.bounded_demands.specs.Demands.{RefusedUnchanged, Numbered, StaysUnbroken, OnlyOne, UnderEverySchedule, ActByAct, WholeSchedules, LenTrue, ScheduledAlone, Attained}
+use Rattle.bounded_demands.specs.Demands.{RefusedUnchanged, Numbered, StaysUnbroken, OnlyOne, UnderEverySchedule, ActByAct, WholeSchedules, LenTrue, ScheduledAlone, Attained, AsForetold}
 use Rattle.bounded_demands.specs.Eight.{EightRuns}
 use Rattle.bounded_demands.proofs.Refusals.{refused-unchanged, numbered, stays-unbroken, only-one}
 use Rattle.bounded_demands.proofs.Attained.{numbers-attained}
+use Rattle.bounded_demands.proofs.Foretold.{as-foretold}
 use Rattle.bounded_demands.proofs.Eight.{eight-runs}
 use Rattle.bounded_proof_demand2.proofs.Demand2.{demand2, act-by-act, whole-schedules}
 use Rattle.bounded_proof_demand2.proofs.Lens.{len-true}
@@ -21,9 +22,9 @@ pub demand-2 : UnderEverySchedule document01 × ActByAct document01 × WholeSche
 demand-2 = (demand2, act-by-act, whole-schedules, len-true)
 
 -- 3. Alone, a call ends within seven acts with the right answer; a worker with a slot in hand lets go within three acts of its
--- own; and the numbers are attained.
-pub demand-3 : ScheduledAlone document01 × Attained
-demand-3 = (demand3, numbers-attained)
+-- own; the numbers are attained, and the answers are those foretold.
+pub demand-3 : ScheduledAlone document01 × Attained × AsForetold
+demand-3 = (demand3, numbers-attained, as-foretold)
 
 -- The eight runs on paper.
 pub on-paper : EightRuns

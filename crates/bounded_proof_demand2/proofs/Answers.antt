@@ -24,7 +24,7 @@ use Rattle.bounded_machine.specs.declared.Machine.{Machine}
 use Rattle.bounded_machine.specs.declared.Did.{Did}
 use Rattle.bounded_machine.specs.declared.Event.{Event}
 use Rattle.bounded_machine.specs.Machine.{slot, accepted}
-use Rattle.bounded_machine.specs.Turn.{spotOf, turn, turnOf, acted}
+use Rattle.bounded_machine.specs.Turn.{spotOf, turn, turnOfBy, acted}
 use Rattle.bounded_demands.specs.Notions.{document01, Acts, Truth}
 use Rattle.bounded_proof_invariant.proofs.Width.{Near}
 use Rattle.bounded_proof_each_act.proofs.Stamps.{fixed, W, unmarked-tail, same-is, behind-is}
@@ -44,7 +44,7 @@ done-by : (m : Machine) (w : ℕ) (lose : Bool) (next : Machine) (acts : List Ev
 done-by m w lose next acts (did v was l b e) = record { team = l; busy = b; early = e; is = refl }
 
 pub acts-done : (m : Machine) (w : ℕ) (next : Machine) (a : Acts document01 m w next) → Done m w (a .lose) next
-unfolding turnOf accepted
+unfolding turnOfBy accepted
 acts-done m w next a =
     let q : turn m (Asks w (Act (a .lose))) ≡ accepted next = ap (turn m) (sym (a .asks)) ∙ a .done in
     let t = turned m (Asks w (Act (a .lose))) (ap (λ (d : Did). d .refusal) q) in

@@ -27,7 +27,7 @@ use Rattle.bounded_acts.specs.Acts.{stay, countOf}
 use Rattle.bounded_machine.specs.declared.Machine.{Machine}
 use Rattle.bounded_machine.specs.declared.Event.{Event}
 use Rattle.bounded_machine.specs.Machine.{idler}
-use Rattle.bounded_machine.specs.Turn.{turnOf, begun, actedBy, stored}
+use Rattle.bounded_machine.specs.Turn.{turnOf, turnOfBy, begun, actedBy, stored}
 use Rattle.bounded_machine.specs.Run.{ran, runFrom}
 use Rattle.bounded_machine.specs.History.{event, eventsOf, historyOf, movedOf}
 use Rattle.bounded_demands.specs.Notions.{document01, machineAfter, actsOf, Acts, Unmoved, tailBy, tailersOf}
@@ -61,7 +61,7 @@ turn-stays m en next acts w (did v lose l b early) o busy =
 one-stays : (m : Machine) (first second w : ℕ) → turnOf m first second .refusal ≡ 0
     → Unmoved w (eventsOf m (entryOf first second) (turnOf m first second .machine)) → viewOf (stood m w) .busy ≡ true
     → stood (turnOf m first second .machine) w ≡ stood m w
-unfolding turnOf
+unfolding turnOfBy
 one-stays m first second w e o busy = turn-stays m (entryOf first second) _ _ w (turned m (entryOf first second) e) o busy
 
 run-stays : (s : List ℕ) (m : Machine) (place w : ℕ) → Unmoved w (historyOf m s) → viewOf (stood m w) .busy ≡ true

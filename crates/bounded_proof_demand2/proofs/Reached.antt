@@ -27,7 +27,7 @@ use Rattle.bounded_machine.specs.declared.Machine.{Machine}
 use Rattle.bounded_machine.specs.declared.Event.{Event}
 use Rattle.bounded_machine.specs.Machine.{slot, emptySlots, stamped, freshSlots, idler, idlers, starts, freshOf}
 use Rattle.bounded_machine.specs.Broken.{byRule, endsFit, recordFits}
-use Rattle.bounded_machine.specs.Turn.{turnOf, begun, acted, actedBy, stored}
+use Rattle.bounded_machine.specs.Turn.{turnOf, turnOfBy, begun, acted, actedBy, stored}
 use Rattle.bounded_machine.specs.Run.{ran, runFrom}
 use Rattle.bounded_machine.specs.History.{event, eventsOf, historyOf, tallyOf}
 use Rattle.bounded_machine.proofs.Kept.{Unbroken, ends-of}
@@ -255,7 +255,7 @@ module _ (c n workers : ℕ) (base : Base c n workers) where
 
   one-entry : (m : Machine) (h : List Event) (first second : ℕ) → Reached c n workers m h → turnOf m first second .refusal ≡ 0
       → Reached c n workers (turnOf m first second .machine) (h ++ eventsOf m (entryOf first second) (turnOf m first second .machine))
-  unfolding turnOf
+  unfolding turnOfBy
   one-entry m h first second r e = entered m h (entryOf first second) _ _ r (turned m (entryOf first second) e)
 
   -- and so does every list of entries

@@ -12,13 +12,14 @@ use Rattle.bounded_machine.specs.declared.Event.{Event}
 use Rattle.bounded_machine.specs.Machine.{placeOf, accepted}
 use Rattle.bounded_machine.specs.Run.{runFrom}
 use Rattle.bounded_demands.specs.Notions.{document01, acts, machineAfter, actsOf, mostOf, OtherHand}
+use Rattle.bounded_demands.specs.Foretold.{foretold}
 use Rattle.bounded_demands.specs.Demands.{Demand3, ScheduledAlone}
 use Rattle.bounded_proof_demand2.proofs.Turns.{stood}
 use Rattle.bounded_proof_demand2.proofs.Pictured.{Base}
 use Rattle.bounded_proof_demand2.proofs.Reached.{Reached, lapsOf, base-of}
 use Rattle.bounded_proof_demand2.proofs.Demand2.{reached}
 use Rattle.bounded_proof_demand3.proofs.Falls.{most, seven}
-use Rattle.bounded_proof_demand3.proofs.Solo.{foretold, act-turn, Ended, idle-stays, ends-by}
+use Rattle.bounded_proof_demand3.proofs.Solo.{act-turn, Ended, idle-stays, ends-by}
 use Rattle.bounded_proof_demand3.proofs.Hand.{lets-go, as-run}
 use Rattle.bounded_proof_demand3.proofs.Queue.{queue-is}
 use Rattle.bounded_proof_demand3.proofs.Way.{other-hand}
@@ -53,6 +54,7 @@ module _ (c n workers : ℕ) (base : Base c n workers) (m : Machine) (h : List E
               busy = d .busy-yet;
               answer = foretold m w;
               ends = d .ends;
+              foretold-answer = refl;
               true-then = d .true-then;
               claim-rule = d .claimed;
               queue = λ k e. queue-is c n workers base m h r w k e busy free;

@@ -27,7 +27,7 @@ use Rattle.bounded_machine.specs.declared.Machine.{Machine}
 use Rattle.bounded_machine.specs.declared.Did.{Did}
 use Rattle.bounded_machine.specs.declared.Event.{Event}
 use Rattle.bounded_machine.specs.Machine.{idler}
-use Rattle.bounded_machine.specs.Turn.{turnOf, begun, acted}
+use Rattle.bounded_machine.specs.Turn.{turnOf, turnOfBy, begun, acted}
 use Rattle.bounded_machine.specs.Run.{ran, runFrom}
 use Rattle.bounded_machine.specs.History.{eventsOf}
 use Rattle.bounded_machine.proofs.Kept.{of-unbroken}
@@ -122,7 +122,7 @@ module _ (c n workers : ℕ) (base : Base c n workers) (w : ℕ) where
         go (no ne) = rw (ne-eqb v w ne) (other (acted-else m v w (stood m v) lose (λ z. ne (sym z))) refl)
 
     one-turn : (first second : ℕ) → Turn m first second
-    unfolding stepOf turnOf
+    unfolding stepOf turnOfBy
     one-turn first second = go (eqb (turnOf m first second .refusal) 0) refl
       where
         same : (turnOf m first second .refusal ≡ 0 → ⊥) → turnOf m first second .machine ≡ m

@@ -19,8 +19,8 @@ use Rattle.bounded_acts.specs.declared.Acted.{Acted}
 use Rattle.bounded_acts.specs.Acts.{stay, tailTo, headTo, stampTo, valueTo, actOf, actP1, actP2, fullAt, countOf, yesNo}
 use Rattle.bounded_machine.specs.Turn.{spotOf}
 use Rattle.bounded_machine.proofs.Kept.{either}
+use Rattle.bounded_demands.specs.Foretold.{fullAnswer, pushAnswer, foretoldOf}
 use Rattle.bounded_proof_demand3.proofs.Falls.{Finds, FindsTail, clear-is}
-use Rattle.bounded_proof_demand3.specs.Foretold.{fullAnswer, pushAnswer, foretoldOf}
 
 twice : (b : Bool) (x y : Answer) → cond b x (cond b x y) ≡ cond b x y
 twice true x y = refl

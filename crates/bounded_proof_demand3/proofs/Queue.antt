@@ -24,7 +24,8 @@ use Rattle.bounded_machine.specs.declared.Machine.{Machine}
 use Rattle.bounded_machine.specs.declared.Event.{Event}
 use Rattle.bounded_machine.specs.Machine.{slot}
 use Rattle.bounded_machine.specs.Contents.{countIn}
-use Rattle.bounded_demands.specs.Notions.{itemsOf, tally, waiting, OtherHand, queueAnswer}
+use Rattle.bounded_demands.specs.Notions.{itemsOf, tally, waiting, OtherHand, valueAt, queueAnswer}
+use Rattle.bounded_demands.specs.Foretold.{foretoldOf, ownValue, foretold}
 use Rattle.bounded_proof_invariant.proofs.Width.{near-one}
 use Rattle.bounded_proof_invariant.proofs.Ring.{Cell, Await, Hold, Shared, CellOk}
 use Rattle.bounded_proof_invariant.proofs.Effects.{Loose}
@@ -35,9 +36,8 @@ use Rattle.bounded_proof_demand2.proofs.Counts.{tally-head}
 use Rattle.bounded_proof_demand2.proofs.Contents.{count-in}
 use Rattle.bounded_proof_demand2.proofs.Pictured.{Base, first-turn}
 use Rattle.bounded_proof_demand2.proofs.Reached.{Reached}
-use Rattle.bounded_proof_demand3.specs.Foretold.{foretoldOf}
 use Rattle.bounded_proof_demand3.proofs.Found.{tail-is, behind-is}
-use Rattle.bounded_proof_demand3.proofs.Solo.{headValue, ownSlot, foretold, loose}
+use Rattle.bounded_proof_demand3.proofs.Solo.{loose}
 
 -- two tests that say the same
 as-one : (a b j k : ℕ) → (a ≡ b → j ≡ k) → (j ≡ k → a ≡ b) → eqb a b ≡ eqb j k
@@ -120,7 +120,7 @@ module _ (c n workers : ℕ) (base : Base c n workers) (m : Machine) (h : List E
       let q : k ≡ s .head = near-one c (s .head) k some (o .1) (omega (arith, o .2, r .pictured .inv .high)) (o .0) in
       o .3 .0 ∙ ap (s .item) q
 
-  front-is : Loose (s .cell (s .head % c)) → 0 < length (waiting h) → headValue m ≡ getD (waiting h) 0 0
+  front-is : Loose (s .cell (s .head % c)) → 0 < length (waiting h) → valueAt m (m .ring .ends .head) ≡ getD (waiting h) 0 0
   front-is l some-wait =
       let pic = r .pictured in
       let more : s .head < s .tail = omega (arith, long) in
@@ -143,5 +143,5 @@ module _ (c n workers : ℕ) (base : Base c n workers) (m : Machine) (h : List E
       let l : Loose (s .cell (s .head % c)) =
       loose c n workers base s m pic w busy free (s .head % c) (mod-lt (s .head) some)
       (λ z. begun-empty c mark (s .head % c) k (subst (λ (q : Place). HandAt mark (look c q) (s .head % c)) e z)) in
-      ap (λ (q : Place). foretoldOf f (m .ring .ends) (headValue m) (ownSlot m q .value) q) e
-      ∙ answer-is f (m .ring .ends) (headValue m) (ownSlot m (beginOf k) .value) cap k (waiting h) full-is empty-is (count-in c n workers base m h r ∙ sym long) (front-is l)
+      ap (λ (q : Place). foretoldOf f (m .ring .ends) (valueAt m (m .ring .ends .head)) (ownValue m q) q) e
+      ∙ answer-is f (m .ring .ends) (valueAt m (m .ring .ends .head)) (ownValue m (beginOf k)) cap k (waiting h) full-is empty-is (count-in c n workers base m h r ∙ sym long) (front-is l)

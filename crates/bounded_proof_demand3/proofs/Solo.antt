@@ -31,10 +31,11 @@ use Rattle.bounded_machine.specs.declared.Event.{Event}
 use Rattle.bounded_machine.specs.declared.Ran.{Ran}
 use Rattle.bounded_machine.specs.Machine.{slot, placeOf, idler, refused, accepted}
 use Rattle.bounded_machine.specs.Broken.{recordFits}
-use Rattle.bounded_machine.specs.Turn.{verdictOf, carried, turnOf, spotOf, stored, acted, actedBy}
+use Rattle.bounded_machine.specs.Turn.{verdictOf, carried, turnOf, turnOfBy, spotOf, stored, acted, actedBy}
 use Rattle.bounded_machine.specs.Run.{ran, runFrom}
 use Rattle.bounded_machine.specs.History.{event, historyOf}
-use Rattle.bounded_demands.specs.Notions.{acts, InHand, HandsOut, Truth, CallClaim, ItemIn, OtherHand}
+use Rattle.bounded_demands.specs.Notions.{acts, InHand, HandsOut, Truth, CallClaim, ItemIn, OtherHand, valueAt}
+use Rattle.bounded_demands.specs.Foretold.{foretoldOf, ownValue, foretold}
 use Rattle.bounded_proof_invariant.proofs.Ring.{Shared}
 use Rattle.bounded_proof_invariant.proofs.Effects.{Loose}
 use Rattle.bounded_proof_each_act.proofs.Stamps.{fixed}
@@ -44,7 +45,6 @@ use Rattle.bounded_proof_demand2.proofs.Pictured.{Base, Pictured, first-turn, s
 use Rattle.bounded_proof_demand2.proofs.Reached.{Reached, entered}
 use Rattle.bounded_proof_demand2.proofs.Answers.{true-answers}
 use Rattle.bounded_proof_demand3.specs.Rank.{rankOf}
-use Rattle.bounded_proof_demand3.specs.Foretold.{foretoldOf}
 use Rattle.bounded_proof_demand3.proofs.Falls.{Finds, falls}
 use Rattle.bounded_proof_demand3.proofs.Found.{hand-of, loose-of, finds}
 use Rattle.bounded_proof_demand3.proofs.Leaves.{Leaves, leaves}
@@ -62,15 +62,8 @@ unfolding recordFits
 counted f p true busy h = refl
 counted f p false busy h = absurd (true≢false (sym (rw busy at h)))
 
--- the value in the slot at head; the one in the slot of the worker's own word
-abbrev pub headValue : Machine → ℕ
-headValue m = getD (m .ring .slots) (indexOf (m .ring .fixed) (m .ring .ends .head)) (slot 0 0) .value
-
 abbrev pub ownSlot : Machine → Place → Slot
 ownSlot m p = getD (m .ring .slots) (spotOf (m .ring .fixed) (viewOf p .held)) (slot 0 0)
-
-abbrev pub foretold : Machine → ℕ → Answer
-foretold m w = foretoldOf (m .ring .fixed) (m .ring .ends) (headValue m) (ownSlot m (stood m w) .value) (stood m w)
 
 abbrev pub rank : Machine → ℕ → ℕ
 rank m w = rankOf (m .ring .fixed) (m .ring .ends) (stood m w)
@@ -100,7 +93,7 @@ module _ (c n workers : ℕ) (base : Base c n workers) (s : Shared) (m : Machine
           absurd (true≢false (sym (rw (ap (λ (y : Worker). y .place) (List·getD-eq-default (m .workers) idler over)) at busy)))
 
   pub act-turn : m .meter < meterMost → turnOf m (16 * w + 8) 0 ≡ accepted (acted m w (stood m w) false)
-  unfolding turnOf
+  unfolding turnOfBy
   act-turn early = rw (act-entry w, lt-ltb w (m .count) team, busy, lt-ltb (m .meter) meterMost early)
 
   abbrev p : Place
@@ -151,17 +144,17 @@ module _ (c n workers : ℕ) (base : Base c n workers) (s : Shared) (m : Machine
     slot-there j same (yes e) = rw e (getD-set-same (m .ring .slots) i (result .slot) (slot 0 0) long ∙ same)
     slot-there j same (no ne) = getD-set-other (m .ring .slots) i j (result .slot) (slot 0 0) ne
 
-    first : i ≡ indexOf (m .ring .fixed) (m .ring .ends .head) → headValue m ≡ ownSlot m p .value
+    first : i ≡ indexOf (m .ring .fixed) (m .ring .ends .head) → valueAt m (m .ring .ends .head) ≡ ownSlot m p .value
     first e = ap (λ (j : ℕ). getD (m .ring .slots) j (slot 0 0) .value) (sym e)
 
     pub foretold-stays : foretold next w ≡ foretold m w
     unfolding actedBy stored
     foretold-stays =
         let f = m .ring .fixed in
-        let k : Leaves f (m .ring .ends) (ownSlot m p) i (headValue m) first (foretold m w) result =
-        leaves f (m .ring .ends) (ownSlot m p) i (headValue m) first p busy refl found in
-        subst (λ (q : Place). foretoldOf f (result .ends) (headValue next) (ownSlot next q .value) q ≡ foretold m w) (sym next-stood)
-        (k (headValue next) (ownSlot next (result .place) .value)
+        let k : Leaves f (m .ring .ends) (ownSlot m p) i (valueAt m (m .ring .ends .head)) first (foretold m w) result =
+        leaves f (m .ring .ends) (ownSlot m p) i (valueAt m (m .ring .ends .head)) first p busy refl found in
+        subst (λ (q : Place). foretoldOf f (result .ends) (valueAt next (next .ring .ends .head)) (ownValue next q) q ≡ foretold m w) (sym next-stood)
+        (k (valueAt next (next .ring .ends .head)) (ownValue next (result .place))
         (λ ends-same slot-same.
         ap (λ (e : Ends). getD (next .ring .slots) (indexOf f (e .head)) (slot 0 0) .value) ends-same
         ∙ ap (λ (z : Slot). z .value) (slot-there (indexOf f (m .ring .ends .head)) slot-same (ℕ-discrete (indexOf f (m .ring .ends .head)) i)))
@@ -200,11 +193,11 @@ history-more m next h w k e =
 
 -- the answer foretold of an idle worker is the one it gave
 answered : (m : Machine) (w : ℕ) (a : Answer) → stood m w ≡ Idle a → foretold m w ≡ a
-answered m w a e = ap (λ (q : Place). foretoldOf (m .ring .fixed) (m .ring .ends) (headValue m) (ownSlot m q .value) q) e
+answered m w a e = ap (λ (q : Place). foretoldOf (m .ring .fixed) (m .ring .ends) (valueAt m (m .ring .ends .head)) (ownValue m q) q) e
 
 -- acts of an idle worker are refused
 idle-refused : (m : Machine) (w : ℕ) → viewOf (stood m w) .busy ≡ false → eqb (turnOf m (16 * w + 8) 0 .refusal) 0 ≡ false
-unfolding turnOf refused
+unfolding turnOfBy refused
 idle-refused m w idle = rw (act-entry w) (go (ltb w (m .count)))
   where
     go : (b : Bool) → eqb (cond b (carried m w (stood m w) (verdictOf (m .meter) (stood m w) (Act false))) (refused 3 m) .refusal) 0 ≡ false

@@ -32,7 +32,7 @@ use Rattle.bounded_machine.specs.declared.Machine.{Machine}
 use Rattle.bounded_machine.specs.declared.Ran.{Ran}
 use Rattle.bounded_machine.specs.Machine.{slot, placeOf, refused, accepted}
 use Rattle.bounded_machine.specs.Broken.{brokenOf}
-use Rattle.bounded_machine.specs.Turn.{verdictOf, spotOf, begun, stored, actedBy, carried, turn, turnOf}
+use Rattle.bounded_machine.specs.Turn.{verdictOf, spotOf, begun, stored, actedBy, carried, turn, turnOf, turnOfBy}
 use Rattle.bounded_machine.specs.Run.{ran, runFrom, runOf}
 use Rattle.bounded_machine.proofs.Kept.{Unbroken, fair-in, ruled-in, few-workers, begun-unbroken, stored-unbroken, Ok, keeps, word-fits-in, fits-plain, either}
 
@@ -66,16 +66,16 @@ module _ (meter : ℕ) (p : Place) (o : Order) (v : Verdict) (e : v ≡ verdictO
 -- ---- what an entry does
 module _ (m : Machine) (first second : ℕ) (x : Entry) (ex : x ≡ entryOf first second) where
   unread : x ≡ Unreadable → turnOf m first second ≡ refused 9 m
-  unfolding turnOf
+  unfolding turnOfBy
   unread h = ap (turn m) (sym ex ∙ h)
 
   module _ (w : ℕ) (o : Order) (h : x ≡ Asks w o) where
     far : m .count ≤ w → turnOf m first second ≡ refused 3 m
-    unfolding turnOf
+    unfolding turnOfBy
     far g = ap (turn m) (sym ex ∙ h) ∙ sym (above w (m .count) _ _ _ g refl)
 
     near : (v : Verdict) → w < m .count → v ≡ verdictOf (m .meter) (placeOf (m .workers) w) o → turnOf m first second ≡ carried m w (placeOf (m .workers) w) v
-    unfolding turnOf
+    unfolding turnOfBy
     near v g e = ap (turn m) (sym ex ∙ h) ∙ sym (below w (m .count) _ _ _ g (ap (carried m w (placeOf (m .workers) w)) e))
 
 -- ---- one turn

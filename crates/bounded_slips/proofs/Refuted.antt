@@ -10,7 +10,8 @@ use Rattle.queue_entries.specs.Entries.{strayOf, orderOf, entryOf}
 use Rattle.queue_entries.specs.Limits.{all, inLimits}
 use Rattle.bounded_words.specs.declared.Stamp.{Stamp}
 use Rattle.bounded_words.specs.Words.{doubled, markOf, markedOf, unmarkedOf, plus, minus, withMark, nextOf, same, onePast, lapBehind, lapBehindOnePast, stamp}
-use Rattle.bounded_places.specs.declared.Answer.the-variants.{Full, Closed, Popped, Empty}
+use Rattle.bounded_places.specs.declared.Answer.{Answer}
+use Rattle.bounded_places.specs.declared.Answer.the-variants.{Nothing, Pushed, Full, Closed, Displaced, Popped, Empty, PopClosed, Len, Yes, No}
 use Rattle.bounded_places.specs.declared.Place.the-variants.{Idle, O1, O2, O5, O6}
 use Rattle.bounded_places.specs.Places.{inside}
 use Rattle.bounded_acts.specs.Acts.{stay, tailTo, headTo, stampTo, valueTo, countOf}
@@ -19,23 +20,37 @@ use Rattle.bounded_machine.specs.declared.Ran.{Ran}
 use Rattle.bounded_machine.specs.Machine.{emptySlots, stamped, freshSlots, idlers, freshOf, refused, accepted}
 use Rattle.bounded_machine.specs.Broken.{byRule, endsFit, recordFits, recordsFit, brokenOf, allIdle}
 use Rattle.bounded_machine.specs.Contents.{countIn, wrapped, itemAt, itemsFrom, contentsOf}
-use Rattle.bounded_machine.specs.Turn.{begun, stored, actedBy, turnOf}
+use Rattle.bounded_machine.specs.Turn.{begun, stored, actedBy, turnOfBy}
 use Rattle.bounded_machine.specs.Run.{ran}
 use Rattle.bounded_machine.specs.History.{event, tallyOf, stockOf}
 use Rattle.bounded_demands.specs.Notions.{acts, itemsOf, tailersOf, takersOf, handP4, handO4, readO4, popped, passed, ownActs, actsOf, Allowed}
-use Rattle.bounded_slips.specs.Slips.{turnWith, runWith, historyWith, slipped, emptyUnseen, fullUnseen, closedUnseen, emptyTailFirst, fullHeadFirst, lenLooksOnce, popKeepsItsWord, lostForceKeepsItsWord, lostForceTakesTheHead, unstamped, releasesWithNext, neverLetsGo, handsOutAgain, readsAfterItsStore, stampBeforeValue, pushWritesLate}
-use Rattle.bounded_slips.specs.Refuted.{Trial, reached, past, does, Refuted, popOfNothing, popLooksLate, pushLooksLate, pushLoses, emptyLooks, fullLooks, popAfterPush, secondLap, popOutOfDate, forceOutOfDate, popInHand, lenLooks}
+use Rattle.bounded_slips.specs.Slips.{actWith, slipped, emptyUnseen, fullUnseen, closedUnseen, emptyTailFirst, fullHeadFirst, lenLooksOnce, popKeepsItsWord, lostForceKeepsItsWord, lostForceTakesTheHead, unstamped, releasesWithNext, neverLetsGo, handsOutAgain, readsAfterItsStore, stampBeforeValue, pushWritesLate}
+use Rattle.bounded_slips.specs.Refuted.{Trial, reached, past, does, Refuted, popOfNothing, popLooksLate, pushLooksLate, pushLoses, emptyLooks, fullLooks, popAfterPush, secondLap, popOutOfDate, forceOutOfDate, popInHand, lenLooks, lenOutOfDate}
 use Rattle.bounded_slips.proofs.Ways.{busyAt, nowhere, wrong-item, unclaimed, sole, acting, said, no-cons, untouched, quiet, no-hand, stillBusy, late, rests, at-once, busyAlong, holds-on}
 
 one-two : Allowed 1 2
 one-two = record { slot-some = omega arith; slot-most = omega arith; worker-some = omega arith; worker-most = omega arith }
 
+-- the number that len answered
+abbrev lenIn : Answer → ℕ
+lenIn Nothing = 0
+lenIn Pushed = 0
+lenIn (Full x) = 0
+lenIn (Closed x) = 0
+lenIn (Displaced v) = 0
+lenIn (Popped v) = 0
+lenIn Empty = 0
+lenIn PopClosed = 0
+lenIn (Len n) = n
+lenIn Yes = 0
+lenIn No = 0
+
 -- the machine after worker 1's act
 abbrev next : Trial → Machine
-next t = turnWith (t .slip) (reached t) 24 0 .machine
+next t = turnOfBy (actWith (t .slip)) (reached t) 24 0 .machine
 
 pub refuted : Refuted
-unfolding doubled markOf markedOf unmarkedOf plus minus withMark nextOf same onePast lapBehind lapBehindOnePast inside strayOf orderOf entryOf stay tailTo headTo stampTo valueTo countOf emptySlots stamped freshSlots idlers freshOf refused accepted all inLimits byRule endsFit recordFits recordsFit brokenOf allIdle countIn wrapped itemAt itemsFrom contentsOf begun stored actedBy turnOf ran runBy scheduleBy historyBy tallyOf stockOf acts itemsOf tailersOf takersOf passed ownActs turnWith runWith historyWith nowhere stillBusy busyAlong
+unfolding doubled markOf markedOf unmarkedOf plus minus withMark nextOf same onePast lapBehind lapBehindOnePast inside strayOf orderOf entryOf stay tailTo headTo stampTo valueTo countOf emptySlots stamped freshSlots idlers freshOf refused accepted all inLimits byRule endsFit recordFits recordsFit brokenOf allIdle countIn wrapped itemAt itemsFrom contentsOf begun stored actedBy turnOfBy ran runBy scheduleBy historyBy tallyOf stockOf acts itemsOf tailersOf takersOf passed ownActs nowhere stillBusy busyAlong
 refuted =
     record {
       act-by-act = λ a. true≢false (sym (ap (λ (m : Machine). busyAt m 0) (a (freshOf 1 2) [] 0 5 refl refl refl .0)));
@@ -74,7 +89,7 @@ refuted =
             load = acting (slipped lenLooksOnce) (reached lenLooks) 1 refl refl;
             rest = [];
             still = tt;
-            answered = turnWith lenLooksOnce (next lenLooks) 24 0 .machine;
+            answered = turnOfBy (actWith lenLooksOnce) (next lenLooks) 24 0 .machine;
             answer = acting (slipped lenLooksOnce) (next lenLooks) 1 refl refl;
             is = refl;
           })
@@ -89,8 +104,15 @@ refuted =
       alone-early =
           λ a.
           true≢false (sym (at-once (slipped fullUnseen) (reached pushLooksLate) (past pushLooksLate) 1 6 (Full 6) refl
-          (λ n. ap (λ (m : Machine). busyAt m 1) (rests fullUnseen (next pushLooksLate) 1 1 n refl))
-          (a 1 refl (omega arith) (no-hand (reached pushLooksLate) 1 refl refl quiet))));
+          (λ n. ap (λ (m : Machine). busyAt m 1) (rests (actWith fullUnseen) (next pushLooksLate) 1 1 n refl))
+          (a 1 refl (omega arith) (no-hand (reached pushLooksLate) 1 refl refl quiet)) .0));
+      alone-other =
+          λ a.
+          let q : _≡_ {A = ℕ} 0 1 =
+          ap lenIn (at-once (slipped lenLooksOnce) (reached lenOutOfDate) (past lenOutOfDate) 1 4 (Len 0) refl
+          (λ n. ap (λ (m : Machine). busyAt m 1) (rests (actWith lenLooksOnce) (next lenOutOfDate) 1 1 n refl))
+          (a 1 refl (omega arith) (no-hand (reached lenOutOfDate) 1 refl refl quiet)) .1) in
+          omega arith;
       in-the-way = λ i. no-hand (reached popAfterPush) 0 refl refl quiet (i 0 (omega arith) refl);
       lets-go = λ l. holds-on (slipped neverLetsGo) (reached popInHand) 0 2 (acts 0 2) refl (l 0 (stamp 0) (acts 0 2) handO4 (let q : 2 ≤ 2 = omega arith in q));
       as-run = λ p. true≢false (ap (λ (m : Machine). busyAt m 0) (p (0 ∷ 5 ∷ []) refl));

@@ -12,6 +12,7 @@ use lib.ListN.{length, getD, replicate}
 use Rattle.queue_entries.specs.declared.Order.the-variants.{Act}
 use Rattle.queue_entries.specs.declared.Entry.the-variants.{Asks}
 use Rattle.queue_entries.specs.Entries.{entryOf}
+use Rattle.queue_entries.specs.Schedules.{runBy}
 use Rattle.bounded_places.specs.declared.Answer.{Answer}
 use Rattle.bounded_places.specs.declared.Answer.the-variants.{Nothing}
 use Rattle.bounded_places.specs.declared.Worker.{Worker}
@@ -22,13 +23,14 @@ use Rattle.bounded_machine.specs.declared.Machine.{Machine}
 use Rattle.bounded_machine.specs.declared.Event.{Event}
 use Rattle.bounded_machine.specs.Machine.{idler, placeOf, accepted}
 use Rattle.bounded_machine.specs.Run.{ran}
-use Rattle.bounded_demands.specs.Notions.{Definition, Acts, acts, Truth, itemIn, itemsOf, takersOf, LatestIn, ItemIn, WrittenIn, CallClaim, Fifo, start, enqueue, dequeue, rest, OtherHand, passed, LetsGo}
+use Rattle.bounded_machine.specs.Turn.{Table, turnOfBy}
+use Rattle.bounded_demands.specs.Notions.{Definition, Acts, acts, Truth, itemIn, itemsOf, takersOf, LatestIn, ItemIn, WrittenIn, CallClaim, Fifo, start, enqueue, dequeue, rest, OtherHand, passed, LetsGo, byTable}
 use Rattle.bounded_demands.specs.Demands.{AnswersTrue, EndsAlone}
+use Rattle.bounded_demands.specs.Foretold.{foretold}
 use Rattle.bounded_proof_each_act.proofs.Sight.{look, answerIn}
 use Rattle.bounded_proof_demand2.proofs.Logged.{items-end, takers-end}
 use Rattle.bounded_proof_demand2.proofs.Reached.{idle-all}
 use Rattle.bounded_proof_demand3.proofs.Hand.{hand-busy}
-use Rattle.bounded_slips.specs.Slips.{turnWith, runWith}
 
 abbrev pub busyAt : Machine → ℕ → Bool
 busyAt m w = viewOf (placeOf (m .workers) w) .busy
@@ -141,23 +143,27 @@ late d m h w most b e =
     absurd (true≢false (sym (busy-by d m w most (e .before) b (e .within)) ∙ ap (λ (p : Place). viewOf p .busy) (e .ends)))
 
 -- A worker that is refused leaves the machine as it is.
-pub rests : (slip : ℕ) (m : Machine) (place w k : ℕ) → eqb (turnWith slip m (16 * w + 8) 0 .refusal) 0 ≡ false → runWith slip m place (acts w k) .machine ≡ m
-unfolding runWith acts ran
-rests slip m place w zero e = refl
-rests slip m place w (suc k) e = rw e
+pub rests : (table : Table) (m : Machine) (place w k : ℕ) → eqb (turnOfBy table m (16 * w + 8) 0 .refusal) 0 ≡ false → byTable table .run m place (acts w k) .machine ≡ m
+unfolding runBy acts ran
+rests table m place w zero e = refl
+rests table m place w (suc k) e = rw e
 
 -- A call that ends with its next act, and is idle from then on, gives the answer of that act.
 pub at-once : (d : Definition) (m : Machine) (h : List Event) (w most : ℕ) (a : Answer)
     → placeOf (d .run m 0 (acts w 1) .machine .workers) w ≡ Idle a
     → ((n : ℕ) → busyAt (d .run m 0 (acts w (suc n)) .machine) w ≡ false)
-    → EndsAlone d m h w most → Truth (m .ring .fixed) (d .run m 0 (acts w 0) .machine .ring .ends) a
+    → EndsAlone d m h w most → Truth (m .ring .fixed) (d .run m 0 (acts w 0) .machine .ring .ends) a × (a ≡ foretold m w)
 at-once d m h w most a ends idle e = go (e .before) refl
   where
-    go : (n : ℕ) → e .before ≡ n → Truth (m .ring .fixed) (d .run m 0 (acts w 0) .machine .ring .ends) a
+    go : (n : ℕ) → e .before ≡ n → Truth (m .ring .fixed) (d .run m 0 (acts w 0) .machine .ring .ends) a × (a ≡ foretold m w)
     go zero first =
-        subst (λ (p : Place). Truth (m .ring .fixed) (d .run m 0 (acts w 0) .machine .ring .ends) (answerIn (look 1 p)))
-        (sym (subst (λ (n : ℕ). placeOf (d .run m 0 (acts w (suc n)) .machine .workers) w ≡ Idle (e .answer)) first (e .ends)) ∙ ends)
-        (subst (λ (n : ℕ). Truth (m .ring .fixed) (d .run m 0 (acts w n) .machine .ring .ends) (e .answer)) first (e .true-then))
+        let same : e .answer ≡ a =
+        ap (λ (p : Place). answerIn (look 1 p))
+        (sym (subst (λ (n : ℕ). placeOf (d .run m 0 (acts w (suc n)) .machine .workers) w ≡ Idle (e .answer)) first (e .ends)) ∙ ends) in (
+          subst (Truth (m .ring .fixed) (d .run m 0 (acts w 0) .machine .ring .ends)) same
+              (subst (λ (n : ℕ). Truth (m .ring .fixed) (d .run m 0 (acts w n) .machine .ring .ends) (e .answer)) first (e .true-then)),
+          sym same ∙ e .foretold-answer,
+        )
     go (suc n) later = absurd (true≢false (sym (subst (λ (n : ℕ). busyAt (d .run m 0 (acts w n) .machine) w ≡ true) later (e .busy)) ∙ idle n))
 
 -- ---- letting go

@@ -110,6 +110,10 @@ popOutOfDate = trial popKeepsItsWord 1 (does 1 2 0 2 ++ does 0 0 5 5 ++ does 0 2
 abbrev pub forceOutOfDate : ℕ → Trial
 forceOutOfDate n = trial n 1 (does 0 0 5 5 ++ does 1 1 6 2 ++ does 0 2 0 5 ++ does 0 0 5 5)
 
+-- len made its first two loads, and a push came between them and the third
+abbrev pub lenOutOfDate : Trial
+lenOutOfDate = trial lenLooksOnce 1 (does 1 3 0 2 ++ does 0 0 5 5)
+
 -- a pop with its slot in hand
 abbrev pub popInHand : Trial
 popInHand = trial neverLetsGo 1 (does 0 0 5 5 ++ does 0 2 0 3)
@@ -154,6 +158,8 @@ pub record Refuted : Type 0 where
   pub alone-next : AloneEnds (slipped releasesWithNext) (reached secondLap) (past secondLap) → ⊥
   -- it ends at once, and its answer is false
   pub alone-early : AloneEnds (slipped fullUnseen) (reached pushLooksLate) (past pushLooksLate) → ⊥
+  -- it ends, and not with the answer foretold
+  pub alone-other : AloneEnds (slipped lenLooksOnce) (reached lenOutOfDate) (past lenOutOfDate) → ⊥
   pub in-the-way : InTheWay (slipped unstamped) (reached popAfterPush) → ⊥
   pub lets-go : HandLetsGo (slipped neverLetsGo) (reached popInHand) → ⊥
   pub as-run : PassedAsRun deaf (reached (trial none 1 [])) → ⊥

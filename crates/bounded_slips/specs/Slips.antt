@@ -1,14 +1,8 @@
 -- Document 01's tables with a slip in one row, all else as it is; and definitions of the machine made of them.
-use Prim.Native.Nat.{ℕ, _+_}
+use Prim.Native.Nat.{ℕ}
 use mathlib.Core.Bool.{Bool, cond}
-use mathlib.Core.List.{List, [], _∷_, _++_}
 use mathlib.Core.Path.{_≡_}
 use lib.Dec.{eqb}
-use lib.ListN.{getD}
-use Rattle.queue_entries.specs.declared.Order.the-variants.{Begin, Act}
-use Rattle.queue_entries.specs.declared.Entry.{Entry}
-use Rattle.queue_entries.specs.declared.Entry.the-variants.{Unreadable, Asks}
-use Rattle.queue_entries.specs.Entries.{entryOf}
 use Rattle.bounded_words.specs.declared.Fixed.{Fixed}
 use Rattle.bounded_words.specs.Words.{plus, minus, nextOf, same, unmarkedOf, lapBehind}
 use Rattle.bounded_places.specs.declared.Slot.{Slot}
@@ -17,18 +11,13 @@ use Rattle.bounded_places.specs.declared.Kind.the-variants.{Force}
 use Rattle.bounded_places.specs.declared.Answer.the-variants.{Pushed, Full, Closed, Displaced, Popped, Empty, Len}
 use Rattle.bounded_places.specs.declared.Place.{Place}
 use Rattle.bounded_places.specs.declared.Place.the-variants.{Idle, P1, P2, P3, P4, P5, P6, F6, F7, F8, F9, O1, O2, O3, O4, O5, O6, Len1, Len2, Len3, Empty1, Empty2, Full1, Full2, Close1, IsClosed1}
-use Rattle.bounded_places.specs.Places.{viewOf}
 use Rattle.bounded_acts.specs.declared.Acted.{Acted}
 use Rattle.bounded_acts.specs.Acts.{stay, tailTo, headTo, stampTo, valueTo, countOf, yesNo, actOf}
-use Rattle.bounded_machine.specs.declared.Machine.{Machine}
-use Rattle.bounded_machine.specs.declared.Did.{Did}
-use Rattle.bounded_machine.specs.declared.Ran.{Ran}
-use Rattle.bounded_machine.specs.declared.Event.{Event}
-use Rattle.bounded_machine.specs.Machine.{slot, placeOf, accepted, refused}
-use Rattle.bounded_machine.specs.Turn.{spotOf, stored, turnOf}
+use Rattle.bounded_machine.specs.Machine.{refused}
+use Rattle.bounded_machine.specs.Turn.{turnOf}
 use Rattle.bounded_machine.specs.Run.{ran, runFrom}
-use Rattle.bounded_machine.specs.History.{eventsOf, historyOf}
-use Rattle.bounded_demands.specs.Notions.{Definition, document01}
+use Rattle.bounded_machine.specs.History.{historyOf}
+use Rattle.bounded_demands.specs.Notions.{Definition, byTable, document01}
 use Rattle.bounded_demands.specs.Demands.{UnderEverySchedule, ActByAct, WholeSchedules, LenTrue, ScheduledAlone}
 
 -- ---- the slips
@@ -185,41 +174,8 @@ actWith n f e s IsClosed1 lose = actOf f e s IsClosed1 lose
 
 -- ---- the machine with a slip
 
--- The act of these tables in place of document 01's.
-abbrev pub actedWith : ℕ → Machine → ℕ → Place → Bool → Machine
-actedWith n m w p lose =
-    stored m w (spotOf (m .ring .fixed) (viewOf p .held))
-    (actWith n (m .ring .fixed) (m .ring .ends) (getD (m .ring .slots) (spotOf (m .ring .fixed) (viewOf p .held)) (slot 0 0)) p lose)
-
-abbrev pub redone : ℕ → Machine → Entry → Did → Did
-redone n m Unreadable d = d
-redone n m (Asks w (Begin c)) d = d
-redone n m (Asks w (Act lose)) d = accepted (actedWith n m w (placeOf (m .workers) w) lose)
-
--- What document 01 refuses is refused, what it begins is begun, and an accepted act is the one of these tables.
-unfoldable pub turnWith : ℕ → Machine → ℕ → ℕ → Did
-turnWith n m first second =
-    cond (eqb (turnOf m first second .refusal) 0) (redone n m (entryOf first second) (turnOf m first second)) (turnOf m first second)
-
--- Schedules and histories, as machine/specs/Run.antt and History.antt have them.
-unfoldable pub runWith : ℕ → Machine → ℕ → List ℕ → Ran
-runWith n m place [] = ran 0 place m
-runWith n m place (first ∷ []) = ran 0 place m
-runWith n m place (first ∷ second ∷ rest) =
-    cond (eqb (turnWith n m first second .refusal) 0)
-    (runWith n (turnWith n m first second .machine) (place + 1) rest)
-    (ran (turnWith n m first second .refusal) place m)
-
-unfoldable pub historyWith : ℕ → Machine → List ℕ → List Event
-historyWith n m [] = []
-historyWith n m (first ∷ []) = []
-historyWith n m (first ∷ second ∷ rest) =
-    cond (eqb (turnWith n m first second .refusal) 0)
-    (eventsOf m (entryOf first second) (turnWith n m first second .machine) ++ historyWith n (turnWith n m first second .machine) rest)
-    []
-
 abbrev pub slipped : ℕ → Definition
-slipped n = record { turn = turnWith n; run = runWith n; history = historyWith n }
+slipped n = byTable (actWith n)
 
 -- Two definitions that are wrong beside the tables: one runs no entry of a schedule, one refuses every entry.
 abbrev pub deaf : Definition
