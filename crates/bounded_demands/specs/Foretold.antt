@@ -115,6 +115,7 @@ tellings =
     -- closed after its load: a push that saw the ring full does not look at the mark again
     ∷ tells 1 (pushes ++ its 0 5 1 ++ closes) (Full 5)
     ∷ tells 1 (pushes ++ its 0 5 2 ++ pops) Pushed
+    ∷ tells 1 (pushes ++ its 1 5 1) (Displaced 7)
     ∷ tells 1 (pushes ++ its 1 5 2 ++ closes) (Displaced 7)
     ∷ tells 2 (pushes ++ its 1 5 1) Pushed
     ∷ tells 1 (its 2 0 2) Empty

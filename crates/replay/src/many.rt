@@ -5,6 +5,13 @@ use replay_options::Options;
 
 const STRIDE: u64 = 1000000;
 
+// The program's status.
+pub const RAN: u8 = 0;
+
+pub const REFUSED: u8 = 1;
+
+pub const UNREADABLE: u8 = 2;
+
 // How many numbers there are, and where and how the reading ended.
 struct Survey {
     count: u64,
@@ -176,6 +183,12 @@ fn play_begin(offset: u64, line: u64, at: usize) -> Playing {
     }
 }
 
+// Where the text to be written goes on, and whether the schedule was refused.
+struct Played {
+    at: usize,
+    refused: bool,
+}
+
 fn play(
     o: Options,
     fd: i32,
@@ -184,37 +197,79 @@ fn play(
     odd: bool,
     out: &mut [u8],
     at: usize,
-) -> usize {
+) -> Played {
     let mut bytes = [0u8; replay_input::source::BYTES];
     let mut list = [0u64; replay_input::source::NUMBERS];
     let begin = play_begin(offset, line, at);
     let run = play_in(begin, o, fd, odd, &mut bytes, &mut list, out);
-    replay_bounded::play::finish(run, o, out)
+    Played {
+        at: replay_bounded::play::finish(run, o, out),
+        refused: run.refusal != 0,
+    }
 }
 
-// Where the next schedule begins, and where the text to be written goes on.
+// Where the next schedule begins, where the text to be written goes on, and the status so far.
 struct Next {
     more: bool,
     offset: u64,
     line: u64,
     at: usize,
+    status: u8,
 }
 
-fn stop(at: usize) -> Next {
+fn first() -> Next {
+    Next {
+        more: true,
+        offset: 0,
+        line: 1,
+        at: 0,
+        status: RAN,
+    }
+}
+
+fn stop() -> Next {
     Next {
         more: false,
         offset: 0,
         line: 0,
-        at: at,
+        at: 0,
+        status: UNREADABLE,
     }
+}
+
+// After one schedule.
+fn after(s: Survey, at: usize, status: u8) -> Next {
+    let r = s.reading;
+    let scan = r.scan;
+    Next {
+        more: r.event == text_numbers::MARK,
+        offset: r.offset,
+        line: scan.line,
+        at: at,
+        status: status,
+    }
+}
+
+// Read once, and not run.
+fn look(o: Options, fd: i32, name: &[u8], from: Next) -> Next {
+    let s = surveyed(fd, o.many, from.offset, from.line);
+    if is_sound(s, name) {
+        after(s, 0, from.status)
+    } else {
+        stop()
+    }
+}
+
+fn worse(status: u8, refused: bool) -> u8 {
+    if refused { REFUSED } else { status }
 }
 
 fn one(o: Options, fd: i32, name: &[u8], from: Next, out: &mut [u8]) -> Next {
     let s = surveyed(fd, o.many, from.offset, from.line);
     if is_sound(s, name) {} else {
-        return stop(from.at);
+        return stop();
     }
-    let at = play(
+    let p = play(
         o,
         fd,
         from.offset,
@@ -223,14 +278,7 @@ fn one(o: Options, fd: i32, name: &[u8], from: Next, out: &mut [u8]) -> Next {
         out,
         from.at,
     );
-    let r = s.reading;
-    let scan = r.scan;
-    Next {
-        more: r.event == text_numbers::MARK,
-        offset: r.offset,
-        line: scan.line,
-        at: at,
-    }
+    after(s, p.at, worse(from.status, p.refused))
 }
 
 // A mark at the very end begins no further schedule.
@@ -246,13 +294,20 @@ fn unless_at_end(fd: i32, n: Next) -> Next {
     m
 }
 
-fn run_in(o: Options, fd: i32, name: &[u8], out: &mut [u8]) {
-    let mut n = Next {
-        more: true,
-        offset: 0,
-        line: 1,
-        at: 0,
-    };
+// Of many, each is read before the first is run, so that nothing is written where one cannot be read.
+fn look_in(o: Options, fd: i32, name: &[u8]) -> u8 {
+    let mut n = first();
+    let mut turns = u64::MAX;
+    while turns > 0 && n.more {
+        n = look(o, fd, name, n);
+        n = unless_at_end(fd, n);
+        turns -= 1;
+    }
+    n.status
+}
+
+fn run_in(o: Options, fd: i32, name: &[u8], out: &mut [u8]) -> u8 {
+    let mut n = first();
     let mut turns = u64::MAX;
     while turns > 0 && n.more {
         n = one(o, fd, name, n, out);
@@ -260,9 +315,15 @@ fn run_in(o: Options, fd: i32, name: &[u8], out: &mut [u8]) {
         turns -= 1;
     }
     text_output::flush(out, n.at);
+    n.status
 }
 
-pub fn run_all(o: Options, fd: i32, name: &[u8]) {
+pub fn run_all(o: Options, fd: i32, name: &[u8]) -> u8 {
+    if o.many {
+        if look_in(o, fd, name) == UNREADABLE {
+            return UNREADABLE;
+        }
+    }
     let mut out = io::large_buffer();
-    run_in(o, fd, name, &mut out);
+    run_in(o, fd, name, &mut out)
 }

@@ -5,6 +5,8 @@ pub struct Options {
     pub summary: bool,
     pub many: bool,
     pub help: bool,
+    // the starter asks for the status on a descriptor
+    pub tells: bool,
     // the number of the argument that names the file; 0: standard input
     pub file: usize,
     // the number of an argument that is none of these; 0: all are
@@ -31,6 +33,7 @@ fn none() -> Options {
         summary: false,
         many: false,
         help: false,
+        tells: false,
         file: 0,
         wrong: 0,
     }
@@ -71,6 +74,10 @@ fn with_word(before: Options, i: usize, word: &[u8]) -> Options {
         o.help = true;
         return o;
     }
+    if equal(word, b"--tell-status") {
+        o.tells = true;
+        return o;
+    }
     named(o, i, word)
 }
 
@@ -102,6 +109,17 @@ pub fn complain(i: usize) {
     io::write_all(libc::STDERR_FILENO, b"\n");
 }
 
+// A program has no exit status of its own: its starter opens this descriptor and reads one digit.
+const STATUS_FILENO: i32 = 3;
+
+// 0: run to its end. 1: refused. 2: the input or the arguments cannot be read.
+pub fn tell(o: Options, status: u8) {
+    if o.tells {
+        let digit = [b'0' + status % 3];
+        io::write_all(STATUS_FILENO, &digit);
+    }
+}
+
 pub fn help() {
     io::write_all(
         libc::STDOUT_FILENO,
@@ -121,6 +139,7 @@ pub fn help() {
         \n\
         Refusals: 3 no such worker, 4 busy, 5 idle, 6 no sound machine, 7 meter full, 8 no weak exchange,\n\
         9 unreadable entry, 11 odd number of words.\n\
+        Status: 0 run to its end, 1 refused, 2 the input or the arguments cannot be read.\n\
         \n\
         \x20 --quiet     no line for each entry, one for the whole\n\
         \x20 --summary   then counts of acts, answers, claims, refusals and retries\n\
