@@ -1,5 +1,5 @@
 // One act: the action of the source at a worker's place, with the local decisions up to the next.
-// One function for each place of document 01's tables that decides something; crate table has which is taken where.
+// One function for each place of document 01's tables that decides something; crate bounded_table has which is taken where.
 ghost use mathlib.Core.Path.{_≡_};
 ghost use Rattle.bounded_words.specs.Words.{Fair, plus, minus, nextOf, withMark};
 ghost use Rattle.bounded_places.specs.declared.Place.the-variants.{Idle};

@@ -42,7 +42,7 @@ use Rattle.bounded_machine.specs.History.{historyWith, movedOf, tallyOf}
 -- ---- definitions and schedules
 
 -- What a definition of the machine says: what an entry makes of a machine, what the entries of a schedule make of it up to the
--- first refusal, and their acts, oldest first. The demands are said of any definition, so that crate slips can say them of
+-- first refusal, and their acts, oldest first. The demands are said of any definition, so that crate bounded_slips can say them of
 -- one with a row changed; they are met by document 01's.
 pub record Definition : Type 0 where
   pub turn : Machine → ℕ → ℕ → Did

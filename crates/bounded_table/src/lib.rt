@@ -1,5 +1,5 @@
 // The two tables of document 01 with the lookers: which action is taken at which place.
-// The actions themselves: crate acts.
+// The actions themselves: crate bounded_acts.
 ghost use mathlib.Core.Path.{_≡_};
 ghost use Rattle.bounded_acts.specs.Acts.{actOf, Fits};
 use bounded_acts::Acted;

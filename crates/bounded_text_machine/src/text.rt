@@ -1,4 +1,4 @@
-// What a machine holds, as text in a buffer that the caller lends, as `ink` has it.
+// What a machine holds, as text in a buffer that the caller lends, as `text_output` has it.
 use bounded_machine::Machine;
 use bounded_places::Place;
 use queue_entries::Told;
