@@ -1,25 +1,25 @@
 -- What contents answers and leaves, by the way that the code took.
-use Prim.Native.Nat.{ℕ, zero, suc, _+_, _-_, _<_, _≤_}
-use mathlib.Core.Path.{_≡_, refl, sym, ap, _∙_, subst}
-use mathlib.Core.Bool.{Bool, true, false, cond}
+use Prim.Native.Nat.{ℕ, zero, suc, _+_, _<_, _≤_}
+use mathlib.Core.Path.{_≡_, refl, sym, ap, _∙_}
+use mathlib.Core.Bool.{Bool, true, false}
 use mathlib.Core.List.{List, [], _∷_, _++_, append-assoc}
 use native.Mathlib.Omega.{arith}
 use native.Mathlib.Numerals.{add-one}
-use lib.Dec.{ltb, eqb}
 use lib.ListN.{getD, set, length, drop}
 use lib.Seq.{drop-cons, set-at}
-use borrow.Author.Tests.{ne-eqb, eq-eqb, lt-ltb, le-ltb}
-use Rattle.words.proofs.Pick.{yes, no, below, above, equal, other}
-use Rattle.words.specs.Limits.{slotsMost, workersMost}
-use Rattle.machine.specs.declared.Machine.{Machine}
-use Rattle.machine.specs.declared.Did.{Did}
-use Rattle.machine.specs.declared.Told.{Told}
-use Rattle.machine.specs.declared.Told.the-variants.{Number, Refused}
-use Rattle.machine.specs.Machine.{freshOf, blank, refused, accepted}
-use Rattle.machine.specs.Broken.{inLimits, brokenOf, allIdle}
+use Rattle.queue_entries.proofs.Pick.{yes, no, below, above, other}
+use Rattle.queue_entries.specs.Limits.{workersMost, inLimits}
+use Rattle.queue_entries.specs.declared.Told.{Told}
+use Rattle.queue_entries.specs.declared.Told.the-variants.{Number, Refused}
+use Rattle.queue_entries.specs.Told.{told}
+use Rattle.bounded_words.specs.Limits.{slotsMost}
+use Rattle.bounded_machine.specs.declared.Machine.{Machine}
+use Rattle.bounded_machine.specs.declared.Did.{Did}
+use Rattle.bounded_machine.specs.Machine.{freshOf, blank, refused, accepted}
+use Rattle.bounded_machine.specs.Broken.{brokenOf, allIdle}
+use Rattle.bounded_machine.specs.Contents.{countIn, itemAt, itemsFrom, contentsOf, contentsRefusal, written, capacityOf, Counted}
+use Rattle.bounded_machine.proofs.Kept.{unbroken-of, ruled-in}
 use Rattle.bounded.specs.Bounded.{makeOf}
-use Rattle.machine.specs.Contents.{told, countIn, itemAt, itemsFrom, contentsOf, contentsRefusal, written, capacityOf, Counted}
-use Rattle.machine.proofs.Kept.{unbroken-of, ruled-in}
 
 -- ---- which refusal
 module _ (m : Machine) (room : ℕ) (b : Bool) (eb : b ≡ brokenOf m) where

@@ -1,35 +1,35 @@
 -- One entry by itself, and the counts of claims.
-use Prim.Native.Nat.{ℕ, zero, suc, _+_, _-_, _%_, _<_, _≤_}
-use mathlib.Core.Path.{_≡_, refl, sym, ap, _∙_, subst}
+use Prim.Native.Nat.{ℕ, _+_, _%_, _<_, _≤_}
+use mathlib.Core.Path.{_≡_, refl, sym, ap, _∙_}
 use mathlib.Core.Bool.{Bool, true, false, cond, true≢false}
-use mathlib.Core.List.{List, [], _∷_}
-use native.Mathlib.Omega.{arith}
+use mathlib.Core.List.{[], _∷_}
 use native.Mathlib.Nat.{mod-eq-of-lt}
 use lib.Dec.{ltb, eqb}
 use borrow.Author.Tests.{eqb-true}
-use Rattle.words.specs.declared.Claim.{Claim}
-use Rattle.words.specs.Limits.{wide}
-use Rattle.words.specs.Words.{claim}
-use Rattle.words.proofs.Pick.{along, yes, no, below, above}
-use Rattle.places.specs.declared.Place.{Place}
-use Rattle.places.specs.declared.Order.{Order}
-use Rattle.places.specs.declared.Entry.{Entry}
-use Rattle.places.specs.declared.Entry.the-variants.{Unreadable, Asks}
-use Rattle.places.specs.Places.{entryOf}
-use Rattle.machine.specs.declared.Machine.{Machine}
-use Rattle.machine.specs.declared.Did.{Did}
-use Rattle.machine.specs.declared.Ran.{Ran}
-use Rattle.machine.specs.declared.Moved.{Moved}
-use Rattle.machine.specs.declared.Moved.the-variants.{Neither, Tail, Head}
-use Rattle.machine.specs.declared.Tally.{Tally}
-use Rattle.machine.specs.declared.Verdict.{Verdict}
-use Rattle.machine.specs.declared.Verdict.the-variants.{Refuse, Start, Move}
-use Rattle.machine.specs.Machine.{placeOf, refused, accepted}
-use Rattle.machine.specs.Broken.{brokenOf}
-use Rattle.machine.specs.Turn.{verdictOf, carried, turn, turnOf, begun, acted}
-use Rattle.machine.specs.Run.{ran, runFrom, runOf}
-use Rattle.machine.specs.History.{movedOf, counted, stockOf}
-use Rattle.machine.proofs.Kept.{either}
+use Rattle.queue_entries.specs.Schedules.{runBy, scheduleBy}
+use Rattle.queue_entries.proofs.Pick.{along, yes, no, below, above}
+use Rattle.queue_entries.specs.declared.Entry.{Entry}
+use Rattle.queue_entries.specs.declared.Entry.the-variants.{Unreadable, Asks}
+use Rattle.queue_entries.specs.Entries.{entryOf}
+use Rattle.queue_entries.specs.declared.Verdict.{Verdict}
+use Rattle.queue_entries.specs.declared.Verdict.the-variants.{Refuse, Start, Move}
+use Rattle.bounded_words.specs.declared.Claim.{Claim}
+use Rattle.bounded_words.specs.Limits.{wide}
+use Rattle.bounded_words.specs.Words.{claim}
+use Rattle.bounded_places.specs.declared.Place.{Place}
+use Rattle.bounded_places.specs.Places as places
+use Rattle.bounded_machine.specs.declared.Machine.{Machine}
+use Rattle.bounded_machine.specs.declared.Did.{Did}
+use Rattle.bounded_machine.specs.declared.Ran.{Ran}
+use Rattle.bounded_machine.specs.declared.Moved.{Moved}
+use Rattle.bounded_machine.specs.declared.Moved.the-variants.{Neither, Tail, Head}
+use Rattle.bounded_machine.specs.declared.Tally.{Tally}
+use Rattle.bounded_machine.specs.Machine.{placeOf, refused, accepted}
+use Rattle.bounded_machine.specs.Broken.{brokenOf}
+use Rattle.bounded_machine.specs.Turn.{verdictOf, carried, turn, turnOf, turnOfBy, begun, acted}
+use Rattle.bounded_machine.specs.Run.{ran, runFrom, runOf}
+use Rattle.bounded_machine.specs.History.{movedOf, counted}
+use Rattle.bounded_machine.proofs.Kept.{either}
 use Rattle.bounded.specs.Bounded.{stepOf, beginOf, actOf, nextClaim, talliedOf}
 
 -- ---- a refused entry changes nothing
@@ -46,7 +46,7 @@ accepted-unchanged m next h = absurd (true≢false h)
 
 carried-unchanged : (m : Machine) (w : ℕ) (p : Place) (v : Verdict) → Unchanged m (carried m w p v)
 carried-unchanged m w p (Refuse k) = refused-unchanged m k
-carried-unchanged m w p (Start q) = accepted-unchanged m (begun m w q)
+carried-unchanged m w p (Start c) = accepted-unchanged m (begun m w (places.beginOf c))
 carried-unchanged m w p (Move lose) = accepted-unchanged m (acted m w p lose)
 
 pub turn-unchanged : (m : Machine) (x : Entry) → Unchanged m (turn m x)
@@ -69,7 +69,7 @@ one m d h =
     go false e = ap (λ (x : Machine). record { refusal = d .refusal; machine = x }) (sym (h e))
 
 pub one-entry : (m : Machine) (first second : ℕ) (r : Ran) → r ≡ runOf m (first ∷ second ∷ []) → whole r ≡ stepOf m first second
-unfolding runOf runFrom stepOf refused turnOf ran
+unfolding scheduleBy runBy stepOf refused turnOfBy ran
 one-entry m first second r e = ap whole e ∙ go (brokenOf m)
   where
     go : (b : Bool) → whole (cond b (ran 6 0 m) (cond (eqb (2 % 2) 1) (ran 11 0 m) (runFrom m 0 (first ∷ second ∷ [])))) ≡ cond b (refused 6 m) (turnOf m first second)

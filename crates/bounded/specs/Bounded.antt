@@ -1,18 +1,19 @@
 -- Making, beginning and acting, one call at a time.
 use Prim.Native.Nat.{ℕ, _+_, _%_}
-use mathlib.Core.Bool.{Bool, true, false, cond}
+use mathlib.Core.Bool.{cond}
 use lib.Dec.{ltb}
-use Rattle.words.specs.declared.Claim.{Claim}
-use Rattle.words.specs.Limits.{slotsMost, workersMost, wide}
-use Rattle.words.specs.Words.{claim}
-use Rattle.machine.specs.declared.Machine.{Machine}
-use Rattle.machine.specs.declared.Did.{Did}
-use Rattle.machine.specs.declared.Moved.{Moved}
-use Rattle.machine.specs.declared.Moved.the-variants.{Neither, Tail, Head}
-use Rattle.machine.specs.declared.Tally.{Tally}
-use Rattle.machine.specs.Machine.{freshOf, blank, refused, accepted}
-use Rattle.machine.specs.Broken.{inLimits, brokenOf}
-use Rattle.machine.specs.Turn.{turnOf}
+use Rattle.queue_entries.specs.Limits.{workersMost, inLimits}
+use Rattle.bounded_words.specs.declared.Claim.{Claim}
+use Rattle.bounded_words.specs.Limits.{slotsMost, wide}
+use Rattle.bounded_words.specs.Words.{claim}
+use Rattle.bounded_machine.specs.declared.Machine.{Machine}
+use Rattle.bounded_machine.specs.declared.Did.{Did}
+use Rattle.bounded_machine.specs.declared.Moved.{Moved}
+use Rattle.bounded_machine.specs.declared.Moved.the-variants.{Neither, Tail, Head}
+use Rattle.bounded_machine.specs.declared.Tally.{Tally}
+use Rattle.bounded_machine.specs.Machine.{freshOf, blank, refused, accepted}
+use Rattle.bounded_machine.specs.Broken.{brokenOf}
+use Rattle.bounded_machine.specs.Turn.{turnOf}
 
 -- Order: making 1, 2. A refused making returns the blank machine.
 unfoldable pub makeOf : ℕ → ℕ → Did

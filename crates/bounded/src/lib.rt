@@ -1,43 +1,44 @@
 // The public face: what a user calls. Each function takes anything and answers, or refuses with document 01's number.
 ghost use mathlib.Core.Path.{_≡_};
 ghost use lib.ListN.{length};
-ghost use Rattle.machine.specs.Broken.{brokenOf};
-ghost use Rattle.machine.specs.Contents.{told, countIn, contentsRefusal, written, capacityOf};
-ghost use Rattle.machine.specs.Run.{runOf};
-ghost use Rattle.machine.specs.History.{movedOf, stockOf};
+ghost use Rattle.bounded_machine.specs.Broken.{brokenOf};
+ghost use Rattle.queue_entries.specs.Told.{told};
+ghost use Rattle.bounded_machine.specs.Contents.{countIn, contentsRefusal, written, capacityOf};
+ghost use Rattle.bounded_machine.specs.Run.{runOf};
+ghost use Rattle.bounded_machine.specs.History.{movedOf, stockOf};
 ghost use Rattle.bounded.specs.Bounded.{makeOf, stepOf, beginOf, actOf, nextClaim, talliedOf};
-use machine::Did;
-use machine::Machine;
-use machine::Moved;
-use machine::Ran;
-use machine::Tally;
-use machine::Told;
-use places::Place;
-use words::Claim;
+use bounded_machine::Did;
+use bounded_machine::Machine;
+use bounded_machine::Moved;
+use bounded_machine::Ran;
+use bounded_machine::Tally;
+use bounded_places::Place;
+use bounded_words::Claim;
+use queue_entries::Told;
 
 // A fresh machine, or refusal 1 or 2 with the blank one.
 pub fn make(capacity: u64, workers: u64) -> Did
     ensures { λ r. ⌜ r ≡ makeOf capacity workers ⌝ }
 {
-    if machine::in_limits(capacity, words::SLOTS as u64) {} else {
-        return machine::refuse(machine::blank(), 1);
+    if queue_entries::in_limits(capacity, bounded_words::SLOTS as u64) {} else {
+        return bounded_machine::refuse(bounded_machine::blank(), 1);
     }
-    if machine::in_limits(workers, words::WORKERS as u64) {} else {
-        return machine::refuse(machine::blank(), 2);
+    if queue_entries::in_limits(workers, queue_entries::WORKERS as u64) {} else {
+        return bounded_machine::refuse(bounded_machine::blank(), 2);
     }
-    machine::accept(machine::fresh(capacity, workers))
+    bounded_machine::accept(bounded_machine::fresh(capacity, workers))
 }
 
 pub fn broken(m: Machine) -> bool
     ensures { λ r. ⌜ r ≡ brokenOf m ⌝ }
 {
-    machine::broken(m)
+    bounded_machine::broken(m)
 }
 
 pub fn capacity(m: Machine) -> Told
     ensures { λ r. ⌜ r ≡ capacityOf m ⌝ }
 {
-    if machine::broken(m) {
+    if bounded_machine::broken(m) {
         return Told::Refused(6);
     }
     let ring = m.ring;
@@ -50,20 +51,20 @@ pub fn contents(m: Machine, buffer: &mut [u64]) -> Told
     ensures answer { λ r. ⌜ r ≡ told (contentsRefusal m (length (now (buffer .entry)))) (countIn m) ⌝ }
     ensures lent { λ r. ⌜ now (buffer .exit) ≡ written m (now (buffer .entry)) ⌝ }
 {
-    if machine::broken(m) {
+    if bounded_machine::broken(m) {
         return Told::Refused(6);
     }
     let workers = m.workers;
-    if machine::all_idle(workers) {} else {
+    if bounded_machine::all_idle(workers) {} else {
         return Told::Refused(4);
     }
-    let n = machine::count_in(m);
+    let n = bounded_machine::count_in(m);
     if buffer.len() < (n as usize) {
         return Told::Refused(10);
     }
     let mut k = 0;
     while k < n {
-        buffer[k as usize] = machine::item_at(m, k);
+        buffer[k as usize] = bounded_machine::item_at(m, k);
         k += 1;
     }
     Told::Number(n)
@@ -73,7 +74,7 @@ pub fn contents(m: Machine, buffer: &mut [u64]) -> Told
 pub fn run(m: Machine, schedule: &[u64]) -> Ran
     ensures { λ r. ⌜ r ≡ runOf m (now (schedule .entry)) ⌝ }
 {
-    runs::run(m, schedule)
+    bounded_runs::run(m, schedule)
 }
 
 // One entry of a schedule, by its two words.
@@ -93,13 +94,13 @@ pub fn step(m: Machine, first: u64, second: u64) -> Did
 pub fn begin(m: Machine, first: u64, second: u64) -> Did
     ensures { λ r. ⌜ r ≡ beginOf m first second ⌝ }
 {
-    if machine::broken(m) {
-        return machine::refuse(m, 6);
+    if bounded_machine::broken(m) {
+        return bounded_machine::refuse(m, 6);
     }
     if first % 16 < 8 {
         step(m, first, second)
     } else {
-        machine::refuse(m, 9)
+        bounded_machine::refuse(m, 9)
     }
 }
 
@@ -107,11 +108,11 @@ pub fn begin(m: Machine, first: u64, second: u64) -> Did
 pub fn act(m: Machine, first: u64, second: u64) -> Did
     ensures { λ r. ⌜ r ≡ actOf m first second ⌝ }
 {
-    if machine::broken(m) {
-        return machine::refuse(m, 6);
+    if bounded_machine::broken(m) {
+        return bounded_machine::refuse(m, 6);
     }
     if first % 16 < 8 {
-        machine::refuse(m, 9)
+        bounded_machine::refuse(m, 9)
     } else {
         step(m, first, second)
     }

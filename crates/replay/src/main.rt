@@ -1,51 +1,58 @@
 // Runs a schedule, from a file or from standard input, entry by entry, and writes what the machine holds after each.
 mod many;
 
-use options::Options;
+use replay_options::Options;
+
+// Each answers the status of the program.
 
 // The file that the argument names.
-fn run_file(o: Options) {
+fn run_file(o: Options) -> u8 {
     let mut path = io::buffer();
     let n = os::arg(o.file, &mut path);
     if os::errno() != 0 {
         os::fail(b"replay");
-        return;
+        return many::UNREADABLE;
     }
     let fd = os::open_read(&path[..n]);
     if fd < 0 {
         os::fail(&path[..n]);
-        return;
+        return many::UNREADABLE;
     }
-    run_from(o, fd, &path[..n]);
+    let status = run_from(o, fd, &path[..n]);
     libc::close(fd);
+    status
 }
 
 // What stands at its start can be read twice where it is; anything else is kept first.
-fn run_from(o: Options, fd: i32, name: &[u8]) {
+fn run_from(o: Options, fd: i32, name: &[u8]) -> u8 {
     if libc::lseek(fd, 0, libc::SEEK_CUR) == 0 {
-        many::run_all(o, fd, name);
-        return;
+        return many::run_all(o, fd, name);
     }
-    let kept = input::source::kept(fd, name);
-    if 0 <= kept {
-        many::run_all(o, kept, name);
-        libc::close(kept);
+    let kept = replay_input::source::kept(fd, name);
+    if kept < 0 {
+        return many::UNREADABLE;
     }
+    let status = many::run_all(o, kept, name);
+    libc::close(kept);
+    status
+}
+
+fn run(o: Options) -> u8 {
+    if o.help {
+        replay_options::help();
+        return many::RAN;
+    }
+    if o.wrong != 0 {
+        replay_options::complain(o.wrong);
+        return many::UNREADABLE;
+    }
+    if o.file != 0 {
+        return run_file(o);
+    }
+    run_from(o, libc::STDIN_FILENO, b"standard input")
 }
 
 fn main() {
-    let o = options::read();
-    if o.help {
-        options::help();
-        return;
-    }
-    if o.wrong != 0 {
-        options::complain(o.wrong);
-        return;
-    }
-    if o.file != 0 {
-        run_file(o);
-        return;
-    }
-    run_from(o, libc::STDIN_FILENO, b"standard input");
+    let o = replay_options::read();
+    replay_options::tell(o, run(o));
 }

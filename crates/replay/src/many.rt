@@ -1,9 +1,16 @@
 // One schedule, or one after another: each is read once to see that it can be run, and once more to run it.
-use input::source::Reading;
-use options::Options;
-use player::play::Run;
+use replay_bounded::play::Run;
+use replay_input::source::Reading;
+use replay_options::Options;
 
 const STRIDE: u64 = 1000000;
+
+// The program's status.
+pub const RAN: u8 = 0;
+
+pub const REFUSED: u8 = 1;
+
+pub const UNREADABLE: u8 = 2;
 
 // How many numbers there are, and where and how the reading ended.
 struct Survey {
@@ -15,8 +22,8 @@ fn survey_in(fd: i32, many: bool, begin: Reading, bytes: &mut [u8], list: &mut [
     let mut r = begin;
     let mut count = 0;
     let mut turns = u64::MAX;
-    while turns > 0 && r.event == scan::NOTHING {
-        r = input::source::turn(fd, many, r, bytes, list, 0);
+    while turns > 0 && r.event == text_numbers::NOTHING {
+        r = replay_input::source::turn(fd, many, r, bytes, list, 0);
         count = std::num::wrapping_add_u64(count, r.count as u64);
         turns -= 1;
     }
@@ -27,12 +34,12 @@ fn survey_in(fd: i32, many: bool, begin: Reading, bytes: &mut [u8], list: &mut [
 }
 
 fn surveyed(fd: i32, many: bool, offset: u64, line: u64) -> Survey {
-    let mut bytes = [0u8; input::source::BYTES];
-    let mut list = [0u64; input::source::NUMBERS];
+    let mut bytes = [0u8; replay_input::source::BYTES];
+    let mut list = [0u64; replay_input::source::NUMBERS];
     survey_in(
         fd,
         many,
-        input::source::start(offset, line),
+        replay_input::source::start(offset, line),
         &mut bytes,
         &mut list,
     )
@@ -44,12 +51,12 @@ fn is_sound(s: Survey, name: &[u8]) -> bool {
     let scan = r.scan;
     let event = r.event;
     match event {
-        input::source::FAILED => {
+        replay_input::source::FAILED => {
             os::fail(name);
             return false;
         }
-        scan::NO_NUMBER => {
-            input::say::fault(
+        text_numbers::NO_NUMBER => {
+            replay_input::say::fault(
                 name,
                 scan.line,
                 scan.start,
@@ -57,8 +64,8 @@ fn is_sound(s: Survey, name: &[u8]) -> bool {
             );
             return false;
         }
-        scan::TOO_LARGE => {
-            input::say::fault(
+        text_numbers::TOO_LARGE => {
+            replay_input::say::fault(
                 name,
                 scan.line,
                 scan.start,
@@ -69,11 +76,11 @@ fn is_sound(s: Survey, name: &[u8]) -> bool {
         _ => {}
     }
     if s.count == 0 {
-        input::say::fault(name, scan.line, scan.column, b"the capacity is missing");
+        replay_input::say::fault(name, scan.line, scan.column, b"the capacity is missing");
         return false;
     }
     if s.count == 1 {
-        input::say::fault(
+        replay_input::say::fault(
             name,
             scan.line,
             scan.column,
@@ -99,7 +106,7 @@ fn carry(list: &mut [u64], count: usize) -> usize {
 fn progress(before: u64, after: u64) {
     if before / STRIDE != after / STRIDE {
         if libc::isatty(libc::STDERR_FILENO) == 1 {
-            input::say::progress(after);
+            replay_input::say::progress(after);
         }
     }
 }
@@ -114,7 +121,7 @@ struct Playing {
 fn goes_on(p: Playing) -> bool {
     let r = p.reading;
     let run = p.run;
-    if r.event == scan::NOTHING {
+    if r.event == text_numbers::NOTHING {
         run.refusal == 0
     } else {
         false
@@ -123,7 +130,7 @@ fn goes_on(p: Playing) -> bool {
 
 // One piece of the schedule.
 fn play_some(run: Run, o: Options, odd: bool, list: &[u64], n: usize, out: &mut [u8]) -> Run {
-    let after = player::play::pairs(run, o, odd, list, n, out);
+    let after = replay_bounded::play::pairs(run, o, odd, list, n, out);
     progress(run.place, after.place);
     after
 }
@@ -139,7 +146,7 @@ fn read_and_play(
 ) -> Playing {
     let before = p.reading;
     let run = p.run;
-    let r = input::source::turn(fd, o.many, before, bytes, list, p.left);
+    let r = replay_input::source::turn(fd, o.many, before, bytes, list, p.left);
     let after = play_some(run, o, odd, list, r.count, out);
     let left = carry(list, r.count);
     Playing {
@@ -170,10 +177,16 @@ fn play_in(
 
 fn play_begin(offset: u64, line: u64, at: usize) -> Playing {
     Playing {
-        reading: input::source::start(offset, line),
-        run: player::play::start(at),
+        reading: replay_input::source::start(offset, line),
+        run: replay_bounded::play::start(at),
         left: 0,
     }
+}
+
+// Where the text to be written goes on, and whether the schedule was refused.
+struct Played {
+    at: usize,
+    refused: bool,
 }
 
 fn play(
@@ -184,37 +197,79 @@ fn play(
     odd: bool,
     out: &mut [u8],
     at: usize,
-) -> usize {
-    let mut bytes = [0u8; input::source::BYTES];
-    let mut list = [0u64; input::source::NUMBERS];
+) -> Played {
+    let mut bytes = [0u8; replay_input::source::BYTES];
+    let mut list = [0u64; replay_input::source::NUMBERS];
     let begin = play_begin(offset, line, at);
     let run = play_in(begin, o, fd, odd, &mut bytes, &mut list, out);
-    player::play::finish(run, o, out)
+    Played {
+        at: replay_bounded::play::finish(run, o, out),
+        refused: run.refusal != 0,
+    }
 }
 
-// Where the next schedule begins, and where the text to be written goes on.
+// Where the next schedule begins, where the text to be written goes on, and the status so far.
 struct Next {
     more: bool,
     offset: u64,
     line: u64,
     at: usize,
+    status: u8,
 }
 
-fn stop(at: usize) -> Next {
+fn first() -> Next {
+    Next {
+        more: true,
+        offset: 0,
+        line: 1,
+        at: 0,
+        status: RAN,
+    }
+}
+
+fn stop() -> Next {
     Next {
         more: false,
         offset: 0,
         line: 0,
-        at: at,
+        at: 0,
+        status: UNREADABLE,
     }
+}
+
+// After one schedule.
+fn after(s: Survey, at: usize, status: u8) -> Next {
+    let r = s.reading;
+    let scan = r.scan;
+    Next {
+        more: r.event == text_numbers::MARK,
+        offset: r.offset,
+        line: scan.line,
+        at: at,
+        status: status,
+    }
+}
+
+// Read once, and not run.
+fn look(o: Options, fd: i32, name: &[u8], from: Next) -> Next {
+    let s = surveyed(fd, o.many, from.offset, from.line);
+    if is_sound(s, name) {
+        after(s, 0, from.status)
+    } else {
+        stop()
+    }
+}
+
+fn worse(status: u8, refused: bool) -> u8 {
+    if refused { REFUSED } else { status }
 }
 
 fn one(o: Options, fd: i32, name: &[u8], from: Next, out: &mut [u8]) -> Next {
     let s = surveyed(fd, o.many, from.offset, from.line);
     if is_sound(s, name) {} else {
-        return stop(from.at);
+        return stop();
     }
-    let at = play(
+    let p = play(
         o,
         fd,
         from.offset,
@@ -223,14 +278,7 @@ fn one(o: Options, fd: i32, name: &[u8], from: Next, out: &mut [u8]) -> Next {
         out,
         from.at,
     );
-    let r = s.reading;
-    let scan = r.scan;
-    Next {
-        more: r.event == scan::MARK,
-        offset: r.offset,
-        line: scan.line,
-        at: at,
-    }
+    after(s, p.at, worse(from.status, p.refused))
 }
 
 // A mark at the very end begins no further schedule.
@@ -238,7 +286,7 @@ fn unless_at_end(fd: i32, n: Next) -> Next {
     let mut byte = [0u8; 1];
     let mut m = n;
     if n.more {
-        let got = libc::pread(fd, &mut byte, input::source::to_offset(n.offset));
+        let got = libc::pread(fd, &mut byte, replay_input::source::to_offset(n.offset));
         if got == 0 {
             m.more = false;
         }
@@ -246,23 +294,36 @@ fn unless_at_end(fd: i32, n: Next) -> Next {
     m
 }
 
-fn run_in(o: Options, fd: i32, name: &[u8], out: &mut [u8]) {
-    let mut n = Next {
-        more: true,
-        offset: 0,
-        line: 1,
-        at: 0,
-    };
+// Of many, each is read before the first is run, so that nothing is written where one cannot be read.
+fn look_in(o: Options, fd: i32, name: &[u8]) -> u8 {
+    let mut n = first();
+    let mut turns = u64::MAX;
+    while turns > 0 && n.more {
+        n = look(o, fd, name, n);
+        n = unless_at_end(fd, n);
+        turns -= 1;
+    }
+    n.status
+}
+
+fn run_in(o: Options, fd: i32, name: &[u8], out: &mut [u8]) -> u8 {
+    let mut n = first();
     let mut turns = u64::MAX;
     while turns > 0 && n.more {
         n = one(o, fd, name, n, out);
         n = unless_at_end(fd, n);
         turns -= 1;
     }
-    ink::flush(out, n.at);
+    text_output::flush(out, n.at);
+    n.status
 }
 
-pub fn run_all(o: Options, fd: i32, name: &[u8]) {
+pub fn run_all(o: Options, fd: i32, name: &[u8]) -> u8 {
+    if o.many {
+        if look_in(o, fd, name) == UNREADABLE {
+            return UNREADABLE;
+        }
+    }
     let mut out = io::large_buffer();
-    run_in(o, fd, name, &mut out);
+    run_in(o, fd, name, &mut out)
 }

@@ -5,8 +5,8 @@ use Rattle.bounded.proofs.act.Tie as tie
 use Rattle.bounded.proofs.act.Reads as reads
 use Rattle.bounded.proofs.act.Lts as lts
 use Rattle.bounded.proofs.step.Reads as step-reads
-use Rattle.machine.proofs.broken.Reads as broken-reads
-use Rattle.machine.proofs.refuse.Reads as refuse-reads
+use Rattle.bounded_machine.proofs.broken.Reads as broken-reads
+use Rattle.bounded_machine.proofs.refuse.Reads as refuse-reads
 
 -- src/lib.rt:194:8
 broken-requires : tie.Need-broken-requires

@@ -4,7 +4,7 @@ use Rattle.bounded.proofs.capacity.Statement.{statement}
 use Rattle.bounded.proofs.capacity.Tie as tie
 use Rattle.bounded.proofs.capacity.Reads as reads
 use Rattle.bounded.proofs.capacity.Lts as lts
-use Rattle.machine.proofs.broken.Reads as broken-reads
+use Rattle.bounded_machine.proofs.broken.Reads as broken-reads
 
 -- src/lib.rt:49:8
 broken-requires : tie.Need-broken-requires

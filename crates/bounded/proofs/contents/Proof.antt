@@ -4,16 +4,16 @@ use mathlib.Core.List.{_++_}
 use native.Mathlib.Omega.{arith}
 use borrow.Author.Needs.{needs}
 use lib.ListN.{length, drop, length-set}
-use Rattle.machine.specs.Contents.{itemsFrom}
+use Rattle.bounded_machine.specs.Contents.{itemsFrom}
 use Rattle.bounded.proofs.Lists.{turned-6, turned-4, turned-10, listed, filled-none, filled-more, small-count}
 use Rattle.bounded.proofs.contents.Statement.{statement}
 use Rattle.bounded.proofs.contents.Tie as tie
 use Rattle.bounded.proofs.contents.Reads as reads
 use Rattle.bounded.proofs.contents.Lts as lts
-use Rattle.machine.proofs.all_idle.Reads as all-idle-reads
-use Rattle.machine.proofs.broken.Reads as broken-reads
-use Rattle.machine.proofs.count_in.Reads as count-in-reads
-use Rattle.machine.proofs.item_at.Reads as item-at-reads
+use Rattle.bounded_machine.proofs.all_idle.Reads as all-idle-reads
+use Rattle.bounded_machine.proofs.broken.Reads as broken-reads
+use Rattle.bounded_machine.proofs.count_in.Reads as count-in-reads
+use Rattle.bounded_machine.proofs.item_at.Reads as item-at-reads
 
 abbrev Inv-loop : tie.InvT-loop
 Inv-loop m buffer₀ n k₀ buffer k =

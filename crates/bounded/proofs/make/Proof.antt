@@ -1,15 +1,15 @@
-use Rattle.machine.proofs.Laws.{limit-most}
-use Rattle.bounded.proofs.Lists.{make-1, make-2, make-0}
 use borrow.Author.Needs.{needs}
+use Rattle.queue_entries.proofs.Limits.{limit-most}
+use Rattle.queue_entries.proofs.in_limits.Reads as in-limits-reads
+use Rattle.bounded_machine.proofs.accept.Reads as accept-reads
+use Rattle.bounded_machine.proofs.blank.Reads as blank-reads
+use Rattle.bounded_machine.proofs.fresh.Reads as fresh-reads
+use Rattle.bounded_machine.proofs.refuse.Reads as refuse-reads
+use Rattle.bounded.proofs.Lists.{make-1, make-2, make-0}
 use Rattle.bounded.proofs.make.Statement.{statement}
 use Rattle.bounded.proofs.make.Tie as tie
 use Rattle.bounded.proofs.make.Reads as reads
 use Rattle.bounded.proofs.make.Lts as lts
-use Rattle.machine.proofs.accept.Reads as accept-reads
-use Rattle.machine.proofs.blank.Reads as blank-reads
-use Rattle.machine.proofs.fresh.Reads as fresh-reads
-use Rattle.machine.proofs.in_limits.Reads as in-limits-reads
-use Rattle.machine.proofs.refuse.Reads as refuse-reads
 
 -- src/lib.rt:30:8
 in-limits-requires : tie.Need-in-limits-requires

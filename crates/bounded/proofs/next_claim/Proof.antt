@@ -1,4 +1,4 @@
-use Rattle.words.specs.Words.{claim}
+use Rattle.bounded_words.specs.Words.{claim}
 use mathlib.Core.Path.{ap}
 use Rattle.bounded.specs.Bounded.{nextClaim}
 use borrow.Author.Needs.{needs}

@@ -1,5 +1,5 @@
 use borrow.Author.Needs.{needs}
-use Rattle.machine.specs.History.{stockOf}
+use Rattle.bounded_machine.specs.History.{stockOf}
 use Rattle.bounded.proofs.stock.Statement.{statement}
 use Rattle.bounded.proofs.stock.Tie as tie
 use Rattle.bounded.proofs.stock.Reads as reads

@@ -7,15 +7,20 @@ use Rattle.replay.proofs.many.run_in.Statement.{statement}
 use Rattle.replay.proofs.many.run_in.Tie as tie
 use Rattle.replay.proofs.many.run_in.Reads as reads
 use Rattle.replay.proofs.many.run_in.Lts as lts
+use Rattle.replay.proofs.many.first.Reads as first-reads
 use Rattle.replay.proofs.many.one.Reads as one-reads
 use Rattle.replay.proofs.many.unless_at_end.Reads as unless-at-end-reads
-use Rattle.ink.proofs.flush.Reads as flush-reads
+use Rattle.text_output.proofs.flush.Reads as flush-reads
 
 abbrev Inv-loop : tie.InvT-loop
 Inv-loop o fd name out₀ n₀ turns₀ out n turns = length out ≡ length out₀
 
 abbrev μ-loop : tie.MeasureT-loop
 μ-loop o fd name out₀ n₀ turns₀ out n turns = turns
+
+-- src/many.rt:215:5
+first-requires : tie.Need-first-requires Inv-loop μ-loop
+first-requires c κs = search needs
 
 -- src/many.rt:215:5
 loop-holds : tie.Need-loop-holds Inv-loop μ-loop
@@ -59,6 +64,7 @@ run-in-spec =
     (tie.spec
     Inv-loop
     μ-loop
+    first-requires
     loop-holds
     one-requires
     unless-at-end-requires

@@ -7,7 +7,7 @@ use Rattle.replay.proofs.many.survey_in.Statement.{statement}
 use Rattle.replay.proofs.many.survey_in.Tie as tie
 use Rattle.replay.proofs.many.survey_in.Reads as reads
 use Rattle.replay.proofs.many.survey_in.Lts as lts
-use Rattle.input.proofs.source.turn.Reads as turn-reads
+use Rattle.replay_input.proofs.source.turn.Reads as turn-reads
 use Rattle.std.proofs.num.wrapping_add_u64.Reads as wrapping-add-u64-reads
 
 abbrev Inv-loop : tie.InvT-loop

@@ -1,2 +1,0 @@
-pub mod Rank
-pub mod Foretold

@@ -1,0 +1,75 @@
+-- What `search` is given at the returns of an act: the parts of what it leaves, one at a time.
+use Prim.Native.Nat.{ℕ, _+_, _<_, _≤_, _-_}
+use mathlib.Core.Path.{_≡_, refl, sym, ap, _∙_}
+use mathlib.Core.Bool.{Bool, true, false}
+use Rattle.queue_entries.proofs.Pick.{along, yes, no, below, above}
+use Rattle.bounded_words.specs.declared.Stamp.{Stamp}
+use Rattle.bounded_words.specs.declared.Fixed.{Fixed}
+use Rattle.bounded_words.specs.Words.{Indexed, same, unmarkedOf}
+use Rattle.bounded_places.specs.declared.Slot.{Slot}
+use Rattle.bounded_places.specs.declared.Ends.{Ends}
+use Rattle.bounded_places.specs.declared.Kind.{Kind}
+use Rattle.bounded_places.specs.declared.Place.{Place}
+use Rattle.bounded_places.specs.declared.Place.the-variants.{Idle}
+use Rattle.bounded_places.specs.declared.Answer.the-variants.{Len, Yes, No}
+use Rattle.bounded_acts.specs.declared.Acted.{Acted}
+use Rattle.bounded_acts.specs.Acts.{stay, tailTo, headTo, stampTo, yesNo, countOf, fullAt}
+
+pub ends : (e e′ : Ends) (s : Slot) (p : Place) (r : Acted) → r ≡ stay e′ s p → e′ ≡ e → r ≡ stay e s p
+ends e e′ s p r q h = q ∙ ap (λ (x : Ends). stay x s p) h
+
+pub slots : (e : Ends) (s s′ : Slot) (p : Place) (r : Acted) → r ≡ stay e s′ p → s′ ≡ s → r ≡ stay e s p
+slots e s s′ p r q h = q ∙ ap (λ (x : Slot). stay e x p) h
+
+pub places : (e : Ends) (s : Slot) (p p′ : Place) (r : Acted) → r ≡ stay e s p′ → p′ ≡ p → r ≡ stay e s p
+places e s p p′ r q h = q ∙ ap (λ (x : Place). stay e s x) h
+
+pub ruleset parts = (ends, slots, places)
+
+pub along-kind : (k q : Kind) (t : Stamp) (x : ℕ) (r : Place) → k ≡ q → r ≡ fullAt q t x → r ≡ fullAt k t x
+along-kind k q t x = along (λ (j : Kind). fullAt j t x) k q
+
+-- the ends with one word changed, and the slot with its stamp changed
+pub tail-is : (e : Ends) (w v : Stamp) → w ≡ v → record { head = e .head; tail = w } ≡ tailTo e v
+unfolding tailTo
+tail-is e w v h = ap (tailTo e) h
+
+pub head-is : (e : Ends) (w v : Stamp) → w ≡ v → record { head = w; tail = e .tail } ≡ headTo e v
+unfolding headTo
+head-is e w v h = ap (headTo e) h
+
+pub stamp-is : (s : Slot) (w v : Stamp) → w ≡ v → record { stamp = w; value = s .value } ≡ stampTo s v
+unfolding stampTo
+stamp-is s w v h = ap (stampTo s) h
+
+-- the answer that a looker gives
+pub told-yes : (e : Ends) (s : Slot) (b : Bool) (r : Acted) → b ≡ true → r ≡ stay e s (Idle Yes) → r ≡ stay e s (Idle (yesNo b))
+told-yes e s b r h k = k ∙ ap (λ (x : Bool). stay e s (Idle (yesNo x))) (sym h)
+
+pub told-no : (e : Ends) (s : Slot) (b : Bool) (r : Acted) → b ≡ false → r ≡ stay e s (Idle No) → r ≡ stay e s (Idle (yesNo b))
+told-no e s b r h k = k ∙ ap (λ (x : Bool). stay e s (Idle (yesNo x))) (sym h)
+
+pub told-is : (e : Ends) (s : Slot) (b c : Bool) (r : Acted) → r ≡ stay e s (Idle (yesNo b)) → b ≡ c → r ≡ stay e s (Idle (yesNo c))
+told-is e s b c r k h = k ∙ ap (λ (x : Bool). stay e s (Idle (yesNo x))) h
+
+pub len-is : (e : Ends) (s : Slot) (n k : ℕ) (r : Acted) → r ≡ stay e s (Idle (Len n)) → n ≡ k → r ≡ stay e s (Idle (Len k))
+len-is e s n k r q h = q ∙ ap (λ (x : ℕ). stay e s (Idle (Len x))) h
+
+-- the count, by the way that the code took
+module _ (f : Fixed) (t h : Stamp) (tix hix : ℕ) (x : Indexed f h hix) (y : Indexed f t tix) where
+  pub count-low : hix < tix → tix - hix ≡ countOf f t h
+  unfolding countOf
+  count-low l = rw (← x .is, ← y .is) (below _ _ _ _ _ l refl)
+
+  pub count-high : tix ≤ hix → tix < hix → f .capacity - hix + tix ≡ countOf f t h
+  unfolding countOf
+  count-high g l = rw (← x .is, ← y .is) (above hix tix _ _ _ g (below _ _ _ _ _ l refl))
+
+  module _ (b : Bool) (e : b ≡ same (unmarkedOf f t) h) (g : tix ≤ hix) (l : hix ≤ tix) where
+    pub count-none : b ≡ true → 0 ≡ countOf f t h
+    unfolding countOf
+    count-none k = rw (← x .is, ← y .is) (above hix tix _ _ _ g (above tix hix _ _ _ l (yes _ b _ _ _ e k refl)))
+
+    pub count-all : b ≡ false → f .capacity ≡ countOf f t h
+    unfolding countOf
+    count-all k = rw (← x .is, ← y .is) (above hix tix _ _ _ g (above tix hix _ _ _ l (no _ b _ _ _ e k refl)))

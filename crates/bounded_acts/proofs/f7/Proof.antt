@@ -1,0 +1,24 @@
+use borrow.Author.Needs.{needs}
+use Rattle.queue_entries.proofs.Pick.{picks}
+use Rattle.bounded_acts.proofs.Arms.{parts}
+use Rattle.bounded_acts.proofs.f7.Statement.{statement}
+use Rattle.bounded_acts.proofs.f7.Tie as tie
+use Rattle.bounded_acts.proofs.f7.Reads as reads
+use Rattle.bounded_acts.proofs.f7.Lts as lts
+use Rattle.bounded_acts.proofs.stay.Reads as stay-reads
+use Rattle.bounded_acts.proofs.tail_to_next.Reads as tail-to-next-reads
+
+-- src/lib.rt:188:10
+tail-to-next-requires : tie.Need-tail-to-next-requires
+tail-to-next-requires c κs = search needs
+
+-- src/lib.rt:188:5
+stay-requires : tie.Need-stay-requires
+stay-requires c κs = search needs
+
+-- src/lib.rt:184:1
+returns : tie.Need-returns
+returns c = search (needs, picks, parts)
+
+pub f7-spec : {M : Type 1} → statement M
+f7-spec = tie.close (tie.spec tail-to-next-requires stay-requires returns)

@@ -1,0 +1,178 @@
+-- "Acts" of document 01: its two tables and the lookers, row by row.
+use Prim.Native.Nat.{ℕ, _+_, _-_, _<_}
+use mathlib.Core.Bool.{Bool, true, false, cond}
+use mathlib.Core.Path.{_≡_}
+use lib.Dec.{ltb}
+use Rattle.bounded_words.specs.declared.Stamp.{Stamp}
+use Rattle.bounded_words.specs.declared.Fixed.{Fixed}
+use Rattle.bounded_words.specs.Words.{plus, minus, indexOf, markedOf, unmarkedOf, withMark, nextOf, same, onePast, lapBehind, lapBehindOnePast, Fair}
+use Rattle.bounded_places.specs.declared.Slot.{Slot}
+use Rattle.bounded_places.specs.declared.Ends.{Ends}
+use Rattle.bounded_places.specs.declared.Kind.{Kind}
+use Rattle.bounded_places.specs.declared.Kind.the-variants.{Push, Force}
+use Rattle.bounded_places.specs.declared.Answer.{Answer}
+use Rattle.bounded_places.specs.declared.Answer.the-variants.{Nothing, Pushed, Full, Closed, Displaced, Popped, Empty, PopClosed, Len, Yes, No}
+use Rattle.bounded_places.specs.declared.Place.{Place}
+use Rattle.bounded_places.specs.declared.Place.the-variants.{Idle, P1, P2, P3, P4, P5, P6, F6, F7, F8, F9, O1, O2, O3, O4, O5, O6, Len1, Len2, Len3, Empty1, Empty2, Full1, Full2, Close1, IsClosed1}
+use Rattle.bounded_places.specs.Places.{viewOf, fitsOf}
+use Rattle.bounded_acts.specs.declared.Acted.{Acted}
+
+-- The worker goes to p, and the ends and its slot are these.
+unfoldable pub stay : Ends → Slot → Place → Acted
+stay e s p = record { ends = e; slot = s; place = p }
+
+-- The kinds of effect: a word of an end, a stamp, a value.
+unfoldable pub tailTo : Ends → Stamp → Ends
+tailTo e w = record { head = e .head; tail = w }
+
+unfoldable pub headTo : Ends → Stamp → Ends
+headTo e w = record { head = w; tail = e .tail }
+
+unfoldable pub stampTo : Slot → Stamp → Slot
+stampTo s w = record { stamp = w; value = s .value }
+
+unfoldable pub valueTo : Slot → ℕ → Slot
+valueTo s v = record { stamp = s .stamp; value = v }
+
+-- P1 | load tail | marked: Closed, else P2
+abbrev pub actP1 : Fixed → Ends → Slot → Kind → ℕ → Acted
+actP1 f e s k x = cond (markedOf f (e .tail)) (stay e s (Idle (Closed x))) (stay e s (P2 k (e .tail) x))
+
+-- P6 (push) or F6 (force)
+abbrev pub fullAt : Kind → Stamp → ℕ → Place
+fullAt Push t x = P6 t x
+fullAt Force t x = F6 t x
+
+-- P2 | load stamp s of slot at index(t) | s = t: P3; s + lap = t + 1: P6 (push) or F6 (force); else P1
+abbrev pub actP2 : Fixed → Ends → Slot → Kind → Stamp → ℕ → Acted
+actP2 f e s k t x =
+    cond (same (s .stamp) t) (stay e s (P3 k t x))
+    (cond (lapBehindOnePast f (s .stamp) t) (stay e s (fullAt k t x)) (stay e s (P1 k x)))
+
+-- P3 | weak exchange tail t to next(t) | won: P4; lost: t is the word found; marked: Closed, else P2
+abbrev pub actP3 : Fixed → Ends → Slot → Kind → Stamp → ℕ → Bool → Acted
+actP3 f e s k t x lose =
+    cond (same (e .tail) t)
+    (cond lose (stay e s (P2 k t x)) (stay (tailTo e (nextOf f t)) s (P4 t x)))
+    (actP1 f e s k x)
+
+-- P5 | stamp becomes t + 1 | Pushed
+abbrev pub actP5 : Ends → Slot → Stamp → Acted
+actP5 e s t = stay e (stampTo s (plus t 1)) (Idle Pushed)
+
+-- P6 | load head h | h + lap = t: Full, else P1
+abbrev pub actP6 : Fixed → Ends → Slot → Stamp → ℕ → Acted
+actP6 f e s t x = cond (lapBehind f (e .head) t) (stay e s (Idle (Full x))) (stay e s (P1 Push x))
+
+-- F6 | weak exchange head t - lap to next(t) - lap | won: F7, lost: P1
+abbrev pub actF6 : Fixed → Ends → Slot → Stamp → ℕ → Bool → Acted
+actF6 f e s t x lose =
+    cond (same (e .head) (minus t (f .lap)))
+    (cond lose (stay e s (P1 Force x)) (stay (headTo e (minus (nextOf f t) (f .lap))) s (F7 t x)))
+    (stay e s (P1 Force x))
+
+-- F7 | store next(t) in tail | F8
+abbrev pub actF7 : Fixed → Ends → Slot → Stamp → ℕ → Acted
+actF7 f e s t x = stay (tailTo e (nextOf f t)) s (F8 t x)
+
+-- F8 | read old value, write new | F9
+abbrev pub actF8 : Ends → Slot → Stamp → ℕ → Acted
+actF8 e s t x = stay e (valueTo s x) (F9 t (s .value))
+
+-- F9 | stamp becomes t + 1 | Displaced(old)
+abbrev pub actF9 : Ends → Slot → Stamp → ℕ → Acted
+actF9 e s t old = stay e (stampTo s (plus t 1)) (Idle (Displaced old))
+
+-- O2 | load stamp s at index(h) | s = h + 1: O3; s = h: O6; else O1
+abbrev pub actO2 : Ends → Slot → Stamp → Acted
+actO2 e s h = cond (onePast (s .stamp) h) (stay e s (O3 h)) (cond (same (s .stamp) h) (stay e s (O6 h)) (stay e s O1))
+
+-- O3 | weak exchange head h to next(h) | won: O4; lost: h is the word found, O2
+abbrev pub actO3 : Fixed → Ends → Slot → Stamp → Bool → Acted
+actO3 f e s h lose =
+    cond (same (e .head) h)
+    (cond lose (stay e s (O2 h)) (stay (headTo e (nextOf f h)) s (O4 h)))
+    (stay e s (O2 (e .head)))
+
+-- O5 | stamp becomes h + lap | Popped(value)
+abbrev pub actO5 : Fixed → Ends → Slot → Stamp → ℕ → Acted
+actO5 f e s h v = stay e (stampTo s (plus h (f .lap))) (Idle (Popped v))
+
+-- O6 | load tail | unmarked part = h: Closed if marked, else Empty; otherwise O1
+abbrev pub actO6 : Fixed → Ends → Slot → Stamp → Acted
+actO6 f e s h =
+    cond (same (unmarkedOf f (e .tail)) h)
+    (cond (markedOf f (e .tail)) (stay e s (Idle PopClosed)) (stay e s (Idle Empty)))
+    (stay e s O1)
+
+-- With hix, tix the indices: hix < tix: tix - hix; hix > tix: capacity - hix + tix;
+-- equal: 0 if unmarked tail = head, else capacity.
+unfoldable pub countOf : Fixed → Stamp → Stamp → ℕ
+countOf f t h =
+    cond (ltb (indexOf f h) (indexOf f t)) (indexOf f t - indexOf f h)
+    (cond (ltb (indexOf f t) (indexOf f h)) (f .capacity - indexOf f h + indexOf f t)
+    (cond (same (unmarkedOf f t) h) 0 (f .capacity)))
+
+-- `len`: load tail, head, tail; if the tails differ, again.
+abbrev pub actLen3 : Fixed → Ends → Slot → Stamp → Stamp → Acted
+actLen3 f e s t h = cond (same (e .tail) t) (stay e s (Idle (Len (countOf f t h)))) (stay e s Len1)
+
+abbrev pub yesNo : Bool → Answer
+yesNo b = cond b Yes No
+
+-- `is_empty`: head, then tail; yes if unmarked tail = head.
+abbrev pub actEmpty2 : Fixed → Ends → Slot → Stamp → Acted
+actEmpty2 f e s h = stay e s (Idle (yesNo (same (unmarkedOf f (e .tail)) h)))
+
+-- `is_full`: tail, then head; yes if head + lap = unmarked tail.
+abbrev pub actFull2 : Fixed → Ends → Slot → Stamp → Acted
+actFull2 f e s t = stay e s (Idle (yesNo (lapBehind f (e .head) (unmarkedOf f t))))
+
+-- `close`: one `fetch_or` of mark; yes if it was clear.
+abbrev pub actClose1 : Fixed → Ends → Slot → Acted
+actClose1 f e s =
+    cond (markedOf f (e .tail)) (stay e s (Idle No)) (stay (tailTo e (withMark f (e .tail))) s (Idle Yes))
+
+-- `is_closed`: one load of tail.
+abbrev pub actIsClosed1 : Fixed → Ends → Slot → Acted
+actIsClosed1 f e s = stay e s (Idle (yesNo (markedOf f (e .tail))))
+
+-- The act at a place, on the ends and on the slot at its worker's word. (An idle worker does not act: refusal 5.)
+abbrev pub actOf : Fixed → Ends → Slot → Place → Bool → Acted
+actOf f e s (Idle a) lose = stay e s (Idle a)
+actOf f e s (P1 k x) lose = actP1 f e s k x
+actOf f e s (P2 k t x) lose = actP2 f e s k t x
+actOf f e s (P3 k t x) lose = actP3 f e s k t x lose
+actOf f e s (P4 t x) lose = stay e (valueTo s x) (P5 t)
+actOf f e s (P5 t) lose = actP5 e s t
+actOf f e s (P6 t x) lose = actP6 f e s t x
+actOf f e s (F6 t x) lose = actF6 f e s t x lose
+actOf f e s (F7 t x) lose = actF7 f e s t x
+actOf f e s (F8 t x) lose = actF8 e s t x
+actOf f e s (F9 t old) lose = actF9 e s t old
+actOf f e s O1 lose = stay e s (O2 (e .head))
+actOf f e s (O2 h) lose = actO2 e s h
+actOf f e s (O3 h) lose = actO3 f e s h lose
+actOf f e s (O4 h) lose = stay e s (O5 h (s .value))
+actOf f e s (O5 h v) lose = actO5 f e s h v
+actOf f e s (O6 h) lose = actO6 f e s h
+actOf f e s Len1 lose = stay e s (Len2 (e .tail))
+actOf f e s (Len2 t) lose = stay e s (Len3 t (e .head))
+actOf f e s (Len3 t h) lose = actLen3 f e s t h
+actOf f e s Empty1 lose = stay e s (Empty2 (e .head))
+actOf f e s (Empty2 h) lose = actEmpty2 f e s h
+actOf f e s Full1 lose = stay e s (Full2 (e .tail))
+actOf f e s (Full2 t) lose = actFull2 f e s t
+actOf f e s Close1 lose = actClose1 f e s
+actOf f e s IsClosed1 lose = actIsClosed1 f e s
+
+-- What `count` asks: indices below capacity.
+pub record Within (f : Fixed) (t h : Stamp) : Type 0 where
+  pub fair : Fair f
+  pub low : indexOf f h < f .capacity
+  pub high : indexOf f t < f .capacity
+
+-- What `act_at` asks: the constants, and the words of its worker.
+pub record Fits (f : Fixed) (p : Place) : Type 0 where
+  pub fair : Fair f
+  pub held : fitsOf f (viewOf p .held) ≡ true

@@ -1,0 +1,4 @@
+pub mod Eight
+pub mod Refusals
+pub mod Attained
+pub mod Foretold

@@ -1,0 +1,104 @@
+-- The table of demand 3's numbers: for each place a schedule after which worker 0 stands there, every other worker is idle, and
+-- the call needs exactly `mostOf` acts more. What is said of it: `Attained` of Demands.antt, proved in proofs/Attained.antt.
+use Prim.Native.Nat.{ℕ, zero, suc, _+_, _*_}
+use mathlib.Core.Bool.{Bool, true, cond, not}
+use mathlib.Core.List.{List, [], _∷_, _++_}
+use lib.Dec.{eqb}
+use Rattle.queue_entries.specs.Limits.{workersMost, all}
+use Rattle.bounded_words.specs.Words.{stamp}
+use Rattle.bounded_places.specs.declared.Kind.the-variants.{Push, Force}
+use Rattle.bounded_places.specs.declared.Place.{Place}
+use Rattle.bounded_places.specs.declared.Place.the-variants.{P1, P2, P3, P4, P5, P6, F6, F7, F8, F9, O1, O2, O3, O4, O5, O6, Len1, Len2, Len3, Empty1, Empty2, Full1, Full2, Close1, IsClosed1}
+use Rattle.bounded_places.specs.Places.{viewOf}
+use Rattle.bounded_machine.specs.declared.Machine.{Machine}
+use Rattle.bounded_machine.specs.Machine.{freshOf, placeOf}
+use Rattle.bounded_machine.specs.Turn.{turnOf}
+use Rattle.bounded_machine.specs.Run.{runOf}
+use Rattle.bounded_demands.specs.Notions.{acts, mostOf}
+
+-- Acts of worker w alone, code 8, until it is idle; no more than so many are tried.
+unfoldable pub needed : ℕ → Machine → ℕ → ℕ
+needed zero m w = 0
+needed (suc more) m w = cond (viewOf (placeOf (m .workers) w) .busy) (1 + needed more (turnOf m (16 * w + 8) 0 .machine) w) 0
+
+unfoldable pub othersIdle : Machine → ℕ → Bool
+othersIdle m w = all workersMost 0 (λ (i : ℕ). cond (eqb i w) true (not (viewOf (placeOf (m .workers) i) .busy)))
+
+-- The refusal of the schedule, where it leaves worker 0, the most acts from there, the acts that this call then needs, and
+-- whether all others are idle.
+pub record Sight : Type 0 where
+  pub refusal : ℕ
+  pub place : Place
+  pub most : ℕ
+  pub acts-needed : ℕ
+  pub alone : Bool
+
+unfoldable pub sightOf : ℕ → Machine → Sight
+sightOf refusal m =
+    record {
+      refusal = refusal;
+      place = placeOf (m .workers) 0;
+      most = mostOf (placeOf (m .workers) 0);
+      acts-needed = needed 9 m 0;
+      alone = othersIdle m 0;
+    }
+
+abbrev pub exactly : Place → ℕ → Sight
+exactly p n = record { refusal = 0; place = p; most = n; acts-needed = n; alone = true }
+
+-- Capacity, the schedule from a fresh machine with two workers, the place and the number.
+pub record Case : Type 0 where
+  pub capacity : ℕ
+  pub schedule : List ℕ
+  pub place : Place
+  pub number : ℕ
+
+abbrev needs : ℕ → List ℕ → Place → ℕ → Case
+needs c s p n = record { capacity = c; schedule = s; place = p; number = n }
+
+unfoldable pub seenIn : Case → Sight
+seenIn r = sightOf (runOf (freshOf (r .capacity) 2) (r .schedule) .refusal) (runOf (freshOf (r .capacity) 2) (r .schedule) .machine)
+
+-- Worker 0 begins the call of a code and does so many acts of it.
+abbrev its : ℕ → ℕ → List ℕ
+its code n = code ∷ 0 ∷ acts 0 n
+
+-- Worker 1 pushes, or pops, from beginning to end.
+abbrev pushes : List ℕ
+pushes = 16 ∷ 7 ∷ acts 1 5
+
+abbrev pops : List ℕ
+pops = 18 ∷ 0 ∷ acts 1 5
+
+-- By call, in document 01's order: push at most 6, force_push 7, pop 6, len 5, is_empty 2, is_full 2, close 1, is_closed 1.
+unfoldable pub attained : List Case
+attained =
+    needs 2 (its 0 0) (P1 Push 0) 5
+    ∷ needs 2 (its 0 1 ++ pushes) (P2 Push (stamp 0) 0) 6
+    ∷ needs 2 (its 0 2 ++ pushes) (P3 Push (stamp 0) 0) 5
+    ∷ needs 2 (its 0 3) (P4 (stamp 0) 0) 2
+    ∷ needs 2 (its 0 4) (P5 (stamp 0)) 1
+    ∷ needs 1 (pushes ++ its 0 2 ++ pops) (P6 (stamp 4) 0) 6
+    ∷ needs 1 (pushes ++ its 1 0) (P1 Force 0) 6
+    ∷ needs 1 (its 1 1 ++ pushes) (P2 Force (stamp 0) 0) 7
+    ∷ needs 1 (its 1 2 ++ pushes) (P3 Force (stamp 0) 0) 6
+    ∷ needs 1 (pushes ++ its 1 2 ++ pops ++ pushes) (F6 (stamp 4) 0) 7
+    ∷ needs 1 (pushes ++ its 1 3) (F7 (stamp 4) 0) 3
+    ∷ needs 1 (pushes ++ its 1 4) (F8 (stamp 4) 0) 2
+    ∷ needs 1 (pushes ++ its 1 5) (F9 (stamp 4) 7) 1
+    ∷ needs 2 (pushes ++ its 2 0) O1 5
+    ∷ needs 2 (pushes ++ its 2 1 ++ pops ++ pushes) (O2 (stamp 0)) 6
+    ∷ needs 2 (pushes ++ its 2 2 ++ pops ++ pushes) (O3 (stamp 0)) 5
+    ∷ needs 2 (pushes ++ its 2 3) (O4 (stamp 0)) 2
+    ∷ needs 2 (pushes ++ its 2 4) (O5 (stamp 0) 7) 1
+    ∷ needs 2 (its 2 2 ++ pushes) (O6 (stamp 0)) 6
+    ∷ needs 2 (its 3 0) Len1 3
+    ∷ needs 2 (its 3 1 ++ pushes) (Len2 (stamp 0)) 5
+    ∷ needs 2 (its 3 2 ++ pushes) (Len3 (stamp 0) (stamp 0)) 4
+    ∷ needs 2 (its 4 0) Empty1 2
+    ∷ needs 2 (its 4 1) (Empty2 (stamp 0)) 1
+    ∷ needs 2 (its 5 0) Full1 2
+    ∷ needs 2 (its 5 1) (Full2 (stamp 0)) 1
+    ∷ needs 2 (its 6 0) Close1 1
+    ∷ needs 2 (its 7 0) IsClosed1 1
+    ∷ []

@@ -1,0 +1,259 @@
+-- The demands of document 01, all of them, in its words. The notions (history, claim, hand, stock ..) are defined in Notions.antt.
+-- The proofs are gathered in crates/bounded_proof_all_demands/proofs/Headlines.antt; docs/PROMISES.md says in plain words what each says and
+-- what not.
+use Prim.Native.Nat.{ℕ, suc, _+_, _*_, _%_, _≤_, _<_}
+use mathlib.Core.Bool.{Bool, true, false}
+use mathlib.Core.List.{List, [], _∷_, _++_, map}
+use mathlib.Core.Path.{_≡_}
+use lib.ListN.{length, take}
+use Rattle.queue_entries.specs.Limits.{meterMost}
+use Rattle.queue_entries.specs.declared.Call.{Call}
+use Rattle.queue_entries.specs.declared.Told.{Told}
+use Rattle.queue_entries.specs.Told.{told}
+use Rattle.queue_entries.specs.Entries.{entryOf}
+use Rattle.bounded_words.specs.declared.Stamp.{Stamp}
+use Rattle.bounded_words.specs.Words.{fixedOf, indexOf, markedOf, unmarkedOf, lapBehind}
+use Rattle.bounded_places.specs.declared.Answer.{Answer}
+use Rattle.bounded_places.specs.declared.Answer.the-variants.{Yes}
+use Rattle.bounded_places.specs.declared.Place.{Place}
+use Rattle.bounded_places.specs.declared.Place.the-variants.{Idle, Empty2, Full2}
+use Rattle.bounded_places.specs.Places as places
+use Rattle.bounded_machine.specs.declared.Machine.{Machine}
+use Rattle.bounded_machine.specs.declared.Event.{Event}
+use Rattle.bounded_machine.specs.declared.Did.{Did}
+use Rattle.bounded_machine.specs.declared.Ran.{Ran}
+use Rattle.bounded_machine.specs.declared.Moved.{Moved}
+use Rattle.bounded_machine.specs.declared.Tally.{Tally}
+use Rattle.bounded_machine.specs.Machine.{blank, freshOf, placeOf}
+use Rattle.bounded_machine.specs.Broken.{brokenOf, allIdle}
+use Rattle.bounded_machine.specs.Contents.{countIn, contentsOf, contentsRefusal, written, capacityOf}
+use Rattle.bounded_machine.specs.Run.{runOf}
+use Rattle.bounded_machine.specs.History.{eventsOf, movedOf, stockOf}
+use Rattle.bounded.specs.Bounded.{makeOf, stepOf, beginOf, actOf, talliedOf}
+use Rattle.bounded_demands.specs.Notions.{Definition, Allowed, machineAfter, actsOf, Acts, acts, InHand, HandsOut, Reads, Truth, itemsOf, takersOf, LatestIn, ItemIn, WrittenIn, CallClaim, tally, waiting, Fifo, Plain, valueAt, queueAnswer, LenAnswers, mostOf, OtherHand, passed, ownActs, LetsGo}
+use Rattle.bounded_demands.specs.Foretold.{foretold, Telling, toldIn, tellings, asForetold}
+use Rattle.bounded_demands.specs.Attained.{Case, seenIn, attained, exactly}
+
+-- ==== 1. Any machine, entry or schedule handed in gets an answer or a numbered refusal; a refused step changes nothing.
+-- That each gets an answer is what the functions of crate bounded promise: none has a `requires`, and each answer is equal to a
+-- definition. What follows speaks of these definitions.
+
+-- Demand 1: a refused step changes nothing, in the machine or in a lent buffer.
+pub record RefusedUnchanged : Type 0 where
+  -- refusals 1 and 2 return the blank machine
+  pub make : (capacity workers : ℕ) → (makeOf capacity workers .refusal ≡ 0 → ⊥) → makeOf capacity workers .machine ≡ blank
+  pub step : (m : Machine) (first second : ℕ) → (stepOf m first second .refusal ≡ 0 → ⊥) → stepOf m first second .machine ≡ m
+  pub begin : (m : Machine) (first second : ℕ) → (beginOf m first second .refusal ≡ 0 → ⊥) → beginOf m first second .machine ≡ m
+  pub act : (m : Machine) (first second : ℕ) → (actOf m first second .refusal ≡ 0 → ⊥) → actOf m first second .machine ≡ m
+  -- a schedule that is refused at a place leaves what the entries before that place leave: they stand, and no more
+  pub run : (m : Machine) (s : List ℕ) → (runOf m s .refusal ≡ 0 → ⊥) → runOf m s .machine ≡ runOf m (take (2 * runOf m s .place) s) .machine
+  pub contents : (m : Machine) (buffer : List ℕ) → (contentsRefusal m (length buffer) ≡ 0 → ⊥) → written m buffer ≡ buffer
+
+-- Demand 1: a refusal is one of the eleven.
+pub record Numbered : Type 0 where
+  pub make : (capacity workers : ℕ) → makeOf capacity workers .refusal ≤ 11
+  pub step : (m : Machine) (first second : ℕ) → stepOf m first second .refusal ≤ 11
+  pub begin : (m : Machine) (first second : ℕ) → beginOf m first second .refusal ≤ 11
+  pub act : (m : Machine) (first second : ℕ) → actOf m first second .refusal ≤ 11
+  pub run : (m : Machine) (s : List ℕ) → runOf m s .refusal ≤ 11
+  pub contents : (m : Machine) (room : ℕ) → contentsRefusal m room ≤ 11
+
+-- No entry and no schedule breaks an unbroken machine, reached or not: so refusal 6 is tested once a schedule.
+pub record StaysUnbroken : Type 0 where
+  pub step : (m : Machine) (first second : ℕ) → brokenOf m ≡ false → brokenOf (stepOf m first second .machine) ≡ false
+  pub run : (m : Machine) (s : List ℕ) → brokenOf m ≡ false → brokenOf (runOf m s .machine) ≡ false
+  -- and a made machine is unbroken
+  pub made : (capacity workers : ℕ) → makeOf capacity workers .refusal ≡ 0 → brokenOf (makeOf capacity workers .machine) ≡ false
+
+-- Only one answer meets a promise: of the whole answer, the machine and the lent buffer.
+pub record OnlyOne : Type 0 where
+  pub make : (capacity workers : ℕ) (x y : Did) → x ≡ makeOf capacity workers → y ≡ makeOf capacity workers → x ≡ y
+  pub step : (m : Machine) (first second : ℕ) (x y : Did) → x ≡ stepOf m first second → y ≡ stepOf m first second → x ≡ y
+  pub begin : (m : Machine) (first second : ℕ) (x y : Did) → x ≡ beginOf m first second → y ≡ beginOf m first second → x ≡ y
+  pub act : (m : Machine) (first second : ℕ) (x y : Did) → x ≡ actOf m first second → y ≡ actOf m first second → x ≡ y
+  pub run : (m : Machine) (s : List ℕ) (x y : Ran) → x ≡ runOf m s → y ≡ runOf m s → x ≡ y
+  pub contents : (m : Machine) (before : List ℕ) (x y : Told) (a b : List ℕ)
+      → (x ≡ told (contentsRefusal m (length before)) (countIn m)) × (a ≡ written m before)
+      → (y ≡ told (contentsRefusal m (length before)) (countIn m)) × (b ≡ written m before) → (x ≡ y) × (a ≡ b)
+  pub capacity : (m : Machine) (x y : Told) → x ≡ capacityOf m → y ≡ capacityOf m → x ≡ y
+  pub broken : (m : Machine) (x y : Bool) → x ≡ brokenOf m → y ≡ brokenOf m → x ≡ y
+  pub moved : (p : Place) (x y : Moved) → x ≡ movedOf p → y ≡ movedOf p → x ≡ y
+  pub tally : (t : Tally) (p : Place) (x y : Tally) → x ≡ talliedOf t (movedOf p) → y ≡ talliedOf t (movedOf p) → x ≡ y
+  pub stock : (t : Tally) (x y : ℕ) → x ≡ stockOf t → y ≡ stockOf t → x ≡ y
+
+-- ==== 2. Under every schedule from a fresh machine. Said of the machine m that entries reach, and of the acts h behind it.
+
+-- The claim rule: a value handed out is the item of the tail claim that has the number of the call's head claim.
+abbrev pub ClaimRule : List Event → Type 0
+ClaimRule h =
+    (earlier later : List Event) (act : Event) (v : ℕ) → h ≡ earlier ++ act ∷ later → HandsOut (act .after) v
+    → (k : ℕ) × CallClaim earlier (act .worker) k × LatestIn (takersOf earlier) (act .worker) k × ItemIn earlier k v
+
+-- No two of these answers share that number.
+abbrev pub OnceOut : List Event → Type 0
+OnceOut h =
+    (earlier between later : List Event) (act again : Event) (v u k : ℕ) → h ≡ earlier ++ act ∷ between ++ again ∷ later
+    → HandsOut (act .after) v → HandsOut (again .after) u
+    → LatestIn (takersOf earlier) (act .worker) k → LatestIn (takersOf (earlier ++ act ∷ between)) (again .worker) k → ⊥
+
+-- No slot is in two hands at any moment.
+abbrev pub OneHand : Machine → Type 0
+OneHand m =
+    (v w : ℕ) (t u : Stamp) → InHand (placeOf (m .workers) v) t → InHand (placeOf (m .workers) w) u
+    → indexOf (m .ring .fixed) t ≡ indexOf (m .ring .fixed) u → v ≡ w
+
+-- O4 and F8 read only a value that was written for that claim.
+abbrev pub ReadsWritten : Machine → List Event → Type 0
+ReadsWritten m h =
+    (w : ℕ) (t : Stamp) → Reads (placeOf (m .workers) w) t
+    → (k : ℕ) × LatestIn (takersOf h) w k × ItemIn h k (valueAt m t) × WrittenIn h k (valueAt m t)
+
+-- Empty, Full and Closed are true of the words at the load or exchange that decided them.
+abbrev pub AnswersTrue : Definition → Machine → Type 0
+AnswersTrue d m =
+    (w : ℕ) (next : Machine) (a : Answer) → Acts d m w next → placeOf (next .workers) w ≡ Idle a
+    → Truth (m .ring .fixed) (m .ring .ends) a
+
+-- Stock is `len`'s count of the words at every moment. With all workers idle it equals the number of contents, and contents
+-- are, in order, the items of the claims not yet taken.
+abbrev pub StockCounts : Machine → List Event → Type 0
+StockCounts m h = stockOf (tally h) ≡ countIn m
+
+abbrev pub StockIsNumber : Machine → List Event → Type 0
+StockIsNumber m h = allIdle (m .workers) ≡ true → stockOf (tally h) ≡ length (contentsOf m)
+
+abbrev pub ContentsWait : Machine → List Event → Type 0
+ContentsWait m h = allIdle (m .workers) ≡ true → contentsOf m ≡ waiting h
+
+-- Beside the demand: every run is one of a plain queue, and a yes of is_empty and of is_full is true at its last load.
+abbrev pub PlainQueue : List Event → Type 0
+PlainQueue h = Fifo h (waiting h)
+
+abbrev pub EmptyTrue : Definition → Machine → Type 0
+EmptyTrue d m =
+    (w : ℕ) (next : Machine) (t : Stamp) → placeOf (m .workers) w ≡ Empty2 t → Acts d m w next → placeOf (next .workers) w ≡ Idle Yes
+    → unmarkedOf (m .ring .fixed) (m .ring .ends .tail) ≡ m .ring .ends .head
+
+abbrev pub FullTrue : Definition → Machine → Type 0
+FullTrue d m =
+    (w : ℕ) (next : Machine) (t : Stamp) → placeOf (m .workers) w ≡ Full2 t → Acts d m w next → placeOf (next .workers) w ≡ Idle Yes
+    → lapBehind (m .ring .fixed) (m .ring .ends .head) (unmarkedOf (m .ring .fixed) (m .ring .ends .tail)) ≡ true
+
+pub record Demand2 (d : Definition) (capacity workers : ℕ) (m : Machine) (h : List Event) : Type 0 where
+  -- It is the machine that was made, and its meter counts the acts.
+  pub made : m .ring .fixed ≡ fixedOf capacity
+  pub team : m .count ≡ workers
+  pub meter : m .meter ≡ length h
+  -- No machine so reached is broken, and no stamp wraps.
+  pub unbroken : brokenOf m ≡ false
+  pub plain : Plain m h
+  -- The lists of claims are as long as the tally says.
+  pub tails : length (itemsOf h) ≡ tally h .tail .0
+  pub heads : length (takersOf h) ≡ tally h .head .0
+  pub claim-rule : ClaimRule h
+  pub once-out : OnceOut h
+  pub one-hand : OneHand m
+  pub reads : ReadsWritten m h
+  pub answers : AnswersTrue d m
+  pub stock : StockCounts m h
+  pub number : StockIsNumber m h
+  pub contents : ContentsWait m h
+  pub fifo : PlainQueue h
+  pub empty : EmptyTrue d m
+  pub full : FullTrue d m
+
+-- Every capacity, every number of workers, every schedule.
+abbrev pub UnderEverySchedule : Definition → Type 0
+UnderEverySchedule d =
+    (capacity workers : ℕ) → Allowed capacity workers → (s : List ℕ)
+    → Demand2 d capacity workers (machineAfter d capacity workers s) (actsOf d capacity workers s)
+
+-- Each act is the one action that document 01 reads out of the source: of entries that are accepted, each is one turn of the
+-- definition, on the machine and on the history; and a schedule of whole entries is run so.
+abbrev pub ActByAct : Definition → Type 0
+ActByAct d =
+    (m : Machine) (s : List ℕ) (first second : ℕ) → length s % 2 ≡ 0 → d .run m 0 s .refusal ≡ 0
+    → d .turn (d .run m 0 s .machine) first second .refusal ≡ 0
+    → (d .run m 0 (s ++ first ∷ second ∷ []) .machine ≡ d .turn (d .run m 0 s .machine) first second .machine)
+    × (d .history m (s ++ first ∷ second ∷ [])
+    ≡ d .history m s ++ eventsOf (d .run m 0 s .machine) (entryOf first second) (d .turn (d .run m 0 s .machine) first second .machine))
+
+abbrev pub WholeSchedules : Definition → Type 0
+WholeSchedules d =
+    (capacity workers : ℕ) → Allowed capacity workers → (s : List ℕ)
+    → (length s % 2 ≡ 0 → runOf (freshOf capacity workers) s ≡ d .run (freshOf capacity workers) 0 s)
+    × (length s % 2 ≡ 1 → runOf (freshOf capacity workers) s .machine ≡ freshOf capacity workers)
+
+-- Beside the demand: `len`'s count is true at its head load.
+abbrev pub LenTrue : Definition → Type 0
+LenTrue d =
+    (capacity workers : ℕ) → Allowed capacity workers → (s : List ℕ) (w n : ℕ) → LenAnswers d capacity workers s w n
+    → n ≡ stockOf (tally (actsOf d capacity workers s))
+
+-- ==== 3. Nobody waits without a holder. Said of the same machines and acts.
+
+-- Worker w's call, if only acts of w are scheduled (code 8), ends within so many of them, none refused; its answer is the one that the
+-- words foretell (Foretold.antt), is true of the words at the act that decided it and keeps the claim rule, and that of a call only begun is a
+-- plain queue's.
+pub record EndsAlone (d : Definition) (m : Machine) (h : List Event) (w most : ℕ) : Type 0 where
+  -- the acts before the last
+  pub before : ℕ
+  pub within : before + 1 ≤ most
+  pub accepted : d .run m 0 (acts w (suc before)) .refusal ≡ 0
+  pub busy : places.viewOf (placeOf (d .run m 0 (acts w before) .machine .workers) w) .busy ≡ true
+  pub answer : Answer
+  pub ends : placeOf (d .run m 0 (acts w (suc before)) .machine .workers) w ≡ Idle answer
+  pub foretold-answer : answer ≡ foretold m w
+  pub true-then : Truth (m .ring .fixed) (d .run m 0 (acts w before) .machine .ring .ends) answer
+  -- a value handed out is the item of the tail claim that has the number of the call's head claim
+  pub claim-rule : (v : ℕ) → HandsOut (Idle answer) v
+      → (k : ℕ) × CallClaim (h ++ d .history m (acts w before)) w k × ItemIn (h ++ d .history m (acts w before)) k v
+  pub queue : (c : Call) → placeOf (m .workers) w ≡ places.beginOf c
+      → answer ≡ queueAnswer c (markedOf (m .ring .fixed) (m .ring .ends .tail)) (m .ring .fixed .capacity) (waiting h)
+
+-- Nothing but the meter refuses an act of a call under way.
+abbrev pub NeverRefused : Definition → Machine → Type 0
+NeverRefused d m =
+    (w : ℕ) → places.viewOf (placeOf (m .workers) w) .busy ≡ true → m .meter < meterMost → d .turn m (16 * w + 8) 0 .refusal ≡ 0
+
+-- With seven acts left on the meter and no other worker's hand on a slot a call that alone is scheduled ends.
+abbrev pub AloneEnds : Definition → Machine → List Event → Type 0
+AloneEnds d m h =
+    (w : ℕ) → places.viewOf (placeOf (m .workers) w) .busy ≡ true → m .meter + 7 ≤ meterMost → (OtherHand m w → ⊥)
+    → EndsAlone d m h w (mostOf (placeOf (m .workers) w))
+
+-- One that is still under way after those acts has another worker's hand on a slot.
+abbrev pub InTheWay : Definition → Machine → Type 0
+InTheWay d m =
+    (w : ℕ) → m .meter + 7 ≤ meterMost
+    → places.viewOf (placeOf (d .run m 0 (acts w (mostOf (placeOf (m .workers) w))) .machine .workers) w) .busy ≡ true → OtherHand m w
+
+-- Whatever entries come between, a worker with a slot in hand lets go with its next acts.
+abbrev pub HandLetsGo : Definition → Machine → Type 0
+HandLetsGo d m =
+    (w : ℕ) (t : Stamp) (entries : List ℕ) → InHand (placeOf (m .workers) w) t
+    → mostOf (placeOf (m .workers) w) ≤ ownActs d w m entries → LetsGo d m w entries (mostOf (placeOf (m .workers) w))
+
+-- (Entries that are all accepted are passed as a schedule runs them.)
+abbrev pub PassedAsRun : Definition → Machine → Type 0
+PassedAsRun d m = (entries : List ℕ) → d .run m 0 entries .refusal ≡ 0 → passed d m entries ≡ d .run m 0 entries .machine
+
+pub record Demand3 (d : Definition) (m : Machine) (h : List Event) : Type 0 where
+  pub accepted : NeverRefused d m
+  pub alone : AloneEnds d m h
+  pub in-the-way : InTheWay d m
+  pub lets-go : HandLetsGo d m
+  pub as-run : PassedAsRun d m
+
+abbrev pub ScheduledAlone : Definition → Type 0
+ScheduledAlone d =
+    (capacity workers : ℕ) → Allowed capacity workers → (s : List ℕ)
+    → Demand3 d (machineAfter d capacity workers s) (actsOf d capacity workers s)
+
+-- The numbers are attained: each schedule of the table leads to its place, alone, and the call there needs exactly its number of acts.
+abbrev pub Attained : Type 0
+Attained = map seenIn attained ≡ map (λ (c : Case). exactly (c .place) (c .number)) attained
+
+-- Each schedule of the table leads to the answer that is foretold there.
+abbrev pub AsForetold : Type 0
+AsForetold = map toldIn tellings ≡ map (λ (r : Telling). asForetold (r .answer)) tellings

@@ -1,0 +1,5 @@
+pub mod Notions
+pub mod Demands
+pub mod Eight
+pub mod Foretold
+pub mod Attained

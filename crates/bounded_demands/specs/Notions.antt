@@ -1,0 +1,349 @@
+-- The notions that the demands are said in: claim, hand, truth and the rest, of the machine's own struct, of the words of a schedule and
+-- of the history of its acts (history, tally of claims and stock: crates/bounded_machine/specs/History.antt). The demands are Demands.antt.
+use Prim.Native.Nat.{ℕ, zero, suc, _+_, _*_, _/_, _%_, _≤_, _<_}
+use mathlib.Core.Bool.{Bool, true, false, cond}
+use mathlib.Core.List.{List, [], _∷_, _++_}
+use mathlib.Core.Path.{_≡_}
+use mathlib.Core.Logic.{_≢_}
+use lib.Dec.{eqb}
+use lib.ListN.{length, getD, drop}
+use Rattle.queue_entries.specs.Limits.{workersMost}
+use Rattle.queue_entries.specs.declared.Call.{Call}
+use Rattle.queue_entries.specs.declared.Call.the-variants as call
+use Rattle.queue_entries.specs.declared.Order.the-variants.{Begin, Act}
+use Rattle.queue_entries.specs.declared.Entry.{Entry}
+use Rattle.queue_entries.specs.declared.Entry.the-variants.{Unreadable, Asks}
+use Rattle.queue_entries.specs.Entries.{entryOf}
+use Rattle.bounded_words.specs.declared.Stamp.{Stamp}
+use Rattle.bounded_words.specs.declared.Fixed.{Fixed}
+use Rattle.bounded_words.specs.Limits.{slotsMost, wide}
+use Rattle.bounded_words.specs.Words.{claim, indexOf, markedOf, unmarkedOf, lapBehind}
+use Rattle.bounded_places.specs.declared.Ends.{Ends}
+use Rattle.bounded_places.specs.declared.Kind.{Kind}
+use Rattle.bounded_places.specs.declared.Kind.the-variants.{Push, Force}
+use Rattle.bounded_places.specs.declared.Answer.{Answer}
+use Rattle.bounded_places.specs.declared.Answer.the-variants.{Nothing, Pushed, Full, Closed, Displaced, Popped, Empty, PopClosed, Len, Yes, No}
+use Rattle.bounded_places.specs.declared.Place.{Place}
+use Rattle.bounded_places.specs.declared.Place.the-variants.{Idle, P1, P2, P3, P4, P5, P6, F6, F7, F8, F9, O1, O2, O3, O4, O5, O6, Len1, Len2, Len3, Empty1, Empty2, Full1, Full2, Close1, IsClosed1}
+use Rattle.bounded_places.specs.Places.{viewOf}
+use Rattle.bounded_acts.specs.Acts.{yesNo, actOf}
+use Rattle.bounded_machine.specs.declared.Machine.{Machine}
+use Rattle.bounded_machine.specs.declared.Did.{Did}
+use Rattle.bounded_machine.specs.declared.Ran.{Ran}
+use Rattle.bounded_machine.specs.declared.Event.{Event}
+use Rattle.bounded_machine.specs.declared.Moved.{Moved}
+use Rattle.bounded_machine.specs.declared.Moved.the-variants.{Neither, Tail, Head}
+use Rattle.bounded_machine.specs.declared.Tally.{Tally}
+use Rattle.bounded_machine.specs.Machine.{slot, freshOf, placeOf, accepted}
+use Rattle.bounded_machine.specs.Turn.{Table, turnOfBy}
+use Rattle.bounded_machine.specs.Run.{runWith}
+use Rattle.bounded_machine.specs.History.{historyWith, movedOf, tallyOf}
+
+-- ---- definitions and schedules
+
+-- What a definition of the machine says: what an entry makes of a machine, what the entries of a schedule make of it up to the
+-- first refusal, and their acts, oldest first. The demands are said of any definition, so that crate bounded_slips can say them of
+-- one with a row changed; they are met by document 01's.
+pub record Definition : Type 0 where
+  pub turn : Machine → ℕ → ℕ → Did
+  pub run : Machine → ℕ → List ℕ → Ran
+  pub history : Machine → List ℕ → List Event
+
+-- By a table of what an act does at each place; document 01's table is `actOf`.
+abbrev pub byTable : Table → Definition
+byTable table = record { turn = turnOfBy table; run = runWith (turnOfBy table); history = historyWith (turnOfBy table) }
+
+abbrev pub document01 : Definition
+document01 = byTable actOf
+
+-- Every capacity and every number of workers that making accepts.
+pub record Allowed (capacity workers : ℕ) : Type 0 where
+  pub slot-some : 0 < capacity
+  pub slot-most : capacity ≤ slotsMost
+  pub worker-some : 0 < workers
+  pub worker-most : workers ≤ workersMost
+
+-- What a schedule makes of a fresh machine, and its acts.
+abbrev pub machineAfter : Definition → ℕ → ℕ → List ℕ → Machine
+machineAfter d capacity workers s = d .run (freshOf capacity workers) 0 s .machine
+
+abbrev pub actsOf : Definition → ℕ → ℕ → List ℕ → List Event
+actsOf d capacity workers s = d .history (freshOf capacity workers) s
+
+-- An act of worker w that is accepted takes the machine m to the machine next.
+pub record Acts (d : Definition) (m : Machine) (w : ℕ) (next : Machine) : Type 0 where
+  pub first : ℕ
+  pub second : ℕ
+  pub lose : Bool
+  pub asks : entryOf first second ≡ Asks w (Act lose)
+  pub done : d .turn m first second ≡ accepted next
+
+-- The entries of so many acts of one worker.
+unfoldable pub acts : ℕ → ℕ → List ℕ
+acts worker zero = []
+acts worker (suc n) = (16 * worker + 8) ∷ 0 ∷ acts worker n
+
+-- ---- hands and places
+
+-- In hand: from a won exchange until that worker's stamp store; the slot is the one at the index of the word.
+pub data InHand : Place → Stamp → Type 0 where
+  handP4 : {t : Stamp} {x : ℕ} → InHand (P4 t x) t
+  handP5 : {t : Stamp} → InHand (P5 t) t
+  handF7 : {t : Stamp} {x : ℕ} → InHand (F7 t x) t
+  handF8 : {t : Stamp} {x : ℕ} → InHand (F8 t x) t
+  handF9 : {t : Stamp} {old : ℕ} → InHand (F9 t old) t
+  handO4 : {h : Stamp} → InHand (O4 h) h
+  handO5 : {h : Stamp} {v : ℕ} → InHand (O5 h v) h
+
+-- The next act writes the claim's item into its slot.
+pub data Writes : Place → ℕ → Type 0 where
+  writeP4 : {t : Stamp} {x : ℕ} → Writes (P4 t x) x
+  writeF8 : {t : Stamp} {x : ℕ} → Writes (F8 t x) x
+
+-- The next act reads a value out of the slot at the index of the word.
+pub data Reads : Place → Stamp → Type 0 where
+  readO4 : {h : Stamp} → Reads (O4 h) h
+  readF8 : {t : Stamp} {x : ℕ} → Reads (F8 t x) t
+
+-- Handed out: answered as Popped or Displaced.
+pub data HandsOut : Place → ℕ → Type 0 where
+  popped : {v : ℕ} → HandsOut (Idle (Popped v)) v
+  displaced : {v : ℕ} → HandsOut (Idle (Displaced v)) v
+
+-- "True is said of the words at that moment."
+abbrev pub Truth : Fixed → Ends → Answer → Type 0
+Truth f e Nothing = Unit {0}
+Truth f e Pushed = Unit {0}
+Truth f e (Full x) = lapBehind f (e .head) (unmarkedOf f (e .tail)) ≡ true
+Truth f e (Closed x) = markedOf f (e .tail) ≡ true
+Truth f e (Displaced v) = Unit {0}
+Truth f e (Popped v) = Unit {0}
+Truth f e Empty = (markedOf f (e .tail) ≡ false) × (e .tail ≡ e .head)
+Truth f e PopClosed = (markedOf f (e .tail) ≡ true) × (unmarkedOf f (e .tail) ≡ e .head)
+Truth f e (Len k) = Unit {0}
+Truth f e Yes = Unit {0}
+Truth f e No = Unit {0}
+
+-- ---- claims of a history
+
+-- The item of a tail claim: a won P3 goes to P4, and F7 to F8.
+abbrev pub itemIn : Place → List ℕ
+itemIn (Idle a) = []
+itemIn (P1 k x) = []
+itemIn (P2 k t x) = []
+itemIn (P3 k t x) = []
+itemIn (P4 t x) = x ∷ []
+itemIn (P5 t) = []
+itemIn (P6 t x) = []
+itemIn (F6 t x) = []
+itemIn (F7 t x) = []
+itemIn (F8 t x) = x ∷ []
+itemIn (F9 t old) = []
+itemIn O1 = []
+itemIn (O2 h) = []
+itemIn (O3 h) = []
+itemIn (O4 h) = []
+itemIn (O5 h v) = []
+itemIn (O6 h) = []
+itemIn Len1 = []
+itemIn (Len2 t) = []
+itemIn (Len3 t h) = []
+itemIn Empty1 = []
+itemIn (Empty2 h) = []
+itemIn Full1 = []
+itemIn (Full2 t) = []
+itemIn Close1 = []
+itemIn IsClosed1 = []
+
+abbrev pub tailBy : Moved → ℕ → List ℕ
+tailBy Neither w = []
+tailBy Tail w = w ∷ []
+tailBy Head w = []
+
+abbrev pub headBy : Moved → ℕ → List ℕ
+headBy Neither w = []
+headBy Tail w = []
+headBy Head w = w ∷ []
+
+-- Of the tail claims in order, from number 0: their items, and their workers. Of the head claims: their workers.
+unfoldable pub itemsOf : List Event → List ℕ
+itemsOf [] = []
+itemsOf (e ∷ h) = itemIn (e .after) ++ itemsOf h
+
+unfoldable pub tailersOf : List Event → List ℕ
+tailersOf [] = []
+tailersOf (e ∷ h) = tailBy (movedOf (e .after)) (e .worker) ++ tailersOf h
+
+unfoldable pub takersOf : List Event → List ℕ
+takersOf [] = []
+takersOf (e ∷ h) = headBy (movedOf (e .after)) (e .worker) ++ takersOf h
+
+-- The latest claim of worker w, among claims with these workers, has the number k.
+pub record LatestIn (by : List ℕ) (w k : ℕ) : Type 0 where
+  pub made : k < length by
+  pub its : getD by k 0 ≡ w
+  pub last : (n : ℕ) → k < n → n < length by → getD by n 0 ≢ w
+
+-- Tail claim number k was made, of the item v.
+pub record ItemIn (h : List Event) (k v : ℕ) : Type 0 where
+  pub made : k < length (itemsOf h)
+  pub is : getD (itemsOf h) k 0 ≡ v
+
+-- Tail and head claims, none before the first act.
+abbrev pub tally : List Event → Tally
+tally h = tallyOf h (record { tail = claim 0; head = claim 0 })
+
+-- The item v of tail claim number k was written: at P4 or F8, by the worker whose latest tail claim that was.
+pub record WrittenIn (h : List Event) (k v : ℕ) : Type 0 where
+  pub earlier : List Event
+  pub act : Event
+  pub later : List Event
+  pub is : h ≡ earlier ++ act ∷ later
+  pub claim : LatestIn (tailersOf earlier) (act .worker) k
+  pub writes : Writes (act .before) v
+
+-- Worker w has answered nothing in these acts.
+abbrev pub Unanswered : ℕ → List Event → Type 0
+Unanswered w [] = Unit {0}
+Unanswered w (e ∷ h) = (e .worker ≡ w → viewOf (e .after) .busy ≡ true) × Unanswered w h
+
+-- Head claim number k was made by w, in the call that it is in.
+pub record CallClaim (h : List Event) (w k : ℕ) : Type 0 where
+  pub earlier : List Event
+  pub act : Event
+  pub later : List Event
+  pub is : h ≡ earlier ++ act ∷ later
+  pub by : act .worker ≡ w
+  pub claims : movedOf (act .after) ≡ Head
+  pub number : tally earlier .head .0 ≡ k
+  pub same-call : Unanswered w later
+
+-- The items of the claims not yet taken.
+abbrev pub waiting : List Event → List ℕ
+waiting h = drop (tally h .head .0) (itemsOf h)
+
+-- A run of a plain queue: a tail claim puts its item at the end, a head claim takes the front, no other act changes it.
+pub data Fifo : List Event → List ℕ → Type 0 where
+  start : Fifo [] []
+  enqueue : (h : List Event) (q : List ℕ) (e : Event) (x : ℕ) → Fifo h q → itemIn (e .after) ≡ x ∷ [] → Fifo (h ++ e ∷ []) (q ++ x ∷ [])
+  dequeue : (h : List Event) (q : List ℕ) (e : Event) (x : ℕ) → Fifo h (x ∷ q) → movedOf (e .after) ≡ Head → Fifo (h ++ e ∷ []) q
+  rest : (h : List Event) (q : List ℕ) (e : Event) → Fifo h q → movedOf (e .after) ≡ Neither → Fifo (h ++ e ∷ []) q
+
+-- ---- words
+
+-- The word of claim number k, where nothing wraps.
+abbrev pub plainWord : Fixed → ℕ → ℕ
+plainWord f k = k / f .capacity * f .lap + k % f .capacity
+
+-- Head, tail and every stamp are such words of claims, and two laps more would still not wrap.
+pub record Plain (m : Machine) (h : List Event) : Type 0 where
+  pub head : m .ring .ends .head .0 ≡ plainWord (m .ring .fixed) (tally h .head .0)
+  pub tail : unmarkedOf (m .ring .fixed) (m .ring .ends .tail) .0 ≡ plainWord (m .ring .fixed) (tally h .tail .0)
+  pub stamps : (i : ℕ) → i < m .ring .fixed .capacity
+      → (k : ℕ) × (full : Bool) × (getD (m .ring .slots) i (slot 0 0) .stamp .0 ≡ plainWord (m .ring .fixed) k + cond full 1 0)
+      × (k % m .ring .fixed .capacity ≡ i) × (k ≤ tally h .tail .0 + m .ring .fixed .capacity)
+  pub room : plainWord (m .ring .fixed) (tally h .tail .0 + m .ring .fixed .capacity) + 2 * m .ring .fixed .lap < wide
+
+-- the value of the slot at the index of a word
+abbrev pub valueAt : Machine → Stamp → ℕ
+valueAt m t = getD (m .ring .slots) (indexOf (m .ring .fixed) t) (slot 0 0) .value
+
+-- ---- calls and their answers
+
+-- What a plain queue answers: closed or not, of this capacity, with these items waiting.
+abbrev pub queueAnswer : Call → Bool → ℕ → List ℕ → Answer
+queueAnswer (call.Push x) closed capacity q = cond closed (Closed x) (cond (eqb (length q) capacity) (Full x) Pushed)
+queueAnswer (call.ForcePush x) closed capacity [] = cond closed (Closed x) Pushed
+queueAnswer (call.ForcePush x) closed capacity (v ∷ q) = cond closed (Closed x) (cond (eqb (length (v ∷ q)) capacity) (Displaced v) Pushed)
+queueAnswer call.Pop closed capacity [] = cond closed PopClosed Empty
+queueAnswer call.Pop closed capacity (v ∷ q) = Popped v
+queueAnswer call.Len closed capacity q = Len (length q)
+queueAnswer call.IsEmpty closed capacity q = yesNo (eqb (length q) 0)
+queueAnswer call.IsFull closed capacity q = yesNo (eqb (length q) capacity)
+queueAnswer call.Close closed capacity q = cond closed No Yes
+queueAnswer call.IsClosed closed capacity q = yesNo closed
+
+-- Worker w did none of these acts.
+abbrev pub Unmoved : ℕ → List Event → Type 0
+Unmoved w [] = Unit {0}
+Unmoved w (e ∷ h) = (e .worker ≢ w) × Unmoved w h
+
+-- A call of `len` by worker w that answers n: its head load is w's act on the machine after s; in the entries `rest` it does not
+-- act; its next act answers.
+pub record LenAnswers (d : Definition) (capacity workers : ℕ) (s : List ℕ) (w n : ℕ) : Type 0 where
+  pub tail : Stamp
+  pub loads : placeOf (machineAfter d capacity workers s .workers) w ≡ Len2 tail
+  pub loaded : Machine
+  pub load : Acts d (machineAfter d capacity workers s) w loaded
+  pub rest : List ℕ
+  pub still : Unmoved w (d .history loaded rest)
+  pub answered : Machine
+  pub answer : Acts d (d .run loaded 0 rest .machine) w answered
+  pub is : placeOf (answered .workers) w ≡ Idle (Len n)
+
+-- ---- waiting
+
+-- Most acts to the end, from each place: push at most 6, force_push 7, pop 6, len 5, is_empty 2, is_full 2, close 1,
+-- is_closed 1; in hand P4 2, F7 3, O4 2. A word that is out of date costs the acts up to the next load.
+abbrev pub oneMore : Kind → ℕ
+oneMore Push = 0
+oneMore Force = 1
+
+abbrev pub mostOf : Place → ℕ
+mostOf (Idle a) = 0
+mostOf (P1 k x) = 5 + oneMore k
+mostOf (P2 k t x) = 6 + oneMore k
+mostOf (P3 k t x) = 5 + oneMore k
+mostOf (P4 t x) = 2
+mostOf (P5 t) = 1
+mostOf (P6 t x) = 6
+mostOf (F6 t x) = 7
+mostOf (F7 t x) = 3
+mostOf (F8 t x) = 2
+mostOf (F9 t old) = 1
+mostOf O1 = 5
+mostOf (O2 h) = 6
+mostOf (O3 h) = 5
+mostOf (O4 h) = 2
+mostOf (O5 h v) = 1
+mostOf (O6 h) = 6
+mostOf Len1 = 3
+mostOf (Len2 t) = 5
+mostOf (Len3 t h) = 4
+mostOf Empty1 = 2
+mostOf (Empty2 h) = 1
+mostOf Full1 = 2
+mostOf (Full2 t) = 1
+mostOf Close1 = 1
+mostOf IsClosed1 = 1
+
+-- What stands in the way: another worker has a slot in hand.
+abbrev pub OtherHand : Machine → ℕ → Type 0
+OtherHand m w = (v : ℕ) × (v ≢ w) × (t : Stamp) × InHand (placeOf (m .workers) v) t
+
+-- Entries one after another, refused ones passed over.
+unfoldable pub passed : Definition → Machine → List ℕ → Machine
+passed d m [] = m
+passed d m (first ∷ []) = m
+passed d m (first ∷ second ∷ others) = passed d (d .turn m first second .machine) others
+
+-- How many of them are acts of w, and accepted.
+abbrev pub actBy : ℕ → Entry → ℕ
+actBy w Unreadable = 0
+actBy w (Asks v (Begin c)) = 0
+actBy w (Asks v (Act lose)) = cond (eqb v w) 1 0
+
+unfoldable pub ownActs : Definition → ℕ → Machine → List ℕ → ℕ
+ownActs d w m [] = 0
+ownActs d w m (first ∷ []) = 0
+ownActs d w m (first ∷ second ∷ others) =
+    cond (eqb (d .turn m first second .refusal) 0) (actBy w (entryOf first second)) 0 + ownActs d w (d .turn m first second .machine) others
+
+-- Among these entries worker w's call ends, with so many acts of its own.
+pub record LetsGo (d : Definition) (m : Machine) (w : ℕ) (entries : List ℕ) (n : ℕ) : Type 0 where
+  pub before : List ℕ
+  pub after : List ℕ
+  pub split : entries ≡ before ++ after
+  pub own : ownActs d w m before ≡ n
+  pub answer : Answer
+  pub ends : placeOf (passed d m before .workers) w ≡ Idle answer

@@ -1,0 +1,310 @@
+-- No accepted begin or act breaks an unbroken machine, reached or not.
+use Prim.Native.Nat.{ℕ, zero, suc, _+_, _<_, _≤_}
+use mathlib.Core.Path.{_≡_, refl, sym, ap, _∙_, subst}
+use mathlib.Core.Bool.{Bool, true, false, cond, not, true≢false}
+use mathlib.Core.List.{List, [], _∷_}
+use native.Mathlib.Omega.{arith}
+use native.Mathlib.Decide.{decLt}
+use lib.Dec.{ltb}
+use lib.ListN.{getD, set}
+use borrow.Author.Tests.{lt-ltb, ltb-true, not-false}
+use Rattle.queue_entries.specs.Limits.{workersMost, all, inLimits}
+use Rattle.queue_entries.proofs.Pick.{both-left, both-right}
+use Rattle.queue_entries.specs.declared.Call.{Call}
+use Rattle.queue_entries.specs.declared.Call.the-variants as call
+use Rattle.queue_entries.proofs.Limits.{limit-most}
+use Rattle.bounded_words.specs.declared.Stamp.{Stamp}
+use Rattle.bounded_words.specs.declared.Fixed.{Fixed}
+use Rattle.bounded_words.specs.Limits.{slotsMost}
+use Rattle.bounded_words.specs.Words.{markedOf, unmarkedOf, nextOf, plus, minus, withMark, same, onePast, lapBehind, lapBehindOnePast, Fair}
+use Rattle.bounded_words.proofs.Marks.{Ruled, fair}
+use Rattle.bounded_words.proofs.Fits.{Plain, next-plain, minus-plain, mark-index}
+use Rattle.bounded_places.specs.declared.Slot.{Slot}
+use Rattle.bounded_places.specs.declared.Ends.{Ends}
+use Rattle.bounded_places.specs.declared.Kind.{Kind}
+use Rattle.bounded_places.specs.declared.Kind.the-variants.{Push, Force}
+use Rattle.bounded_places.specs.declared.Answer.the-variants.{Closed, Pushed, Full, Displaced, Popped, Empty, PopClosed, Len, Yes, No}
+use Rattle.bounded_places.specs.declared.Place.{Place}
+use Rattle.bounded_places.specs.declared.Place.the-variants.{Idle, P1, P2, P3, P4, P5, P6, F6, F7, F8, F9, O1, O2, O3, O4, O5, O6, Len1, Len2, Len3, Empty1, Empty2, Full1, Full2, Close1, IsClosed1}
+use Rattle.bounded_places.specs.declared.Held.the-variants as held
+use Rattle.bounded_places.specs.declared.Worker.{Worker}
+use Rattle.bounded_places.specs.Places.{viewOf, inside, fitsOf, beginOf}
+use Rattle.bounded_acts.specs.declared.Acted.{Acted}
+use Rattle.bounded_acts.specs.Acts.{stay, tailTo, headTo, stampTo, valueTo, actOf, actP1, fullAt, yesNo, countOf}
+use Rattle.bounded_machine.specs.declared.Machine.{Machine}
+use Rattle.bounded_machine.specs.Machine.{placeOf, idler}
+use Rattle.bounded_machine.specs.Broken.{byRule, endsFit, recordFits, recordsFit, brokenOf}
+use Rattle.bounded_machine.specs.Turn.{begun, stored, acted, actedBy}
+use Rattle.bounded_machine.proofs.Laws.{ruled-of}
+
+-- ---- tests and facts
+
+pub either : {A : Type 0} (P : A → Type 0) (b : Bool) (x y : A) → (b ≡ true → P x) → (b ≡ false → P y) → P (cond b x y)
+either P true x y p q = p refl
+either P false x y p q = q refl
+
+both : (a b : Bool) → a ≡ true → b ≡ true → cond a b false ≡ true
+both a b p q = either (λ (x : Bool). x ≡ true) a b false (λ h. q) (λ h. absurd (true≢false (sym p ∙ h)))
+
+first-clear : (a b : Bool) → cond a false b ≡ true → a ≡ false
+first-clear true b h = absurd (true≢false (sym h))
+first-clear false b h = refl
+
+then : (a b : Bool) → cond a false b ≡ true → b ≡ true
+then true b h = absurd (true≢false (sym h))
+then false b h = h
+
+clear-then : (a b : Bool) → a ≡ false → b ≡ true → cond a false b ≡ true
+clear-then a b p q = either (λ (x : Bool). x ≡ true) a false b (λ h. absurd (true≢false (sym h ∙ p))) (λ h. q)
+
+-- every test of a range
+pub every : (n i : ℕ) (test : ℕ → Bool) → all n i test ≡ true → (k : ℕ) → i ≤ k → k < i + n → test k ≡ true
+unfolding all
+every zero i test h k l g = absurd (omega arith)
+every (suc n) i test h k l g =
+    go (λ (m : i < k). every n (i + 1) test (both-right (test i) (all n (i + 1) test) h) k (omega arith) (omega arith)) (decLt i k)
+  where
+    go : (i < k → test k ≡ true) → Dec (i < k) → test k ≡ true
+    go later (yes m) = later m
+    go later (no m) = let e : i ≡ k = omega arith in subst (λ (j : ℕ). test j ≡ true) e (both-left (test i) (all n (i + 1) test) h)
+
+pub all-of : (n i : ℕ) (test : ℕ → Bool) → ((k : ℕ) → i ≤ k → k < i + n → test k ≡ true) → all n i test ≡ true
+unfolding all
+all-of zero i test h = refl
+all-of (suc n) i test h =
+    both (test i) (all n (i + 1) test) (h i (omega arith) (omega arith)) (all-of n (i + 1) test (λ k l g. h k (omega arith) (omega arith)))
+
+-- an element of a list in which one was set
+pub placed : {A : Type 0} (xs : List A) (w i : ℕ) (x d : A) (P : A → Type 0) → (i ≡ w → P x) → P (getD xs i d) → P (getD (set xs w x) i d)
+placed [] w i x d P p q = q
+placed (y ∷ ys) zero zero x d P p q = p refl
+placed (y ∷ ys) zero (suc i) x d P p q = q
+placed (y ∷ ys) (suc w) zero x d P p q = q
+placed (y ∷ ys) (suc w) (suc i) x d P p q = placed ys w i x d P (λ e. p (ap suc e)) q
+
+-- ---- an unbroken machine
+pub record Unbroken (m : Machine) : Type 0 where
+  pub capacity : inLimits (m .ring .fixed .capacity) slotsMost ≡ true
+  pub count : inLimits (m .count) workersMost ≡ true
+  pub rule : byRule (m .ring .fixed) ≡ true
+  pub ends : endsFit (m .ring .fixed) (m .ring .ends) ≡ true
+  pub records : (i : ℕ) → i < workersMost → recordFits (m .ring .fixed) (placeOf (m .workers) i) (ltb i (m .count)) ≡ true
+
+-- each test of a row of them that must pass
+passes : (a b : Bool) → cond a b true ≡ false → (a ≡ true) × (b ≡ false)
+passes true b h = (refl, h)
+passes false b h = absurd (true≢false h)
+
+pass : (a b : Bool) → a ≡ true → b ≡ false → cond a b true ≡ false
+pass a b p q = either (λ (x : Bool). x ≡ false) a b true (λ h. q) (λ h. absurd (true≢false (sym p ∙ h)))
+
+pub unbroken-of : (m : Machine) → brokenOf m ≡ false → Unbroken m
+unfolding brokenOf recordsFit
+unbroken-of m h =
+    let a = passes (inLimits (m .ring .fixed .capacity) slotsMost) _ h in
+    let b = passes (inLimits (m .count) workersMost) _ (a .1) in
+    let c = passes (byRule (m .ring .fixed)) _ (b .1) in
+    let d = passes (endsFit (m .ring .fixed) (m .ring .ends)) _ (c .1) in
+    record {
+      capacity = a .0;
+      count = b .0;
+      rule = c .0;
+      ends = d .0;
+      records = (λ i l. every workersMost 0 (λ (k : ℕ). recordFits (m .ring .fixed) (placeOf (m .workers) k) (ltb k (m .count))) (not-false _ (d .1)) i (omega arith) (omega arith));
+    }
+
+pub of-unbroken : (m : Machine) → Unbroken m → brokenOf m ≡ false
+unfolding brokenOf recordsFit
+of-unbroken m u =
+    pass _ _ (u .capacity) (pass _ _ (u .count) (pass _ _ (u .rule) (pass _ _ (u .ends)
+    (ap not (all-of workersMost 0 (λ (k : ℕ). recordFits (m .ring .fixed) (placeOf (m .workers) k) (ltb k (m .count))) (λ k l g. u .records k (omega arith)))))))
+
+module _ (m : Machine) (u : Unbroken m) where
+  pub ruled-in : Ruled (m .ring .fixed)
+  ruled-in = ruled-of (m .ring .fixed) (u .capacity) (u .rule)
+
+  pub fair-in : Fair (m .ring .fixed)
+  fair-in = fair (m .ring .fixed) ruled-in
+
+  pub few-workers : m .count ≤ workersMost
+  few-workers = limit-most (m .count) workersMost true (sym (u .count)) refl
+
+-- ---- words that fit
+module _ (f : Fixed) where
+  pub plain-fits : (w : Stamp) → Plain f w → fitsOf f (held.End w) ≡ true
+  unfolding inside
+  plain-fits w p = clear-then (markedOf f w) (inside f w) (p .unmarked) (lt-ltb _ _ (p .low))
+
+  pub fits-plain : (w : Stamp) → fitsOf f (held.End w) ≡ true → Plain f w
+  unfolding inside
+  fits-plain w h = record { unmarked = first-clear (markedOf f w) (inside f w) h; low = ltb-true _ _ (then (markedOf f w) (inside f w) h) }
+
+  pub ends-of : (e : Ends) → Plain f (e .head) → inside f (e .tail) ≡ true → endsFit f e ≡ true
+  unfolding endsFit inside
+  ends-of e p h = clear-then (markedOf f (e .head)) _ (p .unmarked) (both (inside f (e .head)) (inside f (e .tail)) (lt-ltb _ _ (p .low)) h)
+
+  pub head-plain : (e : Ends) → endsFit f e ≡ true → Plain f (e .head)
+  unfolding endsFit inside
+  head-plain e h =
+      record {
+        unmarked = first-clear (markedOf f (e .head)) _ h;
+        low = ltb-true _ _ (both-left (inside f (e .head)) (inside f (e .tail)) (then (markedOf f (e .head)) _ h));
+      }
+
+  pub head-inside : (e : Ends) → endsFit f e ≡ true → inside f (e .head) ≡ true
+  unfolding endsFit
+  head-inside e h = both-left (inside f (e .head)) (inside f (e .tail)) (then (markedOf f (e .head)) _ h)
+
+  pub tail-inside : (e : Ends) → endsFit f e ≡ true → inside f (e .tail) ≡ true
+  unfolding endsFit
+  tail-inside e h = both-right (inside f (e .head)) (inside f (e .tail)) (then (markedOf f (e .head)) _ h)
+
+-- ---- an act leaves words that fit
+module _ (f : Fixed) (r : Ruled f) where
+  pub record Ok (a : Acted) : Type 0 where
+    pub ends : endsFit f (a .ends) ≡ true
+    pub held : fitsOf f (viewOf (a .place) .held) ≡ true
+
+  -- the ends as they were, and a place whose words fit
+  stays : (e : Ends) (s : Slot) (p : Place) → endsFit f e ≡ true → fitsOf f (viewOf p .held) ≡ true → Ok (stay e s p)
+  unfolding stay
+  stays e s p h k = record { ends = h; held = k }
+
+  module _ (e : Ends) (s : Slot) (h : endsFit f e ≡ true) where
+    plain-tail : markedOf f (e .tail) ≡ false → Plain f (e .tail)
+    unfolding inside
+    plain-tail k = record { unmarked = k; low = ltb-true _ _ (tail-inside f e h) }
+
+    loads-tail : (k : Kind) (x : ℕ) → Ok (actP1 f e s k x)
+    loads-tail k x =
+        either Ok (markedOf f (e .tail)) _ _ (λ q. stays e s (Idle (Closed x)) h refl)
+        (λ q. stays e s (P2 k (e .tail) x) h (plain-fits f (e .tail) (plain-tail q)))
+
+    tail-moves : (t : Stamp) (p : Place) → Plain f t → fitsOf f (viewOf p .held) ≡ true → Ok (stay (tailTo e (nextOf f t)) s p)
+    unfolding tailTo inside
+    tail-moves t p q k =
+        stays (tailTo e (nextOf f t)) s p (ends-of f (tailTo e (nextOf f t)) (head-plain f e h) (lt-ltb _ _ (next-plain f r t q .low))) k
+
+    head-moves : (w : Stamp) (p : Place) → Plain f w → fitsOf f (viewOf p .held) ≡ true → Ok (stay (headTo e w) s p)
+    unfolding headTo
+    head-moves w p q k = stays (headTo e w) s p (ends-of f (headTo e w) q (tail-inside f e h)) k
+
+    closes : Ok (stay (tailTo e (withMark f (e .tail))) s (Idle Yes))
+    unfolding tailTo inside
+    closes =
+        stays (tailTo e (withMark f (e .tail))) s (Idle Yes)
+        (ends-of f (tailTo e (withMark f (e .tail))) (head-plain f e h)
+        (lt-ltb _ _ (subst (λ (i : ℕ). i < f .capacity) (sym (mark-index f r (e .tail))) (ltb-true _ _ (tail-inside f e h))))) refl
+
+    full-fits : (k : Kind) (t : Stamp) (x : ℕ) → fitsOf f (held.End t) ≡ true → fitsOf f (viewOf (fullAt k t x) .held) ≡ true
+    full-fits Push t x q = q
+    full-fits Force t x q = q
+
+    -- act by act: the new place holds t or h as before, or a word just loaded; an end moves to next
+    pub keeps : (p : Place) (lose : Bool) → fitsOf f (viewOf p .held) ≡ true → Ok (actOf f e s p lose)
+    keeps (Idle a) lose q = stays e s (Idle a) h refl
+    keeps (P1 k x) lose q = loads-tail k x
+    keeps (P2 k t x) lose q =
+        either Ok (same (s .stamp) t) (stay e s (P3 k t x)) _ (λ b. stays e s (P3 k t x) h q)
+        (λ b. either Ok (lapBehindOnePast f (s .stamp) t) (stay e s (fullAt k t x)) (stay e s (P1 k x))
+        (λ d. stays e s (fullAt k t x) h (full-fits k t x q)) (λ d. stays e s (P1 k x) h refl))
+    keeps (P3 k t x) lose q =
+        either Ok (same (e .tail) t) _ (actP1 f e s k x)
+        (λ b. either Ok lose (stay e s (P2 k t x)) (stay (tailTo e (nextOf f t)) s (P4 t x))
+        (λ d. stays e s (P2 k t x) h q) (λ d. tail-moves t (P4 t x) (fits-plain f t q) q))
+        (λ b. loads-tail k x)
+    keeps (P4 t x) lose q = stays e (valueTo s x) (P5 t) h q
+    keeps (P5 t) lose q = stays e (stampTo s (plus t 1)) (Idle Pushed) h refl
+    keeps (P6 t x) lose q =
+        either Ok (lapBehind f (e .head) t) (stay e s (Idle (Full x))) (stay e s (P1 Push x))
+        (λ b. stays e s (Idle (Full x)) h refl) (λ b. stays e s (P1 Push x) h refl)
+    keeps (F6 t x) lose q =
+        either Ok (same (e .head) (minus t (f .lap))) _ (stay e s (P1 Force x))
+        (λ b. either Ok lose (stay e s (P1 Force x)) (stay (headTo e (minus (nextOf f t) (f .lap))) s (F7 t x))
+        (λ d. stays e s (P1 Force x) h refl)
+        (λ d. head-moves (minus (nextOf f t) (f .lap)) (F7 t x) (minus-plain f r (nextOf f t) (next-plain f r t (fits-plain f t q))) q))
+        (λ b. stays e s (P1 Force x) h refl)
+    keeps (F7 t x) lose q = tail-moves t (F8 t x) (fits-plain f t q) q
+    keeps (F8 t x) lose q = stays e (valueTo s x) (F9 t (s .value)) h q
+    keeps (F9 t old) lose q = stays e (stampTo s (plus t 1)) (Idle (Displaced old)) h refl
+    keeps O1 lose q = stays e s (O2 (e .head)) h (plain-fits f (e .head) (head-plain f e h))
+    keeps (O2 w) lose q =
+        either Ok (onePast (s .stamp) w) (stay e s (O3 w)) _ (λ b. stays e s (O3 w) h q)
+        (λ b. either Ok (same (s .stamp) w) (stay e s (O6 w)) (stay e s O1) (λ d. stays e s (O6 w) h q) (λ d. stays e s O1 h refl))
+    keeps (O3 w) lose q =
+        either Ok (same (e .head) w) _ (stay e s (O2 (e .head)))
+        (λ b. either Ok lose (stay e s (O2 w)) (stay (headTo e (nextOf f w)) s (O4 w))
+        (λ d. stays e s (O2 w) h q) (λ d. head-moves (nextOf f w) (O4 w) (next-plain f r w (fits-plain f w q)) q))
+        (λ b. stays e s (O2 (e .head)) h (plain-fits f (e .head) (head-plain f e h)))
+    keeps (O4 w) lose q = stays e s (O5 w (s .value)) h q
+    keeps (O5 w v) lose q = stays e (stampTo s (plus w (f .lap))) (Idle (Popped v)) h refl
+    keeps (O6 w) lose q =
+        either Ok (same (unmarkedOf f (e .tail)) w) _ (stay e s O1)
+        (λ b. either Ok (markedOf f (e .tail)) (stay e s (Idle PopClosed)) (stay e s (Idle Empty))
+        (λ d. stays e s (Idle PopClosed) h refl) (λ d. stays e s (Idle Empty) h refl))
+        (λ b. stays e s O1 h refl)
+    keeps Len1 lose q = stays e s (Len2 (e .tail)) h (tail-inside f e h)
+    keeps (Len2 t) lose q = stays e s (Len3 t (e .head)) h (both (inside f t) (inside f (e .head)) q (head-inside f e h))
+    keeps (Len3 t w) lose q =
+        either Ok (same (e .tail) t) (stay e s (Idle (Len (countOf f t w)))) (stay e s Len1)
+        (λ b. stays e s (Idle (Len (countOf f t w))) h refl) (λ b. stays e s Len1 h refl)
+    keeps Empty1 lose q = stays e s (Empty2 (e .head)) h refl
+    keeps (Empty2 w) lose q = stays e s (Idle (yesNo (same (unmarkedOf f (e .tail)) w))) h refl
+    keeps Full1 lose q = stays e s (Full2 (e .tail)) h refl
+    keeps (Full2 t) lose q = stays e s (Idle (yesNo (lapBehind f (e .head) (unmarkedOf f t)))) h refl
+    keeps Close1 lose q =
+        either Ok (markedOf f (e .tail)) (stay e s (Idle No)) (stay (tailTo e (withMark f (e .tail))) s (Idle Yes))
+        (λ b. stays e s (Idle No) h refl) (λ b. closes)
+    keeps IsClosed1 lose q = stays e s (Idle (yesNo (markedOf f (e .tail)))) h refl
+
+-- a call begins with no word loaded
+begin-holds : (c : Call) → viewOf (beginOf c) .held ≡ held.Nothing
+begin-holds (call.Push x) = refl
+begin-holds (call.ForcePush x) = refl
+begin-holds call.Pop = refl
+begin-holds call.Len = refl
+begin-holds call.IsEmpty = refl
+begin-holds call.IsFull = refl
+begin-holds call.Close = refl
+begin-holds call.IsClosed = refl
+
+-- ---- the machine
+record-of : (f : Fixed) (p : Place) (b : Bool) → b ≡ true → fitsOf f (viewOf p .held) ≡ true → recordFits f p b ≡ true
+unfolding recordFits
+record-of f p b h k = either (λ (x : Bool). x ≡ true) (viewOf p .busy) _ true (λ q. both b _ h k) (λ q. refl)
+
+of-record : (f : Fixed) (p : Place) (b : Bool) → viewOf p .busy ≡ true → recordFits f p b ≡ true → fitsOf f (viewOf p .held) ≡ true
+unfolding recordFits
+of-record f p b h k = both-right b (fitsOf f (viewOf p .held)) (sym (simp h) ∙ k)
+
+module _ (m : Machine) (u : Unbroken m) (w : ℕ) (l : w < m .count) where
+  records-with : (p : Place) → fitsOf (m .ring .fixed) (viewOf p .held) ≡ true → (i : ℕ) → i < workersMost
+      → recordFits (m .ring .fixed) (placeOf (set (m .workers) w (record { place = p })) i) (ltb i (m .count)) ≡ true
+  records-with p k i g =
+      placed (m .workers) w i (record { place = p }) idler (λ (x : Worker). recordFits (m .ring .fixed) (x .place) (ltb i (m .count)) ≡ true)
+      (λ e. record-of (m .ring .fixed) p (ltb i (m .count)) (lt-ltb i (m .count) (omega arith)) k) (u .records i g)
+
+  pub begun-unbroken : (c : Call) → Unbroken (begun m w (beginOf c))
+  unfolding begun
+  begun-unbroken c =
+      record {
+        capacity = u .capacity;
+        count = u .count;
+        rule = u .rule;
+        ends = u .ends;
+        records = records-with (beginOf c) (ap (fitsOf (m .ring .fixed)) (begin-holds c));
+      }
+
+  pub word-fits-in : viewOf (placeOf (m .workers) w) .busy ≡ true → fitsOf (m .ring .fixed) (viewOf (placeOf (m .workers) w) .held) ≡ true
+  word-fits-in h =
+      of-record (m .ring .fixed) (placeOf (m .workers) w) (ltb w (m .count)) h (u .records w (omega (arith, few-workers m u)))
+
+  pub stored-unbroken : (i : ℕ) (a : Acted) → Ok (m .ring .fixed) (ruled-in m u) a → Unbroken (stored m w i a)
+  unfolding stored
+  stored-unbroken i a k =
+      record { capacity = u .capacity; count = u .count; rule = u .rule; ends = k .ends; records = records-with (a .place) (k .held) }
+
+  pub acted-unbroken : (lose : Bool) → viewOf (placeOf (m .workers) w) .busy ≡ true → Unbroken (acted m w (placeOf (m .workers) w) lose)
+  unfolding actedBy
+  acted-unbroken lose h =
+      stored-unbroken _ _ (keeps (m .ring .fixed) (ruled-in m u) (m .ring .ends) _ (u .ends) (placeOf (m .workers) w) lose (word-fits-in h))

@@ -1,0 +1,107 @@
+-- What the machine's functions rest on.
+use Prim.Native.Nat.{ℕ, _*_}
+use mathlib.Core.Path.{_≡_, refl, sym, ap, _∙_}
+use mathlib.Core.Bool.{Bool, true, false, not}
+use mathlib.Core.List.{List}
+use lib.Dec.{eqb}
+use borrow.Author.Tests.{eqb-true}
+use lib.ListN.{replicate}
+use Rattle.queue_entries.specs.Limits.{workersMost, inLimits}
+use Rattle.queue_entries.proofs.Pick.{yes, no, on, off, equal, other, both-left, both-right}
+use Rattle.queue_entries.proofs.Limits.{limit-some, limit-most}
+use Rattle.bounded_words.specs.declared.Stamp.{Stamp}
+use Rattle.bounded_words.specs.declared.Fixed.{Fixed}
+use Rattle.bounded_words.specs.Limits.{slotsMost}
+use Rattle.bounded_words.specs.Words.{markOf, lapOf, Indexed, Fair}
+use Rattle.bounded_words.proofs.Marks.{Ruled, ruled, fair}
+use Rattle.bounded_places.specs.declared.Place.{Place}
+use Rattle.bounded_places.specs.declared.Held.{Held}
+use Rattle.bounded_places.specs.declared.Held.the-variants as held
+use Rattle.bounded_places.specs.declared.View.{View}
+use Rattle.bounded_places.specs.Places.{viewOf, fitsOf}
+use Rattle.bounded_places.specs.declared.Slot.{Slot}
+use Rattle.bounded_machine.specs.declared.Machine.{Machine}
+use Rattle.bounded_machine.specs.Broken.{byRule, endsFit, recordFits, recordsFit, brokenOf}
+use Rattle.bounded_machine.specs.Turn.{spotOf}
+use Rattle.bounded_machine.specs.Machine.{machineOf, starts, freshSlots, freshOf, idler, idlers}
+
+-- mark and lap by rule
+module _ (f : Fixed) (m : ℕ) (e : m ≡ markOf (f .capacity)) where
+  pub ruled-lap : f .mark ≡ m → eqb (f .lap) (2 * m) ≡ byRule f
+  unfolding byRule
+  ruled-lap h = rw e (equal (f .mark) (markOf (f .capacity)) _ _ _ (h ∙ e) refl)
+
+  pub unruled : (f .mark ≡ m → ⊥) → false ≡ byRule f
+  unfolding byRule
+  unruled h = other (f .mark) (markOf (f .capacity)) _ _ _ (λ k. h (k ∙ sym e)) refl
+
+-- what is read off a place
+module _ (p : Place) (v : View) (e : v ≡ viewOf p) where
+  module _ (f : Fixed) (counted : Bool) where
+    pub idle-fits : v .busy ≡ false → true ≡ recordFits f p counted
+    unfolding recordFits
+    idle-fits h = rw (← e) (off (v .busy) _ _ _ h refl)
+
+    pub past-fits : v .busy ≡ true → counted ≡ false → false ≡ recordFits f p counted
+    unfolding recordFits
+    past-fits h k = rw (← e) (on (v .busy) _ _ _ h (off counted _ _ _ k refl))
+
+    pub word-fits : (r : Bool) → v .busy ≡ true → counted ≡ true → r ≡ fitsOf f (v .held) → r ≡ recordFits f p counted
+    unfolding recordFits
+    word-fits r h k q = rw (← e) (on (v .busy) _ _ _ h (on counted _ _ _ k q))
+
+-- the slot of an end's word
+pub spot-at : (f : Fixed) (h : Held) (w : Stamp) (i : ℕ) → h ≡ held.End w → Indexed f w i → i ≡ spotOf f h
+spot-at f h w i e x = x .is ∙ ap (spotOf f) (sym e)
+
+-- constants, from the tests to the facts
+pub rule-facts : (f : Fixed) → byRule f ≡ true → (f .mark ≡ markOf (f .capacity)) × (f .lap ≡ lapOf (f .capacity))
+unfolding byRule
+rule-facts f h = (
+  eqb-true (f .mark) (markOf (f .capacity)) (both-left (eqb (f .mark) (markOf (f .capacity))) (eqb (f .lap) (lapOf (f .capacity))) h),
+  eqb-true (f .lap) (lapOf (f .capacity)) (both-right (eqb (f .mark) (markOf (f .capacity))) (eqb (f .lap) (lapOf (f .capacity))) h),
+)
+
+pub ruled-of : (f : Fixed) → inLimits (f .capacity) slotsMost ≡ true → byRule f ≡ true → Ruled f
+ruled-of f l r =
+    let k = rule-facts f r in
+    ruled f (limit-some (f .capacity) slotsMost true (sym l) refl) (limit-most (f .capacity) slotsMost true (sym l) refl) (k .0) (k .1)
+
+pub fair-of : (f : Fixed) (b d : Bool) → b ≡ inLimits (f .capacity) slotsMost → b ≡ true → d ≡ byRule f → d ≡ true → Fair f
+fair-of f b d e h k l = fair f (ruled-of f (sym e ∙ h) (sym k ∙ l))
+
+-- broken, by the first test that fails, or unbroken
+module _ (m : Machine) (a : Bool) (ea : a ≡ inLimits (m .ring .fixed .capacity) slotsMost) where
+  pub broken-capacity : a ≡ false → true ≡ brokenOf m
+  unfolding brokenOf
+  broken-capacity h = no _ a _ _ _ ea h refl
+
+  module _ (ha : a ≡ true) (b : Bool) (eb : b ≡ inLimits (m .count) workersMost) where
+    pub broken-count : b ≡ false → true ≡ brokenOf m
+    unfolding brokenOf
+    broken-count h = yes _ a _ _ _ ea ha (no _ b _ _ _ eb h refl)
+
+    module _ (hb : b ≡ true) (d : Bool) (ed : d ≡ byRule (m .ring .fixed)) where
+      pub broken-rule : d ≡ false → true ≡ brokenOf m
+      unfolding brokenOf
+      broken-rule h = yes _ a _ _ _ ea ha (yes _ b _ _ _ eb hb (no _ d _ _ _ ed h refl))
+
+      module _ (hd : d ≡ true) (g : Bool) (eg : g ≡ endsFit (m .ring .fixed) (m .ring .ends)) where
+        pub broken-ends : g ≡ false → true ≡ brokenOf m
+        unfolding brokenOf
+        broken-ends h = yes _ a _ _ _ ea ha (yes _ b _ _ _ eb hb (yes _ d _ _ _ ed hd (no _ g _ _ _ eg h refl)))
+
+        pub broken-records : (k : Bool) → g ≡ true → k ≡ recordsFit (m .ring .fixed) (m .count) (m .workers) → not k ≡ brokenOf m
+        unfolding brokenOf
+        broken-records k h e = yes _ a _ _ _ ea ha (yes _ b _ _ _ eb hb (yes _ d _ _ _ ed hd (yes _ g _ _ _ eg h (ap not e))))
+
+        pub broken-record : (k : Bool) → g ≡ true → k ≡ recordsFit (m .ring .fixed) (m .count) (m .workers) → k ≡ false → true ≡ brokenOf m
+        broken-record k h e l = sym (ap not l) ∙ broken-records k h e
+
+        pub unbroken : (k : Bool) → g ≡ true → k ≡ recordsFit (m .ring .fixed) (m .count) (m .workers) → k ≡ true → false ≡ brokenOf m
+        unbroken k h e l = sym (ap not l) ∙ broken-records k h e
+
+-- a fresh machine, from its mark and its slots
+pub fresh-is : (capacity workers m : ℕ) (s : List Slot) → m ≡ markOf capacity → s ≡ freshSlots capacity → machineOf (record { mark = m; lap = 2 * m; capacity = capacity }) starts s (replicate workersMost idler) workers 0 ≡ freshOf capacity workers
+unfolding freshOf idlers
+fresh-is capacity workers m s e h = rw (e, h)

@@ -1,0 +1,43 @@
+-- "Broken" of document 01, clause by clause.
+use Prim.Native.Nat.{ℕ}
+use mathlib.Core.Bool.{Bool, true, false, cond, not}
+use mathlib.Core.List.{List}
+use lib.Dec.{ltb, eqb}
+use Rattle.queue_entries.specs.Limits.{workersMost, inLimits, all}
+use Rattle.bounded_words.specs.declared.Fixed.{Fixed}
+use Rattle.bounded_words.specs.Limits.{slotsMost}
+use Rattle.bounded_words.specs.Words.{markOf, lapOf, markedOf}
+use Rattle.bounded_places.specs.declared.Ends.{Ends}
+use Rattle.bounded_places.specs.declared.Place.{Place}
+use Rattle.bounded_places.specs.declared.Worker.{Worker}
+use Rattle.bounded_places.specs.Places.{viewOf, inside, fitsOf}
+use Rattle.bounded_machine.specs.declared.Machine.{Machine}
+use Rattle.bounded_machine.specs.Machine.{placeOf}
+
+-- mark or lap not by rule
+unfoldable pub byRule : Fixed → Bool
+byRule f = cond (eqb (f .mark) (markOf (f .capacity))) (eqb (f .lap) (lapOf (f .capacity))) false
+
+-- head marked; index of head or tail not below capacity
+unfoldable pub endsFit : Fixed → Ends → Bool
+endsFit f e = cond (markedOf f (e .head)) false (cond (inside f (e .head)) (inside f (e .tail)) false)
+
+-- a busy worker's words (`fitsOf`), or a busy record past the worker count
+unfoldable pub recordFits : Fixed → Place → Bool → Bool
+recordFits f p counted = cond (viewOf p .busy) (cond counted (fitsOf f (viewOf p .held)) false) true
+
+unfoldable pub recordsFit : Fixed → ℕ → List Worker → Bool
+recordsFit f count ws = all workersMost 0 (λ (i : ℕ). recordFits f (placeOf ws i) (ltb i count))
+
+unfoldable pub brokenOf : Machine → Bool
+brokenOf m =
+    cond (inLimits (m .ring .fixed .capacity) slotsMost)
+    (cond (inLimits (m .count) workersMost)
+    (cond (byRule (m .ring .fixed))
+    (cond (endsFit (m .ring .fixed) (m .ring .ends))
+    (not (recordsFit (m .ring .fixed) (m .count) (m .workers)))
+    true) true) true) true
+
+-- no worker is busy
+unfoldable pub allIdle : List Worker → Bool
+allIdle ws = all workersMost 0 (λ (i : ℕ). not (viewOf (placeOf ws i) .busy))

@@ -1,0 +1,78 @@
+-- The history of a run: its acts, oldest first, and what is counted from it.
+use Prim.Native.Nat.{ℕ, _+_, _-_}
+use mathlib.Core.List.{List, [], _∷_}
+use Rattle.queue_entries.specs.declared.Order.the-variants.{Begin, Act}
+use Rattle.queue_entries.specs.declared.Entry.{Entry}
+use Rattle.queue_entries.specs.declared.Entry.the-variants.{Unreadable, Asks}
+use Rattle.queue_entries.specs.Schedules.{historyBy}
+use Rattle.bounded_words.specs.Words.{claim}
+use Rattle.bounded_places.specs.declared.Place.{Place}
+use Rattle.bounded_places.specs.declared.Place.the-variants.{Idle, P1, P2, P3, P4, P5, P6, F6, F7, F8, F9, O1, O2, O3, O4, O5, O6, Len1, Len2, Len3, Empty1, Empty2, Full1, Full2, Close1, IsClosed1}
+use Rattle.bounded_machine.specs.declared.Machine.{Machine}
+use Rattle.bounded_machine.specs.declared.Did.{Did}
+use Rattle.bounded_machine.specs.declared.Event.{Event}
+use Rattle.bounded_machine.specs.declared.Moved.{Moved}
+use Rattle.bounded_machine.specs.declared.Moved.the-variants.{Neither, Tail, Head}
+use Rattle.bounded_machine.specs.declared.Tally.{Tally}
+use Rattle.bounded_machine.specs.Machine.{placeOf}
+use Rattle.bounded_machine.specs.Turn.{turnOf}
+
+-- An act: who acted, from which place, to which. Beginning a call is no act.
+abbrev pub event : ℕ → Place → Place → Event
+event w before after = record { worker = w; before = before; after = after }
+
+abbrev pub eventsOf : Machine → Entry → Machine → List Event
+eventsOf m Unreadable next = []
+eventsOf m (Asks w (Begin c)) next = []
+eventsOf m (Asks w (Act lose)) next = event w (placeOf (m .workers) w) (placeOf (next .workers) w) ∷ []
+
+-- The acts of a schedule's entries, up to the first that is refused, each entry by what it makes of a machine.
+abbrev pub historyWith : (Machine → ℕ → ℕ → Did) → Machine → List ℕ → List Event
+historyWith turn = historyBy (λ (d : Did). d .refusal) (λ (d : Did). d .machine) turn eventsOf
+
+abbrev pub historyOf : Machine → List ℕ → List Event
+historyOf = historyWith turnOf
+
+-- Tail claims are won P3 and F7; head claims are won O3 and F6. A won P3 goes to P4 and a won O3 to O4, F7 to F8, and a
+-- won F6 to F7; no other act goes there.
+abbrev pub movedOf : Place → Moved
+movedOf (Idle a) = Neither
+movedOf (P1 k x) = Neither
+movedOf (P2 k t x) = Neither
+movedOf (P3 k t x) = Neither
+movedOf (P4 t x) = Tail
+movedOf (P5 t) = Neither
+movedOf (P6 t x) = Neither
+movedOf (F6 t x) = Neither
+movedOf (F7 t x) = Head
+movedOf (F8 t x) = Tail
+movedOf (F9 t old) = Neither
+movedOf O1 = Neither
+movedOf (O2 h) = Neither
+movedOf (O3 h) = Neither
+movedOf (O4 h) = Head
+movedOf (O5 h v) = Neither
+movedOf (O6 h) = Neither
+movedOf Len1 = Neither
+movedOf (Len2 t) = Neither
+movedOf (Len3 t h) = Neither
+movedOf Empty1 = Neither
+movedOf (Empty2 h) = Neither
+movedOf Full1 = Neither
+movedOf (Full2 t) = Neither
+movedOf Close1 = Neither
+movedOf IsClosed1 = Neither
+
+-- Claim number k is the k-th move of tail (or head) since the machine was made.
+abbrev pub counted : Moved → Tally → Tally
+counted Neither t = t
+counted Tail t = record { tail = claim (t .tail .0 + 1); head = t .head }
+counted Head t = record { tail = t .tail; head = claim (t .head .0 + 1) }
+
+unfoldable pub tallyOf : List Event → Tally → Tally
+tallyOf [] t = t
+tallyOf (e ∷ rest) t = tallyOf rest (counted (movedOf (e .after)) t)
+
+-- Stock is tail claims less head claims, counted from the history.
+unfoldable pub stockOf : Tally → ℕ
+stockOf t = t .tail .0 - t .head .0

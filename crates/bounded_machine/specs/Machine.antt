@@ -1,0 +1,62 @@
+-- The machine of document 01: fresh, blank, refused.
+use Prim.Native.Nat.{ℕ, zero, suc}
+use mathlib.Core.List.{List}
+use lib.ListN.{set, getD, replicate}
+use Rattle.queue_entries.specs.Limits.{workersMost}
+use Rattle.bounded_words.specs.declared.Fixed.{Fixed}
+use Rattle.bounded_words.specs.Limits.{slotsMost}
+use Rattle.bounded_words.specs.Words.{stamp, fixedOf}
+use Rattle.bounded_places.specs.declared.Slot.{Slot}
+use Rattle.bounded_places.specs.declared.Ends.{Ends}
+use Rattle.bounded_places.specs.declared.Place.{Place}
+use Rattle.bounded_places.specs.declared.Place.the-variants.{Idle}
+use Rattle.bounded_places.specs.declared.Answer.the-variants.{Nothing}
+use Rattle.bounded_places.specs.declared.Worker.{Worker}
+use Rattle.bounded_machine.specs.declared.Machine.{Machine}
+use Rattle.bounded_machine.specs.declared.Did.{Did}
+
+abbrev pub slot : ℕ → ℕ → Slot
+slot s v = record { stamp = stamp s; value = v }
+
+-- 256 empty slots, stamp 0 and value 0
+unfoldable pub emptySlots : List Slot
+emptySlots = replicate slotsMost (slot 0 0)
+
+-- then slot i below so many gets stamp i
+unfoldable pub stamped : ℕ → List Slot → List Slot
+stamped zero l = l
+stamped (suc n) l = set (stamped n l) n (slot n 0)
+
+unfoldable pub freshSlots : ℕ → List Slot
+freshSlots capacity = stamped capacity emptySlots
+
+-- idle with its last answer (none, at first)
+abbrev pub idler : Worker
+idler = record { place = Idle Nothing }
+
+unfoldable pub idlers : List Worker
+idlers = replicate workersMost idler
+
+abbrev pub machineOf : Fixed → Ends → List Slot → List Worker → ℕ → ℕ → Machine
+machineOf f e s w n k = record { ring = record { fixed = f; ends = e; slots = s }; workers = w; count = n; meter = k }
+
+-- Head, tail and meter are 0, workers idle.
+abbrev pub starts : Ends
+starts = record { head = stamp 0; tail = stamp 0 }
+
+unfoldable pub freshOf : ℕ → ℕ → Machine
+freshOf capacity workers = machineOf (fixedOf capacity) starts (freshSlots capacity) idlers workers 0
+
+-- blank machine: all numbers 0, workers idle
+unfoldable pub blank : Machine
+blank = machineOf (record { mark = 0; lap = 0; capacity = 0 }) starts emptySlots idlers 0 0
+
+-- Where the worker numbered w stands.
+abbrev pub placeOf : List Worker → ℕ → Place
+placeOf ws w = getD ws w idler .place
+
+unfoldable pub refused : ℕ → Machine → Did
+refused number m = record { refusal = number; machine = m }
+
+unfoldable pub accepted : Machine → Did
+accepted m = record { refusal = 0; machine = m }

@@ -1,0 +1,326 @@
+// The machine: a ring, its workers' records and the meter; and what each rule asks of it.
+ghost use mathlib.Core.Path.{_≡_};
+ghost use Prim.Native.Nat.{_≤_, _<_};
+ghost use Rattle.queue_entries.specs.Limits.{workersMost};
+ghost use Rattle.bounded_words.specs.Limits.{slotsMost};
+ghost use Rattle.bounded_words.specs.Words.{Fair};
+ghost use Rattle.bounded_machine.specs.Machine.{freshSlots, freshOf, blank, refused, accepted};
+ghost use Rattle.queue_entries.specs.Limits.{inLimits};
+ghost use Rattle.bounded_machine.specs.Broken.{byRule, endsFit, recordFits, recordsFit, allIdle, brokenOf};
+ghost use mathlib.Core.Bool.{false};
+ghost use Rattle.bounded_machine.specs.Contents.{wrapped, itemAt, Counted};
+ghost use Rattle.bounded_machine.specs.Turn.{spotOf, verdictOf};
+use bounded_acts::Acted;
+use bounded_places::Answer;
+use bounded_places::Ends;
+use bounded_places::Held;
+use bounded_places::Place;
+use bounded_places::Slot;
+use bounded_places::Worker;
+use bounded_words::Claim;
+use bounded_words::Fixed;
+use bounded_words::Stamp;
+use queue_entries::Order;
+use queue_entries::Verdict;
+
+// A ring by value: its constants, its two ends and its slots.
+pub struct Ring {
+    pub fixed: Fixed,
+    pub ends: Ends,
+    pub slots: [Slot; bounded_words::SLOTS],
+}
+
+pub struct Machine {
+    pub ring: Ring,
+    pub workers: [Worker; queue_entries::WORKERS],
+    // how many of the records are in use
+    pub count: u64,
+    // accepted acts since the machine was made
+    pub meter: u64,
+}
+
+// A machine, and the number of the refusal; 0 where it was not refused.
+pub struct Did {
+    pub refusal: u64,
+    pub machine: Machine,
+}
+
+// What a schedule reports: the refusal and the entry's place, or 0 and the count of its entries.
+pub struct Ran {
+    pub refusal: u64,
+    pub place: u64,
+    pub machine: Machine,
+}
+
+// One act of a run.
+pub struct Event {
+    pub worker: u64,
+    pub before: Place,
+    pub after: Place,
+}
+
+// Which end an act moved.
+pub enum Moved {
+    Neither,
+    Tail,
+    Head,
+}
+
+// How many claims there were at each end.
+pub struct Tally {
+    pub tail: Claim,
+    pub head: Claim,
+}
+
+pub fn refuse(m: Machine, number: u64) -> Did
+    ensures { λ r. ⌜ r ≡ refused number m ⌝ }
+{
+    Did {
+        refusal: number,
+        machine: m,
+    }
+}
+
+pub fn accept(m: Machine) -> Did
+    ensures { λ r. ⌜ r ≡ accepted m ⌝ }
+{
+    Did {
+        refusal: 0,
+        machine: m,
+    }
+}
+
+// "A fresh ring starts from 256 empty slots, stamp 0 and value 0; then slot i below capacity gets stamp i."
+pub fn fresh_slots(capacity: u64) -> [Slot; bounded_words::SLOTS]
+    requires { ⌜ capacity ≤ slotsMost ⌝ }
+    ensures { λ r. ⌜ r ≡ freshSlots capacity ⌝ }
+{
+    let mut slots = [Slot {
+        stamp: Stamp(0),
+        value: 0,
+    }; bounded_words::SLOTS];
+    let mut i = 0;
+    while i < capacity {
+        slots[i as usize] = Slot {
+            stamp: Stamp(i),
+            value: 0,
+        };
+        i += 1;
+    }
+    slots
+}
+
+pub fn fresh(capacity: u64, workers: u64) -> Machine
+    requires { ⌜ capacity ≤ slotsMost ⌝ }
+    ensures { λ r. ⌜ r ≡ freshOf capacity workers ⌝ }
+{
+    let mark = bounded_words::mark_of(capacity);
+    let slots = fresh_slots(capacity);
+    Machine {
+        ring: Ring {
+            fixed: Fixed {
+                mark: mark,
+                lap: 2 * mark,
+                capacity: capacity,
+            },
+            ends: Ends {
+                head: Stamp(0),
+                tail: Stamp(0),
+            },
+            slots: slots,
+        },
+        workers: [Worker {
+            place: Place::Idle(Answer::Nothing),
+        }; queue_entries::WORKERS],
+        count: workers,
+        meter: 0,
+    }
+}
+
+// "blank machine: all numbers 0, workers idle"
+pub fn blank() -> Machine
+    ensures { λ r. ⌜ r ≡ blank ⌝ }
+{
+    Machine {
+        ring: Ring {
+            fixed: Fixed {
+                mark: 0,
+                lap: 0,
+                capacity: 0,
+            },
+            ends: Ends {
+                head: Stamp(0),
+                tail: Stamp(0),
+            },
+            slots: [Slot {
+                stamp: Stamp(0),
+                value: 0,
+            }; bounded_words::SLOTS],
+        },
+        workers: [Worker {
+            place: Place::Idle(Answer::Nothing),
+        }; queue_entries::WORKERS],
+        count: 0,
+        meter: 0,
+    }
+}
+
+// Broken, part by part.
+
+fn by_rule(f: Fixed) -> bool
+    requires { ⌜ f .capacity ≤ slotsMost ⌝ }
+    ensures { λ r. ⌜ r ≡ byRule f ⌝ }
+{
+    let mark = bounded_words::mark_of(f.capacity);
+    if f.mark == mark {
+        f.lap == 2 * mark
+    } else {
+        false
+    }
+}
+
+fn ends_fit(f: Fixed, e: Ends) -> bool
+    requires { ⌜ Fair f ⌝ }
+    ensures { λ r. ⌜ r ≡ endsFit f e ⌝ }
+{
+    let head = e.head;
+    let tail = e.tail;
+    if bounded_words::marked(f, head) {
+        return false;
+    }
+    if bounded_places::inside_of(f, head) {
+        bounded_places::inside_of(f, tail)
+    } else {
+        false
+    }
+}
+
+fn record_fits(f: Fixed, p: Place, counted: bool) -> bool
+    requires { ⌜ Fair f ⌝ }
+    ensures { λ r. ⌜ r ≡ recordFits f p counted ⌝ }
+{
+    let v = bounded_places::view_of(p);
+    let held = v.held;
+    if v.busy {
+        if counted {
+            bounded_places::fits(f, held)
+        } else {
+            false
+        }
+    } else {
+        true
+    }
+}
+
+fn records_fit(f: Fixed, count: u64, workers: [Worker; queue_entries::WORKERS]) -> bool
+    requires { ⌜ Fair f ⌝ }
+    ensures { λ r. ⌜ r ≡ recordsFit f count workers ⌝ }
+{
+    let mut i = 0;
+    while i < queue_entries::WORKERS {
+        let worker = workers[i];
+        let p = worker.place;
+        if record_fits(f, p, (i as u64) < count) {
+            i += 1;
+        } else {
+            return false;
+        }
+    }
+    true
+}
+
+pub fn broken(m: Machine) -> bool
+    ensures { λ r. ⌜ r ≡ brokenOf m ⌝ }
+{
+    let ring = m.ring;
+    let f = ring.fixed;
+    let e = ring.ends;
+    let workers = m.workers;
+    if queue_entries::in_limits(f.capacity, bounded_words::SLOTS as u64) {} else {
+        return true;
+    }
+    if queue_entries::in_limits(m.count, queue_entries::WORKERS as u64) {} else {
+        return true;
+    }
+    if by_rule(f) {} else {
+        return true;
+    }
+    if ends_fit(f, e) {} else {
+        return true;
+    }
+    if records_fit(f, m.count, workers) {
+        false
+    } else {
+        true
+    }
+}
+
+pub fn all_idle(workers: [Worker; queue_entries::WORKERS]) -> bool
+    ensures { λ r. ⌜ r ≡ allIdle workers ⌝ }
+{
+    let mut i = 0;
+    while i < queue_entries::WORKERS {
+        let worker = workers[i];
+        let p = worker.place;
+        let v = bounded_places::view_of(p);
+        if v.busy {
+            return false;
+        }
+        i += 1;
+    }
+    true
+}
+
+// The items between the ends.
+pub fn count_in(m: Machine) -> u64
+    requires { ⌜ brokenOf m ≡ false ⌝ }
+    ensures { λ r. ⌜ Counted m r ⌝ }
+{
+    let ring = m.ring;
+    let f = ring.fixed;
+    let e = ring.ends;
+    bounded_acts::count(f, e.tail, e.head)
+}
+
+// "wrapping at capacity"
+fn wrap(capacity: u64, i: u64) -> u64
+    ensures { λ r. ⌜ r ≡ wrapped capacity i ⌝ }
+{
+    if i < capacity { i } else { i - capacity }
+}
+
+// The k-th item from index(head).
+pub fn item_at(m: Machine, k: u64) -> u64
+    requires { ⌜ brokenOf m ≡ false ⌝ }
+    requires { ⌜ k < slotsMost ⌝ }
+    ensures { λ r. ⌜ r ≡ itemAt m k ⌝ }
+{
+    let ring = m.ring;
+    let f = ring.fixed;
+    let e = ring.ends;
+    let slots = ring.slots;
+    let at = bounded_words::index(f, e.head) + k;
+    let s = slots[wrap(f.capacity, at) as usize];
+    s.value
+}
+
+// What becomes of a worker that stands at p.
+pub fn verdict_of(meter: u64, p: Place, o: Order) -> Verdict
+    ensures { λ r. ⌜ r ≡ verdictOf meter p o ⌝ }
+{
+    let v = bounded_places::view_of(p);
+    queue_entries::verdict_for(meter, v.busy, v.weak, o)
+}
+
+// The index of the slot that the act of a worker with these words goes to; 0 where it goes to none.
+pub fn spot(f: Fixed, held: Held) -> u64
+    requires { ⌜ Fair f ⌝ }
+    ensures { λ r. ⌜ r ≡ spotOf f held ⌝ }
+{
+    match held {
+        Held::Nothing => 0,
+        Held::End(w) => bounded_words::index(f, w),
+        Held::Tail(_) => 0,
+        Held::Both(_, _) => 0,
+    }
+}

@@ -1,0 +1,31 @@
+-- The demands of document 01, proved. What they say, in document 01's words, is crates/bounded_demands/specs/Demands.antt; the
+-- runs on paper are Eight.antt beside it.
+use Rattle.bounded_demands.specs.Notions.{document01}
+use Rattle.bounded_demands.specs.Demands.{RefusedUnchanged, Numbered, StaysUnbroken, OnlyOne, UnderEverySchedule, ActByAct, WholeSchedules, LenTrue, ScheduledAlone, Attained, AsForetold}
+use Rattle.bounded_demands.specs.Eight.{EightRuns}
+use Rattle.bounded_demands.proofs.Refusals.{refused-unchanged, numbered, stays-unbroken, only-one}
+use Rattle.bounded_demands.proofs.Attained.{numbers-attained}
+use Rattle.bounded_demands.proofs.Foretold.{as-foretold}
+use Rattle.bounded_demands.proofs.Eight.{eight-runs}
+use Rattle.bounded_proof_demand2.proofs.Demand2.{demand2, act-by-act, whole-schedules}
+use Rattle.bounded_proof_demand2.proofs.Lens.{len-true}
+use Rattle.bounded_proof_demand3.proofs.Demand3.{demand3}
+
+-- 1. Any machine, entry or schedule handed in gets an answer or a numbered refusal (the functions of crate bounded have no
+-- `requires`); a refused step changes nothing; only one answer meets a promise.
+pub demand-1 : RefusedUnchanged × Numbered × StaysUnbroken × OnlyOne
+demand-1 = (refused-unchanged, numbered, stays-unbroken, only-one)
+
+-- 2. Under every schedule from a fresh machine: each act is the one action of document 01; the claim rule; no slot in two hands;
+-- Empty, Full and Closed true at the act that decided them; stock and contents.
+pub demand-2 : UnderEverySchedule document01 × ActByAct document01 × WholeSchedules document01 × LenTrue document01
+demand-2 = (demand2, act-by-act, whole-schedules, len-true)
+
+-- 3. Alone, a call ends within seven acts with the right answer; a worker with a slot in hand lets go within three acts of its
+-- own; the numbers are attained, and the answers are those foretold.
+pub demand-3 : ScheduledAlone document01 × Attained × AsForetold
+demand-3 = (demand3, numbers-attained, as-foretold)
+
+-- The eight runs on paper.
+pub on-paper : EightRuns
+on-paper = eight-runs

@@ -1,0 +1,248 @@
+-- The rank falls with every act of a call that alone is scheduled. It goes by the words alone; what the ring adds is what a
+-- stamp load finds when no slot is in another's hand (`Finds`).
+use mathlib.Core.Path.{_≡_, refl, sym, ap, _∙_}
+use mathlib.Core.Bool.{Bool, true, false, cond, true≢false}
+use Prim.Native.Nat.{ℕ, _≤_, _<_}
+use native.Mathlib.Omega.{arith}
+use borrow.Author.Tests.{eq-eqb}
+use Rattle.bounded_words.specs.declared.Stamp.{Stamp}
+use Rattle.bounded_words.specs.declared.Fixed.{Fixed}
+use Rattle.bounded_words.specs.Words.{stamp, indexOf, markedOf, unmarkedOf, minus, nextOf, withMark, same, onePast, lapBehind, lapBehindOnePast}
+use Rattle.bounded_places.specs.declared.Slot.{Slot}
+use Rattle.bounded_places.specs.declared.Ends.{Ends}
+use Rattle.bounded_places.specs.declared.Kind.{Kind}
+use Rattle.bounded_places.specs.declared.Kind.the-variants.{Push, Force}
+use Rattle.bounded_places.specs.declared.Answer.the-variants.{Full, Closed, Empty, PopClosed, Len, Yes, No}
+use Rattle.bounded_places.specs.declared.Place.{Place}
+use Rattle.bounded_places.specs.declared.Place.the-variants.{Idle, P1, P2, P3, P4, P5, P6, F6, F7, F8, F9, O1, O2, O3, O4, O5, O6, Len1, Len2, Len3, Empty1, Empty2, Full1, Full2, Close1, IsClosed1}
+use Rattle.bounded_places.specs.Places.{viewOf}
+use Rattle.bounded_acts.specs.declared.Acted.{Acted}
+use Rattle.bounded_acts.specs.Acts.{stay, tailTo, headTo, actOf, actP1, actP2, actP3, fullAt, countOf}
+use Rattle.bounded_machine.proofs.Kept.{either}
+use Rattle.bounded_demands.specs.Notions.{oneMore, mostOf}
+use Rattle.bounded_proof_demand3.specs.Rank.{rankOf}
+
+-- What a stamp load finds. At P2 with the word of tail: free, or full a lap behind, and then head is a lap behind too. At O2
+-- with the word of head: full, or free, and then tail is there too.
+pub record FindsTail (f : Fixed) (e : Ends) (s : Slot) (t : Stamp) : Type 0 where
+  pub decides : same (unmarkedOf f (e .tail)) t ≡ true → same (s .stamp) t ≡ false → lapBehindOnePast f (s .stamp) t ≡ false → ⊥
+  pub full : lapBehindOnePast f (s .stamp) t ≡ true → (lapBehind f (e .head) t ≡ true) × (same (e .head) (minus t (f .lap)) ≡ true)
+  -- what is free is no lap after head
+  pub free : same (s .stamp) t ≡ true → lapBehind f (e .head) t ≡ false
+  -- a lap after head is tail
+  pub lapped : lapBehind f (e .head) t ≡ true → same (unmarkedOf f (e .tail)) t ≡ true
+
+pub record FindsHead (f : Fixed) (e : Ends) (s : Slot) (h : Stamp) : Type 0 where
+  pub decides : same (e .head) h ≡ true → onePast (s .stamp) h ≡ false → same (s .stamp) h ≡ false → ⊥
+  pub empty : same (s .stamp) h ≡ true → same (unmarkedOf f (e .tail)) h ≡ true
+
+-- And what the words of an exchange that is won, or of a last load, say beside.
+abbrev pub Finds : Fixed → Ends → Slot → Place → Type 0
+Finds f e s (Idle a) = Unit {0}
+Finds f e s (P1 k x) = Unit {0}
+Finds f e s (P2 k t x) = FindsTail f e s t
+Finds f e s (P3 k t x) = same (e .tail) t ≡ true → (markedOf f (e .tail) ≡ false) × (lapBehind f (e .head) (unmarkedOf f (e .tail)) ≡ false)
+Finds f e s (P4 t x) = Unit {0}
+Finds f e s (P5 t) = Unit {0}
+Finds f e s (P6 t x) = Unit {0}
+Finds f e s (F6 t x) = same (e .head) (minus t (f .lap)) ≡ true → indexOf f t ≡ indexOf f (e .head)
+Finds f e s (F7 t x) = Unit {0}
+Finds f e s (F8 t x) = Unit {0}
+Finds f e s (F9 t old) = Unit {0}
+Finds f e s O1 = Unit {0}
+Finds f e s (O2 h) = FindsHead f e s h
+Finds f e s (O3 h) = same (e .head) h ≡ true → same (unmarkedOf f (e .tail)) (e .head) ≡ false
+Finds f e s (O4 h) = Unit {0}
+Finds f e s (O5 h v) = Unit {0}
+Finds f e s (O6 h) = same (unmarkedOf f (e .tail)) h ≡ true → same (unmarkedOf f (e .tail)) (e .head) ≡ true
+Finds f e s Len1 = Unit {0}
+Finds f e s (Len2 t) = Unit {0}
+Finds f e s (Len3 t h) = Unit {0}
+Finds f e s Empty1 = Unit {0}
+Finds f e s (Empty2 h) = Unit {0}
+Finds f e s Full1 = Unit {0}
+Finds f e s (Full2 t) = Unit {0}
+Finds f e s Close1 = Unit {0}
+Finds f e s IsClosed1 = Unit {0}
+
+pub same-self : (w : Stamp) → same w w ≡ true
+unfolding same
+same-self w = eq-eqb (w .0) (w .0) refl
+
+pub clear-is : (f : Fixed) (w : Stamp) → markedOf f w ≡ false → unmarkedOf f w ≡ w
+unfolding unmarkedOf
+clear-is f w h = rw h
+
+-- an unmarked word is its own unmarked part
+pub clear-same : (f : Fixed) (w : Stamp) → markedOf f w ≡ false → same (unmarkedOf f w) w ≡ true
+clear-same f w h = rw (clear-is f w h) (same-self w)
+
+-- the smaller of two numbers is reached either way
+low : (b : Bool) (n x y : ℕ) → n < x → n < y → n < cond b x y
+low true n x y p q = p
+low false n x y p q = q
+
+both : (b : Bool) (x y p q : ℕ) → x < p → y < q → cond b x y < cond b p q
+both true x y p q l m = l
+both false x y p q l m = m
+
+-- a test that fails leaves the second
+second : (b : Bool) (n x y : ℕ) → (b ≡ true → ⊥) → n < y → n < cond b x y
+second true n x y h l = absurd (h refl)
+second false n x y h l = l
+
+high : (b : Bool) (x y n : ℕ) → x ≤ n → y ≤ n → cond b x y ≤ n
+high true x y n p q = p
+high false x y n p q = q
+
+module _ (f : Fixed) (e : Ends) (s : Slot) where
+  -- the act leaves fewer than n
+  abbrev Less : ℕ → Acted → Type 0
+  Less n a = rankOf f (a .ends) (a .place) < n
+
+  now-at : (b : Bool) (x y n : ℕ) → b ≡ true → x < n → cond b x y < n
+  now-at true x y n h l = l
+  now-at false x y n h l = absurd (true≢false (sym h))
+
+  -- P1: the word of tail, just loaded
+  loads : (k : Kind) (x n : ℕ) → (markedOf f (e .tail) ≡ false → rankOf f e (P2 k (e .tail) x) < n) → 0 < n → Less n (actP1 f e s k x)
+  unfolding stay
+  loads k x n in-date pos =
+      either (Less n) (markedOf f (e .tail)) (stay e s (Idle (Closed x))) (stay e s (P2 k (e .tail) x)) (λ h. pos) in-date
+
+  falls-p2 : (k : Kind) (t : Stamp) (x : ℕ) → FindsTail f e s t → Less (rankOf f e (P2 k t x)) (actP2 f e s k t x)
+  unfolding stay
+  falls-p2 k t x d =
+      either (Less (rankOf f e (P2 k t x))) (same (s .stamp) t) (stay e s (P3 k t x)) _
+      (λ h. both (same (unmarkedOf f (e .tail)) t) _ _ _ _ (omega arith) (omega arith))
+      (λ h. either (Less (rankOf f e (P2 k t x))) (lapBehindOnePast f (s .stamp) t) (stay e s (fullAt k t x)) (stay e s (P1 k x))
+      (λ g. full k (d .full g))
+      (λ g. second (same (unmarkedOf f (e .tail)) t) _ _ _ (λ q. d .decides q h g) (omega arith)))
+    where
+      full : (k : Kind) → (lapBehind f (e .head) t ≡ true) × (same (e .head) (minus t (f .lap)) ≡ true) → rankOf f e (fullAt k t x) < rankOf f e (P2 k t x)
+      full Push q = now-at (lapBehind f (e .head) t) _ _ _ (q .0) (low (same (unmarkedOf f (e .tail)) t) _ _ _ (omega arith) (omega arith))
+      full Force q = now-at (same (e .head) (minus t (f .lap))) _ _ _ (q .1) (low (same (unmarkedOf f (e .tail)) t) _ _ _ (omega arith) (omega arith))
+
+  falls-p3 : (k : Kind) (t : Stamp) (x : ℕ) → Less (rankOf f e (P3 k t x)) (actP3 f e s k t x false)
+  unfolding stay
+  falls-p3 k t x =
+      either (Less (rankOf f e (P3 k t x))) (same (e .tail) t) (stay (tailTo e (nextOf f t)) s (P4 t x)) (actP1 f e s k x)
+      (λ h. low (same (unmarkedOf f (e .tail)) t) _ _ _ (omega arith) (omega arith))
+      (λ h. loads k x (rankOf f e (P3 k t x))
+      (λ g. now-at (same (unmarkedOf f (e .tail)) (e .tail)) _ _ _ (clear-same f (e .tail) g) (second (same (unmarkedOf f (e .tail)) t) _ _ _ (lost h g) (omega arith)))
+      (low (same (unmarkedOf f (e .tail)) t) _ _ _ (omega arith) (omega arith)))
+    where
+      -- an unmarked tail that is not t is not t without its mark either
+      lost : same (e .tail) t ≡ false → markedOf f (e .tail) ≡ false → same (unmarkedOf f (e .tail)) t ≡ true → ⊥
+      lost h g q = true≢false (sym q ∙ ap (λ (z : Stamp). same z t) (clear-is f (e .tail) g) ∙ h)
+
+  falls-o2 : (h : Stamp) → FindsHead f e s h → Less (rankOf f e (O2 h)) (actOf f e s (O2 h) false)
+  unfolding stay
+  falls-o2 h d =
+      either (Less (rankOf f e (O2 h))) (onePast (s .stamp) h) (stay e s (O3 h)) _
+      (λ p. both (same (e .head) h) _ _ _ _ (omega arith) (omega arith))
+      (λ p. either (Less (rankOf f e (O2 h))) (same (s .stamp) h) (stay e s (O6 h)) (stay e s O1)
+      (λ q. now-at (same (unmarkedOf f (e .tail)) h) _ _ _ (d .empty q) (low (same (e .head) h) _ _ _ (omega arith) (omega arith)))
+      (λ q. second (same (e .head) h) _ _ _ (λ z. d .decides z p q) (omega arith)))
+
+  -- a test that goes both ways: to the end of it, or back to a load
+  back : (b : Bool) (a c : Acted) (x y : ℕ) → Less x a → Less y c → Less (cond b x y) (cond b a c)
+  back true a c x y p q = p
+  back false a c x y p q = q
+
+  pub falls : (p : Place) → viewOf p .busy ≡ true → Finds f e s p → rankOf f (actOf f e s p false .ends) (actOf f e s p false .place) < rankOf f e p
+  unfolding stay tailTo headTo
+  falls (Idle a) busy d = absurd (true≢false (sym busy))
+  falls (P1 k x) busy d =
+      loads k x _ (λ g. now-at (same (unmarkedOf f (e .tail)) (e .tail)) _ _ _ (clear-same f (e .tail) g) (omega arith)) (omega arith)
+  falls (P2 k t x) busy d = falls-p2 k t x d
+  falls (P3 k t x) busy d = falls-p3 k t x
+  falls (P4 t x) busy d = omega arith
+  falls (P5 t) busy d = omega arith
+  falls (P6 t x) busy d = back (lapBehind f (e .head) t) (stay e s (Idle (Full x))) (stay e s (P1 Push x)) _ _ (omega arith) (omega arith)
+  falls (F6 t x) busy d =
+      back (same (e .head) (minus t (f .lap))) (stay (headTo e (minus (nextOf f t) (f .lap))) s (F7 t x)) (stay e s (P1 Force x)) _ _ (omega arith) (omega arith)
+  falls (F7 t x) busy d = omega arith
+  falls (F8 t x) busy d = omega arith
+  falls (F9 t old) busy d = omega arith
+  falls O1 busy d = now-at (same (e .head) (e .head)) _ _ _ (same-self (e .head)) (omega arith)
+  falls (O2 h) busy d = falls-o2 h d
+  falls (O3 h) busy d =
+      back (same (e .head) h) (stay (headTo e (nextOf f h)) s (O4 h)) (stay e s (O2 (e .head))) _ _ (omega arith)
+      (now-at (same (e .head) (e .head)) _ _ _ (same-self (e .head)) (omega arith))
+  falls (O4 h) busy d = omega arith
+  falls (O5 h v) busy d = omega arith
+  falls (O6 h) busy d =
+      back (same (unmarkedOf f (e .tail)) h) _ (stay e s O1) _ _
+      (either (Less _) (markedOf f (e .tail)) (stay e s (Idle PopClosed)) (stay e s (Idle Empty)) (λ q. omega arith) (λ q. omega arith)) (omega arith)
+  falls Len1 busy d = now-at (same (e .tail) (e .tail)) _ _ _ (same-self (e .tail)) (omega arith)
+  falls (Len2 t) busy d = both (same (e .tail) t) _ _ _ _ (omega arith) (omega arith)
+  falls (Len3 t h) busy d = back (same (e .tail) t) (stay e s (Idle (Len (countOf f t h)))) (stay e s Len1) _ _ (omega arith) (omega arith)
+  falls Empty1 busy d = omega arith
+  falls (Empty2 h) busy d = omega arith
+  falls Full1 busy d = omega arith
+  falls (Full2 t) busy d = omega arith
+  falls Close1 busy d =
+      either (Less _) (markedOf f (e .tail)) (stay e s (Idle No)) (stay (tailTo e (withMark f (e .tail))) s (Idle Yes)) (λ q. omega arith) (λ q. omega arith)
+  falls IsClosed1 busy d = omega arith
+
+-- the rank is within document 01's numbers
+pub most : (f : Fixed) (e : Ends) (p : Place) → rankOf f e p ≤ mostOf p
+most f e (Idle a) = omega arith
+most f e (P1 k x) = omega arith
+most f e (P2 k t x) = high (same (unmarkedOf f (e .tail)) t) _ _ _ (omega arith) (omega arith)
+most f e (P3 k t x) = high (same (unmarkedOf f (e .tail)) t) _ _ _ (omega arith) (omega arith)
+most f e (P4 t x) = omega arith
+most f e (P5 t) = omega arith
+most f e (P6 t x) = high (lapBehind f (e .head) t) _ _ _ (omega arith) (omega arith)
+most f e (F6 t x) = high (same (e .head) (minus t (f .lap))) _ _ _ (omega arith) (omega arith)
+most f e (F7 t x) = omega arith
+most f e (F8 t x) = omega arith
+most f e (F9 t old) = omega arith
+most f e O1 = omega arith
+most f e (O2 h) = high (same (e .head) h) _ _ _ (omega arith) (omega arith)
+most f e (O3 h) = high (same (e .head) h) _ _ _ (omega arith) (omega arith)
+most f e (O4 h) = omega arith
+most f e (O5 h v) = omega arith
+most f e (O6 h) = high (same (unmarkedOf f (e .tail)) h) _ _ _ (omega arith) (omega arith)
+most f e Len1 = omega arith
+most f e (Len2 t) = high (same (e .tail) t) _ _ _ (omega arith) (omega arith)
+most f e (Len3 t h) = high (same (e .tail) t) _ _ _ (omega arith) (omega arith)
+most f e Empty1 = omega arith
+most f e (Empty2 h) = omega arith
+most f e Full1 = omega arith
+most f e (Full2 t) = omega arith
+most f e Close1 = omega arith
+most f e IsClosed1 = omega arith
+
+one-more : (k : Kind) → oneMore k ≤ 1
+one-more Push = omega arith
+one-more Force = omega arith
+
+pub seven : (p : Place) → mostOf p ≤ 7
+seven (Idle a) = omega arith
+seven (P1 k x) = omega (arith, one-more k)
+seven (P2 k t x) = omega (arith, one-more k)
+seven (P3 k t x) = omega (arith, one-more k)
+seven (P4 t x) = omega arith
+seven (P5 t) = omega arith
+seven (P6 t x) = omega arith
+seven (F6 t x) = omega arith
+seven (F7 t x) = omega arith
+seven (F8 t x) = omega arith
+seven (F9 t old) = omega arith
+seven O1 = omega arith
+seven (O2 h) = omega arith
+seven (O3 h) = omega arith
+seven (O4 h) = omega arith
+seven (O5 h v) = omega arith
+seven (O6 h) = omega arith
+seven Len1 = omega arith
+seven (Len2 t) = omega arith
+seven (Len3 t h) = omega arith
+seven Empty1 = omega arith
+seven (Empty2 h) = omega arith
+seven Full1 = omega arith
+seven (Full2 t) = omega arith
+seven Close1 = omega arith
+seven IsClosed1 = omega arith

@@ -1,0 +1,241 @@
+-- What a stamp load finds when no slot is in another's hand: a fresh load decides, and a word that is out of date is seen.
+use mathlib.Core.Path.{_≡_, refl, sym, ap, _∙_}
+use mathlib.Core.Bool.{Bool, true, false, cond, true≢false}
+use Prim.Native.Nat.{ℕ, _+_, _*_, _%_, _≤_, _<_}
+use native.Mathlib.Omega.{arith}
+use native.Mathlib.Nat.{add-mod-right, mod-lt}
+use lib.Dec.{eqb}
+use borrow.Author.Tests.{eqb-true, eqb-false, eq-eqb, ne-eqb}
+use Rattle.bounded_words.specs.declared.Stamp.{Stamp}
+use Rattle.bounded_words.specs.declared.Fixed.{Fixed}
+use Rattle.bounded_words.specs.Words.{indexOf, markedOf, unmarkedOf, minus, same, lapBehind}
+use Rattle.bounded_places.specs.declared.Place.{Place}
+use Rattle.bounded_places.specs.declared.Place.the-variants.{Idle, P1, P2, P3, P4, P5, P6, F6, F7, F8, F9, O1, O2, O3, O4, O5, O6, Len1, Len2, Len3, Empty1, Empty2, Full1, Full2, Close1, IsClosed1}
+use Rattle.bounded_places.specs.Places.{viewOf}
+use Rattle.bounded_machine.specs.Turn.{spotOf}
+use Rattle.bounded_demands.specs.Notions.{InHand, handP4, handP5, handF7, handF8, handF9, handO4, handO5}
+use Rattle.bounded_proof_invariant.proofs.Width.{Near, near-one, turn-long}
+use Rattle.bounded_proof_invariant.proofs.Ring.{Cell, Await, Hold, Hand, Mine, Shared, CellOk, ViewOk, Awaits, Holds, Inv}
+use Rattle.bounded_proof_invariant.proofs.Effects.{Loose}
+use Rattle.bounded_proof_each_act.proofs.Stamps
+use Rattle.bounded_proof_each_act.proofs.Stamps.{Ground, fixed, W, tailWord, word-slot, lap-slot}
+use Rattle.bounded_proof_each_act.proofs.Sight.{look, HandAt, endsOf, slotOf, Stands}
+use Rattle.bounded_proof_demand3.proofs.Falls.{Finds, FindsTail, FindsHead}
+
+-- a hand of the ring is one of document 01
+pub hand-of : (c mark i : ℕ) (p : Place) → HandAt mark (look c p) i → (t : Stamp) × InHand p t
+hand-of c mark i (Idle a) h = absurd h
+hand-of c mark i (P1 k x) h = absurd h
+hand-of c mark i (P2 k t x) h = absurd (true≢false (sym (h .0)))
+hand-of c mark i (P3 k t x) h = absurd (true≢false (sym (h .0)))
+hand-of c mark i (P4 t x) h = (t, handP4)
+hand-of c mark i (P5 t) h = (t, handP5)
+hand-of c mark i (P6 t x) h = absurd (true≢false (sym (h .0)))
+hand-of c mark i (F6 t x) h = absurd (true≢false (sym (h .0)))
+hand-of c mark i (F7 t x) h = (t, handF7)
+hand-of c mark i (F8 t x) h = (t, handF8)
+hand-of c mark i (F9 t old) h = (t, handF9)
+hand-of c mark i O1 h = absurd h
+hand-of c mark i (O2 w) h = absurd (true≢false (sym (h .0)))
+hand-of c mark i (O3 w) h = absurd (true≢false (sym (h .0)))
+hand-of c mark i (O4 w) h = (w, handO4)
+hand-of c mark i (O5 w v) h = (w, handO5)
+hand-of c mark i (O6 w) h = absurd (true≢false (sym (h .0)))
+hand-of c mark i Len1 h = absurd h
+hand-of c mark i (Len2 t) h = absurd h
+hand-of c mark i (Len3 t w) h = absurd h
+hand-of c mark i Empty1 h = absurd h
+hand-of c mark i (Empty2 w) h = absurd (true≢false (sym (h .0)))
+hand-of c mark i Full1 h = absurd h
+hand-of c mark i (Full2 t) h = absurd h
+hand-of c mark i Close1 h = absurd h
+hand-of c mark i IsClosed1 h = absurd h
+
+pub loose-of : (x : Cell) → ((v : ℕ) → Mine v x → ⊥) → Loose x
+loose-of (Await k) free = tt
+loose-of (Hold k) free = tt
+loose-of (Hand st k w) free = free w refl
+
+clash : {A : Type 0} (b : Bool) → b ≡ true → b ≡ false → A
+clash b p q = absurd (true≢false (sym p ∙ q))
+
+unless : (b t : Bool) → cond b false t ≡ true → (b ≡ false) × (t ≡ true)
+unless true t h = absurd (true≢false (sym h))
+unless false t h = (refl, h)
+
+module _ (c mark n : ℕ) (g : Ground c mark n) (s : Shared) (inv : Inv c s) (young : s .tail + 2 * c < n * c) where
+  abbrev f : Fixed
+  f = fixed c mark
+
+  abbrev Word : ℕ → Stamp
+  Word k = W c mark n k
+
+  turn : 3 * c ≤ n * c
+  turn = turn-long c mark n (g .laws)
+
+  -- the tests of the ends, in claims
+  pub tail-is : (b : Bool) (m : ℕ) → m ≤ s .tail → same (unmarkedOf f (tailWord c mark n (s .tail) b)) (Word m) ≡ eqb (s .tail) m
+  tail-is b m le =
+      let r : Near (n * c) (s .tail) m = omega (arith, turn) in
+      rw (Stamps.unmarked-tail c mark n g (s .tail) b) (Stamps.same-is c mark n g (s .tail) m r)
+
+  head-is : (m : ℕ) → m ≤ s .head → same (Word (s .head)) (Word m) ≡ eqb (s .head) m
+  head-is m le =
+      let r : Near (n * c) (s .head) m = omega (arith, turn, inv .low) in
+      Stamps.same-is c mark n g (s .head) m r
+
+  pub behind-is : (m : ℕ) → m ≤ s .tail → lapBehind f (Word (s .head)) (Word m) ≡ eqb (s .head + c) m
+  behind-is m le =
+      let r : Near (n * c) (s .head + c) m = omega (arith, turn, inv .low, inv .high) in
+      Stamps.behind-is c mark n g (s .head) m r
+
+  before-is : (m : ℕ) → m ≤ s .head → same (Word (s .head)) (minus (Word (m + c)) (2 * mark)) ≡ eqb (s .head) m
+  before-is m le =
+      let r : Near (n * c) (s .head) m = omega (arith, turn, inv .low) in
+      Stamps.before-is c mark n g (s .head) m r
+
+  module _ (i m v : ℕ) (b : Bool) (at : m % c ≡ i) where
+    some : 0 < c
+    some = g .laws .some
+
+    lapped : m ≤ s .tail → lapBehind f (Word (s .head)) (Word m) ≡ true → same (unmarkedOf f (tailWord c mark n (s .tail) b)) (Word m) ≡ true
+    lapped le h =
+        let q : s .head + c ≡ m = eqb-true _ _ (sym (behind-is m le) ∙ h) in
+        let e : s .tail ≡ m = omega (arith, inv .high) in
+        tail-is b m le ∙ eq-eqb _ _ e
+
+    pub finds-tail : m ≤ s .tail → (x : Cell) → CellOk c s i x → Loose x → FindsTail f (endsOf c mark n s b) (slotOf c mark n x v) (Word m)
+    finds-tail le (Await k) o l =
+        let r : Near (n * c) k m = omega (arith, turn, inv .low, inv .high, o .1, o .2) in
+        let r' : Near (n * c) (k + c) m = omega (arith, turn, inv .low, inv .high, o .1, o .2) in
+        let here = Stamps.stamp-same c mark n g false k m (o .0 ∙ sym at) r in
+        let past = Stamps.stamp-behind c mark n g false k m (o .0 ∙ sym at) r' in
+        record {
+          decides =
+              λ q h d.
+              let e : s .tail ≡ m = eqb-true _ _ (sym (tail-is b m le) ∙ q) in
+              let z : k % c ≡ s .tail % c = o .0 ∙ sym at ∙ ap (λ (y : ℕ). y % c) (sym e) in
+              let w : k ≡ s .tail = near-one c (s .tail) k some (o .1) (omega (arith, inv .low, o .2)) z in
+              eqb-false k m (sym here ∙ h) (w ∙ e);
+          full = λ d. clash _ d past;
+          free =
+              λ h.
+              let w : k ≡ m = eqb-true k m (sym here ∙ h) in
+              behind-is m le ∙ ne-eqb (s .head + c) m (λ q. omega (arith, o .2));
+          lapped = lapped le;
+        }
+    finds-tail le (Hold k) o l =
+        let r : Near (n * c) k m = omega (arith, turn, inv .low, inv .high, o .1, o .2) in
+        let r' : Near (n * c) (k + c) m = omega (arith, turn, inv .low, inv .high, o .1, o .2) in
+        let here = Stamps.stamp-same c mark n g true k m (o .0 ∙ sym at) r in
+        let past = Stamps.stamp-behind c mark n g true k m (o .0 ∙ sym at) r' in
+        record {
+          decides =
+              λ q h d.
+              let e : s .tail ≡ m = eqb-true _ _ (sym (tail-is b m le) ∙ q) in
+              let z : (k + c) % c ≡ s .tail % c = add-mod-right k c ∙ o .0 ∙ sym at ∙ ap (λ (y : ℕ). y % c) (sym e) in
+              let w : k + c ≡ s .tail = near-one c (s .tail) (k + c) some (omega (arith, inv .high, o .1)) (omega (arith, o .2)) z in
+              eqb-false (k + c) m (sym past ∙ d) (w ∙ e);
+          full =
+              λ d.
+              let w : k + c ≡ m = eqb-true (k + c) m (sym past ∙ d) in
+              let e : s .head ≡ k = omega (arith, inv .high, o .1) in (
+                behind-is m le ∙ eq-eqb (s .head + c) m (omega arith),
+                ap (λ (y : ℕ). same (Word (s .head)) (minus (Word y) (2 * mark))) (sym w) ∙ before-is k (omega arith) ∙ eq-eqb (s .head) k e,
+              );
+          free = λ h. clash _ h here;
+          lapped = lapped le;
+        }
+
+    pub finds-head : m ≤ s .head → (x : Cell) → CellOk c s i x → Loose x → FindsHead f (endsOf c mark n s b) (slotOf c mark n x v) (Word m)
+    finds-head le (Await k) o l =
+        let r : Near (n * c) k m = omega (arith, turn, inv .low, inv .high, o .1, o .2) in
+        let here = Stamps.stamp-same c mark n g false k m (o .0 ∙ sym at) r in
+        record {
+          decides =
+              λ q p d.
+              let e : s .head ≡ m = eqb-true _ _ (sym (head-is m le) ∙ q) in
+              let z : k % c ≡ s .head % c = o .0 ∙ sym at ∙ ap (λ (y : ℕ). y % c) (sym e) in
+              let w : k ≡ s .head = near-one c (s .head) k some (omega (arith, inv .low, o .1)) (o .2) z in
+              eqb-false k m (sym here ∙ d) (w ∙ e);
+          empty =
+              λ d.
+              let w : k ≡ m = eqb-true k m (sym here ∙ d) in
+              tail-is b m (omega (arith, inv .low)) ∙ eq-eqb (s .tail) m (omega (arith, inv .low, o .1));
+        }
+    finds-head le (Hold k) o l =
+        let r : Near (n * c) k m = omega (arith, turn, inv .low, inv .high, o .1, o .2) in
+        let here = Stamps.stamp-same c mark n g true k m (o .0 ∙ sym at) r in
+        let past = Stamps.stamp-past c mark n g true k m (o .0 ∙ sym at) r in
+        record {
+          decides =
+              λ q p d.
+              let e : s .head ≡ m = eqb-true _ _ (sym (head-is m le) ∙ q) in
+              let z : k % c ≡ s .head % c = o .0 ∙ sym at ∙ ap (λ (y : ℕ). y % c) (sym e) in
+              let w : k ≡ s .head = near-one c (s .head) k some (o .1) (omega (arith, inv .high, o .2)) z in
+              eqb-false k m (sym past ∙ p) (w ∙ e);
+          empty = λ d. clash _ d here;
+        }
+
+  cell-at : (k : ℕ) (x : Cell) → s .cell (k % c) ≡ x → CellOk c s (k % c) x
+  cell-at k x e = rw e at (inv .cells (k % c) (mod-lt k (g .laws .some)))
+
+  -- an exchange that is won: tail is unmarked and not a lap after head; head is not tail
+  won-tail : (b : Bool) (m w : ℕ) → ViewOk c s w (Awaits m) → same (tailWord c mark n (s .tail) b) (Word m) ≡ true
+      → (markedOf f (tailWord c mark n (s .tail) b) ≡ false) × (lapBehind f (Word (s .head)) (unmarkedOf f (tailWord c mark n (s .tail) b)) ≡ false)
+  won-tail b m w o h =
+      let r : Near (n * c) (s .tail) m = omega (arith, turn, o .0) in
+      let q = unless b _ (sym (Stamps.same-tail c mark n g (s .tail) m b r) ∙ h) in
+      let e : s .tail ≡ m = eqb-true _ _ (q .1) in
+      let k = cell-at m (Await m) (o .1 e) in
+      (Stamps.marked-tail c mark n g (s .tail) b ∙ q .0, rw (Stamps.unmarked-tail c mark n g (s .tail) b) (behind-is (s .tail) (omega arith) ∙ ne-eqb (s .head + c) (s .tail) (λ z. omega (arith, k .2))))
+
+  won-head : (b : Bool) (m w : ℕ) → ViewOk c s w (Holds m) → same (Word (s .head)) (Word m) ≡ true
+      → same (unmarkedOf f (tailWord c mark n (s .tail) b)) (Word (s .head)) ≡ false
+  won-head b m w o h =
+      let e : s .head ≡ m = eqb-true _ _ (sym (head-is m (o .0)) ∙ h) in
+      let k = cell-at m (Hold m) (o .1 e) in
+      tail-is b (s .head) (inv .low) ∙ ne-eqb (s .tail) (s .head) (λ (z : s .tail ≡ s .head). omega (arith, k .2))
+
+  last-load : (b : Bool) (m : ℕ) → m ≤ s .head → same (unmarkedOf f (tailWord c mark n (s .tail) b)) (Word m) ≡ true
+      → same (unmarkedOf f (tailWord c mark n (s .tail) b)) (Word (s .head)) ≡ true
+  last-load b m le h =
+      let e : s .tail ≡ m = eqb-true _ _ (sym (tail-is b m (omega (arith, inv .low))) ∙ h) in
+      tail-is b (s .head) (inv .low) ∙ eq-eqb (s .tail) (s .head) (omega (arith, inv .low))
+
+  same-index : (m : ℕ) (t : Stamp) → t ≡ Word (m + c) → m ≤ s .head → same (Word (s .head)) (minus (Word (m + c)) (2 * mark)) ≡ true
+      → indexOf f t ≡ indexOf f (Word (s .head))
+  same-index m t q le h =
+      let e : s .head ≡ m = eqb-true _ _ (sym (before-is m le) ∙ h) in
+      lap-slot c mark n g t m q ∙ ap (λ (y : ℕ). y % c) (sym e) ∙ sym (word-slot c mark n g (Word (s .head)) (s .head) refl)
+
+  pub finds : (w i : ℕ) (b : Bool) (p : Place) → i < c → i ≡ spotOf f (viewOf p .held) → Stands c mark n s w (look c p) → ((HandAt mark (look c p) i → ⊥) → Loose (s .cell i))
+      → Finds f (endsOf c mark n s b) (slotOf c mark n (s .cell i) (s .val i)) p
+  finds w i b (Idle a) small at o loose = tt
+  finds w i b (P1 k x) small at o loose = tt
+  finds w i b (P2 k t x) small at o loose =
+      rw (o .1) (finds-tail i (o .0) (s .val i) b (sym (word-slot c mark n g t (o .0) (o .1)) ∙ sym at) (o .2) (s .cell i) (inv .cells i small) (loose (λ h. true≢false (sym (h .0)))))
+  finds w i b (P3 k t x) small at o loose = rw (o .1) (won-tail b (o .0) w (o .2))
+  finds w i b (P4 t x) small at o loose = tt
+  finds w i b (P5 t) small at o loose = tt
+  finds w i b (P6 t x) small at o loose = tt
+  finds w i b (F6 t x) small at o loose = λ h. same-index (o .0) t (o .1) (o .2 .0) (rw (o .1) at h)
+  finds w i b (F7 t x) small at o loose = tt
+  finds w i b (F8 t x) small at o loose = tt
+  finds w i b (F9 t old) small at o loose = tt
+  finds w i b O1 small at o loose = tt
+  finds w i b (O2 h) small at o loose =
+      rw (o .1) (finds-head i (o .0) (s .val i) b (sym (word-slot c mark n g h (o .0) (o .1)) ∙ sym at) (o .2) (s .cell i) (inv .cells i small) (loose (λ z. true≢false (sym (z .0)))))
+  finds w i b (O3 h) small at o loose = rw (o .1) (won-head b (o .0) w (o .2))
+  finds w i b (O4 h) small at o loose = tt
+  finds w i b (O5 h v) small at o loose = tt
+  finds w i b (O6 h) small at o loose = rw (o .1) (last-load b (o .0) (o .2))
+  finds w i b Len1 small at o loose = tt
+  finds w i b (Len2 t) small at o loose = tt
+  finds w i b (Len3 t h) small at o loose = tt
+  finds w i b Empty1 small at o loose = tt
+  finds w i b (Empty2 h) small at o loose = tt
+  finds w i b Full1 small at o loose = tt
+  finds w i b (Full2 t) small at o loose = tt
+  finds w i b Close1 small at o loose = tt
+  finds w i b IsClosed1 small at o loose = tt

@@ -1,0 +1,80 @@
+-- Whether another worker has a slot in hand is decided by looking at each.
+use mathlib.Core.Path.{_≡_, refl, sym, _∙_, subst}
+use mathlib.Core.Logic.{_≢_}
+use mathlib.Core.Bool.{Bool, true, false, true≢false}
+use Prim.Native.Nat.{ℕ, zero, suc, _%_, _<_}
+use native.Mathlib.Omega.{arith}
+use native.Mathlib.Decide.{ℕ-discrete}
+use Rattle.queue_entries.specs.Limits.{workersMost}
+use Rattle.bounded_words.specs.declared.Stamp.{Stamp}
+use Rattle.bounded_places.specs.declared.Place.{Place}
+use Rattle.bounded_machine.specs.declared.Machine.{Machine}
+use Rattle.bounded_demands.specs.Notions.{InHand, handP4, handP5, handF7, handF8, handF9, handO4, handO5, OtherHand}
+use Rattle.bounded_proof_invariant.proofs.Ring.{Shared}
+use Rattle.bounded_proof_each_act.proofs.Sight.{Look, Calm, Sees, Laps, Tails, Counts, look, grips, HandAt}
+use Rattle.bounded_proof_demand2.proofs.Turns.{stood}
+use Rattle.bounded_proof_demand2.proofs.Pictured.{Base, Pictured}
+use Rattle.bounded_proof_demand3.proofs.Found.{hand-of}
+use Rattle.bounded_proof_demand3.proofs.Solo.{team}
+use Rattle.bounded_proof_demand3.proofs.Hand.{hand-busy}
+
+abbrev gripped : Look → Bool
+gripped (Calm a) = false
+gripped (Sees t v) = grips (v 0)
+gripped (Laps t v) = grips (v 0)
+gripped (Tails t) = false
+gripped (Counts t h) = false
+
+gripped-at : (mark : ℕ) (l : Look) → gripped l ≡ true → (i : ℕ) × HandAt mark l i
+gripped-at mark (Calm a) e = absurd (true≢false (sym e))
+gripped-at mark (Sees t v) e = (t .0 % mark, (e, refl))
+gripped-at mark (Laps t v) e = (t .0 % mark, (e, refl))
+gripped-at mark (Tails t) e = absurd (true≢false (sym e))
+gripped-at mark (Counts t h) e = absurd (true≢false (sym e))
+
+hand-gripped : (c : ℕ) (p : Place) (t : Stamp) → InHand p t → gripped (look c p) ≡ true
+hand-gripped c p t handP4 = refl
+hand-gripped c p t handP5 = refl
+hand-gripped c p t handF7 = refl
+hand-gripped c p t handF8 = refl
+hand-gripped c p t handF9 = refl
+hand-gripped c p t handO4 = refl
+hand-gripped c p t handO5 = refl
+
+hand-dec : (p : Place) → Dec ((t : Stamp) × InHand p t)
+hand-dec p = go (gripped (look 0 p)) refl
+  where
+    go : (b : Bool) → gripped (look 0 p) ≡ b → Dec ((t : Stamp) × InHand p t)
+    go true e = let g = gripped-at 0 (look 0 p) e in yes (hand-of 0 0 (g .0) p (g .1))
+    go false e = no (λ h. true≢false (sym (hand-gripped 0 p (h .0) (h .1)) ∙ e))
+
+module _ (m : Machine) (w : ℕ) where
+  -- among the first so many
+  abbrev Among : ℕ → Type 0
+  Among k = (v : ℕ) × (v < k) × (v ≢ w) × (t : Stamp) × InHand (stood m v) t
+
+  look-through : (k : ℕ) → Dec (Among k)
+  look-through zero = no (λ o. omega (arith, o .1))
+  look-through (suc k) = go (look-through k) (ℕ-discrete k w) (hand-dec (stood m k))
+    where
+      go : Dec (Among k) → Dec (k ≡ w) → Dec ((t : Stamp) × InHand (stood m k) t) → Dec (Among (suc k))
+      go (yes o) d h = yes (o .0, omega (arith, o .1), o .2, o .3, o .4)
+      go (no z) (no ne) (yes h) = yes (k, omega arith, ne, h .0, h .1)
+      go (no z) (yes e) h = no (λ o. least o (ℕ-discrete (o .0) k) (λ q. o .2 (q ∙ e)))
+        where
+          least : (o : Among (suc k)) → Dec (o .0 ≡ k) → (o .0 ≡ k → ⊥) → ⊥
+          least o (yes q) f = f q
+          least o (no q) f = z (o .0, omega (arith, o .1), o .2, o .3, o .4)
+      go (no z) (no ne) (no h) = no (λ o. least o (ℕ-discrete (o .0) k))
+        where
+          least : (o : Among (suc k)) → Dec (o .0 ≡ k) → ⊥
+          least o (yes q) = h (o .3, subst (λ (y : ℕ). InHand (stood m y) (o .3)) q (o .4))
+          least o (no q) = z (o .0, omega (arith, o .1), o .2, o .3, o .4)
+
+pub other-hand : (c n workers : ℕ) (base : Base c n workers) (s : Shared) (m : Machine) → Pictured c n workers s m → (w : ℕ) → Dec (OtherHand m w)
+other-hand c n workers base s m pic w = go (look-through m w workersMost)
+  where
+    go : Dec (Among m w workersMost) → Dec (OtherHand m w)
+    go (yes o) = yes (o .0, o .2, o .3, o .4)
+    go (no z) =
+        no (λ o. let l = team c n workers base s m pic (o .0) (hand-busy (stood m (o .0)) (o .2) (o .3)) in z (o .0, omega (arith, l, pic .count, base .team), o .1, o .2, o .3))

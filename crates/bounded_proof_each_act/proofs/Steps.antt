@@ -1,0 +1,532 @@
+-- Each act of document 01's tables is an effect on the ring, and leaves its worker where the table says.
+use mathlib.Core.Path.{_≡_, refl, sym, ap, _∙_}
+use mathlib.Core.Bool.{Bool, true, false, cond, true≢false}
+use Prim.Native.Nat.{ℕ, _+_, _*_, _%_, _≤_, _<_}
+use native.Mathlib.Omega.{arith}
+use native.Mathlib.Nat.{add-mod-right}
+use borrow.Author.Tests.{eqb-true}
+use Rattle.bounded_words.specs.declared.Stamp.{Stamp}
+use Rattle.bounded_words.specs.declared.Fixed.{Fixed}
+use Rattle.bounded_words.specs.Words.{stamp, indexOf, markedOf, unmarkedOf, minus, withMark, nextOf, same, onePast, lapBehind, lapBehindOnePast}
+use Rattle.bounded_places.specs.declared.Slot.{Slot}
+use Rattle.bounded_places.specs.declared.Ends.{Ends}
+use Rattle.bounded_places.specs.declared.Kind.{Kind}
+use Rattle.bounded_places.specs.declared.Kind.the-variants.{Push, Force}
+use Rattle.bounded_places.specs.declared.Answer.the-variants.{Full, Closed, Empty, PopClosed, Len, Yes, No}
+use Rattle.bounded_places.specs.declared.Place.{Place}
+use Rattle.bounded_places.specs.declared.Place.the-variants.{Idle, P1, P2, P3, P4, P5, P6, F6, F7, F8, F9, O1, O2, O3, O4, O5, O6, Len1, Len2, Len3, Empty1, Empty2, Full1, Full2, Close1, IsClosed1}
+use Rattle.bounded_places.specs.declared.Held.the-variants as held
+use Rattle.bounded_places.specs.Places.{viewOf}
+use Rattle.bounded_acts.specs.declared.Acted.{Acted}
+use Rattle.bounded_acts.specs.Acts.{stay, tailTo, headTo, stampTo, valueTo, actOf, actP1, actP2, actP3, actP5, actP6, actF6, actF7, actF8, actF9, actO2, actO3, actO5, actO6, actLen3, actClose1, fullAt, yesNo, countOf}
+use Rattle.bounded_machine.specs.Turn.{spotOf}
+use Rattle.bounded_machine.proofs.Kept.{either}
+use Rattle.bounded_demands.specs.Notions.{Truth, Writes, writeP4, writeF8}
+use Rattle.bounded_proof_invariant.proofs.Width.{word, Near, index-word, turn-long}
+use Rattle.bounded_proof_invariant.proofs.Upd.{upd, upd-same}
+use Rattle.bounded_proof_invariant.proofs.Ring.{Stage, Fill, Filled, Take, Grab, Swap, Swapped, Cell, Await, Hold, Hand, number, Mine, Shared, Latest, Awaits, Holds, Forces, Owns, Keeps, ViewOk, CellOk, Owned, Inv}
+use Rattle.bounded_proof_invariant.proofs.Effects.{Effect, Still, Tailed, Taken, Grabbed, Forced, Fills, Swaps, Frees, Gives, after, Fits, Loose, loose-mine, ok-at}
+use Rattle.bounded_proof_each_act.proofs.Stamps
+use Rattle.bounded_proof_each_act.proofs.Stamps.{Ground, fixed, W, tailWord}
+use Rattle.bounded_proof_each_act.proofs.Sight.{Tails, look, HandAt, Quiet, tale, answerIn, told, full, endsOf, slotOf, Stands, Recent, see-free, see-full, number-slot, number-near}
+
+-- a test that passed, taken apart
+unless : (b t : Bool) → cond b false t ≡ true → (b ≡ false) × (t ≡ true)
+unless true t h = absurd (true≢false (sym h))
+unless false t h = (refl, h)
+
+when : (b t : Bool) → cond b t false ≡ true → (b ≡ true) × (t ≡ true)
+when true t h = (refl, h)
+when false t h = absurd (true≢false (sym h))
+
+-- what the effect writes, the place before it carried
+abbrev pub WritesBy : Effect → Place → Type 0
+WritesBy Still p = Unit {0}
+WritesBy (Tailed x) p = Unit {0}
+WritesBy Taken p = Unit {0}
+WritesBy Grabbed p = Unit {0}
+WritesBy (Forced k x) p = Unit {0}
+WritesBy (Fills k a) p = Writes p a
+WritesBy (Swaps k a) p = Writes p a
+WritesBy (Frees k y) p = Unit {0}
+WritesBy (Gives k y v) p = Unit {0}
+
+-- What an act of w at the slot i, from the place p, comes to.
+pub record Step (c mark n : ℕ) (s : Shared) (w i : ℕ) (b : Bool) (p : Place) (a : Acted) : Type 0 where
+  pub effect : Effect
+  pub fits : Fits c s w i effect
+  pub shut : Bool
+  pub ends : a .ends ≡ endsOf c mark n (after c w i effect s) shut
+  pub slot : a .slot ≡ slotOf c mark n (after c w i effect s .cell i) (after c w i effect s .val i)
+  pub stands : Stands c mark n (after c w i effect s) w (look c (a .place))
+  pub tells : tale (look c (a .place)) ≡ told effect
+  pub truth : Truth (fixed c mark) (endsOf c mark n s b) (answerIn (look c (a .place)))
+  pub grip : (Mine w (s .cell i) → HandAt mark (look c p) i) → Mine w (after c w i effect s .cell i) → HandAt mark (look c (a .place)) i
+  pub writes : WritesBy effect p
+
+module _ (c mark n : ℕ) (g : Ground c mark n) (s : Shared) (inv : Inv c s) (w i : ℕ) (small : i < c) where
+  abbrev f : Fixed
+  f = fixed c mark
+
+  abbrev E : Bool → Ends
+  E b = endsOf c mark n s b
+
+  abbrev S : Slot
+  S = slotOf c mark n (s .cell i) (s .val i)
+
+  abbrev Does : Bool → Place → Acted → Type 0
+  Does b p a = Step c mark n s w i b p a
+
+  abbrev Word : ℕ → Stamp
+  Word k = W c mark n k
+
+  -- the number of a word of tail, and of head, is no older than a turn less two capacities
+  abbrev Late : ℕ → Type 0
+  Late m = s .tail + 2 * c < m + n * c
+
+  abbrev LateHead : ℕ → Type 0
+  LateHead m = s .head + 2 * c < m + n * c
+
+  turn : 3 * c ≤ n * c
+  turn = turn-long c mark n (g .laws)
+
+  -- an act that changes nothing but its worker's place, from a place that is not in hand
+  still : (b : Bool) (p q : Place) → (HandAt mark (look c p) i → ⊥) → tale (look c q) ≡ Quiet → Truth f (E b) (answerIn (look c q))
+      → Stands c mark n s w (look c q) → Does b p (stay (E b) S q)
+  unfolding stay
+  still b p q loose t r o =
+      record {
+        effect = Still;
+        fits = tt;
+        shut = b;
+        ends = refl;
+        slot = refl;
+        stands = o;
+        tells = t;
+        truth = r;
+        grip = λ back m. absurd (loose (back m));
+        writes = tt;
+      }
+
+  no-hand : {P : Type 0} → (false ≡ true) × P → ⊥
+  no-hand h = true≢false (sym (h .0))
+
+  -- tail unmarked is the word of its number
+  clear-tail : (b : Bool) → markedOf f (E b .tail) ≡ false → tailWord c mark n (s .tail) b ≡ Word (s .tail)
+  clear-tail b h = let q : b ≡ false = sym (Stamps.marked-tail c mark n g (s .tail) b) ∙ h in rw q
+
+  -- P1, and P3 that lost: load tail
+  loads : (b : Bool) (p : Place) (k : Kind) (x : ℕ) → (HandAt mark (look c p) i → ⊥) → Does b p (actP1 f (E b) S k x)
+  loads b p k x loose =
+      either (Does b p) (markedOf f (E b .tail)) (stay (E b) S (Idle (Closed x))) (stay (E b) S (P2 k (E b .tail) x))
+      (λ h. still b p (Idle (Closed x)) loose refl h tt)
+      (λ h. still b p (P2 k (E b .tail) x) loose refl tt (s .tail, clear-tail b h, omega arith))
+
+  ok-here : CellOk c s i (s .cell i)
+  ok-here = inv .cells i small
+
+  -- the slot's number, in the slot of m, near to it
+  same-slot : (m : ℕ) → m % c ≡ i → number (s .cell i) % c ≡ m % c
+  same-slot m at = number-slot c s inv i (s .cell i) ok-here ∙ sym at
+
+  p2 : (b : Bool) (k : Kind) (m x : ℕ) → m % c ≡ i → m ≤ s .tail → Late m → Does b (P2 k (Word m) x) (actP2 f (E b) S k (Word m) x)
+  p2 b k m x at le late =
+      either (Does b (P2 k (Word m) x)) (same (S .stamp) (Word m)) (stay (E b) S (P3 k (Word m) x)) _
+      (λ h. still b (P2 k (Word m) x) (P3 k (Word m) x) no-hand refl tt (m, refl, (le, free h)))
+      (λ h. either (Does b (P2 k (Word m) x)) (lapBehindOnePast f (S .stamp) (Word m)) (stay (E b) S (fullAt k (Word m) x)) (stay (E b) S (P1 k x))
+      (λ d. behind k d)
+      (λ d. still b (P2 k (Word m) x) (P1 k x) no-hand refl tt tt))
+    where
+      near : (s .head ≤ number (s .cell i) + c) × (number (s .cell i) < s .head + c)
+      near = number-near c s inv i (s .cell i) ok-here
+
+      free : same (S .stamp) (Word m) ≡ true → s .tail ≡ m → s .cell (m % c) ≡ Await m
+      free h e =
+          let r : Near (n * c) (number (s .cell i)) m = omega (arith, near, turn, inv .low, inv .high) in
+          let q = unless (full (s .cell i)) _ (sym (Stamps.stamp-same c mark n g (full (s .cell i)) (number (s .cell i)) m (same-slot m at) r) ∙ h) in
+          rw at (see-free c s inv i m (s .cell i) ok-here (q .0) (eqb-true _ _ (q .1)) e)
+
+      behind : (k : Kind) → lapBehindOnePast f (S .stamp) (Word m) ≡ true → Does b (P2 k (Word m) x) (stay (E b) S (fullAt k (Word m) x))
+      behind Push d = still b (P2 Push (Word m) x) (P6 (Word m) x) no-hand refl tt (m, refl, le)
+      behind Force d =
+          let r : Near (n * c) (number (s .cell i) + c) m = omega (arith, near, turn, inv .low, inv .high) in
+          let q = when (full (s .cell i)) _ (sym (Stamps.stamp-behind c mark n g (full (s .cell i)) (number (s .cell i)) m (same-slot m at) r) ∙ d) in
+          let e : number (s .cell i) + c ≡ m = eqb-true _ _ (q .1) in
+          let at-j : number (s .cell i) % c ≡ i = number-slot c s inv i (s .cell i) ok-here in
+          still b (P2 Force (Word m) x) (F6 (Word m) x) no-hand refl tt (
+            number (s .cell i),
+            ap Word (sym e),
+            (omega (arith, inv .high), λ z. rw at-j (see-full c s inv i (number (s .cell i)) (s .cell i) ok-here (q .0) refl z), omega arith),
+          )
+
+  -- a claim just made is its worker's latest
+  newest : (who : ℕ → ℕ) (m : ℕ) → Latest (upd who m w) (m + 1) w m
+  newest who m = (omega arith, upd-same who m w, λ k a z. absurd (omega arith))
+
+  won-tail : (k : Kind) (x : ℕ) → s .tail % c ≡ i → s .cell i ≡ Await (s .tail)
+      → Does false (P3 k (Word (s .tail)) x) (stay (tailTo (E false) (nextOf f (Word (s .tail)))) S (P4 (Word (s .tail)) x))
+  unfolding stay tailTo
+  won-tail k x at e =
+      record {
+        effect = Tailed x;
+        fits = e;
+        shut = false;
+        ends = rw (Stamps.next-is c mark n g (s .tail));
+        slot = rw (upd-same (s .cell) i (Hand Fill (s .tail) w), e);
+        stands = (
+          s .tail,
+          refl,
+          ((rw at (upd-same (s .cell) i (Hand Fill (s .tail) w)), newest (s .tailer) (s .tail)), omega arith, sym (upd-same (s .item) (s .tail) x)),
+        );
+        tells = refl;
+        truth = tt;
+        grip = λ back m. (refl, index-word c mark n (g .laws) (s .tail) ∙ at);
+        writes = tt;
+      }
+
+  p3 : (b : Bool) (k : Kind) (m x : ℕ) (lose : Bool) → m % c ≡ i → ViewOk c s w (Awaits m) → Late m
+      → Does b (P3 k (Word m) x) (actP3 f (E b) S k (Word m) x lose)
+  p3 b k m x lose at o late =
+      either (Does b (P3 k (Word m) x)) (same (E b .tail) (Word m)) _ (actP1 f (E b) S k x)
+      (λ h. either (Does b (P3 k (Word m) x)) lose (stay (E b) S (P2 k (Word m) x)) (stay (tailTo (E b) (nextOf f (Word m))) S (P4 (Word m) x))
+      (λ d. still b (P3 k (Word m) x) (P2 k (Word m) x) no-hand refl tt (m, refl, o .0))
+      (λ d. won h))
+      (λ h. loads b (P3 k (Word m) x) k x no-hand)
+    where
+      won : same (E b .tail) (Word m) ≡ true → Does b (P3 k (Word m) x) (stay (tailTo (E b) (nextOf f (Word m))) S (P4 (Word m) x))
+      won h =
+          let r : Near (n * c) (s .tail) m = omega (arith, turn, o .0) in
+          let q = unless b _ (sym (Stamps.same-tail c mark n g (s .tail) m b r) ∙ h) in
+          let e : s .tail ≡ m = eqb-true _ _ (q .1) in
+          let here : s .cell i ≡ Await (s .tail) = ap (s .cell) (sym at) ∙ o .1 e ∙ ap Await (sym e) in
+          rw (q .0, ← e) (won-tail k x (ap (λ (z : ℕ). z % c) e ∙ at) here)
+
+  owned-here : (st : Stage) (k : ℕ) → k % c ≡ i → Owned c s w st k → s .cell i ≡ Hand st k w
+  owned-here st k at o = ap (s .cell) (sym at) ∙ o .0
+
+  p4 : (b : Bool) (m x : ℕ) → m % c ≡ i → ViewOk c s w (Keeps Fill m x m) → Does b (P4 (Word m) x) (stay (E b) (valueTo S x) (P5 (Word m)))
+  unfolding stay valueTo
+  p4 b m x at o =
+      let e = owned-here Fill m at (o .0) in
+      record {
+        effect = Fills m x;
+        fits = (e, o .2, o .0 .1);
+        shut = b;
+        ends = refl;
+        slot = rw (upd-same (s .cell) i (Hand Filled m w), upd-same (s .val) i x, e);
+        stands = (m, refl, (rw at (upd-same (s .cell) i (Hand Filled m w)), tt));
+        tells = refl;
+        truth = tt;
+        grip = λ back z. (refl, index-word c mark n (g .laws) m ∙ at);
+        writes = writeP4;
+      }
+
+  -- a slot let go is in no hand
+  gone : (y : Cell) → Loose y → {P : Type 0} → Mine w (upd (s .cell) i y i) → P
+  gone y l m = absurd (loose-mine w y l (rw (upd-same (s .cell) i y) at m))
+
+  p5 : (b : Bool) (m : ℕ) → m % c ≡ i → ViewOk c s w (Owns Filled m) → Does b (P5 (Word m)) (actP5 (E b) S (Word m))
+  unfolding stay stampTo
+  p5 b m at o =
+      let e = owned-here Filled m at o in
+      let k = ok-at c s w i small inv (Hand Filled m w) e in
+      record {
+        effect = Frees m (Hold m);
+        fits = (Filled, e, omega arith, tt, (at, k .1 .0, k .1 .1, k .1 .2));
+        shut = b;
+        ends = refl;
+        slot = rw (upd-same (s .cell) i (Hold m), Stamps.plus-one c mark n g m);
+        stands = tt;
+        tells = refl;
+        truth = tt;
+        grip = λ back z. gone (Hold m) tt z;
+        writes = tt;
+      }
+
+  p6 : (b : Bool) (m x : ℕ) → m ≤ s .tail → Late m → Does b (P6 (Word m) x) (actP6 f (E b) S (Word m) x)
+  p6 b m x le late =
+      either (Does b (P6 (Word m) x)) (lapBehind f (E b .head) (Word m)) (stay (E b) S (Idle (Full x))) (stay (E b) S (P1 Push x))
+      (λ h. still b (P6 (Word m) x) (Idle (Full x)) no-hand refl (full-true h) tt)
+      (λ h. still b (P6 (Word m) x) (P1 Push x) no-hand refl tt tt)
+    where
+      full-true : lapBehind f (E b .head) (Word m) ≡ true → lapBehind f (E b .head) (unmarkedOf f (E b .tail)) ≡ true
+      full-true h =
+          let r : Near (n * c) (s .head + c) m = omega (arith, turn, inv .low, inv .high) in
+          let q : s .head + c ≡ m = eqb-true _ _ (sym (Stamps.behind-is c mark n g (s .head) m r) ∙ h) in
+          let e : s .tail ≡ m = omega (arith, inv .high) in
+          rw (Stamps.unmarked-tail c mark n g (s .tail) b, e) h
+
+  won-grab : (b : Bool) (x : ℕ) → s .head % c ≡ i → s .cell i ≡ Hold (s .head) → s .head + c ≤ s .tail
+      → Does b (F6 (Word (s .head + c)) x) (stay (headTo (E b) (minus (nextOf f (Word (s .head + c))) (2 * mark))) S (F7 (Word (s .head + c)) x))
+  unfolding stay headTo
+  won-grab b x at e le =
+      record {
+        effect = Grabbed;
+        fits = (e, omega (arith, inv .high));
+        shut = b;
+        ends = rw (Stamps.next-back c mark n g (s .head));
+        slot = rw (upd-same (s .cell) i (Hand Grab (s .head) w), e);
+        stands = (s .head, refl, (rw at (upd-same (s .cell) i (Hand Grab (s .head) w)), newest (s .taker) (s .head)));
+        tells = refl;
+        truth = tt;
+        grip = λ back m. (refl, index-word c mark n (g .laws) (s .head + c) ∙ add-mod-right (s .head) c ∙ at);
+        writes = tt;
+      }
+
+  f6 : (b : Bool) (m x : ℕ) (lose : Bool) → m % c ≡ i → ViewOk c s w (Forces m) → Late (m + c)
+      → Does b (F6 (Word (m + c)) x) (actF6 f (E b) S (Word (m + c)) x lose)
+  f6 b m x lose at o late =
+      either (Does b (F6 (Word (m + c)) x)) (same (E b .head) (minus (Word (m + c)) (2 * mark))) _ (stay (E b) S (P1 Force x))
+      (λ h. either (Does b (F6 (Word (m + c)) x)) lose (stay (E b) S (P1 Force x)) (stay (headTo (E b) (minus (nextOf f (Word (m + c))) (2 * mark))) S (F7 (Word (m + c)) x))
+      (λ d. still b (F6 (Word (m + c)) x) (P1 Force x) no-hand refl tt tt)
+      (λ d. won h))
+      (λ h. still b (F6 (Word (m + c)) x) (P1 Force x) no-hand refl tt tt)
+    where
+      won : same (E b .head) (minus (Word (m + c)) (2 * mark)) ≡ true
+          → Does b (F6 (Word (m + c)) x) (stay (headTo (E b) (minus (nextOf f (Word (m + c))) (2 * mark))) S (F7 (Word (m + c)) x))
+      won h =
+          let r : Near (n * c) (s .head) m = omega (arith, turn, inv .low, o .0) in
+          let e : s .head ≡ m = eqb-true _ _ (sym (Stamps.before-is c mark n g (s .head) m r) ∙ h) in
+          let here : s .cell i ≡ Hold (s .head) = ap (s .cell) (sym at) ∙ o .1 e ∙ ap Hold (sym e) in
+          rw (← e) (won-grab b x (ap (λ (z : ℕ). z % c) e ∙ at) here (omega (arith, o .2)))
+
+  -- the index of a word a lap on
+  lap-index : (m : ℕ) → m % c ≡ i → word c mark n (m + c) % mark ≡ i
+  lap-index m at = index-word c mark n (g .laws) (m + c) ∙ add-mod-right m c ∙ at
+
+  -- force_push's tail claim, whatever the act makes of the mark
+  forces : (b shut : Bool) (m x : ℕ) → m % c ≡ i → ViewOk c s w (Owns Grab m)
+      → Does b (F7 (Word (m + c)) x) (stay (tailTo (E b) (tailWord c mark n (m + c + 1) shut)) S (F8 (Word (m + c)) x))
+  unfolding stay tailTo
+  forces b shut m x at o =
+      let e = owned-here Grab m at o in
+      let k = ok-at c s w i small inv (Hand Grab m w) e in
+      let q : s .tail ≡ m + c = k .1 .1 in
+      record {
+        effect = Forced m x;
+        fits = e;
+        shut = shut;
+        ends = rw q;
+        slot = rw (upd-same (s .cell) i (Hand Swap m w), e);
+        stands =
+            (m, refl, ((rw at (upd-same (s .cell) i (Hand Swap m w)), (o .1, rw (← q) (newest (s .tailer) (s .tail)))), omega arith, rw (← q) (sym (upd-same (s .item) (s .tail) x))));
+        tells = refl;
+        truth = tt;
+        grip = λ back z. (refl, lap-index m at);
+        writes = tt;
+      }
+
+  f7 : (b : Bool) (m x : ℕ) → m % c ≡ i → ViewOk c s w (Owns Grab m) → Does b (F7 (Word (m + c)) x) (actF7 f (E b) S (Word (m + c)) x)
+  f7 b m x at o = rw (Stamps.next-is c mark n g (m + c)) (forces b false m x at o)
+
+  f8 : (b : Bool) (m x : ℕ) → m % c ≡ i → ViewOk c s w (Keeps Swap m x (m + c)) → Does b (F8 (Word (m + c)) x) (actF8 (E b) S (Word (m + c)) x)
+  unfolding stay valueTo
+  f8 b m x at o =
+      let e = owned-here Swap m at (o .0) in
+      let k = ok-at c s w i small inv (Hand Swap m w) e in
+      record {
+        effect = Swaps m x;
+        fits = (e, o .2, o .0 .1 .1);
+        shut = b;
+        ends = refl;
+        slot = rw (upd-same (s .cell) i (Hand Swapped m w), upd-same (s .val) i x, e);
+        stands =
+            (m, refl, ((rw at (upd-same (s .cell) i (Hand Swapped m w)), o .0 .1 .0), omega (arith, o .1), k .1 .2 .0));
+        tells = refl;
+        truth = tt;
+        grip = λ back z. (refl, lap-index m at);
+        writes = writeF8;
+      }
+
+  f9 : (b : Bool) (m v : ℕ) → m % c ≡ i → ViewOk c s w (Keeps Swapped m v m) → Does b (F9 (Word (m + c)) v) (actF9 (E b) S (Word (m + c)) v)
+  unfolding stay stampTo
+  f9 b m v at o =
+      let e = owned-here Swapped m at (o .0) in
+      let k = ok-at c s w i small inv (Hand Swapped m w) e in
+      record {
+        effect = Gives m (Hold (m + c)) v;
+        fits =
+            ((Swapped, e, omega arith, tt, (add-mod-right m c ∙ at, k .1 .0, k .1 .1, k .1 .2)), refl, omega arith, o .2, o .1, o .0 .1);
+        shut = b;
+        ends = refl;
+        slot = rw (upd-same (s .cell) i (Hold (m + c)), Stamps.plus-one c mark n g (m + c));
+        stands = tt;
+        tells = refl;
+        truth = tt;
+        grip = λ back z. gone (Hold (m + c)) tt z;
+        writes = tt;
+      }
+
+  o2 : (b : Bool) (m : ℕ) → m % c ≡ i → m ≤ s .head → LateHead m → Does b (O2 (Word m)) (actO2 (E b) S (Word m))
+  o2 b m at le late =
+      either (Does b (O2 (Word m))) (onePast (S .stamp) (Word m)) (stay (E b) S (O3 (Word m))) _
+      (λ h. still b (O2 (Word m)) (O3 (Word m)) no-hand refl tt (m, refl, (le, holds h)))
+      (λ h. either (Does b (O2 (Word m))) (same (S .stamp) (Word m)) (stay (E b) S (O6 (Word m))) (stay (E b) S O1)
+      (λ d. still b (O2 (Word m)) (O6 (Word m)) no-hand refl tt (m, refl, le))
+      (λ d. still b (O2 (Word m)) O1 no-hand refl tt tt))
+    where
+      holds : onePast (S .stamp) (Word m) ≡ true → s .head ≡ m → s .cell (m % c) ≡ Hold m
+      holds h e =
+          let r : Near (n * c) (number (s .cell i)) m = omega (arith, number-near c s inv i (s .cell i) ok-here, turn, inv .low, inv .high) in
+          let q = when (full (s .cell i)) _ (sym (Stamps.stamp-past c mark n g (full (s .cell i)) (number (s .cell i)) m (same-slot m at) r) ∙ h) in
+          rw at (see-full c s inv i m (s .cell i) ok-here (q .0) (eqb-true _ _ (q .1)) e)
+
+  won-take : (b : Bool) → s .head % c ≡ i → s .cell i ≡ Hold (s .head)
+      → Does b (O3 (Word (s .head))) (stay (headTo (E b) (nextOf f (Word (s .head)))) S (O4 (Word (s .head))))
+  unfolding stay headTo
+  won-take b at e =
+      record {
+        effect = Taken;
+        fits = e;
+        shut = b;
+        ends = rw (Stamps.next-is c mark n g (s .head));
+        slot = rw (upd-same (s .cell) i (Hand Take (s .head) w), e);
+        stands = (s .head, refl, (rw at (upd-same (s .cell) i (Hand Take (s .head) w)), newest (s .taker) (s .head)));
+        tells = refl;
+        truth = tt;
+        grip = λ back m. (refl, index-word c mark n (g .laws) (s .head) ∙ at);
+        writes = tt;
+      }
+
+  o3 : (b : Bool) (m : ℕ) (lose : Bool) → m % c ≡ i → ViewOk c s w (Holds m) → LateHead m → Does b (O3 (Word m)) (actO3 f (E b) S (Word m) lose)
+  o3 b m lose at o late =
+      either (Does b (O3 (Word m))) (same (E b .head) (Word m)) _ (stay (E b) S (O2 (E b .head)))
+      (λ h. either (Does b (O3 (Word m))) lose (stay (E b) S (O2 (Word m))) (stay (headTo (E b) (nextOf f (Word m))) S (O4 (Word m)))
+      (λ d. still b (O3 (Word m)) (O2 (Word m)) no-hand refl tt (m, refl, o .0))
+      (λ d. won h))
+      (λ h. still b (O3 (Word m)) (O2 (E b .head)) no-hand refl tt (s .head, refl, omega arith))
+    where
+      won : same (E b .head) (Word m) ≡ true → Does b (O3 (Word m)) (stay (headTo (E b) (nextOf f (Word m))) S (O4 (Word m)))
+      won h =
+          let r : Near (n * c) (s .head) m = omega (arith, turn, inv .low, o .0) in
+          let e : s .head ≡ m = eqb-true _ _ (sym (Stamps.same-is c mark n g (s .head) m r) ∙ h) in
+          let here : s .cell i ≡ Hold (s .head) = ap (s .cell) (sym at) ∙ o .1 e ∙ ap Hold (sym e) in
+          rw (← e) (won-take b (ap (λ (z : ℕ). z % c) e ∙ at) here)
+
+  o4 : (b : Bool) (m : ℕ) → m % c ≡ i → ViewOk c s w (Owns Take m) → Does b (O4 (Word m)) (stay (E b) S (O5 (Word m) (S .value)))
+  unfolding stay
+  o4 b m at o =
+      let k = ok-at c s w i small inv (Hand Take m w) (owned-here Take m at o) in
+      record {
+        effect = Still;
+        fits = tt;
+        shut = b;
+        ends = refl;
+        slot = refl;
+        stands = (m, refl, (o, omega (arith, k .1 .0, inv .low), k .1 .2 .0));
+        tells = refl;
+        truth = tt;
+        grip = λ back z. (refl, index-word c mark n (g .laws) m ∙ at);
+        writes = tt;
+      }
+
+  o5 : (b : Bool) (m v : ℕ) → m % c ≡ i → ViewOk c s w (Keeps Take m v m) → Does b (O5 (Word m) v) (actO5 f (E b) S (Word m) v)
+  unfolding stay stampTo
+  o5 b m v at o =
+      let e = owned-here Take m at (o .0) in
+      let k = ok-at c s w i small inv (Hand Take m w) e in
+      record {
+        effect = Gives m (Await (m + c)) v;
+        fits =
+            ((Take, e, omega arith, tt, (add-mod-right m c ∙ at, k .1 .1, omega (arith, k .1 .0))), refl, omega arith, o .2, o .1, o .0 .1);
+        shut = b;
+        ends = refl;
+        slot = rw (upd-same (s .cell) i (Await (m + c)), Stamps.plus-lap c mark n g m);
+        stands = tt;
+        tells = refl;
+        truth = tt;
+        grip = λ back z. gone (Await (m + c)) tt z;
+        writes = tt;
+      }
+
+  o6 : (b : Bool) (m : ℕ) → m ≤ s .head → LateHead m → Does b (O6 (Word m)) (actO6 f (E b) S (Word m))
+  o6 b m le late =
+      either (Does b (O6 (Word m))) (same (unmarkedOf f (E b .tail)) (Word m)) _ (stay (E b) S O1)
+      (λ h. either (Does b (O6 (Word m))) (markedOf f (E b .tail)) (stay (E b) S (Idle PopClosed)) (stay (E b) S (Idle Empty))
+      (λ d. still b (O6 (Word m)) (Idle PopClosed) no-hand refl (d, Stamps.unmarked-tail c mark n g (s .tail) b ∙ ap Word (even h)) tt)
+      (λ d. still b (O6 (Word m)) (Idle Empty) no-hand refl (d, clear-tail b d ∙ ap Word (even h)) tt))
+      (λ h. still b (O6 (Word m)) O1 no-hand refl tt tt)
+    where
+      even : same (unmarkedOf f (E b .tail)) (Word m) ≡ true → s .tail ≡ s .head
+      even h =
+          let r : Near (n * c) (s .tail) m = omega (arith, turn, inv .low, inv .high) in
+          let z : same (Word (s .tail)) (Word m) ≡ true = rw (Stamps.unmarked-tail c mark n g (s .tail) b) at h in
+          let q : s .tail ≡ m = eqb-true _ _ (sym (Stamps.same-is c mark n g (s .tail) m r) ∙ z) in
+          omega (arith, inv .low)
+
+  -- the lookers change nothing
+  says : (b : Bool) (p : Place) (a : Bool) → (HandAt mark (look c p) i → ⊥) → Does b p (stay (E b) S (Idle (yesNo a)))
+  says b p true loose = still b p (Idle Yes) loose refl tt tt
+  says b p false loose = still b p (Idle No) loose refl tt tt
+
+  no-word : ⊥ → ⊥
+  no-word h = h
+
+  len2 : (b : Bool) (t : Stamp) → Stands c mark n s w (Tails t) → Does b (Len2 t) (stay (E b) S (Len3 t (E b .head)))
+  len2 b t o =
+      still b (Len2 t) (Len3 t (E b .head)) no-word refl tt (o .0, o .1, s .head, o .2, refl, o .3, λ e. omega (arith, inv .low, inv .high))
+
+  len3 : (b : Bool) (t h : Stamp) → Does b (Len3 t h) (actLen3 f (E b) S t h)
+  len3 b t h =
+      either (Does b (Len3 t h)) (same (E b .tail) t) (stay (E b) S (Idle (Len (countOf f t h)))) (stay (E b) S Len1)
+      (λ d. still b (Len3 t h) (Idle (Len (countOf f t h))) no-word refl tt tt) (λ d. still b (Len3 t h) Len1 no-word refl tt tt)
+
+  -- the mark is outside the ring
+  closes : (b : Bool) → markedOf f (E b .tail) ≡ false → Does b Close1 (stay (tailTo (E b) (withMark f (E b .tail))) S (Idle Yes))
+  unfolding stay tailTo
+  closes b h =
+      let q : b ≡ false = sym (Stamps.marked-tail c mark n g (s .tail) b) ∙ h in
+      record {
+        effect = Still;
+        fits = tt;
+        shut = true;
+        ends = rw (q, Stamps.with-mark c mark n g (s .tail));
+        slot = refl;
+        stands = tt;
+        tells = refl;
+        truth = tt;
+        grip = λ back m. absurd (back m);
+        writes = tt;
+      }
+
+  close1 : (b : Bool) → Does b Close1 (actClose1 f (E b) S)
+  close1 b =
+      either (Does b Close1) (markedOf f (E b .tail)) (stay (E b) S (Idle No)) (stay (tailTo (E b) (withMark f (E b .tail))) S (Idle Yes))
+      (λ h. still b Close1 (Idle No) no-word refl tt tt) (closes b)
+
+  -- the slot of the act is that of the claim
+  at-word : (t : Stamp) (m : ℕ) → t ≡ Word m → i ≡ indexOf f t → m % c ≡ i
+  at-word t m e at = sym (Stamps.word-slot c mark n g t m e) ∙ sym at
+
+  at-lap : (t : Stamp) (m : ℕ) → t ≡ Word (m + c) → i ≡ indexOf f t → m % c ≡ i
+  at-lap t m e at = sym (Stamps.lap-slot c mark n g t m e) ∙ sym at
+
+  -- every act of a busy worker
+  pub step : (b : Bool) (p : Place) (lose : Bool) → viewOf p .busy ≡ true → i ≡ spotOf f (viewOf p .held)
+      → (o : Stands c mark n s w (look c p)) → Recent c mark n s w (look c p) o → Does b p (actOf f (E b) S p lose)
+  step b (Idle a) lose busy at o r = absurd (true≢false (sym busy))
+  step b (P1 k x) lose busy at o r = loads b (P1 k x) k x no-word
+  step b (P2 k t x) lose busy at o r = rw (o .1) (p2 b k (o .0) x (at-word t (o .0) (o .1) at) (o .2) r)
+  step b (P3 k t x) lose busy at o r = rw (o .1) (p3 b k (o .0) x lose (at-word t (o .0) (o .1) at) (o .2) r)
+  step b (P4 t x) lose busy at o r = rw (o .1) (p4 b (o .0) x (at-word t (o .0) (o .1) at) (o .2))
+  step b (P5 t) lose busy at o r = rw (o .1) (p5 b (o .0) (at-word t (o .0) (o .1) at) (o .2))
+  step b (P6 t x) lose busy at o r = rw (o .1) (p6 b (o .0) x (o .2) r)
+  step b (F6 t x) lose busy at o r = rw (o .1) (f6 b (o .0) x lose (at-lap t (o .0) (o .1) at) (o .2) r)
+  step b (F7 t x) lose busy at o r = rw (o .1) (f7 b (o .0) x (at-lap t (o .0) (o .1) at) (o .2))
+  step b (F8 t x) lose busy at o r = rw (o .1) (f8 b (o .0) x (at-lap t (o .0) (o .1) at) (o .2))
+  step b (F9 t v) lose busy at o r = rw (o .1) (f9 b (o .0) v (at-lap t (o .0) (o .1) at) (o .2))
+  step b O1 lose busy at o r = still b O1 (O2 (E b .head)) no-word refl tt (s .head, refl, omega arith)
+  step b (O2 h) lose busy at o r = rw (o .1) (o2 b (o .0) (at-word h (o .0) (o .1) at) (o .2) r)
+  step b (O3 h) lose busy at o r = rw (o .1) (o3 b (o .0) lose (at-word h (o .0) (o .1) at) (o .2) r)
+  step b (O4 h) lose busy at o r = rw (o .1) (o4 b (o .0) (at-word h (o .0) (o .1) at) (o .2))
+  step b (O5 h v) lose busy at o r = rw (o .1) (o5 b (o .0) v (at-word h (o .0) (o .1) at) (o .2))
+  step b (O6 h) lose busy at o r = rw (o .1) (o6 b (o .0) (o .2) r)
+  step b Len1 lose busy at o r = still b Len1 (Len2 (E b .tail)) no-word refl tt (s .tail, b, refl, omega arith)
+  step b (Len2 t) lose busy at o r = len2 b t o
+  step b (Len3 t h) lose busy at o r = len3 b t h
+  step b Empty1 lose busy at o r = still b Empty1 (Empty2 (E b .head)) no-word refl tt (s .head, refl, omega arith)
+  step b (Empty2 h) lose busy at o r = says b (Empty2 h) (same (unmarkedOf f (E b .tail)) h) no-hand
+  step b Full1 lose busy at o r = still b Full1 (Full2 (E b .tail)) no-word refl tt (s .tail, b, refl, omega arith)
+  step b (Full2 t) lose busy at o r = says b (Full2 t) (lapBehind f (E b .head) (unmarkedOf f t)) no-word
+  step b Close1 lose busy at o r = close1 b
+  step b IsClosed1 lose busy at o r = says b IsClosed1 (markedOf f (E b .tail)) no-word

@@ -1,0 +1,172 @@
+-- One turn of the schedule's loop, from what is left of the run.
+use Prim.Native.Nat.{ℕ, suc, _+_, _*_, _%_, _<_, _≤_}
+use mathlib.Core.Path.{_≡_, refl, sym, ap, _∙_, subst}
+use mathlib.Core.Bool.{Bool, true, false}
+use mathlib.Core.List.{List, _∷_}
+use native.Mathlib.Omega.{arith}
+use native.Mathlib.Numerals.{add-one}
+use lib.Dec.{ltb}
+use lib.ListN.{getD, length, drop, drop-of-length-le}
+use lib.Seq.{drop-cons}
+use borrow.Author.Tests.{ne-eqb, eq-eqb, ltb-true}
+use Rattle.queue_entries.specs.Schedules.{runBy, scheduleBy}
+use Rattle.queue_entries.specs.Limits.{workersMost, meterMost}
+use Rattle.queue_entries.proofs.Pick.{below, above, yes, no}
+use Rattle.queue_entries.specs.declared.Call.{Call}
+use Rattle.queue_entries.specs.declared.Order.{Order}
+use Rattle.queue_entries.specs.declared.Order.the-variants.{Begin, Act}
+use Rattle.queue_entries.specs.declared.Entry.{Entry}
+use Rattle.queue_entries.specs.declared.Entry.the-variants.{Unreadable, Asks}
+use Rattle.queue_entries.specs.Entries.{entryOf}
+use Rattle.queue_entries.specs.declared.Verdict.{Verdict}
+use Rattle.queue_entries.specs.declared.Verdict.the-variants.{Refuse, Start, Move}
+use Rattle.bounded_words.specs.Limits.{slotsMost}
+use Rattle.bounded_places.specs.declared.Slot.{Slot}
+use Rattle.bounded_places.specs.declared.Place.{Place}
+use Rattle.bounded_places.specs.declared.Held.{Held}
+use Rattle.bounded_places.specs.declared.Held.the-variants as held
+use Rattle.bounded_places.specs.Places.{viewOf, fitsOf, beginOf}
+use Rattle.bounded_acts.specs.declared.Acted.{Acted}
+use Rattle.bounded_acts.specs.Acts.{actOf, Fits}
+use Rattle.bounded_machine.specs.declared.Machine.{Machine}
+use Rattle.bounded_machine.specs.declared.Ran.{Ran}
+use Rattle.bounded_machine.specs.Machine.{slot, placeOf, refused, accepted}
+use Rattle.bounded_machine.specs.Broken.{brokenOf}
+use Rattle.bounded_machine.specs.Turn.{verdictOf, spotOf, begun, stored, actedBy, carried, turn, turnOf, turnOfBy}
+use Rattle.bounded_machine.specs.Run.{ran, runFrom, runOf}
+use Rattle.bounded_machine.proofs.Kept.{Unbroken, fair-in, ruled-in, few-workers, begun-unbroken, stored-unbroken, Ok, keeps, word-fits-in, fits-plain, either}
+
+-- ---- what a verdict tells: a refusal has a number, a move is a busy worker's in time
+abbrev Sense : ℕ → Place → Verdict → Type 0
+Sense meter p (Refuse k) = 0 < k
+Sense meter p (Start c) = Unit {0}
+Sense meter p (Move lose) = (viewOf p .busy ≡ true) × (meter < meterMost)
+
+sense : (meter : ℕ) (p : Place) (o : Order) → Sense meter p (verdictOf meter p o)
+sense meter p (Begin c) = either (Sense meter p) (viewOf p .busy) (Refuse 4) (Start c) (λ b. omega arith) (λ b. tt)
+sense meter p (Act lose) =
+    either (Sense meter p) (viewOf p .busy) _ (Refuse 5)
+    (λ b. either (Sense meter p) (ltb meter meterMost) _ (Refuse 7)
+    (λ d. either (Sense meter p) lose _ (Move false)
+    (λ l. either (Sense meter p) (viewOf p .weak) (Move true) (Refuse 8) (λ w. (b, ltb-true meter meterMost d)) (λ w. omega arith))
+    (λ l. (b, ltb-true meter meterMost d)))
+    (λ d. omega arith))
+    (λ b. omega arith)
+
+module _ (meter : ℕ) (p : Place) (o : Order) (v : Verdict) (e : v ≡ verdictOf meter p o) where
+  pub number-positive : (k : ℕ) → v ≡ Refuse k → 0 < k
+  number-positive k h = subst (Sense meter p) (sym e ∙ h) (sense meter p o)
+
+  pub move-busy : (lose : Bool) → v ≡ Move lose → viewOf p .busy ≡ true
+  move-busy lose h = subst (Sense meter p) (sym e ∙ h) (sense meter p o) .0
+
+  pub move-in-time : (lose : Bool) → v ≡ Move lose → meter < meterMost
+  move-in-time lose h = subst (Sense meter p) (sym e ∙ h) (sense meter p o) .1
+
+-- ---- what an entry does
+module _ (m : Machine) (first second : ℕ) (x : Entry) (ex : x ≡ entryOf first second) where
+  unread : x ≡ Unreadable → turnOf m first second ≡ refused 9 m
+  unfolding turnOfBy
+  unread h = ap (turn m) (sym ex ∙ h)
+
+  module _ (w : ℕ) (o : Order) (h : x ≡ Asks w o) where
+    far : m .count ≤ w → turnOf m first second ≡ refused 3 m
+    unfolding turnOfBy
+    far g = ap (turn m) (sym ex ∙ h) ∙ sym (above w (m .count) _ _ _ g refl)
+
+    near : (v : Verdict) → w < m .count → v ≡ verdictOf (m .meter) (placeOf (m .workers) w) o → turnOf m first second ≡ carried m w (placeOf (m .workers) w) v
+    unfolding turnOfBy
+    near v g e = ap (turn m) (sym ex ∙ h) ∙ sym (below w (m .count) _ _ _ g (ap (carried m w (placeOf (m .workers) w)) e))
+
+-- ---- one turn
+module _ (s : List ℕ) (n i : ℕ) (m : Machine) (whole : Ran) (back : runFrom m i (drop (2 * i) s) ≡ whole) (len : length s ≡ 2 * n) (lt : i < n) where
+  -- the two words of the i-th entry come first
+  split : drop (2 * i) s ≡ getD s (2 * i) 0 ∷ getD s (2 * i + 1) 0 ∷ drop (2 * (i + 1)) s
+  split =
+      let a : suc (2 * i) ≡ 2 * i + 1 = sym (add-one (2 * i)) in
+      let b : suc (2 * i + 1) ≡ 2 * (i + 1) = omega arith in
+      drop-cons s (2 * i) 0 (omega arith)
+      ∙ ap (λ (l : List ℕ). getD s (2 * i) 0 ∷ l)
+      (ap (λ (k : ℕ). drop k s) a ∙ drop-cons s (2 * i + 1) 0 (omega arith) ∙ ap (λ (k : ℕ). getD s (2 * i + 1) 0 ∷ drop k s) b)
+
+  whole-from : runFrom m i (getD s (2 * i) 0 ∷ getD s (2 * i + 1) 0 ∷ drop (2 * (i + 1)) s) ≡ whole
+  whole-from = sym (ap (runFrom m i) split) ∙ back
+
+  stopped : (k : ℕ) → 0 < k → turnOf m (getD s (2 * i) 0) (getD s (2 * i + 1) 0) ≡ refused k m → ran k i m ≡ whole
+  unfolding runBy refused
+  stopped k pos h = sym (simp (h, ne-eqb k 0 (λ z. omega arith))) ∙ whole-from
+
+  went : (next : Machine) → turnOf m (getD s (2 * i) 0) (getD s (2 * i + 1) 0) ≡ accepted next → runFrom next (i + 1) (drop (2 * (i + 1)) s) ≡ whole
+  unfolding runBy accepted
+  went next h = sym (simp h) ∙ whole-from
+
+  module _ (x : Entry) (ex : x ≡ entryOf (getD s (2 * i) 0) (getD s (2 * i + 1) 0)) where
+    pub stop-9 : x ≡ Unreadable → ran 9 i m ≡ whole
+    stop-9 h = stopped 9 (omega arith) (unread m _ _ x ex h)
+
+    module _ (w : ℕ) (o : Order) (h : x ≡ Asks w o) where
+      pub stop-3 : m .count ≤ w → ran 3 i m ≡ whole
+      stop-3 g = stopped 3 (omega arith) (far m _ _ x ex w o h g)
+
+      module _ (v : Verdict) (g : w < m .count) (e : v ≡ verdictOf (m .meter) (placeOf (m .workers) w) o) where
+        pub stop : (k : ℕ) → v ≡ Refuse k → ran k i m ≡ whole
+        stop k q = stopped k (number-positive (m .meter) (placeOf (m .workers) w) o v e k q) (near m _ _ x ex w o h v g e ∙ ap (carried m w (placeOf (m .workers) w)) q)
+
+        pub start : (c : Call) (q : Place) → v ≡ Start c → q ≡ beginOf c → runFrom (begun m w q) (i + 1) (drop (2 * (i + 1)) s) ≡ whole
+        start c q k l = went (begun m w q) (near m _ _ x ex w o h v g e ∙ ap (carried m w (placeOf (m .workers) w)) k ∙ ap (λ (z : Place). accepted (begun m w z)) (sym l))
+
+        pub move : (lose : Bool) (sp : ℕ) (a : Acted) → v ≡ Move lose → sp ≡ spotOf (m .ring .fixed) (viewOf (placeOf (m .workers) w) .held)
+            → a ≡ actOf (m .ring .fixed) (m .ring .ends) (getD (m .ring .slots) sp (slot 0 0)) (placeOf (m .workers) w) lose
+            → runFrom (stored m w sp a) (i + 1) (drop (2 * (i + 1)) s) ≡ whole
+        unfolding actedBy
+        move lose sp a k es ea =
+            went (stored m w sp a)
+            (near m _ _ x ex w o h v g e ∙ ap (carried m w (placeOf (m .workers) w)) k ∙ ap accepted (rw (ea, es)))
+
+-- ---- before and after the loop
+module _ (m : Machine) (s : List ℕ) (b : Bool) (e : b ≡ brokenOf m) where
+  pub broken-run : b ≡ true → ran 6 0 m ≡ runOf m s
+  unfolding scheduleBy
+  broken-run h = yes _ b _ _ _ e h refl
+
+  module _ (h : b ≡ false) where
+    pub odd-run : length s % 2 ≡ 1 → ran 11 0 m ≡ runOf m s
+    unfolding scheduleBy
+    odd-run k = no _ b _ _ _ e h (sym (simp (eq-eqb _ _ k)))
+
+    pub even-run : (length s % 2 ≡ 1 → ⊥) → runFrom m 0 (drop 0 s) ≡ runOf m s
+    unfolding scheduleBy
+    even-run k = no _ b _ _ _ e h (sym (simp (ne-eqb _ _ k)))
+
+pub ended : (s : List ℕ) (n i : ℕ) (m : Machine) (whole : Ran) → runFrom m i (drop (2 * i) s) ≡ whole → length s ≡ 2 * n → n ≤ i → ran 0 i m ≡ whole
+unfolding runBy
+ended s n i m whole back len ge = sym (ap (runFrom m i) (drop-of-length-le s {i = 2 * i} (omega arith))) ∙ back
+
+-- ---- what the loop may do on an unbroken machine
+module _ (m : Machine) (u : Unbroken m) where
+  pub worker-below : (w : ℕ) → w < m .count → w < workersMost
+  worker-below w l = omega (arith, few-workers m u)
+
+  module _ (w : ℕ) (l : w < m .count) (h : viewOf (placeOf (m .workers) w) .busy ≡ true) where
+    pub fits-in : Fits (m .ring .fixed) (placeOf (m .workers) w)
+    fits-in = record { fair = fair-in m u; held = word-fits-in m u w l h }
+
+    pub spot-below : (sp : ℕ) → sp ≡ spotOf (m .ring .fixed) (viewOf (placeOf (m .workers) w) .held) → sp < slotsMost
+    spot-below sp e = subst (λ (k : ℕ). k < slotsMost) (sym e) (spot-fits (viewOf (placeOf (m .workers) w) .held) (word-fits-in m u w l h))
+      where
+        spot-fits : (d : Held) → fitsOf (m .ring .fixed) d ≡ true → spotOf (m .ring .fixed) d < slotsMost
+        spot-fits held.Nothing k = omega arith
+        spot-fits (held.End t) k = omega (arith, fits-plain (m .ring .fixed) t k .low, ruled-in m u .most)
+        spot-fits (held.Tail t) k = omega arith
+        spot-fits (held.Both t d) k = omega arith
+
+  -- and it stays unbroken
+  module _ (w : ℕ) (l : w < m .count) where
+    pub started-unbroken : (c : Call) (q : Place) → q ≡ beginOf c → Unbroken (begun m w q)
+    started-unbroken c q e = subst (λ (x : Place). Unbroken (begun m w x)) (sym e) (begun-unbroken m u w l c)
+
+    pub moved-unbroken : (sp : ℕ) (a : Acted) (s : Slot) (lose : Bool) → viewOf (placeOf (m .workers) w) .busy ≡ true → a ≡ actOf (m .ring .fixed) (m .ring .ends) s (placeOf (m .workers) w) lose → Unbroken (stored m w sp a)
+    moved-unbroken sp a s lose h e =
+        stored-unbroken m u w l sp a
+        (subst (Ok (m .ring .fixed) (ruled-in m u)) (sym e)
+        (keeps (m .ring .fixed) (ruled-in m u) (m .ring .ends) s (u .ends) (placeOf (m .workers) w) lose (word-fits-in m u w l h)))

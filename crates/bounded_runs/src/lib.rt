@@ -1,0 +1,103 @@
+// A schedule, entry by entry, on any machine: the one loop that all entries go through.
+ghost use mathlib.Core.Path.{_≡_};
+ghost use Rattle.bounded_machine.specs.Machine.{machineOf};
+ghost use Rattle.bounded_machine.specs.Run.{ran, runOf};
+use bounded_machine::Machine;
+use bounded_machine::Ran;
+use bounded_machine::Ring;
+use bounded_places::Ends;
+use bounded_places::Slot;
+use bounded_places::Worker;
+use bounded_words::Fixed;
+use queue_entries::Entry;
+use queue_entries::Verdict;
+
+fn ran(
+    refusal: u64,
+    place: usize,
+    f: Fixed,
+    e: Ends,
+    slots: [Slot; bounded_words::SLOTS],
+    workers: [Worker; queue_entries::WORKERS],
+    count: u64,
+    meter: u64,
+) -> Ran
+    ensures { λ r. ⌜ r ≡ ran refusal place (machineOf f e slots workers count meter) ⌝ }
+{
+    Ran {
+        refusal: refusal,
+        place: place as u64,
+        machine: Machine {
+            ring: Ring {
+                fixed: f,
+                ends: e,
+                slots: slots,
+            },
+            workers: workers,
+            count: count,
+            meter: meter,
+        },
+    }
+}
+
+// A schedule, entry by entry, to its end or to the first refusal.
+pub fn run(m: Machine, schedule: &[u64]) -> Ran
+    ensures { λ r. ⌜ r ≡ runOf m (now (schedule .entry)) ⌝ }
+{
+    let ring = m.ring;
+    let f = ring.fixed;
+    let mut ends = ring.ends;
+    let mut slots = ring.slots;
+    let mut workers = m.workers;
+    let count = m.count;
+    let mut meter = m.meter;
+    if bounded_machine::broken(m) {
+        return ran(6, 0, f, ends, slots, workers, count, meter);
+    }
+    if schedule.len() % 2 == 1 {
+        return ran(11, 0, f, ends, slots, workers, count, meter);
+    }
+    let n = schedule.len() / 2;
+    let mut i = 0;
+    while i < n {
+        let Entry::Asks(worker, order) = queue_entries::entry_of(
+            schedule[2 * i],
+            schedule[2 * i + 1],
+        ) else {
+            return ran(9, i, f, ends, slots, workers, count, meter);
+        };
+        if count <= worker {
+            return ran(3, i, f, ends, slots, workers, count, meter);
+        }
+        let w = worker as usize;
+        let record = workers[w];
+        let p = record.place;
+        let verdict = bounded_machine::verdict_of(meter, p, order);
+        match verdict {
+            Verdict::Refuse(number) => {
+                return ran(number, i, f, ends, slots, workers, count, meter);
+            }
+            Verdict::Start(call) => {
+                workers[w] = Worker {
+                    place: bounded_places::first_place(call),
+                };
+                i += 1;
+            }
+            Verdict::Move(lose) => {
+                let view = bounded_places::view_of(p);
+                let held = view.held;
+                let k = bounded_machine::spot(f, held) as usize;
+                let slot = slots[k];
+                let a = bounded_table::act_at(f, ends, slot, p, lose);
+                let slot_after = a.slot;
+                let place_after = a.place;
+                ends = a.ends;
+                slots[k] = slot_after;
+                workers[w] = Worker { place: place_after };
+                meter += 1;
+                i += 1;
+            }
+        }
+    }
+    ran(0, i, f, ends, slots, workers, count, meter)
+}

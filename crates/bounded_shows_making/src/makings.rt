@@ -1,0 +1,86 @@
+// Refusals 1 and 2.
+use bounded_machine::Machine;
+
+fn say_blank(out: &mut [u8], at: usize, blank: bool) {
+    if blank {
+        let p = text_output::text(out, at, b" blank\n");
+        text_output::flush(out, p);
+    } else {
+        let p = text_output::text(out, at, b" NOT BLANK\n");
+        text_output::flush(out, p);
+    }
+}
+
+fn say_made(out: &mut [u8], at: usize, n: [u64; 7]) {
+    let numbers = [n[3], n[4], n[5], n[6], n[0], n[1], n[2]];
+    let p = text_output::form(
+        out,
+        at,
+        b" capacity=# mark=# lap=# workers=# h=# t=# m=#",
+        &numbers,
+    );
+    text_output::end(out, p);
+}
+
+// What came of a making: the blank machine, or one with these constants.
+fn stands(out: &mut [u8], at: usize, refusal: u64, m: Machine) {
+    if refusal == 0 {
+        say_made(out, at, bounded_text_machine::numbers(m));
+    } else {
+        say_blank(
+            out,
+            at,
+            bounded_text_machine::alike::machines(m, bounded_text_machine::build::zeroed()),
+        );
+    }
+}
+
+fn make(capacity: u64, workers: u64) {
+    let mut out = [0u8; 512];
+    let made = bounded::make(capacity, workers);
+    let numbers = [capacity, workers, made.refusal];
+    let p = text_output::form(&mut out, 0, b"make # #: #", &numbers);
+    stands(&mut out, p, made.refusal, made.machine);
+}
+
+fn makings() {
+    make(0, 1);
+    make(1, 1);
+    make(2, 1);
+    make(255, 16);
+    make(256, 1);
+    make(257, 1);
+    make(18446744073709551615, 1);
+    make(1, 0);
+    make(1, 16);
+    make(1, 17);
+    make(1, 18446744073709551615);
+    make(0, 0);
+    make(257, 17);
+    make(0, 17);
+    make(257, 0);
+}
+
+fn say_workers(m: Machine) {
+    let mut out = [0u8; 512];
+    let p = bounded_text_machine::text::worker(&mut out, 0, 0, m);
+    let q = text_output::byte(&mut out, p, b' ');
+    let r = bounded_text_machine::text::worker(&mut out, q, 15, m);
+    let s = text_output::byte(&mut out, r, b' ');
+    let t = bounded_text_machine::text::worker(&mut out, s, 16, m);
+    text_output::end(&mut out, t);
+}
+
+// Every worker of a fresh machine is idle and has no answer; so is every record past the count.
+fn fresh(capacity: u64, workers: u64) {
+    let made = bounded::make(capacity, workers);
+    say_workers(made.machine);
+    bounded_text_answers::entry::slots(made.machine);
+}
+
+pub fn all() {
+    makings();
+    fresh(3, 16);
+    fresh(3, 15);
+    fresh(256, 1);
+}

@@ -1,0 +1,137 @@
+// Demand 3's numbers on the compiled code: schedules that leave worker 0 where its call, alone, needs exactly so many acts.
+// The numbers of `stdout` are document 01's.
+use bounded_machine::Machine;
+
+fn busy(m: Machine) -> bool {
+    let v = bounded_places::view_of(bounded_text_machine::place_of(m, 0));
+    v.busy
+}
+
+// Acts of worker 0 alone until it is idle; at most 9 are tried.
+fn needed(m: Machine) -> u64 {
+    let mut now = m;
+    let mut n = 0;
+    while n < 9 {
+        if busy(now) {
+            let did = bounded::step(now, 8, 0);
+            now = did.machine;
+            n += 1;
+        } else {
+            return n;
+        }
+    }
+    n
+}
+
+// CALL at PLACE: ACTS
+fn tell(call: &[u8], m: Machine) {
+    let mut out = [0u8; 512];
+    let n = needed(m);
+    let p = text_output::text(&mut out, 0, call);
+    let q = bounded_text_places::text::place(&mut out, p, bounded_text_machine::place_of(m, 0));
+    let r = text_output::form(&mut out, q, b": #", &[n]);
+    text_output::end(&mut out, r);
+}
+
+fn say(call: &[u8], capacity: u64, schedule: &[u64]) {
+    let made = bounded::make(capacity, 2);
+    let r = bounded::run(made.machine, schedule);
+    tell(call, r.machine);
+}
+// A word of tail that another push has put out of date.
+fn pushes() {
+    say(
+        b"push at ",
+        2,
+        &[0, 0, 8, 0, 16, 7, 24, 0, 24, 0, 24, 0, 24, 0, 24, 0],
+    );
+    say(
+        b"force_push at ",
+        1,
+        &[1, 0, 8, 0, 16, 7, 24, 0, 24, 0, 24, 0, 24, 0, 24, 0],
+    );
+}
+
+// Out of date at the last load before an answer.
+fn pops() {
+    say(
+        b"pop at ",
+        2,
+        &[2, 0, 8, 0, 8, 0, 16, 7, 24, 0, 24, 0, 24, 0, 24, 0, 24, 0],
+    );
+    say(
+        b"len at ",
+        2,
+        &[3, 0, 8, 0, 16, 7, 24, 0, 24, 0, 24, 0, 24, 0, 24, 0],
+    );
+}
+
+fn lookers() {
+    say(b"is_empty at ", 2, &[4, 0]);
+    say(b"is_full at ", 2, &[5, 0]);
+    say(b"close at ", 2, &[6, 0]);
+    say(b"is_closed at ", 2, &[7, 0]);
+}
+
+fn hands() {
+    say(b"in hand at ", 2, &[0, 0, 8, 0, 8, 0, 8, 0]);
+    say(
+        b"in hand at ",
+        1,
+        &[
+            16,
+            7,
+            24,
+            0,
+            24,
+            0,
+            24,
+            0,
+            24,
+            0,
+            24,
+            0,
+            1,
+            0,
+            8,
+            0,
+            8,
+            0,
+            8,
+            0,
+        ],
+    );
+    say(
+        b"in hand at ",
+        2,
+        &[
+            16,
+            7,
+            24,
+            0,
+            24,
+            0,
+            24,
+            0,
+            24,
+            0,
+            24,
+            0,
+            2,
+            0,
+            8,
+            0,
+            8,
+            0,
+            8,
+            0,
+        ],
+    );
+}
+
+fn main() {
+    pushes();
+    pops();
+    lookers();
+    hands();
+}

@@ -1,0 +1,56 @@
+-- With no slip planted the tables are document 01's, row by row, and the demands stand.
+use mathlib.Core.Bool.{Bool, true}
+use mathlib.Core.Path.{_≡_, refl, sym, ap, subst}
+use Rattle.bounded_words.specs.declared.Fixed.{Fixed}
+use Rattle.bounded_places.specs.declared.Slot.{Slot}
+use Rattle.bounded_places.specs.declared.Ends.{Ends}
+use Rattle.bounded_places.specs.declared.Place.{Place}
+use Rattle.bounded_places.specs.declared.Place.the-variants.{Idle, P1, P2, P3, P4, P5, P6, F6, F7, F8, F9, O1, O2, O3, O4, O5, O6, Len1, Len2, Len3, Empty1, Empty2, Full1, Full2, Close1, IsClosed1}
+use Rattle.bounded_acts.specs.Acts.{actOf}
+use Rattle.bounded_demands.specs.Notions.{byTable}
+use Rattle.bounded_demands.specs.Demands.{UnderEverySchedule, ActByAct, WholeSchedules, LenTrue, ScheduledAlone}
+use Rattle.bounded_proof_demand2.proofs.Demand2.{demand2, act-by-act, whole-schedules}
+use Rattle.bounded_proof_demand2.proofs.Lens.{len-true}
+use Rattle.bounded_proof_demand3.proofs.Demand3.{demand3}
+use Rattle.bounded_slips.specs.Slips.{planted, actWith, Faithful, Stands}
+
+-- every row
+same-act : (f : Fixed) (e : Ends) (s : Slot) (p : Place) (lose : Bool) → actWith planted f e s p lose ≡ actOf f e s p lose
+same-act f e s (Idle a) lose = refl
+same-act f e s (P1 k x) lose = refl
+same-act f e s (P2 k t x) lose = refl
+same-act f e s (P3 k t x) lose = refl
+same-act f e s (P4 t x) lose = refl
+same-act f e s (P5 t) lose = refl
+same-act f e s (P6 t x) lose = refl
+same-act f e s (F6 t x) lose = refl
+same-act f e s (F7 t x) lose = refl
+same-act f e s (F8 t x) lose = refl
+same-act f e s (F9 t x) lose = refl
+same-act f e s O1 lose = refl
+same-act f e s (O2 h) lose = refl
+same-act f e s (O3 h) lose = refl
+same-act f e s (O4 h) lose = refl
+same-act f e s (O5 h v) lose = refl
+same-act f e s (O6 h) lose = refl
+same-act f e s Len1 lose = refl
+same-act f e s (Len2 t) lose = refl
+same-act f e s (Len3 t h) lose = refl
+same-act f e s Empty1 lose = refl
+same-act f e s (Empty2 h) lose = refl
+same-act f e s Full1 lose = refl
+same-act f e s (Full2 t) lose = refl
+same-act f e s Close1 lose = refl
+same-act f e s IsClosed1 lose = refl
+
+pub faithful : Faithful
+faithful = ap byTable (λ i f e s p lose. same-act f e s p lose i)
+
+pub stands : Stands
+stands = (
+  subst UnderEverySchedule (sym faithful) demand2,
+  subst ActByAct (sym faithful) act-by-act,
+  subst WholeSchedules (sym faithful) whole-schedules,
+  subst LenTrue (sym faithful) len-true,
+  subst ScheduledAlone (sym faithful) demand3,
+)

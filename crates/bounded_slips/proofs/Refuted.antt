@@ -1,0 +1,119 @@
+-- Each slip, refuted by computing its schedule.
+use Prim.Native.Nat.{ℕ, _≤_}
+use native.Mathlib.Omega.{arith}
+use mathlib.Core.Bool.{true≢false}
+use mathlib.Core.List.{List, [], _∷_, _++_}
+use mathlib.Core.Path.{_≡_, refl, sym, ap}
+use lib.ListN.{getD}
+use Rattle.queue_entries.specs.Schedules.{runBy, scheduleBy, historyBy}
+use Rattle.queue_entries.specs.Entries.{strayOf, orderOf, entryOf}
+use Rattle.queue_entries.specs.Limits.{all, inLimits}
+use Rattle.bounded_words.specs.declared.Stamp.{Stamp}
+use Rattle.bounded_words.specs.Words.{doubled, markOf, markedOf, unmarkedOf, plus, minus, withMark, nextOf, same, onePast, lapBehind, lapBehindOnePast, stamp}
+use Rattle.bounded_places.specs.declared.Answer.{Answer}
+use Rattle.bounded_places.specs.declared.Answer.the-variants.{Nothing, Pushed, Full, Closed, Displaced, Popped, Empty, PopClosed, Len, Yes, No}
+use Rattle.bounded_places.specs.declared.Place.the-variants.{Idle, O1, O2, O5, O6}
+use Rattle.bounded_places.specs.Places.{inside}
+use Rattle.bounded_acts.specs.Acts.{stay, tailTo, headTo, stampTo, valueTo, countOf}
+use Rattle.bounded_machine.specs.declared.Machine.{Machine}
+use Rattle.bounded_machine.specs.declared.Ran.{Ran}
+use Rattle.bounded_machine.specs.Machine.{emptySlots, stamped, freshSlots, idlers, freshOf, refused, accepted}
+use Rattle.bounded_machine.specs.Broken.{byRule, endsFit, recordFits, recordsFit, brokenOf, allIdle}
+use Rattle.bounded_machine.specs.Contents.{countIn, wrapped, itemAt, itemsFrom, contentsOf}
+use Rattle.bounded_machine.specs.Turn.{begun, stored, actedBy, turnOfBy}
+use Rattle.bounded_machine.specs.Run.{ran}
+use Rattle.bounded_machine.specs.History.{event, tallyOf, stockOf}
+use Rattle.bounded_demands.specs.Notions.{acts, itemsOf, tailersOf, takersOf, handP4, handO4, readO4, popped, passed, ownActs, actsOf, Allowed}
+use Rattle.bounded_slips.specs.Slips.{actWith, slipped, emptyUnseen, fullUnseen, closedUnseen, emptyTailFirst, fullHeadFirst, lenLooksOnce, popKeepsItsWord, lostForceKeepsItsWord, lostForceTakesTheHead, unstamped, releasesWithNext, neverLetsGo, handsOutAgain, readsAfterItsStore, stampBeforeValue, pushWritesLate}
+use Rattle.bounded_slips.specs.Refuted.{Trial, reached, past, does, Refuted, popOfNothing, popLooksLate, pushLooksLate, pushLoses, emptyLooks, fullLooks, popAfterPush, secondLap, popOutOfDate, forceOutOfDate, popInHand, lenLooks, lenOutOfDate}
+use Rattle.bounded_slips.proofs.Ways.{busyAt, nowhere, wrong-item, unclaimed, sole, acting, said, no-cons, untouched, quiet, no-hand, stillBusy, late, rests, at-once, busyAlong, holds-on}
+
+one-two : Allowed 1 2
+one-two = record { slot-some = omega arith; slot-most = omega arith; worker-some = omega arith; worker-most = omega arith }
+
+-- the number that len answered
+abbrev lenIn : Answer → ℕ
+lenIn Nothing = 0
+lenIn Pushed = 0
+lenIn (Full x) = 0
+lenIn (Closed x) = 0
+lenIn (Displaced v) = 0
+lenIn (Popped v) = 0
+lenIn Empty = 0
+lenIn PopClosed = 0
+lenIn (Len n) = n
+lenIn Yes = 0
+lenIn No = 0
+
+-- the machine after worker 1's act
+abbrev next : Trial → Machine
+next t = turnOfBy (actWith (t .slip)) (reached t) 24 0 .machine
+
+pub refuted : Refuted
+unfolding doubled markOf markedOf unmarkedOf plus minus withMark nextOf same onePast lapBehind lapBehindOnePast inside strayOf orderOf entryOf stay tailTo headTo stampTo valueTo countOf emptySlots stamped freshSlots idlers freshOf refused accepted all inLimits byRule endsFit recordFits recordsFit brokenOf allIdle countIn wrapped itemAt itemsFrom contentsOf begun stored actedBy turnOfBy ran runBy scheduleBy historyBy tallyOf stockOf acts itemsOf tailersOf takersOf passed ownActs nowhere stillBusy busyAlong
+refuted =
+    record {
+      act-by-act = λ a. true≢false (sym (ap (λ (m : Machine). busyAt m 0) (a (freshOf 1 2) [] 0 5 refl refl refl .0)));
+      whole-schedules = λ w. true≢false (ap (λ (r : Ran). busyAt (r .machine) 0) (w 1 2 one-two (0 ∷ 5 ∷ []) .0 refl));
+      claim-rule = λ r. wrong-item _ 1 6 refl (r (actsOf (slipped readsAfterItsStore) 1 2 (does 0 0 5 5 ++ does 1 2 0 4 ++ does 0 0 6 5)) [] (event 1 (O5 (stamp 0) 0) (Idle (Popped 6))) 6 refl popped);
+      claim-rule-push = λ r. wrong-item _ 1 0 refl (r (actsOf (slipped pushWritesLate) 1 2 (does 0 0 5 4 ++ does 1 2 0 4)) [] (event 1 (O5 (stamp 0) 0) (Idle (Popped 0))) 0 refl popped);
+      claim-rule-force = λ r. wrong-item _ 0 5 refl (r (actsOf (slipped stampBeforeValue) 1 2 (does 0 0 5 5 ++ does 1 1 6 5 ++ does 0 2 0 4)) [] (event 0 (O5 (stamp 4) 5) (Idle (Popped 5))) 5 refl popped);
+      once-out =
+          λ o.
+          o (actsOf (slipped handsOutAgain) 1 2 (does 0 0 5 5 ++ does 0 2 0 4)) (event 0 O1 (O2 (stamp 4)) ∷ event 0 (O2 (stamp 4)) (O6 (stamp 4)) ∷ []) []
+          (event 0 (O5 (stamp 0) 5) (Idle (Popped 5))) (event 0 (O6 (stamp 4)) (Idle (Popped 5))) 5 5 0 refl popped popped sole sole;
+      one-hand = λ h. let q : _≡_ {A = ℕ} 0 1 = h 0 1 (stamp 0) (stamp 0) handP4 handP4 refl in omega arith;
+      answers-empty = λ a. let q = ap (λ (s : Stamp). s .0) (said (slipped emptyUnseen) (reached popLooksLate) 1 Empty a refl refl refl .1) in omega arith;
+      answers-full = λ a. true≢false (sym (said (slipped fullUnseen) (reached pushLooksLate) 1 (Full 6) a refl refl refl));
+      answers-closed = λ a. true≢false (sym (said (slipped closedUnseen) (reached pushLoses) 1 (Closed 6) a refl refl refl));
+      reads = λ r. unclaimed (past popOfNothing) 0 0 refl (r 0 (stamp 0) readO4);
+      unbroken = true≢false;
+      plain = λ p. let q = p .head in omega arith;
+      stock = λ s. let q : _≡_ {A = ℕ} 1 0 = s in omega arith;
+      number = λ s. let q : _≡_ {A = ℕ} 1 0 = s refl in omega arith;
+      contents = λ c. let q : _≡_ {A = ℕ} 0 5 = ap (λ (l : List ℕ). getD l 0 0) (c refl) in omega arith;
+      fifo = λ f. no-cons (untouched (past popOfNothing) [] f refl .0);
+      empty =
+          λ e.
+          let q = ap (λ (s : Stamp). s .0) (e 1 (next emptyLooks) (stamp 0) refl (acting (slipped emptyTailFirst) (reached emptyLooks) 1 refl refl) refl) in
+          omega arith;
+      full = λ f. true≢false (sym (f 1 (next fullLooks) (stamp 0) refl (acting (slipped fullHeadFirst) (reached fullLooks) 1 refl refl) refl));
+      len =
+          λ l.
+          let q : _≡_ {A = ℕ} 0 1 =
+          l 1 2 one-two (lenLooks .schedule) 1 0
+          (record {
+            tail = stamp 0;
+            loads = refl;
+            loaded = next lenLooks;
+            load = acting (slipped lenLooksOnce) (reached lenLooks) 1 refl refl;
+            rest = [];
+            still = tt;
+            answered = turnOfBy (actWith lenLooksOnce) (next lenLooks) 24 0 .machine;
+            answer = acting (slipped lenLooksOnce) (next lenLooks) 1 refl refl;
+            is = refl;
+          })
+          in
+          omega arith;
+      accepted = λ n. let q : _≡_ {A = ℕ} 8 0 = n 0 refl (omega arith) in omega arith;
+      alone-pop = λ a. late (slipped popKeepsItsWord) (reached popOutOfDate) (past popOutOfDate) 1 6 refl (a 1 refl (omega arith) (no-hand (reached popOutOfDate) 1 refl refl quiet));
+      alone-force = λ a. late (slipped lostForceKeepsItsWord) (reached (forceOutOfDate lostForceKeepsItsWord)) (past (forceOutOfDate lostForceKeepsItsWord)) 1 7 refl (a 1 refl (omega arith) (no-hand (reached (forceOutOfDate lostForceKeepsItsWord)) 1 refl refl quiet));
+      alone-force-too = λ a. late (slipped lostForceTakesTheHead) (reached (forceOutOfDate lostForceTakesTheHead)) (past (forceOutOfDate lostForceTakesTheHead)) 1 7 refl (a 1 refl (omega arith) (no-hand (reached (forceOutOfDate lostForceTakesTheHead)) 1 refl refl quiet));
+      alone-stamp = λ a. late (slipped unstamped) (reached popAfterPush) (past popAfterPush) 0 5 refl (a 0 refl (omega arith) (no-hand (reached popAfterPush) 0 refl refl quiet));
+      alone-next = λ a. late (slipped releasesWithNext) (reached secondLap) (past secondLap) 0 5 refl (a 0 refl (omega arith) (no-hand (reached secondLap) 0 refl refl quiet));
+      alone-early =
+          λ a.
+          true≢false (sym (at-once (slipped fullUnseen) (reached pushLooksLate) (past pushLooksLate) 1 6 (Full 6) refl
+          (λ n. ap (λ (m : Machine). busyAt m 1) (rests (actWith fullUnseen) (next pushLooksLate) 1 1 n refl))
+          (a 1 refl (omega arith) (no-hand (reached pushLooksLate) 1 refl refl quiet)) .0));
+      alone-other =
+          λ a.
+          let q : _≡_ {A = ℕ} 0 1 =
+          ap lenIn (at-once (slipped lenLooksOnce) (reached lenOutOfDate) (past lenOutOfDate) 1 4 (Len 0) refl
+          (λ n. ap (λ (m : Machine). busyAt m 1) (rests (actWith lenLooksOnce) (next lenOutOfDate) 1 1 n refl))
+          (a 1 refl (omega arith) (no-hand (reached lenOutOfDate) 1 refl refl quiet)) .1) in
+          omega arith;
+      in-the-way = λ i. no-hand (reached popAfterPush) 0 refl refl quiet (i 0 (omega arith) refl);
+      lets-go = λ l. holds-on (slipped neverLetsGo) (reached popInHand) 0 2 (acts 0 2) refl (l 0 (stamp 0) (acts 0 2) handO4 (let q : 2 ≤ 2 = omega arith in q));
+      as-run = λ p. true≢false (ap (λ (m : Machine). busyAt m 0) (p (0 ∷ 5 ∷ []) refl));
+    }

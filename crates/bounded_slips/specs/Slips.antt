@@ -1,0 +1,201 @@
+-- Document 01's tables with a slip in one row, all else as it is; and definitions of the machine made of them.
+use Prim.Native.Nat.{ℕ}
+use mathlib.Core.Bool.{Bool, cond}
+use mathlib.Core.Path.{_≡_}
+use lib.Dec.{eqb}
+use Rattle.bounded_words.specs.declared.Fixed.{Fixed}
+use Rattle.bounded_words.specs.Words.{plus, minus, nextOf, same, unmarkedOf, lapBehind}
+use Rattle.bounded_places.specs.declared.Slot.{Slot}
+use Rattle.bounded_places.specs.declared.Ends.{Ends}
+use Rattle.bounded_places.specs.declared.Kind.the-variants.{Force}
+use Rattle.bounded_places.specs.declared.Answer.the-variants.{Pushed, Full, Closed, Displaced, Popped, Empty, Len}
+use Rattle.bounded_places.specs.declared.Place.{Place}
+use Rattle.bounded_places.specs.declared.Place.the-variants.{Idle, P1, P2, P3, P4, P5, P6, F6, F7, F8, F9, O1, O2, O3, O4, O5, O6, Len1, Len2, Len3, Empty1, Empty2, Full1, Full2, Close1, IsClosed1}
+use Rattle.bounded_acts.specs.declared.Acted.{Acted}
+use Rattle.bounded_acts.specs.Acts.{stay, tailTo, headTo, stampTo, valueTo, countOf, yesNo, actOf}
+use Rattle.bounded_machine.specs.Machine.{refused}
+use Rattle.bounded_machine.specs.Turn.{turnOf}
+use Rattle.bounded_machine.specs.Run.{ran, runFrom}
+use Rattle.bounded_machine.specs.History.{historyOf}
+use Rattle.bounded_demands.specs.Notions.{Definition, byTable, document01}
+use Rattle.bounded_demands.specs.Demands.{UnderEverySchedule, ActByAct, WholeSchedules, LenTrue, ScheduledAlone}
+
+-- ---- the slips
+
+abbrev pub none : ℕ
+none = 0
+
+-- P3 goes on to P4 whatever word it finds
+abbrev pub lostPushGoesOn : ℕ
+lostPushGoesOn = 1
+
+-- a lost P3 answers Closed without looking for the mark
+abbrev pub closedUnseen : ℕ
+closedUnseen = 2
+
+-- P3 stores t + 1, also at the end of a lap
+abbrev pub unwrapped : ℕ
+unwrapped = 3
+
+-- P3 wins and does not move tail
+abbrev pub tailUnmoved : ℕ
+tailUnmoved = 4
+
+-- P4 writes nothing
+abbrev pub unwritten : ℕ
+unwritten = 5
+
+-- P5 skips its stamp store
+abbrev pub unstamped : ℕ
+unstamped = 6
+
+-- P6 answers Full whatever head is
+abbrev pub fullUnseen : ℕ
+fullUnseen = 7
+
+-- F7 before F6: tail is stored before head is exchanged
+abbrev pub tailBeforeHead : ℕ
+tailBeforeHead = 8
+
+-- a lost F6 goes to P2 with the word it held
+abbrev pub lostForceKeepsItsWord : ℕ
+lostForceKeepsItsWord = 9
+
+-- a lost F6 goes to P2 with the head found as t
+abbrev pub lostForceTakesTheHead : ℕ
+lostForceTakesTheHead = 10
+
+-- F9 before F8: the stamp is stored before the values are exchanged
+abbrev pub stampBeforeValue : ℕ
+stampBeforeValue = 11
+
+-- O2 goes to O3 whatever the stamp is
+abbrev pub stampUntested : ℕ
+stampUntested = 12
+
+-- O5 before O4: the value is read after the stamp store
+abbrev pub readsAfterItsStore : ℕ
+readsAfterItsStore = 13
+
+-- O5 releases with next(h)
+abbrev pub releasesWithNext : ℕ
+releasesWithNext = 14
+
+-- O5 goes back to O4
+abbrev pub neverLetsGo : ℕ
+neverLetsGo = 15
+
+-- O6 answers Empty whatever tail is
+abbrev pub emptyUnseen : ℕ
+emptyUnseen = 16
+
+-- O6 hands out what lies in the slot of an empty ring
+abbrev pub handsOutAgain : ℕ
+handsOutAgain = 17
+
+-- O6 goes back to O2 with the word it held
+abbrev pub popKeepsItsWord : ℕ
+popKeepsItsWord = 18
+
+-- len without its second tail
+abbrev pub lenLooksOnce : ℕ
+lenLooksOnce = 19
+
+-- is_empty loads tail first
+abbrev pub emptyTailFirst : ℕ
+emptyTailFirst = 20
+
+-- is_full loads head first
+abbrev pub fullHeadFirst : ℕ
+fullHeadFirst = 21
+
+-- P5 before P4: the stamp is stored before the item is written (which is carried at F9, since P5 holds none)
+abbrev pub pushWritesLate : ℕ
+pushWritesLate = 22
+
+-- The row of document 01, but for this slip.
+abbrev but : ℕ → ℕ → Acted → Acted → Acted
+but n slip wrong right = cond (eqb n slip) wrong right
+
+-- What a won exchange leaves, in place of document 01's; one that is lost stays lost.
+abbrev onWin : Bool → Bool → Acted → Acted → Acted
+onWin found lose wrong right = cond found (cond lose right wrong) right
+
+-- The tables with slip number n.
+abbrev pub actWith : ℕ → Fixed → Ends → Slot → Place → Bool → Acted
+actWith n f e s (Idle a) lose = actOf f e s (Idle a) lose
+actWith n f e s (P1 k x) lose = actOf f e s (P1 k x) lose
+actWith n f e s (P2 k t x) lose = actOf f e s (P2 k t x) lose
+actWith n f e s (P3 k t x) lose =
+    but n lostPushGoesOn (stay (tailTo e (nextOf f t)) s (P4 t x))
+    (but n closedUnseen (cond (same (e .tail) t) (actOf f e s (P3 k t x) lose) (stay e s (Idle (Closed x))))
+    (but n unwrapped (onWin (same (e .tail) t) lose (stay (tailTo e (plus t 1)) s (P4 t x)) (actOf f e s (P3 k t x) lose))
+    (but n tailUnmoved (onWin (same (e .tail) t) lose (stay e s (P4 t x)) (actOf f e s (P3 k t x) lose)) (actOf f e s (P3 k t x) lose))))
+actWith n f e s (P4 t x) lose =
+    but n unwritten (stay e s (P5 t)) (but n pushWritesLate (stay e (stampTo s (plus t 1)) (F9 t x)) (actOf f e s (P4 t x) lose))
+actWith n f e s (P5 t) lose = but n unstamped (stay e s (Idle Pushed)) (actOf f e s (P5 t) lose)
+actWith n f e s (P6 t x) lose = but n fullUnseen (stay e s (Idle (Full x))) (actOf f e s (P6 t x) lose)
+actWith n f e s (F6 t x) lose =
+    but n tailBeforeHead (stay (tailTo e (nextOf f t)) s (F7 t x))
+    (but n lostForceKeepsItsWord (cond (same (e .head) (minus t (f .lap))) (actOf f e s (F6 t x) lose) (stay e s (P2 Force t x)))
+    (but n lostForceTakesTheHead (cond (same (e .head) (minus t (f .lap))) (actOf f e s (F6 t x) lose) (stay e s (P2 Force (e .head) x)))
+    (actOf f e s (F6 t x) lose)))
+actWith n f e s (F7 t x) lose =
+    but n tailBeforeHead
+    (cond (same (e .head) (minus t (f .lap))) (stay (headTo e (minus (nextOf f t) (f .lap))) s (F8 t x)) (stay e s (P1 Force x)))
+    (actOf f e s (F7 t x) lose)
+actWith n f e s (F8 t x) lose = but n stampBeforeValue (stay e (stampTo s (plus t 1)) (F9 t x)) (actOf f e s (F8 t x) lose)
+actWith n f e s (F9 t x) lose = but n stampBeforeValue (stay e (valueTo s x) (Idle (Displaced (s .value))))
+    (but n pushWritesLate (stay e (valueTo s x) (Idle Pushed)) (actOf f e s (F9 t x) lose))
+actWith n f e s O1 lose = actOf f e s O1 lose
+actWith n f e s (O2 h) lose = but n stampUntested (stay e s (O3 h)) (actOf f e s (O2 h) lose)
+actWith n f e s (O3 h) lose = actOf f e s (O3 h) lose
+actWith n f e s (O4 h) lose = but n readsAfterItsStore (stay e (stampTo s (plus h (f .lap))) (O5 h 0)) (actOf f e s (O4 h) lose)
+actWith n f e s (O5 h v) lose =
+    but n readsAfterItsStore (stay e s (Idle (Popped (s .value))))
+    (but n releasesWithNext (stay e (stampTo s (nextOf f h)) (Idle (Popped v)))
+    (but n neverLetsGo (stay e s (O4 h)) (actOf f e s (O5 h v) lose)))
+actWith n f e s (O6 h) lose =
+    but n emptyUnseen (stay e s (Idle Empty))
+    (but n handsOutAgain (cond (same (unmarkedOf f (e .tail)) h) (stay e s (Idle (Popped (s .value)))) (actOf f e s (O6 h) lose))
+    (but n popKeepsItsWord (cond (same (unmarkedOf f (e .tail)) h) (actOf f e s (O6 h) lose) (stay e s (O2 h)))
+    (actOf f e s (O6 h) lose)))
+actWith n f e s Len1 lose = actOf f e s Len1 lose
+actWith n f e s (Len2 t) lose = actOf f e s (Len2 t) lose
+actWith n f e s (Len3 t h) lose = but n lenLooksOnce (stay e s (Idle (Len (countOf f t h)))) (actOf f e s (Len3 t h) lose)
+actWith n f e s Empty1 lose = but n emptyTailFirst (stay e s (Empty2 (e .tail))) (actOf f e s Empty1 lose)
+actWith n f e s (Empty2 t) lose =
+    but n emptyTailFirst (stay e s (Idle (yesNo (same (unmarkedOf f t) (e .head))))) (actOf f e s (Empty2 t) lose)
+actWith n f e s Full1 lose = but n fullHeadFirst (stay e s (Full2 (e .head))) (actOf f e s Full1 lose)
+actWith n f e s (Full2 h) lose =
+    but n fullHeadFirst (stay e s (Idle (yesNo (lapBehind f h (unmarkedOf f (e .tail)))))) (actOf f e s (Full2 h) lose)
+actWith n f e s Close1 lose = actOf f e s Close1 lose
+actWith n f e s IsClosed1 lose = actOf f e s IsClosed1 lose
+
+-- ---- the machine with a slip
+
+abbrev pub slipped : ℕ → Definition
+slipped n = byTable (actWith n)
+
+-- Two definitions that are wrong beside the tables: one runs no entry of a schedule, one refuses every entry.
+abbrev pub deaf : Definition
+deaf = record { turn = turnOf; run = λ m place s. ran 0 place m; history = historyOf }
+
+abbrev pub refusing : Definition
+refusing = record { turn = λ m first second. refused 8 m; run = runFrom; history = historyOf }
+
+-- ---- what stands
+
+-- The slip that is planted: none. The must-fail edits of this crate plant one here, or give another definition.
+abbrev pub planted : ℕ
+planted = none
+
+abbrev pub given : Definition
+given = slipped planted
+
+-- It is document 01's, and so the demands stand.
+abbrev pub Faithful : Type 0
+Faithful = given ≡ document01
+
+abbrev pub Stands : Type 0
+Stands = UnderEverySchedule given × ActByAct given × WholeSchedules given × LenTrue given × ScheduledAlone given

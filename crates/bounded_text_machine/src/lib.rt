@@ -1,0 +1,29 @@
+// Machines as wholes: what one holds, as text; whether two are the same; and machines built by hand, field by field.
+use bounded_machine::Machine;
+use bounded_places::Answer;
+use bounded_places::Place;
+
+pub mod alike;
+pub mod build;
+pub mod text;
+
+// Head, tail, meter, capacity, mark, lap and the number of workers.
+pub fn numbers(m: Machine) -> [u64; 7] {
+    let ring = m.ring;
+    let f = ring.fixed;
+    let e = ring.ends;
+    let head = e.head;
+    let tail = e.tail;
+    [head.0, tail.0, m.meter, f.capacity, f.mark, f.lap, m.count]
+}
+
+// Where a worker stands; idle without an answer where there is no such record.
+pub fn place_of(m: Machine, w: u64) -> Place {
+    let workers = m.workers;
+    let i = w as usize;
+    if i < queue_entries::WORKERS {
+        let record = workers[i];
+        return record.place;
+    }
+    Place::Idle(Answer::Nothing)
+}

@@ -1,0 +1,78 @@
+use Prim.Native.Nat.{_≤_, _<_, _-_, _+_}
+use mathlib.Core.Path.{_≡_}
+use lib.ListN.{length}
+use native.Mathlib.Omega.{arith}
+use borrow.Author.Needs.{needs}
+use Rattle.bounded_text_places.proofs.alike.slots.Statement.{statement}
+use Rattle.bounded_text_places.proofs.alike.slots.Tie as tie
+use Rattle.bounded_text_places.proofs.alike.slots.Reads as reads
+use Rattle.bounded_text_places.proofs.alike.slots.Lts as lts
+use Rattle.bounded_text_places.proofs.alike.slot.Reads as slot-reads
+
+abbrev Inv-loop : tie.InvT-loop
+Inv-loop a b i₀ i = Unit {0}
+
+abbrev μ-loop : tie.MeasureT-loop
+μ-loop a b i₀ i = 256 - i
+
+-- src/lib.rt:121:5
+loop-holds : tie.Need-loop-holds Inv-loop μ-loop
+loop-holds c = search needs
+
+-- src/lib.rt:122:17
+mul-x : tie.Need-mul-x Inv-loop μ-loop
+mul-x c = search needs
+
+-- src/lib.rt:122:17
+array-copy-out-x : tie.Need-array-copy-out-x Inv-loop μ-loop
+array-copy-out-x c = search needs
+
+-- src/lib.rt:123:17
+mul-y : tie.Need-mul-y Inv-loop μ-loop
+mul-y c = search needs
+
+-- src/lib.rt:123:17
+array-copy-out-y : tie.Need-array-copy-out-y Inv-loop μ-loop
+array-copy-out-y c = search needs
+
+-- src/lib.rt:124:12
+slot-requires : tie.Need-slot-requires Inv-loop μ-loop
+slot-requires c κs = search needs
+
+-- src/lib.rt:125:13
+returns : tie.Need-returns Inv-loop μ-loop
+returns c = search needs
+
+-- src/lib.rt:127:9
+add-i : tie.Need-add-i Inv-loop μ-loop
+add-i c = search needs
+
+-- src/lib.rt:121:5
+loop-less : tie.Need-loop-less Inv-loop μ-loop
+loop-less c = search needs
+
+-- src/lib.rt:121:5
+loop-again : tie.Need-loop-again Inv-loop μ-loop
+loop-again c = search needs
+
+-- src/lib.rt:119:1
+returns-2 : tie.Need-returns-2 Inv-loop μ-loop
+returns-2 c = search needs
+
+pub slots-spec : {M : Type 1} → statement M
+slots-spec =
+    tie.close
+    (tie.spec
+    Inv-loop
+    μ-loop
+    loop-holds
+    mul-x
+    array-copy-out-x
+    mul-y
+    array-copy-out-y
+    slot-requires
+    returns
+    add-i
+    loop-less
+    loop-again
+    returns-2)

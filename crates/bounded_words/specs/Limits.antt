@@ -1,0 +1,10 @@
+-- The limits of document 01 that are the ring's own, each once (those of every queue: crates/queue_entries/specs/Limits.antt).
+use Prim.Native.Nat.{ℕ, _^_}
+
+-- refusal 1: the most slots
+abbrev pub slotsMost : ℕ
+slotsMost = 256
+
+-- how many words there are: modulo 2 to the power 64
+abbrev pub wide : ℕ
+wide = 2 ^ 64

@@ -1,0 +1,151 @@
+// The words of a ring: document 01, "The words".
+ghost use mathlib.Core.Path.{_≡_};
+ghost use Prim.Native.Nat.{_≤_};
+ghost use Rattle.bounded_words.specs.Limits.{slotsMost};
+ghost use Rattle.bounded_words.specs.Words.{Fair, Indexed, lapOf, markOf, markedOf, nextOf, plus, minus, unmarkedOf, withMark, same, onePast, lapBehind, lapBehindOnePast};
+
+// A word of head, of tail or of a slot: a lap, the mark and an index in one number.
+pub struct Stamp(pub u64);
+
+// The number of a claim: the k-th move of tail, or of head, since the machine was made.
+pub struct Claim(pub u64);
+
+// What a ring keeps unchanged from its making on.
+pub struct Fixed {
+    // If this bit is set in tail, the ring is closed.
+    pub mark: u64,
+    // One lap: 2 * mark.
+    pub lap: u64,
+    pub capacity: u64,
+}
+
+// The most slots.
+pub const SLOTS: usize = 256;
+
+// "smallest power of two not below capacity + 1"
+pub fn mark_of(capacity: u64) -> u64
+    requires { ⌜ capacity ≤ slotsMost ⌝ }
+    ensures { λ r. ⌜ r ≡ markOf capacity ⌝ }
+{
+    let mut m = 1;
+    while m < capacity + 1 {
+        m = m * 2;
+    }
+    m
+}
+
+// "its part below mark"
+pub fn index(f: Fixed, w: Stamp) -> u64
+    requires { ⌜ Fair f ⌝ }
+    ensures { λ r. ⌜ Indexed f w r ⌝ }
+{
+    w.0 % f.mark
+}
+
+// "a lap is added and taken away modulo 2 to the power 64"
+pub fn later(w: Stamp, by: u64) -> Stamp
+    ensures { λ r. ⌜ r ≡ plus w by ⌝ }
+{
+    Stamp(std::num::wrapping_add_u64(w.0, by))
+}
+
+pub fn earlier(w: Stamp, by: u64) -> Stamp
+    ensures { λ r. ⌜ r ≡ minus w by ⌝ }
+{
+    Stamp(std::num::wrapping_sub_u64(w.0, by))
+}
+
+pub fn next(f: Fixed, w: Stamp) -> Stamp
+    requires { ⌜ Fair f ⌝ }
+    ensures { λ r. ⌜ r ≡ nextOf f w ⌝ }
+{
+    let i = index(f, w);
+    if i + 1 < f.capacity {
+        later(w, 1)
+    } else {
+        later(Stamp(w.0 - i), f.lap)
+    }
+}
+
+pub fn marked(f: Fixed, w: Stamp) -> bool
+    requires { ⌜ Fair f ⌝ }
+    ensures { λ r. ⌜ r ≡ markedOf f w ⌝ }
+{
+    w.0 / f.mark % 2 == 1
+}
+
+// `w & !mark`
+pub fn unmarked(f: Fixed, w: Stamp) -> Stamp
+    requires { ⌜ Fair f ⌝ }
+    ensures { λ r. ⌜ r ≡ unmarkedOf f w ⌝ }
+{
+    if w.0 / f.mark % 2 == 1 {
+        Stamp(w.0 - f.mark)
+    } else {
+        w
+    }
+}
+
+// `w | mark`
+pub fn with_mark(f: Fixed, w: Stamp) -> Stamp
+    requires { ⌜ Fair f ⌝ }
+    ensures { λ r. ⌜ r ≡ withMark f w ⌝ }
+{
+    if w.0 / f.mark % 2 == 1 {
+        w
+    } else {
+        later(w, f.mark)
+    }
+}
+
+pub fn same_word(a: Stamp, b: Stamp) -> bool
+    ensures { λ r. ⌜ r ≡ same a b ⌝ }
+{
+    a.0 == b.0
+}
+
+// s = h + 1
+pub fn one_past(s: Stamp, h: Stamp) -> bool
+    ensures { λ r. ⌜ r ≡ onePast s h ⌝ }
+{
+    let n = later(h, 1);
+    s.0 == n.0
+}
+
+// h + lap = t
+pub fn lap_behind(f: Fixed, h: Stamp, t: Stamp) -> bool
+    ensures { λ r. ⌜ r ≡ lapBehind f h t ⌝ }
+{
+    let m = later(h, f.lap);
+    m.0 == t.0
+}
+
+// s + lap = t + 1
+pub fn lap_behind_one_past(f: Fixed, s: Stamp, t: Stamp) -> bool
+    ensures { λ r. ⌜ r ≡ lapBehindOnePast f s t ⌝ }
+{
+    lap_behind(f, s, later(t, 1))
+}
+
+// The unmarked part of t is h.
+pub fn unmarked_is(f: Fixed, t: Stamp, h: Stamp) -> bool
+    requires { ⌜ Fair f ⌝ }
+    ensures { λ r. ⌜ r ≡ same (unmarkedOf f t) h ⌝ }
+{
+    same_word(unmarked(f, t), h)
+}
+
+// h + lap is the unmarked part of t.
+pub fn lap_behind_unmarked(f: Fixed, h: Stamp, t: Stamp) -> bool
+    requires { ⌜ Fair f ⌝ }
+    ensures { λ r. ⌜ r ≡ lapBehind f h (unmarkedOf f t) ⌝ }
+{
+    lap_behind(f, h, unmarked(f, t))
+}
+
+// h = t - lap
+pub fn is_lap_before(f: Fixed, h: Stamp, t: Stamp) -> bool
+    ensures { λ r. ⌜ r ≡ same h (minus t (f .lap)) ⌝ }
+{
+    same_word(h, earlier(t, f.lap))
+}

@@ -1,3 +1,0 @@
-pub mod Eight
-pub mod Refusals
-pub mod Attained

@@ -1,4 +1,0 @@
-pub mod Notions
-pub mod Demands
-pub mod Eight
-pub mod Attained

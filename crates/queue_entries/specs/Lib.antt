@@ -1,0 +1,4 @@
+pub mod Limits
+pub mod Entries
+pub mod Schedules
+pub mod Told

@@ -1,0 +1,115 @@
+// What a run came to: counts over its entries.
+use bounded_machine::Tally;
+use bounded_places::Place;
+use bounded_text_places::code::Coded;
+use bounded_words::Claim;
+
+pub struct Summary {
+    pub entries: u64,
+    pub acts: u64,
+    pub retries: u64,
+    pub refusals: u64,
+    pub tally: Tally,
+    // of the answers, in the order of their numbers below
+    pub answers: [u64; 11],
+}
+
+pub fn none() -> Summary {
+    Summary {
+        entries: 0,
+        acts: 0,
+        retries: 0,
+        refusals: 0,
+        tally: Tally {
+            tail: Claim(0),
+            head: Claim(0),
+        },
+        answers: [0u64; 11],
+    }
+}
+
+fn up(n: u64) -> u64 {
+    std::num::wrapping_add_u64(n, 1)
+}
+
+fn up_if(n: u64, it: bool) -> u64 {
+    if it { up(n) } else { n }
+}
+
+fn answered(before: [u64; 11], after: Coded) -> [u64; 11] {
+    let mut answers = before;
+    if after.case == 0 {
+        let i = after.more % 18;
+        if bounded_text_places::code::ANSWERS <= i {
+            let n = i - bounded_text_places::code::ANSWERS;
+            answers[n] = up(answers[n]);
+        }
+    }
+    answers
+}
+
+// An act after which a call is back at an earlier place of its table.
+fn is_retry(before: Coded, after: Coded) -> bool {
+    if after.case == 0 {
+        return false;
+    }
+    after.case < before.case
+}
+
+// One more act, from place to place.
+pub fn acted(s: Summary, before: Place, after: Place) -> Summary {
+    let tally = s.tally;
+    let answers = s.answers;
+    let tallied = bounded::tally(tally, after);
+    let code = bounded_text_places::code::of(after);
+    let counted = answered(answers, code);
+    Summary {
+        entries: up(s.entries),
+        acts: up(s.acts),
+        retries: up_if(
+            s.retries,
+            is_retry(bounded_text_places::code::of(before), code),
+        ),
+        refusals: s.refusals,
+        tally: tallied,
+        answers: counted,
+    }
+}
+
+pub fn begun(s: Summary) -> Summary {
+    let mut t = s;
+    t.entries = up(s.entries);
+    t
+}
+
+pub fn refused(s: Summary) -> Summary {
+    let mut t = s;
+    t.refusals = up(s.refusals);
+    t
+}
+
+fn tell_counts(out: &mut [u8], at: usize, s: Summary) -> usize {
+    let counts = [s.entries, s.acts, s.retries, s.refusals];
+    let form = b"summary entries=# acts=# retries=# refusals=#\n";
+    text_output::form(out, at, form, &counts)
+}
+
+fn tell_answers(out: &mut [u8], at: usize, answers: [u64; 11]) -> usize {
+    let form =
+        b"answers pushed=# full=# closed=# displaced=# popped=# empty=# pop-closed=# len=# yes=# no=#\n";
+    text_output::form(out, at, form, &answers[1..])
+}
+
+fn tell_claims(out: &mut [u8], at: usize, t: Tally) -> usize {
+    let tail = t.tail;
+    let head = t.head;
+    let claims = [tail.0, head.0, bounded::stock(t)];
+    text_output::form(out, at, b"claims tail=# head=# stock=#\n", &claims)
+}
+
+pub fn tell(out: &mut [u8], at: usize, s: Summary) -> usize {
+    let answers = s.answers;
+    let p = tell_counts(out, at, s);
+    let q = tell_answers(out, p, answers);
+    tell_claims(out, q, s.tally)
+}

@@ -1,0 +1,148 @@
+// The arguments of replay.
+
+pub struct Options {
+    pub quiet: bool,
+    pub summary: bool,
+    pub many: bool,
+    pub help: bool,
+    // the starter asks for the status on a descriptor
+    pub tells: bool,
+    // the number of the argument that names the file; 0: standard input
+    pub file: usize,
+    // the number of an argument that is none of these; 0: all are
+    pub wrong: usize,
+}
+
+fn equal(a: &[u8], b: &[u8]) -> bool {
+    if a.len() != b.len() {
+        return false;
+    }
+    let mut i = 0;
+    while i < a.len() {
+        if a[i] != b[i] {
+            return false;
+        }
+        i += 1;
+    }
+    true
+}
+
+fn none() -> Options {
+    Options {
+        quiet: false,
+        summary: false,
+        many: false,
+        help: false,
+        tells: false,
+        file: 0,
+        wrong: 0,
+    }
+}
+
+// A name, where there is none yet; `-` and what follows it is an option that there is not.
+fn named(before: Options, i: usize, word: &[u8]) -> Options {
+    let mut o = before;
+    if 0 < word.len() {
+        if word[0] == b'-' {
+            o.wrong = i;
+            return o;
+        }
+    }
+    if o.file == 0 {
+        o.file = i;
+    } else {
+        o.wrong = i;
+    }
+    o
+}
+
+fn with_word(before: Options, i: usize, word: &[u8]) -> Options {
+    let mut o = before;
+    if equal(word, b"--quiet") {
+        o.quiet = true;
+        return o;
+    }
+    if equal(word, b"--summary") {
+        o.summary = true;
+        return o;
+    }
+    if equal(word, b"--many") {
+        o.many = true;
+        return o;
+    }
+    if equal(word, b"--help") {
+        o.help = true;
+        return o;
+    }
+    if equal(word, b"--tell-status") {
+        o.tells = true;
+        return o;
+    }
+    named(o, i, word)
+}
+
+fn with_argument(before: Options, i: usize) -> Options {
+    let mut word = io::buffer();
+    let n = os::arg(i, &mut word);
+    with_word(before, i, &word[..n])
+}
+
+pub fn read() -> Options {
+    let mut o = none();
+    let n = os::arg_count();
+    let mut i = 1;
+    while i < n {
+        o = with_argument(o, i);
+        i += 1;
+    }
+    o
+}
+
+pub fn complain(i: usize) {
+    let mut word = io::buffer();
+    let n = os::arg(i, &mut word);
+    io::write_all(
+        libc::STDERR_FILENO,
+        b"replay: no use for this argument (see --help): ",
+    );
+    io::write_all(libc::STDERR_FILENO, &word[..n]);
+    io::write_all(libc::STDERR_FILENO, b"\n");
+}
+
+// A program has no exit status of its own: its starter opens this descriptor and reads one digit.
+const STATUS_FILENO: i32 = 3;
+
+// 0: run to its end. 1: refused. 2: the input or the arguments cannot be read.
+pub fn tell(o: Options, status: u8) {
+    if o.tells {
+        let digit = [b'0' + status % 3];
+        io::write_all(STATUS_FILENO, &digit);
+    }
+}
+
+pub fn help() {
+    io::write_all(
+        libc::STDOUT_FILENO,
+        b"replay [--quiet] [--summary] [--many] [FILE]\n\
+        \n\
+        Runs a schedule on the stamped ring. It is read from FILE, or from standard input: unsigned decimal\n\
+        numbers separated by white space. The first is the capacity (1 to 256), the second the number of\n\
+        workers (1 to 16), then come the entries, two numbers each: 16 * worker + code, and the item.\n\
+        Codes: 0 push, 1 force_push, 2 pop, 3 len, 4 is_empty, 5 is_full, 6 close, 7 is_closed begin a call;\n\
+        8 is an act, 9 an act whose weak exchange fails. The item is 0 unless the code is 0 or 1.\n\
+        # starts a comment to the end of its line.\n\
+        \n\
+        \x20 made R                     0, or why there is no machine: 1 capacity, 2 workers\n\
+        \x20 PLACE R h=H t=T m=M wN=S   for each entry: its place from 0, refusal or 0, head, tail, meter, its worker\n\
+        \x20 slots (stamp,value) ...    the slots below capacity\n\
+        \x20 contents x y ...           or: contents refused N\n\
+        \n\
+        Refusals: 3 no such worker, 4 busy, 5 idle, 6 no sound machine, 7 meter full, 8 no weak exchange,\n\
+        9 unreadable entry, 11 odd number of words.\n\
+        Status: 0 run to its end, 1 refused, 2 the input or the arguments cannot be read.\n\
+        \n\
+        \x20 --quiet     no line for each entry, one for the whole\n\
+        \x20 --summary   then counts of acts, answers, claims, refusals and retries\n\
+        \x20 --many      several schedules, separated by a line with a single %; a line % follows each output\n",
+    );
+}

@@ -1,4 +1,0 @@
-pub mod Laws
-pub mod Pick
-pub mod Marks
-pub mod Fits
