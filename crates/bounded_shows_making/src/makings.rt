@@ -47,6 +47,11 @@ fn makings() {
     make(0, 1);
     make(1, 1);
     make(2, 1);
+    make(3, 1);
+    make(4, 1);
+    make(5, 1);
+    make(7, 1);
+    make(8, 1);
     make(255, 16);
     make(256, 1);
     make(257, 1);

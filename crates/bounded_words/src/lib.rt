@@ -27,11 +27,8 @@ pub fn mark_of(capacity: u64) -> u64
     requires { ⌜ capacity ≤ slotsMost ⌝ }
     ensures { λ r. ⌜ r ≡ markOf capacity ⌝ }
 {
-    let mut m = 1;
-    while m < capacity + 1 {
-        m = m * 2;
-    }
-    m
+    let least = capacity + 1;
+    1 << (64 - u64::leading_zeros(least - 1))
 }
 
 // "its part below mark"
