@@ -22,6 +22,10 @@ pushedIn w = eqb (w .0 / 2 % 2) 1
 unfoldable pub closedIn : State → Bool
 closedIn w = eqb (w .0 / 4 % 2) 1
 
+-- a word of the three bits and no other
+abbrev pub stateMost : ℕ
+stateMost = 7
+
 -- LOCKED | PUSHED: what push and force_push exchange the word for
 abbrev pub filled : State
 filled = state 3

@@ -14,6 +14,9 @@ pub const PUSHED: u64 = 2;
 // The queue is closed.
 pub const CLOSED: u64 = 4;
 
+// The highest word of the three bits and no other.
+pub const STATES: u64 = 7;
+
 // An exchange finds the word that it expects.
 pub fn same(a: State, b: State) -> bool
     ensures { λ r. ⌜ r ≡ same a b ⌝ }
