@@ -1,4 +1,5 @@
 pub mod Schedules
+pub mod Records
 pub mod Verdicts
 pub mod Loops
 pub mod Histories
