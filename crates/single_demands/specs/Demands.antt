@@ -31,7 +31,7 @@ use Rattle.single_machine.specs.Contents.{countIn, contentsOf, contentsRefusal,
 use Rattle.single_machine.specs.Run.{runOf}
 use Rattle.single_machine.specs.History.{eventsOf}
 use Rattle.single.specs.Single.{makeOf, stepOf, beginOf, actOf}
-use Rattle.single_demands.specs.Notions.{Definition, Allowed, machineAfter, actsOf, Acts, InHand, OtherHand, Popping, accessOf, IsRead, Holds, HandsOut, Stands, Came, waiting, OneSlot, Took, closedBy, queueAnswer, Looks, FullWord, EmptyWord, PopClosedWord, Truth, mostOf, passed, ownActs, LetsGo}
+use Rattle.single_demands.specs.Notions.{Definition, Allowed, machineAfter, actsOf, Acts, AtEach, InHand, OtherHand, Popping, accessOf, isRead, Holds, HandsOut, Stands, Came, waiting, OneSlot, Took, closedBy, queueAnswer, Looks, FullWord, EmptyWord, PopClosedWord, Truth, mostOf, passed, ownActs, LetsGo}
 use Rattle.single_demands.specs.Foretold.{foretold}
 use Rattle.single_demands.specs.Attained.{Case, seenIn, attained, exactly}
 
@@ -82,28 +82,24 @@ pub record OnlyOne : Type 0 where
 -- ==== 2. Under every schedule from a fresh machine. Said of the machine m that entries reach, and of the acts h behind it.
 
 -- What goes out was pushed by exactly one push or force_push: a value handed out was read by its call's act before, and was then the item
--- of the latest write, which nobody had read.
+-- of the latest write.
 abbrev pub GoesOut : List Event → Type 0
-GoesOut h =
-    (earlier later : List Event) (act : Event) (v : ℕ) → h ≡ earlier ++ act ∷ later → HandsOut (act .after) v
-    → (k : ℕ) × Came earlier (act .worker) v k
+GoesOut = AtEach (λ earlier act. (v : ℕ) → HandsOut (act .after) v → (k : ℕ) × Came earlier (act .worker) v k)
 
 -- An item goes out at most once: no two answers hand out the item of one write.
 abbrev pub OnceOut : List Event → Type 0
-OnceOut h =
-    (earlier between later : List Event) (act again : Event) (v u k : ℕ) → h ≡ earlier ++ act ∷ between ++ again ∷ later
-    → HandsOut (act .after) v → HandsOut (again .after) u
-    → Came earlier (act .worker) v k → Came (earlier ++ act ∷ between) (again .worker) u k → ⊥
+OnceOut =
+    AtEach (λ before again. (u k : ℕ) → HandsOut (again .after) u → Came before (again .worker) u k
+    → AtEach (λ earlier act. (v : ℕ) → HandsOut (act .after) v → Came earlier (act .worker) v k → ⊥) before)
 
 -- Every read, whether its call has answered or not, takes along the item of the latest write, and no other read has had it.
 abbrev pub ReadsLatest : List Event → Type 0
-ReadsLatest h =
-    (earlier later : List Event) (act : Event) → h ≡ earlier ++ act ∷ later → IsRead (accessOf (act .before))
-    → (v k : ℕ) × Stands earlier v k × Holds (act .after) v
+ReadsLatest =
+    AtEach (λ earlier act. isRead (accessOf (act .before)) ≡ true → (v k : ℕ) × Stands earlier v k × Holds (act .after) v)
 
 -- C2 and B4 read a written value: where one is next, the value in the slot is the item of the latest write, unread.
 abbrev pub ReadsWritten : Machine → List Event → Type 0
-ReadsWritten m h = (w : ℕ) → IsRead (accessOf (placeOf (m .workers) w)) → (k : ℕ) × Stands h (m .single .value) k
+ReadsWritten m h = (w : ℕ) → isRead (accessOf (placeOf (m .workers) w)) ≡ true → (k : ℕ) × Stands h (m .single .value) k
 
 -- The slot is in at most one hand.
 abbrev pub OneHand : Machine → Type 0
@@ -125,9 +121,7 @@ abbrev pub PlainQueue : List Event → Type 0
 PlainQueue h = OneSlot h (waiting h)
 
 abbrev pub TakesOut : List Event → Type 0
-TakesOut h =
-    (earlier later : List Event) (act : Event) (v : ℕ) → h ≡ earlier ++ act ∷ later → HandsOut (act .after) v
-    → Took earlier (act .worker) v
+TakesOut = AtEach (λ earlier act. (v : ℕ) → HandsOut (act .after) v → Took earlier (act .worker) v)
 
 -- With all workers idle contents are what waits: none or one item.
 abbrev pub ContentsWait : Machine → List Event → Type 0

@@ -67,6 +67,15 @@ pub record Acts (d : Definition) (m : Machine) (w : ℕ) (next : Machine) : Type
   pub asks : entryOf first second ≡ Asks w (Act lose)
   pub done : d .turn m first second ≡ accepted next
 
+-- Of every one of these acts.
+abbrev pub Every : (Event → Type 0) → List Event → Type 0
+Every P [] = Unit {0}
+Every P (e ∷ h) = P e × Every P h
+
+-- Of every act of a history, with the acts before it.
+abbrev pub AtEach : (List Event → Event → Type 0) → List Event → Type 0
+AtEach P h = (earlier later : List Event) (act : Event) → h ≡ earlier ++ act ∷ later → P earlier act
+
 -- ---- hands
 
 -- In hand: from a won exchange until the word is unlocked (A2, A3, B2 to B5, C2, C3).
@@ -110,13 +119,19 @@ accessOf Full1 = none
 accessOf Close1 = none
 accessOf IsClosed1 = none
 
-pub data IsWrite : Access → ℕ → Type 0 where
-  a-write : {x : ℕ} → IsWrite (writes x) x
-  a-swap : {x : ℕ} → IsWrite (swaps x) x
+-- the item that it writes, if any
+abbrev pub itemOf : Access → List ℕ
+itemOf none = []
+itemOf (writes x) = x ∷ []
+itemOf (swaps x) = x ∷ []
+itemOf reads = []
 
-pub data IsRead : Access → Type 0 where
-  a-read : IsRead reads
-  a-swap-too : {x : ℕ} → IsRead (swaps x)
+-- it reads the value
+abbrev pub isRead : Access → Bool
+isRead none = false
+isRead (writes x) = false
+isRead (swaps x) = true
+isRead reads = true
 
 -- The value that a read took along.
 pub data Holds : Place → ℕ → Type 0 where
@@ -128,37 +143,43 @@ pub data HandsOut : Place → ℕ → Type 0 where
   popped : {v : ℕ} → HandsOut (Idle (Popped v)) v
   displaced : {v : ℕ} → HandsOut (Idle (Displaced v)) v
 
--- None of these acts wrote or read the slot.
-abbrev pub Untouched : List Event → Type 0
-Untouched [] = Unit {0}
-Untouched (e ∷ h) = (accessOf (e .before) ≡ none) × Untouched h
+-- None of these acts wrote the slot; none of them read it.
+abbrev pub Unwritten : List Event → Type 0
+Unwritten = Every (λ (e : Event). itemOf (accessOf (e .before)) ≡ [])
+
+abbrev pub Unread : List Event → Type 0
+Unread = Every (λ (e : Event). isRead (accessOf (e .before)) ≡ false)
 
 -- Worker w did none of these acts.
 abbrev pub Unmoved : ℕ → List Event → Type 0
-Unmoved w [] = Unit {0}
-Unmoved w (e ∷ h) = (e .worker ≢ w) × Unmoved w h
+Unmoved w = Every (λ (e : Event). e .worker ≢ w)
 
--- The latest write is the act numbered k (from 0), of the item v, by a push (A2) or a force_push (B2, B4), and nobody has read it since.
-pub record Stands (h : List Event) (v k : ℕ) : Type 0 where
+-- The latest write is the act numbered k (from 0), of the item v: by a push (A2) or a force_push (B2, B4).
+pub record Latest (h : List Event) (v k : ℕ) : Type 0 where
   pub earlier : List Event
   pub write : Event
   pub since : List Event
   pub is : h ≡ earlier ++ write ∷ since
   pub number : length earlier ≡ k
-  pub item : IsWrite (accessOf (write .before)) v
-  pub untouched : Untouched since
+  pub item : itemOf (accessOf (write .before)) ≡ v ∷ []
+  pub unwritten : Unwritten since
 
--- Worker w's latest act read the value v, and that was what stood: the item of the act numbered k.
+-- And nobody has read it.
+pub record Stands (h : List Event) (v k : ℕ) : Type 0 where
+  pub latest : Latest h v k
+  pub unread : Unread (latest .since)
+
+-- Worker w's latest act read the value v, and that was the item of the latest write, the act numbered k.
 pub record Came (h : List Event) (w v k : ℕ) : Type 0 where
   pub earlier : List Event
   pub read : Event
   pub since : List Event
   pub is : h ≡ earlier ++ read ∷ since
   pub by : read .worker ≡ w
-  pub reading : IsRead (accessOf (read .before))
+  pub reading : isRead (accessOf (read .before)) ≡ true
   pub got : Holds (read .after) v
-  pub stood : Stands earlier v k
-  pub latest : Unmoved w since
+  pub of : Latest earlier v k
+  pub rests : Unmoved w since
 
 -- ---- the queue that a history tells
 
@@ -185,18 +206,18 @@ pub data OneSlot : List Event → List ℕ → Type 0 where
   leaves : (h : List Event) (e : Event) (x : ℕ) → OneSlot h (x ∷ []) → accessOf (e .after) ≡ reads → OneSlot (h ++ e ∷ []) []
   rests : (h : List Event) (q : List ℕ) (e : Event) → OneSlot h q → accessOf (e .after) ≡ none → OneSlot (h ++ e ∷ []) q
 
--- Worker w took the item v out of the queue, in the call that it is in.
+-- Worker w has answered nothing in these acts.
 abbrev pub Unanswered : ℕ → List Event → Type 0
-Unanswered w [] = Unit {0}
-Unanswered w (e ∷ h) = (e .worker ≡ w → viewOf (e .after) .busy ≡ true) × Unanswered w h
+Unanswered w = Every (λ (e : Event). e .worker ≡ w → viewOf (e .after) .busy ≡ true)
 
+-- Worker w took the item v out of the queue, in the call that it is in.
 pub record Took (h : List Event) (w v : ℕ) : Type 0 where
   pub earlier : List Event
   pub exchange : Event
   pub since : List Event
   pub is : h ≡ earlier ++ exchange ∷ since
   pub by : exchange .worker ≡ w
-  pub takes : IsRead (accessOf (exchange .after))
+  pub takes : isRead (accessOf (exchange .after)) ≡ true
   pub waited : waiting earlier ≡ v ∷ []
   pub same-call : Unanswered w since
 

@@ -1,0 +1,4 @@
+pub mod Splits
+pub mod Log
+pub mod Words
+pub mod Effects
