@@ -2,3 +2,4 @@ pub mod Splits
 pub mod Log
 pub mod Words
 pub mod Effects
+pub mod Grip
