@@ -147,7 +147,7 @@ module _ (hands hands′ : ℕ → Hand) (s : Single) (h : List Event) (c : Bool
   clash : (g : Hand) → handOf p ≡ g → holding g ≡ true → hands w ≡ free → ⊥
   clash g e k f = true≢false (sym k ∙ ap holding (sym e ∙ sym at ∙ f))
 
-  abbrev Leads : Acted → Type 0
+  abbrev pub Leads : Acted → Type 0
   Leads a = hands′ w ≡ handOf (a .place) → Led hands′ (a .single) h (cond (isClose p) true c) w p (a .place)
 
   -- all hands free, after an act that leaves w's so
@@ -166,7 +166,7 @@ module _ (hands hands′ : ℕ → Hand) (s : Single) (h : List Event) (c : Bool
 
   -- on a slot in nobody's hand
   module _ (b : Bool) (is : s .state ≡ word false b c) (none-holds : (v : ℕ) → hands v ≡ free) (r : Rests h (s .value) b) where
-    from-loose : (a : Acted) → Effect s false b c p a → Leads a
+    pub from-loose : (a : Acted) → Effect s false b c p a → Leads a
     unfolding stay stateTo
     from-loose a (rests q f fq n o) e =
         let qp = accesses p free f in let qq = accesses q free fq in
@@ -214,7 +214,7 @@ module _ (hands hands′ : ℕ → Hand) (s : Single) (h : List Event) (c : Bool
         go (yes q) = subst (λ (x : ℕ). hands′ x ≡ free) (sym q) e
         go (no nw) = others v nw ∙ alone v nv
 
-    from-other : (a : Acted) → Effect s true (fills g) c p a → Leads a
+    pub from-other : (a : Acted) → Effect s true (fills g) c p a → Leads a
     unfolding stay stateTo
     from-other a (rests q f fq n o) e =
         let qp = accesses p free f in let qq = accesses q free fq in
@@ -274,7 +274,7 @@ module _ (hands hands′ : ℕ → Hand) (s : Single) (h : List Event) (c : Bool
           λ v out. let z = cons-first (out-is q v out) in (subst (Coming h w) z (x .1), subst (Took h w) z (x .2)),
         )
 
-    from-own : (a : Acted) → Effect s true (fills g) c p a → Leads a
+    pub from-own : (a : Acted) → Effect s true (fills g) c p a → Leads a
     unfolding stay stateTo valueTo
     from-own a (rests q f fq n o) e = absurd (does-as free f)
     from-own a (shuts q f fq n o) e = absurd (does-as free f)

@@ -3,3 +3,5 @@ pub mod Log
 pub mod Words
 pub mod Effects
 pub mod Grip
+pub mod Turns
+pub mod Reached
