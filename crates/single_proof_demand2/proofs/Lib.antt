@@ -5,3 +5,6 @@ pub mod Effects
 pub mod Grip
 pub mod Turns
 pub mod Reached
+pub mod Hands
+pub mod Answers
+pub mod Demand2

@@ -93,7 +93,7 @@ module _ (m : Machine) (w : ℕ) where
     acted-meter = refl
 
 -- an idle worker, and one that has just begun, has nothing in hand
-idle-free : (p : Place) → viewOf p .busy ≡ false → handOf p ≡ free
+pub idle-free : (p : Place) → viewOf p .busy ≡ false → handOf p ≡ free
 idle-free (Idle a) h = refl
 idle-free (A1 x) h = refl
 idle-free (A2 x) h = absurd (true≢false h)
