@@ -44,7 +44,7 @@ pub record Did-act (m : Machine) (w : ℕ) (next : Machine) : Type 0 where
   pub busy : viewOf (stood m w) .busy ≡ true
   pub is : next ≡ acted m w (stood m w)
 
-did-act : (m : Machine) (w : ℕ) (lose : Bool) (next : Machine) (l : List Event) → Turned m (Asks w (Act lose)) next l → Did-act m w next
+pub did-act : (m : Machine) (w : ℕ) (lose : Bool) (next : Machine) (l : List Event) → Turned m (Asks w (Act lose)) next l → Did-act m w next
 did-act m w lose next l (did v k mine busy early) = record { mine = mine; busy = busy; is = refl }
 
 pub acts-did : (m : Machine) (w : ℕ) (next : Machine) → Acts source m w next → Did-act m w next
@@ -179,7 +179,7 @@ looks-pushed false (v ∷ q) e c = absurd (omega arith)
 -- ---- of the machine
 module _ (workers : ℕ) (m : Machine) (h : List Event) (r : Reached workers m h) where
   -- the place that an accepted act leads to
-  went : (w : ℕ) (next : Machine) → Did-act m w next → placeOf (next .workers) w ≡ actOf (m .single) (stood m w) .place
+  pub went : (w : ℕ) (next : Machine) → Did-act m w next → placeOf (next .workers) w ≡ actOf (m .single) (stood m w) .place
   went w next d = ap (λ (x : Machine). stood x w) (d .is) ∙ acted-stood m w (stood m w) (in-row workers m h r w (d .mine))
 
   went-from : (w : ℕ) (next : Machine) (p : Place) → Acts source m w next → placeOf (m .workers) w ≡ p → placeOf (next .workers) w ≡ actOf (m .single) p .place

@@ -225,11 +225,11 @@ pub data Effect (s : Single) (l b c : Bool) (p : Place) : Acted → Type 0 where
 
 module _ (s : Single) (l b c : Bool) (is : s .state ≡ word l b c) where
   -- ---- an exchange
-  won : (e w : State) → same (s .state) e ≡ true → exchanged s e w ≡ stateTo s w
+  pub won : (e w : State) → same (s .state) e ≡ true → exchanged s e w ≡ stateTo s w
   unfolding exchanged
   won e w h = rw h
 
-  lost : (e w : State) → same (s .state) e ≡ false → exchanged s e w ≡ s
+  pub lost : (e w : State) → same (s .state) e ≡ false → exchanged s e w ≡ s
   unfolding exchanged
   lost e w h = rw h
 

@@ -32,7 +32,7 @@ use Rattle.single_proof_demand2.proofs.Turns.{stood}
 use Rattle.single_proof_demand2.proofs.Reached.{Reached, hands, idle-free}
 
 -- ---- of a hand
-hand-holds : (h : List Event) (v w : ℕ) (g : Hand) → Does h v w g → holding g ≡ true
+pub hand-holds : (h : List Event) (v w : ℕ) (g : Hand) → Does h v w g → holding g ≡ true
 hand-holds h v w free d = absurd d
 hand-holds h v w (putting x) d = refl
 hand-holds h v w put d = refl

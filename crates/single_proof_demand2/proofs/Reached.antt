@@ -112,7 +112,7 @@ idle-free Full1 h = refl
 idle-free Close1 h = refl
 idle-free IsClosed1 h = refl
 
-begin-free : (c : Call) → handOf (beginOf c) ≡ free
+pub begin-free : (c : Call) → handOf (beginOf c) ≡ free
 begin-free (call.Push x) = refl
 begin-free (call.ForcePush x) = refl
 begin-free call.Pop = refl
@@ -246,7 +246,7 @@ pub entered : (workers : ℕ) (m : Machine) (h : List Event) (en : Entry) (next 
 entered workers m h en next acts r (began w c l idle) = subst (Reached workers next) (sym (append-nil h)) (begun-reached workers m h r w l c idle)
 entered workers m h en next acts r (did w lose l busy early) = acted-reached workers m h r w l busy
 
-one-entry : (workers : ℕ) (m : Machine) (h : List Event) (a b : ℕ) → Reached workers m h → turnOf m a b .refusal ≡ 0
+pub one-entry : (workers : ℕ) (m : Machine) (h : List Event) (a b : ℕ) → Reached workers m h → turnOf m a b .refusal ≡ 0
     → Reached workers (turnOf m a b .machine) (h ++ eventsOf m (entryOf a b) (turnOf m a b .machine))
 unfolding turnOfBy
 one-entry workers m h a b r e = entered workers m h (entryOf a b) _ _ r (turned m (entryOf a b) e)
