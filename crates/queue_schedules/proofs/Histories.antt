@@ -79,7 +79,7 @@ module _ {M D R E : Type 0} (q : Queue M D R) (acts : M → Entry → M → List
       let t = eq-eqb _ 0 e in (
         ap (q .machineIn) (o .run ∙ run-on q at _ a b [] t ∙ run-none q (next at a b) _) ∙ q .machine-is 0 _ _,
         o .acts-too ∙ ap (λ (l : List E). historyIn m s ++ l)
-        (history-on at a b [] t ∙ ap (λ (l : List E). actsAt at a b ++ l) (history-none (next at a b)) ∙ append-nil (actsAt at a b)),
+            (history-on at a b [] t ∙ ap (λ (l : List E). actsAt at a b ++ l) (history-none (next at a b)) ∙ append-nil (actsAt at a b)),
       )
 
   -- What every accepted entry leads on from machine and history to machine and history, every list of entries does.

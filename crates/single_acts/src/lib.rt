@@ -80,7 +80,11 @@ fn a1(s: Single, item: u64) -> Acted
     ensures { λ r. ⌜ r ≡ actA1 s item ⌝ }
 {
     let found = s.state;
-    let after = exchange(s, State(0), State(single_words::LOCKED | single_words::PUSHED));
+    let after = exchange(
+        s,
+        State(0),
+        State(single_words::LOCKED | single_words::PUSHED),
+    );
     if single_words::same(found, State(0)) {
         return stay(after, Place::A2(item));
     }
@@ -120,7 +124,8 @@ fn b1(s: Single, e: State, item: u64) -> Acted
             stay(after, Place::B2(item))
         }
     } else {
-        stay(after, Place::B1(single_words::unlocked(found), item))
+        let again = single_words::unlocked(found);
+        stay(after, Place::B1(again, item))
     }
 }
 
@@ -160,7 +165,8 @@ fn c1(s: Single, e: State) -> Acted
         return stay(after, Place::C2);
     }
     if single_words::pushed(found) {
-        return stay(after, Place::C1(single_words::unlocked(found)));
+        let again = single_words::unlocked(found);
+        return stay(after, Place::C1(again));
     }
     if single_words::closed(found) {
         stay(after, Place::Idle(Answer::PopClosed))

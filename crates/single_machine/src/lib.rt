@@ -113,7 +113,11 @@ pub fn broken(m: Machine) -> bool
     if queue_entries::in_limits(m.count, queue_entries::WORKERS as u64) {} else {
         return true;
     }
-    if idle_from(m.count, workers) { false } else { true }
+    if idle_from(m.count, workers) {
+        false
+    } else {
+        true
+    }
 }
 
 // What becomes of a worker that stands at p. No exchange is weak.

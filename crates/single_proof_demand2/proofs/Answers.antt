@@ -256,9 +256,9 @@ module _ (workers : ℕ) (m : Machine) (h : List Event) (r : Reached workers m h
             let d = acts-did m w next acts in (
               sym (closed-holds workers m h r) ∙ t .1,
               λ z.
-              let n = unpushed z in
-              let v = pop-in-progress workers m h r (locked-at (t .0) n (t .1)) n in
-              (v .0, (λ q. not-popping w x next d e (subst (λ (y : ℕ). Popping (stood m y)) q (v .1))), v .1),
+                  let n = unpushed z in
+                  let v = pop-in-progress workers m h r (locked-at (t .0) n (t .1)) n in
+                  (v .0, (λ q. not-popping w x next d e (subst (λ (y : ℕ). Popping (stood m y)) q (v .1))), v .1),
             );
         empty = λ w next acts e. let t = answers-true w next Empty acts e in (sym (closed-holds workers m h r) ∙ t .1, none-waits (t .0));
         closed = λ w x next acts e. sym (closed-holds workers m h r) ∙ answers-true w next (Closed x) acts e;

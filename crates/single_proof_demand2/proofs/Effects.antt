@@ -283,7 +283,7 @@ module _ (s : Single) (l b c : Bool) (is : s .state ≡ word l b c) where
       go true t d h =
           let z : s .state ≡ word false true (k .0) = same-is (s .state) e t ∙ k .1 in
           let w : word true false c ≡ takenOf e =
-              ap (word true false) (same-closed (s .state) l b c is false true (k .0) z) ∙ sym (ap takenOf (k .1) ∙ taken-word false true (k .0)) in
+          ap (word true false) (same-closed (s .state) l b c is false true (k .0) z) ∙ sym (ap takenOf (k .1) ∙ taken-word false true (k .0)) in
           rw (won e (takenOf e) t, t)
           (subst (λ (y : State). Effect s l b c (C1 e) (stay (stateTo s y) C2)) w
           (locks C2 taking refl (same-locked (s .state) l b c is false true (k .0) z) refl

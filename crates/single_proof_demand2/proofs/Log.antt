@@ -164,5 +164,5 @@ once-from h all before rest again e u k out c xs ys act q v out₁ c₁ =
         every-in _ (c .since) (c₁ .since) ys act (sym t) (c .rests) (sym (c₁ .by) ∙ ap (λ (x : Event). x .worker) r ∙ c .by)
     go (later zs p r) =
         let s = stood (c₁ .read) (c₁ .earlier) (c₁ .since ++ act ∷ ys) v
-            (q ∙ ap (λ (l : List Event). l ++ act ∷ ys) (c₁ .is) ∙ append-assoc (c₁ .earlier) (c₁ .read ∷ c₁ .since) (act ∷ ys)) (c₁ .reading) (c₁ .of) in
+        (q ∙ ap (λ (l : List Event). l ++ act ∷ ys) (c₁ .is) ∙ append-assoc (c₁ .earlier) (c₁ .read ∷ c₁ .since) (act ∷ ys)) (c₁ .reading) (c₁ .of) in
         twice-read (c .earlier) (c₁ .earlier) (c .read) zs u (s .0) k p (c .reading) (c .of) (s .1)

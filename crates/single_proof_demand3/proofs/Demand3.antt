@@ -69,7 +69,7 @@ module _ (workers : ℕ) (m : Machine) (h : List Event) (r : Reached workers m h
     came v out =
         let reached-then = acted-reached workers last (ends .log) (ends .holds .reached) w (team workers last (ends .log) (ends .holds .reached) w (ends .busy-yet)) (ends .busy-yet) in
         let there : stood (acted last w (stood last w)) w ≡ Idle a =
-            ap (λ (x : Machine). stood x w) (sym (turn-is workers w a (ends .left) last (ends .log) (ends .holds) (ends .busy-yet))) ∙ gives in
+        ap (λ (x : Machine). stood x w) (sym (turn-is workers w a (ends .left) last (ends .log) (ends .holds) (ends .busy-yet))) ∙ gives in
         reached-then .goes (ends .log) [] (event w (stood last w) (stood (acted last w (stood last w)) w)) refl v (subst (λ (q : Place). HandsOut q v) (sym there) out)
 
     ends-alone : EndsAlone source m h w (mostOf (stood m w))

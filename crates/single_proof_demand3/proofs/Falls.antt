@@ -33,15 +33,15 @@ pick-some false x y p q = q
 
 pub rank-most : (s : Single) (p : Place) → rankOf s p ≤ mostOf p
 rank-most s (Idle a) = omega arith
-rank-most s (A1 x) = pick-most (same (s .state) (state 0)) 3 1 3 (omega arith) (omega arith)
+rank-most s (A1 x) = pick-most (same (s .state) (state 0)) _ _ _ (omega arith) (omega arith)
 rank-most s (A2 x) = omega arith
 rank-most s A3 = omega arith
-rank-most s (B1 e x) = pick-most (closedIn (s .state)) 1 _ 4 (omega arith) (pick-most (same (s .state) e) 3 4 4 (omega arith) (omega arith))
+rank-most s (B1 e x) = pick-most (closedIn (s .state)) _ _ _ (omega arith) (pick-most (same (s .state) e) _ _ _ (omega arith) (omega arith))
 rank-most s (B2 x) = omega arith
 rank-most s B3 = omega arith
 rank-most s (B4 x) = omega arith
 rank-most s (B5 old) = omega arith
-rank-most s (C1 e) = pick-most (same (s .state) e) 3 _ 4 (omega arith) (pick-most (pushedIn (s .state)) 4 1 4 (omega arith) (omega arith))
+rank-most s (C1 e) = pick-most (same (s .state) e) _ _ _ (omega arith) (pick-most (pushedIn (s .state)) _ _ _ (omega arith) (omega arith))
 rank-most s C2 = omega arith
 rank-most s (C3 v) = omega arith
 rank-most s Len1 = omega arith
@@ -52,15 +52,15 @@ rank-most s IsClosed1 = omega arith
 
 pub rank-some : (s : Single) (p : Place) → viewOf p .busy ≡ true → 0 < rankOf s p
 rank-some s (Idle a) busy = absurd (true≢false (sym busy))
-rank-some s (A1 x) busy = pick-some (same (s .state) (state 0)) 3 1 (omega arith) (omega arith)
+rank-some s (A1 x) busy = pick-some (same (s .state) (state 0)) _ _ (omega arith) (omega arith)
 rank-some s (A2 x) busy = omega arith
 rank-some s A3 busy = omega arith
-rank-some s (B1 e x) busy = pick-some (closedIn (s .state)) 1 _ (omega arith) (pick-some (same (s .state) e) 3 4 (omega arith) (omega arith))
+rank-some s (B1 e x) busy = pick-some (closedIn (s .state)) _ _ (omega arith) (pick-some (same (s .state) e) _ _ (omega arith) (omega arith))
 rank-some s (B2 x) busy = omega arith
 rank-some s B3 busy = omega arith
 rank-some s (B4 x) busy = omega arith
 rank-some s (B5 old) busy = omega arith
-rank-some s (C1 e) busy = pick-some (same (s .state) e) 3 _ (omega arith) (pick-some (pushedIn (s .state)) 4 1 (omega arith) (omega arith))
+rank-some s (C1 e) busy = pick-some (same (s .state) e) _ _ (omega arith) (pick-some (pushedIn (s .state)) _ _ (omega arith) (omega arith))
 rank-some s C2 busy = omega arith
 rank-some s (C3 v) busy = omega arith
 rank-some s Len1 busy = omega arith
