@@ -8,7 +8,7 @@ from dataclasses import dataclass, replace
 from typing import NamedTuple, Optional
 
 WIDE = 2**64
-MOST_SLOTS = 256
+MOST_SLOTS = 1024
 MOST_WORKERS = 16
 MOST_METER = 4_294_967_295
 

@@ -7,7 +7,7 @@ use crate::random::Random;
 use crate::schedule::Schedule;
 use crate::stage::Action;
 
-pub const CAPACITIES: [u64; 9] = [1, 2, 3, 4, 5, 7, 8, 255, 256];
+pub const CAPACITIES: [u64; 13] = [1, 2, 3, 4, 5, 7, 8, 255, 256, 257, 512, 1023, 1024];
 
 /// How likely each call is, in the order of the codes; close has its own rule.
 const MIXES: [[usize; 8]; 7] = [
@@ -154,7 +154,7 @@ pub fn any_entry(random: &mut Random, workers: u64) -> (u64, u64) {
 
 /// A making refused, or an odd number of words, or both.
 pub fn refused_whole(random: &mut Random) -> Schedule {
-    let capacity = random.pick(&[0, 1, 2, 256, 257, 1024, u64::MAX]);
+    let capacity = random.pick(&[0, 1, 2, 257, 1024, 1025, u64::MAX]);
     let workers = random.pick(&[0, 1, 2, 16, 17, 64, u64::MAX]);
     let mut schedule = Schedule::new(capacity, workers);
     for _ in 0..random.below(3) {

@@ -16,7 +16,7 @@ pub fn list(seed: u64) -> (String, String) {
     let mut schedules = runs_on_paper();
     schedules.extend(refusals());
     schedules.extend([1, 2, 3].map(closed_full_and_emptied));
-    schedules.extend([255, 256].map(full_and_round));
+    schedules.extend([255, 256, 257, 512, 1023, 1024].map(full_and_round));
     let mut random = Random::new(seed);
     for capacity in [1, 2, 3, 4, 5, 7, 8] {
         schedules.push(sequential::schedule(&mut random, capacity, 40));
@@ -116,7 +116,7 @@ fn runs_on_paper() -> Vec<Schedule> {
 
 /// Each refusal by itself, the limits on both sides, and the order where two would apply.
 fn refusals() -> Vec<Schedule> {
-    let limits = [(0, 1), (257, 1), (1, 1), (256, 16), (1, 0), (1, 17), (0, 0), (257, 17)];
+    let limits = [(0, 1), (1025, 1), (1, 1), (1024, 16), (1, 0), (1, 17), (0, 0), (1025, 17)];
     let mut all: Vec<Schedule> = limits.map(|(capacity, workers)| Schedule::new(capacity, workers)).into();
     let refused: [&[(u64, u64)]; 16] = [
         &[(0, 5), (8, 0), (16 + 8, 0)],            // 3: act of no worker

@@ -11,6 +11,7 @@ use std::cell::{Cell, RefCell};
 
 /// Refusal 7 is given from here on.
 const METER_LIMIT: u64 = 4_294_967_295;
+const SLOTS_MOST: u64 = 1024;
 
 /// A refusal's number; document 01 lists them.
 pub type Refusal = u64;
@@ -133,7 +134,7 @@ pub struct Machine {
 impl Machine {
     /// Refusals 1 and 2, in this order.
     pub fn make(capacity: u64, workers: u64) -> Result<Machine, Refusal> {
-        if !(1..=256).contains(&capacity) {
+        if !(1..=SLOTS_MOST).contains(&capacity) {
             return Err(1);
         }
         if !(1..=16).contains(&workers) {
@@ -430,7 +431,7 @@ mod tests {
     #[test]
     fn stepped_and_direct_calls_agree() {
         let mut random = Random::new(3);
-        for capacity in [1, 2, 3, 8, 256] {
+        for capacity in [1, 2, 3, 8, 256, 1024] {
             let mut machine = Machine::make(capacity, 1).unwrap_or_else(|_| panic!("refused"));
             let capacity = capacity as usize;
             let (direct, made) = stage::making(capacity, || Bounded::new(capacity));

@@ -107,7 +107,7 @@ fn before_f6() -> Bench {
 /// Mark is what `close` sets; lap is what the first pop's stamp store adds to head 0.
 #[test]
 fn a_constants() {
-    for (capacity, mark, lap) in [(1, 2, 4), (2, 4, 8), (3, 4, 8), (4, 8, 16), (255, 256, 512), (256, 512, 1024)] {
+    for (capacity, mark, lap) in [(1, 2, 4), (2, 4, 8), (3, 4, 8), (4, 8, 16), (255, 256, 512), (256, 512, 1024), (1024, 2048, 4096)] {
         let mut bench = Bench::new(capacity, 2);
         bench.call(0, PUSH, 5);
         bench.begin(0, POP, 0);
@@ -178,6 +178,6 @@ fn g_before_f7() {
 #[test]
 fn h_limits() {
     let made = |capacity, workers| Machine::make(capacity, workers).err().unwrap_or(0);
-    assert_eq!([0, 257, 1, 256].map(|capacity| made(capacity, 1)), [1, 1, 0, 0]);
+    assert_eq!([0, 1025, 1, 1024].map(|capacity| made(capacity, 1)), [1, 1, 0, 0]);
     assert_eq!([0, 17, 1, 16].map(|workers| made(1, workers)), [2, 2, 0, 0]);
 }

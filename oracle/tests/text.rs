@@ -22,7 +22,7 @@ fn refused_making() {
     let blank = |refusal| format!("made {refusal}\n0 6 h=0 t=0 m=0\nslots\ncontents refused 6\n");
     assert_eq!(printed("0 1 0 5"), blank(1));
     assert_eq!(printed("1 17 0 5 8"), blank(2));
-    assert_eq!(printed("257 0"), blank(1));
+    assert_eq!(printed("1025 0"), blank(1));
     assert_eq!(quiet("0 1"), blank(1));
 }
 

@@ -131,7 +131,7 @@ runG = runF₂ ++ acts 0 1
 -- Row by row: A to H.
 unfoldable pub table : List Row
 table =
-    row 1 1 [] (constants 1 2 4 ∷ constants 2 4 8 ∷ constants 3 4 8 ∷ constants 4 8 16 ∷ constants 255 256 512 ∷ constants 256 512 1024 ∷ [])
+    row 1 1 [] (constants 1 2 4 ∷ constants 2 4 8 ∷ constants 3 4 8 ∷ constants 4 8 16 ∷ constants 255 256 512 ∷ constants 256 512 1024 ∷ constants 1024 2048 4096 ∷ [])
     ∷ row 2 1 runB (ended 0 6 ∷ head 0 ∷ tail 1 ∷ stamped 0 1 ∷ valued 0 5 ∷ stamped 1 1 ∷ valued 1 0 ∷ meter 5 ∷ stands 0 (Idle Pushed) ∷ contents (5 ∷ []) ∷ [])
     ∷ row 2 1 runC₁ (tail 8 ∷ stamped 1 2 ∷ [])
     ∷ row 2 1 runC₂ (stands 0 (Idle (Popped 5)) ∷ head 1 ∷ stamped 0 8 ∷ [])
@@ -153,7 +153,7 @@ table =
     ∷ row 1 2 (runG ++ entry 1 2 0) (stands 1 O1 ∷ [])
     ∷ row 1 2 (runG ++ (entry 1 2 0 ++ acts 1 1)) (stands 1 (O2 (stamp 4)) ∷ [])
     ∷ row 1 2 (runG ++ (entry 1 2 0 ++ acts 1 2)) (stands 1 O1 ∷ [])
-    ∷ row 1 1 [] (made 0 1 1 ∷ made 257 1 1 ∷ made 1 1 0 ∷ made 256 1 0 ∷ made 1 0 2 ∷ made 1 17 2 ∷ made 1 1 0 ∷ made 1 16 0 ∷ [])
+    ∷ row 1 1 [] (made 0 1 1 ∷ made 1025 1 1 ∷ made 1 1 0 ∷ made 1024 1 0 ∷ made 1 0 2 ∷ made 1 17 2 ∷ made 1 1 0 ∷ made 1 16 0 ∷ [])
     ∷ []
 
 -- The definitions give them.

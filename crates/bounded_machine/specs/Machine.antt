@@ -18,7 +18,7 @@ use Rattle.bounded_machine.specs.declared.Did.{Did}
 abbrev pub slot : ℕ → ℕ → Slot
 slot s v = record { stamp = stamp s; value = v }
 
--- 256 empty slots, stamp 0 and value 0
+-- empty slots, stamp 0 and value 0: as many as the limit
 unfoldable pub emptySlots : List Slot
 emptySlots = replicate slotsMost (slot 0 0)
 

@@ -90,7 +90,7 @@ pub fn accept(m: Machine) -> Did
     }
 }
 
-// "A fresh ring starts from 256 empty slots, stamp 0 and value 0; then slot i below capacity gets stamp i."
+// "A fresh ring starts from empty slots, stamp 0 and value 0; then slot i below capacity gets stamp i."
 pub fn fresh_slots(capacity: u64) -> [Slot; bounded_words::SLOTS]
     requires { ⌜ capacity ≤ slotsMost ⌝ }
     ensures { λ r. ⌜ r ≡ freshSlots capacity ⌝ }

@@ -15,7 +15,7 @@ fn fixed(m: Machine, capacity: u64, mark: u64, lap: u64) {
 
 fn constants(m: Machine) {
     fixed(m, 0, 1, 2);
-    fixed(m, 257, 512, 1024);
+    fixed(m, 1025, 2048, 4096);
     fixed(m, 18446744073709551615, 4, 8);
     fixed(m, 2, 0, 0);
     fixed(m, 2, 2, 4);
@@ -29,7 +29,7 @@ fn constants(m: Machine) {
     fixed(m, 2, 4, 8);
     fixed(m, 3, 4, 8);
     fixed(m, 4, 8, 16);
-    fixed(m, 256, 512, 1024);
+    fixed(m, 1024, 2048, 4096);
 }
 
 fn count(m: Machine, n: u64) {

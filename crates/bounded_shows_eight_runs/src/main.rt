@@ -149,6 +149,7 @@ fn run_a() {
     constants(4);
     constants(255);
     constants(256);
+    constants(1024);
 }
 
 fn say_ran(r: Ran) {
@@ -176,9 +177,9 @@ fn making(capacity: u64, workers: u64) {
 
 fn run_h() {
     making(0, 1);
-    making(257, 1);
+    making(1025, 1);
     making(1, 1);
-    making(256, 1);
+    making(1024, 1);
     making(1, 0);
     making(1, 17);
     making(1, 1);

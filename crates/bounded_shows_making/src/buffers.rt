@@ -63,27 +63,27 @@ fn ends(m: Machine) {
     end(m, 9, 1);
 }
 
-// 256 items, the most there are.
+// 1,024 items, the most there are.
 fn full() -> Machine {
-    let made = bounded::make(256, 1);
+    let made = bounded::make(1024, 1);
     let mut m = made.machine;
     let mut i = 0;
-    while i < 256 {
+    while i < 1024 {
         m = bounded_text_machine::build::with_slot(m, i, i as u64 + 1, i as u64 + 1000);
         i += 1;
     }
-    bounded_text_machine::build::with_ends(m, 0, 1024)
+    bounded_text_machine::build::with_ends(m, 0, 4096)
 }
 
-// LABEL: REFUSAL or ok COUNT, then the buffer's first word, its 255th and its last
+// LABEL: REFUSAL or ok COUNT, then the buffer's first word, its 1,023rd and its last
 fn say_many(t: Told, buffer: &[u64]) {
     let mut out = [0u8; 512];
     let n = buffer.len();
-    if 255 <= n {
-        let numbers = [n as u64, buffer[0], buffer[254], buffer[n - 1]];
-        let p = text_output::form(&mut out, 0, b"256 items, buffer #: ", &numbers);
+    if 1023 <= n {
+        let numbers = [n as u64, buffer[0], buffer[1022], buffer[n - 1]];
+        let p = text_output::form(&mut out, 0, b"1024 items, buffer #: ", &numbers);
         let q = bounded_text_answers::judge::say_told(&mut out, p, t);
-        let r = text_output::form(&mut out, q, b" first=# 255th=# last=#", &numbers[1..]);
+        let r = text_output::form(&mut out, q, b" first=# 1023rd=# last=#", &numbers[1..]);
         text_output::end(&mut out, r);
     }
 }
@@ -94,11 +94,11 @@ fn many(m: Machine, buffer: &mut [u64]) {
 }
 
 fn most(m: Machine) {
-    let mut short = [77u64; 255];
+    let mut short = [77u64; 1023];
     many(m, &mut short);
-    let mut exact = [77u64; 256];
+    let mut exact = [77u64; 1024];
     many(m, &mut exact);
-    let mut longer = [77u64; 257];
+    let mut longer = [77u64; 1025];
     many(m, &mut longer);
 }
 

@@ -55,15 +55,19 @@ fn makings() {
     make(255, 16);
     make(256, 1);
     make(257, 1);
+    make(512, 1);
+    make(1023, 1);
+    make(1024, 1);
+    make(1025, 1);
     make(18446744073709551615, 1);
     make(1, 0);
     make(1, 16);
     make(1, 17);
     make(1, 18446744073709551615);
     make(0, 0);
-    make(257, 17);
+    make(1025, 17);
     make(0, 17);
-    make(257, 0);
+    make(1025, 0);
 }
 
 fn say_workers(m: Machine) {
@@ -87,5 +91,5 @@ pub fn all() {
     makings();
     fresh(3, 16);
     fresh(3, 15);
-    fresh(256, 1);
+    fresh(1024, 1);
 }

@@ -43,10 +43,11 @@ pub record Ruled (f : Fixed) : Type 0 where
   pub laps : f .lap ∣ wide
   pub marks : f .mark ∣ wide
 
-exponent : (k : ℕ) → 2 ^ k < 1024 → k ≤ 9
-exponent k h = go (decLe 10 k)
+-- a power that fits
+exponent : (k : ℕ) → 2 ^ k < 2 ^ 63 → k ≤ 62
+exponent k h = go (decLe 63 k)
   where
-    go : Dec (10 ≤ k) → k ≤ 9
+    go : Dec (63 ≤ k) → k ≤ 62
     go (yes l) = absurd (omega (arith, pow-mono l))
     go (no n) = omega arith
 
@@ -74,7 +75,7 @@ ruled f some most m l =
     lap-is : f .lap ≡ 2 ^ (s .power + 1)
     lap-is = l ∙ (omega (arith, pow-add 2 (s .power) 1, s .is))
 
-    below : s .power ≤ 9
+    below : s .power ≤ 62
     below = exponent (s .power) (omega (arith, s .is, s .least))
 
 pub fair : (f : Fixed) → Ruled f → Fair f

@@ -3,7 +3,7 @@ use Prim.Native.Nat.{ℕ, _^_}
 
 -- refusal 1: the most slots
 abbrev pub slotsMost : ℕ
-slotsMost = 256
+slotsMost = 1024
 
 -- how many words there are: modulo 2 to the power 64
 abbrev pub wide : ℕ

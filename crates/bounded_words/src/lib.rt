@@ -20,7 +20,7 @@ pub struct Fixed {
 }
 
 // The most slots.
-pub const SLOTS: usize = 256;
+pub const SLOTS: usize = 1024;
 
 // "smallest power of two not below capacity + 1"
 pub fn mark_of(capacity: u64) -> u64

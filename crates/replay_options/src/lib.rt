@@ -126,7 +126,7 @@ pub fn help() {
         b"replay [--quiet] [--summary] [--many] [FILE]\n\
         \n\
         Runs a schedule on the stamped ring. It is read from FILE, or from standard input: unsigned decimal\n\
-        numbers separated by white space. The first is the capacity (1 to 256), the second the number of\n\
+        numbers separated by white space. The first is the capacity (1 to 1024), the second the number of\n\
         workers (1 to 16), then come the entries, two numbers each: 16 * worker + code, and the item.\n\
         Codes: 0 push, 1 force_push, 2 pop, 3 len, 4 is_empty, 5 is_full, 6 close, 7 is_closed begin a call;\n\
         8 is an act, 9 an act whose weak exchange fails. The item is 0 unless the code is 0 or 1.\n\

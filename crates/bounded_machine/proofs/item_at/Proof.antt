@@ -1,5 +1,6 @@
 use Prim.Native.Nat.{_<_}
 use native.Mathlib.Omega.{arith}
+use Rattle.bounded_words.specs.Limits.{slotsMost}
 use Rattle.bounded_machine.proofs.Items.{fair-at, wrapped-below, item-is, index-small}
 use borrow.Author.Needs.{needs}
 use Rattle.bounded_machine.proofs.item_at.Statement.{statement}
@@ -23,7 +24,7 @@ wrap-requires c κs = search needs
 
 -- src/lib.rt:291:13
 mul-s : tie.Need-mul-s
-mul-s c = let h : c .wrap .result < 256 = search (needs, wrapped-below) in omega arith
+mul-s c = let h : c .wrap .result < slotsMost = search (needs, wrapped-below) in omega arith
 
 -- src/lib.rt:291:13
 array-copy-out-s : tie.Need-array-copy-out-s

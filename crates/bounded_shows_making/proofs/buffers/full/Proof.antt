@@ -12,7 +12,7 @@ abbrev Inv-loop : tie.InvT-loop
 Inv-loop m₀ i₀ m i = Unit {0}
 
 abbrev μ-loop : tie.MeasureT-loop
-μ-loop m₀ i₀ m i = 256 - i
+μ-loop m₀ i₀ m i = 1024 - i
 
 -- src/buffers.rt:63:9
 make-requires : tie.Need-make-requires Inv-loop μ-loop

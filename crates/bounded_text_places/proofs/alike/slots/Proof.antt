@@ -3,6 +3,7 @@ use mathlib.Core.Path.{_≡_}
 use lib.ListN.{length}
 use native.Mathlib.Omega.{arith}
 use borrow.Author.Needs.{needs}
+use Rattle.bounded_words.specs.Limits.{slotsMost}
 use Rattle.bounded_text_places.proofs.alike.slots.Statement.{statement}
 use Rattle.bounded_text_places.proofs.alike.slots.Tie as tie
 use Rattle.bounded_text_places.proofs.alike.slots.Reads as reads
@@ -13,7 +14,7 @@ abbrev Inv-loop : tie.InvT-loop
 Inv-loop a b i₀ i = Unit {0}
 
 abbrev μ-loop : tie.MeasureT-loop
-μ-loop a b i₀ i = 256 - i
+μ-loop a b i₀ i = slotsMost - i
 
 -- src/lib.rt:121:5
 loop-holds : tie.Need-loop-holds Inv-loop μ-loop

@@ -3,6 +3,7 @@ use mathlib.Core.Path.{_≡_}
 use lib.ListN.{length}
 use native.Mathlib.Omega.{arith}
 use borrow.Author.Needs.{needs}
+use Rattle.bounded_words.specs.Limits.{slotsMost}
 use Rattle.bounded_text_places.proofs.text.slots.Statement.{statement}
 use Rattle.bounded_text_places.proofs.text.slots.Tie as tie
 use Rattle.bounded_text_places.proofs.text.slots.Reads as reads
@@ -14,7 +15,7 @@ abbrev Inv-loop : tie.InvT-loop
 Inv-loop out₀ at capacity slots p₀ i₀ t10 out p i = length out ≡ length out₀
 
 abbrev μ-loop : tie.MeasureT-loop
-μ-loop out₀ at capacity slots p₀ i₀ t10 out p i = 256 - i
+μ-loop out₀ at capacity slots p₀ i₀ t10 out p i = slotsMost - i
 
 -- src/lib.rt:202:5
 loop-holds : tie.Need-loop-holds Inv-loop μ-loop
