@@ -1,16 +1,17 @@
 """A second reading of document 01, the scope paper: its machine, row by row. tests/tables holds the programs' tables against it.
 
 It is written from the document and from none of the crates, so that a row misread there is not misread alike here. Places, calls,
-answers and refusals have the document's names and numbers; where it names no places, a call's loads are numbered.
+answers and refusals have the document's names and numbers; where it names no places, a call's loads are numbered. What the ring shares
+with the other queues is read in paper_entries.py.
 """
 
 from dataclasses import dataclass, replace
 from typing import NamedTuple, Optional
 
+from paper_entries import MOST_METER, MOST_WORKERS, Entries, busy, busy_past_the_count, out_of_limits
+
 WIDE = 2**64
 MOST_SLOTS = 1024
-MOST_WORKERS = 16
-MOST_METER = 4_294_967_295
 
 
 # The words
@@ -289,25 +290,13 @@ ACTS = {
 WEAK_EXCHANGES = ('P3', 'F6', 'O3')
 
 
-# Schedules
-
-CALLS = ('push', 'force_push', 'pop', 'len', 'is_empty', 'is_full', 'close', 'is_closed')
-FIRST_PLACES = ('P1', 'P1', 'O1', 'len1', 'is_empty1', 'is_full1', 'close1', 'is_closed1')
-BEGIN_CODES = range(0, 8)
-ACT_CODES = range(8, 10)
-FAILING = 9
-CODES_WITH_ITEM = range(0, 2)
+FIRST_PLACES = {
+    'push': 'P1', 'force_push': 'P1', 'pop': 'O1', 'len': 'len1', 'is_empty': 'is_empty1', 'is_full': 'is_full1', 'close': 'close1',
+    'is_closed': 'is_closed1',
+}
 
 
-# "Broken" and "Order", under Eleven ways to be turned away
-
-def busy(worker):
-    return worker.place != 'idle'
-
-
-def out_of_limits(number, most):
-    return not 1 <= number <= most
-
+# "Broken", under Eleven ways to be turned away
 
 def index_amiss(ring, word):
     return index(ring, word) >= ring.capacity
@@ -331,11 +320,7 @@ def broken(machine):
         return True
     if any(record_amiss(ring, worker) for worker in machine.workers[:machine.count]):
         return True
-    return any(busy(worker) for worker in machine.workers[machine.count:])
-
-
-def unreadable(codes, code, item):
-    return code not in codes or (item != 0 and code not in CODES_WITH_ITEM)
+    return busy_past_the_count(machine)
 
 
 def make(capacity, count):
@@ -346,88 +331,22 @@ def make(capacity, count):
     return 0, fresh(capacity, count)
 
 
-def begin_refusal(machine, number, code, item):
-    if broken(machine):
-        return 6
-    if unreadable(BEGIN_CODES, code, item):
-        return 9
-    if number >= machine.count:
-        return 3
-    if busy(machine.workers[number]):
-        return 4
-    return 0
+def begun(call, item):
+    return Worker(call, FIRST_PLACES[call], item)
 
 
-def act_refusal(machine, number, code, item):
-    if broken(machine):
-        return 6
-    if unreadable(ACT_CODES, code, item):
-        return 9
-    if number >= machine.count:
-        return 3
-    if not busy(machine.workers[number]):
-        return 5
-    if machine.meter >= MOST_METER:
-        return 7
-    if code == FAILING and machine.workers[number].place not in WEAK_EXCHANGES:
-        return 8
-    return 0
+def act_of(machine, worker, fails):
+    return ACTS[worker.place](machine.ring, worker, fails)
 
 
-# The document does not say what begin and act are handed. docs/DECISIONS.md does: an entry's two words, as step is, and a code of
-# the other kind cannot be read.
-
-def begin(machine, first, item):
-    number, code = divmod(first, 16)
-    refusal = begin_refusal(machine, number, code, item)
-    if refusal != 0:
-        return refusal, machine
-    after = copy_of(machine)
-    after.workers[number] = Worker(CALLS[code], FIRST_PLACES[code], item)
-    return 0, after
-
-
-def act(machine, first, item):
-    number, code = divmod(first, 16)
-    refusal = act_refusal(machine, number, code, item)
-    if refusal != 0:
-        return refusal, machine
-    after = copy_of(machine)
-    worker = after.workers[number]
-    after.workers[number] = ACTS[worker.place](after.ring, worker, code == FAILING)
-    after.meter += 1
-    return 0, after
-
-
-def step(machine, first, item):
-    return (begin if first % 16 in BEGIN_CODES else act)(machine, first, item)
-
-
-def run(machine, words):
-    """The refusal or 0, the place or the count of the entries, and the machine."""
-    if broken(machine):
-        return 6, 0, machine
-    if len(words) % 2 == 1:
-        return 11, 0, machine
-    for place in range(len(words) // 2):
-        refusal, machine = step(machine, words[2 * place], words[2 * place + 1])
-        if refusal != 0:
-            return refusal, place, machine
-    return 0, len(words) // 2, machine
-
-
-def contents(machine, buffer):
-    """The refusal or 0, the count, and the buffer."""
-    if broken(machine):
-        return 6, 0, buffer
-    if any(busy(worker) for worker in machine.workers):
-        return 4, 0, buffer
+def items_of(machine):
     ring = machine.ring
     count = count_of(ring, ring.head, ring.tail)
-    if len(buffer) < count:
-        return 10, 0, buffer
-    items = [ring.slots[(index(ring, ring.head) + i) % ring.capacity].value for i in range(count)]
-    return 0, count, items + buffer[count:]
+    return [ring.slots[(index(ring, ring.head) + i) % ring.capacity].value for i in range(count)]
+
+
+ENTRIES = Entries(broken, copy_of, begun, act_of, items_of, WEAK_EXCHANGES)
+begin, act, step, run, contents = ENTRIES.begin, ENTRIES.act, ENTRIES.step, ENTRIES.run, ENTRIES.contents
 
 
 def capacity(machine):

@@ -1,5 +1,6 @@
 //! Runs schedules through the module under test and compares its output with the judge's.
 
+use crate::queue::Queue;
 use crate::schedule::{self, run, Schedule};
 use crate::tally::Tally;
 use std::fs;
@@ -59,6 +60,7 @@ impl Module {
 
 /// A differential run: schedules are judged as they come and compared in batches. Without a module they are only counted.
 pub struct Run {
+    pub queue: Queue,
     pub module: Option<Module>,
     /// Entries in a batch.
     pub batch: usize,
@@ -71,8 +73,9 @@ pub struct Run {
 }
 
 impl Run {
-    pub fn new(module: Option<Module>, batch: usize, save: PathBuf) -> Run {
-        Run { module, batch, save, tally: Tally::default(), waiting: Vec::new(), expected: Vec::new(), entries: 0 }
+    pub fn new(queue: Queue, module: Option<Module>, batch: usize, save: PathBuf) -> Run {
+        let tally = Tally::new(queue);
+        Run { queue, module, batch, save, tally, waiting: Vec::new(), expected: Vec::new(), entries: 0 }
     }
 
     /// Whether several schedules go to one process, so that short ones cost little.
@@ -118,7 +121,7 @@ impl Run {
             self.keep("batch.in", &schedule::join(batch))?;
             return Ok("the module differs, but only after the schedules before it: batch.in is the whole batch".into());
         };
-        let expected = run(&smallest, false, &mut Tally::default());
+        let expected = expected(&smallest);
         let printed = module.output(&smallest)?;
         self.keep("difference.in", &smallest.text())?;
         self.keep("difference.expected", &expected)?;
@@ -136,12 +139,14 @@ impl Run {
     }
 }
 
+fn expected(schedule: &Schedule) -> String {
+    run(schedule, false, &mut Tally::new(schedule.making.queue()))
+}
+
 /// The smallest prefix after which the module differs, by halving: it differs, and one entry less does not. None if the module
 /// does not differ on the schedule alone.
 fn smallest(module: &Module, schedule: &Schedule) -> Result<Option<Schedule>, String> {
-    let differs = |schedule: &Schedule| -> Result<bool, String> {
-        Ok(module.output(schedule)? != run(schedule, false, &mut Tally::default()))
-    };
+    let differs = |schedule: &Schedule| -> Result<bool, String> { Ok(module.output(schedule)? != expected(schedule)) };
     if !differs(schedule)? {
         return Ok(None);
     }

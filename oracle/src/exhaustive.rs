@@ -1,4 +1,4 @@
-//! Every schedule of two calls at once on rings of one and two slots.
+//! Every schedule of a few calls at once: two on rings of one and two slots, three on the one-slot queue.
 //!
 //! Either all sequences of so many acts (which busy worker goes, and code 8 or, at a weak exchange, code 9), after which the
 //! calls are ended in turn so that the contents are seen. Or the compact set, without a bound: every act from every state that
@@ -7,6 +7,7 @@
 use crate::drive::Run;
 use crate::interleaved::end_all_calls;
 use crate::machine::Machine;
+use crate::queue::{Making, Queue};
 use crate::schedule::Schedule;
 use crate::sequential::whole_call;
 use crate::stage::Action;
@@ -18,10 +19,10 @@ pub enum Extent {
     Compact,
 }
 
-/// How the ring stands when the two calls begin.
+/// How the queue stands when the calls begin.
 #[derive(Clone, Copy, Debug)]
 struct Preload {
-    capacity: u64,
+    making: Making,
     /// Items pushed and popped before.
     gone: u64,
     held: u64,
@@ -29,33 +30,49 @@ struct Preload {
 }
 
 pub fn drive(run: &mut Run, extent: Extent) -> Result<(), String> {
-    for preload in preloads() {
-        for pair in 0..64 {
-            let calls = [pair / 8, pair % 8];
+    for preload in preloads(run.queue) {
+        for calls in calls_at_once(run.queue) {
             match extent {
-                Extent::Depth(depth) => deep(run, depth, preload, calls)?,
-                Extent::Compact => compact(run, preload, calls)?,
+                Extent::Depth(depth) => deep(run, depth, preload, &calls)?,
+                Extent::Compact => compact(run, preload, &calls)?,
             }
         }
     }
     run.flush()
 }
 
-/// Empty, partly full and full, open and closed, fresh and on a later lap.
-fn preloads() -> Vec<Preload> {
+/// Empty, partly full and full, open and closed; rings fresh and on a later lap, the one slot with an old value in it.
+fn preloads(queue: Queue) -> Vec<Preload> {
+    let (makings, gone): (&[Making], &[u64]) = match queue {
+        Queue::Bounded => (&[Making::Bounded { capacity: 1 }, Making::Bounded { capacity: 2 }], &[0, 1]),
+        Queue::Single => (&[Making::Single], &[1]),
+    };
     let mut all = Vec::new();
-    for capacity in 1..=2 {
-        for gone in [0, 1] {
-            for held in 0..=capacity {
-                all.extend([false, true].map(|closed| Preload { capacity, gone, held, closed }));
+    for making in makings.iter().copied() {
+        for gone in gone.iter().copied() {
+            for held in 0..=making.room() as u64 {
+                all.extend([false, true].map(|closed| Preload { making, gone, held, closed }));
             }
         }
     }
     all
 }
 
-/// All sequences of acts of one pair of calls, up to their ends or so many acts.
-fn deep(run: &mut Run, depth: usize, preload: Preload, calls: [u64; 2]) -> Result<(), String> {
+/// The codes of the calls, one for each worker. Each pair in both orders; of each three one order, since workers differ in
+/// nothing but their numbers.
+fn calls_at_once(queue: Queue) -> Vec<Vec<u64>> {
+    let pairs = || (0..64).map(|pair| vec![pair / 8, pair % 8]);
+    match queue {
+        Queue::Bounded => pairs().collect(),
+        Queue::Single => pairs()
+            .filter(|pair| pair[0] <= pair[1])
+            .flat_map(|pair| (pair[1]..8).map(move |third| vec![pair[0], pair[1], third]))
+            .collect(),
+    }
+}
+
+/// All sequences of acts of these calls, up to their ends or so many acts.
+fn deep(run: &mut Run, depth: usize, preload: Preload, calls: &[u64]) -> Result<(), String> {
     let mut open = vec![Vec::new()];
     while let Some(path) = open.pop() {
         let (mut schedule, mut machine) = walked(preload, calls, &path);
@@ -71,7 +88,7 @@ fn deep(run: &mut Run, depth: usize, preload: Preload, calls: [u64; 2]) -> Resul
 }
 
 /// Every act from every state, by a shortest way to the state.
-fn compact(run: &mut Run, preload: Preload, calls: [u64; 2]) -> Result<(), String> {
+fn compact(run: &mut Run, preload: Preload, calls: &[u64]) -> Result<(), String> {
     let mut seen = HashSet::new();
     let mut open = VecDeque::from([Vec::new()]);
     while let Some(path) = open.pop_front() {
@@ -84,8 +101,8 @@ fn compact(run: &mut Run, preload: Preload, calls: [u64; 2]) -> Result<(), Strin
     Ok(())
 }
 
-/// The ring loaded, both calls begun, and the acts of a path done.
-fn walked(preload: Preload, calls: [u64; 2], path: &[u64]) -> (Schedule, Machine) {
+/// The queue loaded, all calls begun, and the acts of a path done.
+fn walked(preload: Preload, calls: &[u64], path: &[u64]) -> (Schedule, Machine) {
     let (mut schedule, mut machine) = begun(preload, calls);
     for first in path {
         assert_eq!(machine.enter(*first, 0), 0);
@@ -94,9 +111,10 @@ fn walked(preload: Preload, calls: [u64; 2], path: &[u64]) -> (Schedule, Machine
     (schedule, machine)
 }
 
-fn begun(preload: Preload, calls: [u64; 2]) -> (Schedule, Machine) {
-    let mut schedule = Schedule::new(preload.capacity, 2);
-    let mut machine = Machine::make(preload.capacity, 2).expect("within the limits");
+fn begun(preload: Preload, calls: &[u64]) -> (Schedule, Machine) {
+    let workers = calls.len() as u64;
+    let mut schedule = Schedule::new(preload.making, workers);
+    let mut machine = Machine::make(preload.making, workers).expect("within the limits");
     let mut whole = |code, item| whole_call(&mut schedule, &mut machine, code, item);
     for item in 0..preload.gone {
         whole(0, 11 + item);
@@ -108,8 +126,8 @@ fn begun(preload: Preload, calls: [u64; 2]) -> (Schedule, Machine) {
     if preload.closed {
         whole(6, 0);
     }
-    for (worker, code) in calls.into_iter().enumerate() {
-        let item = if code <= 1 { 31 + worker as u64 } else { 0 };
+    for (worker, code) in calls.iter().enumerate() {
+        let item = if *code <= 1 { 31 + worker as u64 } else { 0 };
         let first = 16 * worker as u64 + code;
         assert_eq!(machine.enter(first, item), 0);
         schedule.push(first, item);
@@ -133,5 +151,8 @@ fn options(machine: &Machine) -> Vec<u64> {
 /// All but the meter, which no act looks at below its limit.
 fn snapshot(machine: &Machine) -> String {
     let states: Vec<_> = (0..machine.workers() as u64).filter_map(|worker| machine.state(worker)).collect();
-    format!("{} {} {:?} {:?}", machine.head(), machine.tail(), machine.slots(), states)
+    let mut shown = String::new();
+    machine.source().write_words(&mut shown);
+    machine.source().write_slots(&mut shown);
+    format!("{shown} {states:?}")
 }

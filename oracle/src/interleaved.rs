@@ -1,13 +1,12 @@
-//! Random schedules of 1 to 16 workers. What is likely changes from phase to phase, so that rings run full and empty, exchanges
+//! Random schedules of 1 to 16 workers. What is likely changes from phase to phase, so that queues run full and empty, exchanges
 //! are lost, and workers sleep over whole laps with stale words in hand.
 
 use crate::drive::Run;
 use crate::machine::Machine;
+use crate::queue::{Making, Queue};
 use crate::random::Random;
 use crate::schedule::Schedule;
 use crate::stage::Action;
-
-pub const CAPACITIES: [u64; 13] = [1, 2, 3, 4, 5, 7, 8, 255, 256, 257, 512, 1023, 1024];
 
 /// How likely each call is, in the order of the codes; close has its own rule.
 const MIXES: [[usize; 8]; 7] = [
@@ -35,7 +34,7 @@ struct Phase {
 impl Phase {
     fn new(random: &mut Random, schedule: &Schedule) -> Phase {
         Phase {
-            left: 30 + random.below(300 + 12 * schedule.capacity as usize),
+            left: 30 + random.below(300 + 12 * schedule.making.room()),
             mix: random.pick(&MIXES),
             weights: (0..schedule.workers).map(|_| random.pick(&[1, 10, 10, 30])).collect(),
             stay: random.pick(&[1, 1, 4, 20]),
@@ -69,13 +68,13 @@ pub fn drive(run: &mut Run, acts: u64, seed: u64) -> Result<(), String> {
     let mut random = Random::new(seed);
     while run.tally.acts < acts {
         let schedule = if random.once_in(25) {
-            refused_whole(&mut random)
+            refused_whole(run.queue, &mut random)
         } else {
-            let capacity = random.pick(&CAPACITIES);
+            let making = Making::random(run.queue, &mut random);
             let workers = 1 + random.below(16) as u64;
             // One process for each schedule wants long ones, and a large ring needs time to run full.
-            let length = if run.many() { 100 + random.below(6000 + 60 * capacity as usize) } else { run.batch };
-            schedule(&mut random, capacity, workers, length)
+            let length = if run.many() { 100 + random.below(6000 + 60 * making.room()) } else { run.batch };
+            schedule(&mut random, making, workers, length)
         };
         run.add(schedule)?;
     }
@@ -83,10 +82,10 @@ pub fn drive(run: &mut Run, acts: u64, seed: u64) -> Result<(), String> {
 }
 
 /// A schedule that is accepted but perhaps for its end.
-pub fn schedule(random: &mut Random, capacity: u64, workers: u64, length: usize) -> Schedule {
-    let mut schedule = Schedule::new(capacity, workers);
-    let mut machine = Machine::make(capacity, workers).expect("within the limits");
-    // Little happens once the ring is closed, so closing comes late or not at all.
+pub fn schedule(random: &mut Random, making: Making, workers: u64, length: usize) -> Schedule {
+    let mut schedule = Schedule::new(making, workers);
+    let mut machine = Machine::make(making, workers).expect("within the limits");
+    // Little happens once the queue is closed, so closing comes late or not at all.
     let close_from = if random.once_in(2) { length - random.below(length.min(1500)) } else { length };
     let mut phase = Phase::new(random, &schedule);
     let mut worker = 0;
@@ -153,10 +152,13 @@ pub fn any_entry(random: &mut Random, workers: u64) -> (u64, u64) {
 }
 
 /// A making refused, or an odd number of words, or both.
-pub fn refused_whole(random: &mut Random) -> Schedule {
-    let capacity = random.pick(&[0, 1, 2, 257, 1024, 1025, u64::MAX]);
+pub fn refused_whole(queue: Queue, random: &mut Random) -> Schedule {
+    let making = match queue {
+        Queue::Bounded => Making::Bounded { capacity: random.pick(&[0, 1, 2, 257, 1024, 1025, u64::MAX]) },
+        Queue::Single => Making::Single,
+    };
     let workers = random.pick(&[0, 1, 2, 16, 17, 64, u64::MAX]);
-    let mut schedule = Schedule::new(capacity, workers);
+    let mut schedule = Schedule::new(making, workers);
     for _ in 0..random.below(3) {
         schedule.push(random.below(10) as u64, 0);
     }

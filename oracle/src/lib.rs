@@ -1,8 +1,9 @@
-//! The judge of the port: the unmodified `bounded.rs` of concurrent-queue 2.5.0, run one action at a time.
+//! The judge of the port: the unmodified sources of concurrent-queue 2.5.0, run one action at a time.
 //!
-//! `bounded.rs` is a byte-for-byte copy. Everything it imports is given a stand-in of the same shape here and in `sync`: the
-//! atomics and cells stop before each action, so that a schedule decides who goes next (`stage`, `coroutine`). `machine` adds
-//! what the port adds (workers, meter, refusals) and `schedule` the text that the port's `replay` prints.
+//! `bounded.rs` and `single.rs` are byte-for-byte copies. Everything they import is given a stand-in of the same shape here and in
+//! `sync`: the atomics and cells stop before each action, so that a schedule decides who goes next (`stage`, `coroutine`). Each
+//! source is included by a module of its own, `ring` and `one_slot`, which names its words and places (`source`). `machine`
+//! adds what the port adds (workers, meter, refusals) and `schedule` the text that the port's `replay` prints.
 
 // The port's words have 64 bits; the source's have the size of a pointer.
 #[cfg(not(target_pointer_width = "64"))]
@@ -12,17 +13,19 @@ extern crate alloc;
 // The source imports `CachePadded` from this crate; ours stands below.
 extern crate self as crossbeam_utils;
 
-#[rustfmt::skip]
-#[allow(dead_code)]
-mod bounded;
 mod coroutine;
+mod one_slot;
+mod ring;
+mod source;
 mod sync;
 
+pub mod call;
 pub mod drive;
 pub mod exhaustive;
 pub mod interleaved;
 pub mod list;
 pub mod machine;
+pub mod queue;
 pub mod random;
 pub mod schedule;
 pub mod sequential;
@@ -36,7 +39,7 @@ use std::ops::{Deref, DerefMut};
 pub struct CachePadded<T>(T);
 
 impl<T> CachePadded<T> {
-    pub fn new(value: T) -> Self {
+    pub const fn new(value: T) -> Self {
         CachePadded(value)
     }
 }

@@ -2,53 +2,78 @@
 
 use crate::interleaved::{self, refused_whole};
 use crate::machine::Machine;
+use crate::queue::{Facts, Making, Queue};
 use crate::random::Random;
 use crate::schedule::{join, run, Schedule, SEPARATOR};
 use crate::sequential::{self, whole_call};
 use crate::tally::Tally;
 
-/// Refusals that a schedule from a fresh machine can meet. 6 comes after a refused making alone; 7 needs 4,294,967,295 acts and
-/// 10 a buffer, which a schedule has not.
-pub const REFUSALS: [u64; 9] = [1, 2, 3, 4, 5, 6, 8, 9, 11];
-
 /// The input and the output, as texts.
-pub fn list(seed: u64) -> (String, String) {
-    let mut schedules = runs_on_paper();
-    schedules.extend(refusals());
-    schedules.extend([1, 2, 3].map(closed_full_and_emptied));
-    schedules.extend([255, 256, 257, 512, 1023, 1024].map(full_and_round));
+pub fn list(queue: Queue, seed: u64) -> (String, String) {
     let mut random = Random::new(seed);
-    for capacity in [1, 2, 3, 4, 5, 7, 8] {
-        schedules.push(sequential::schedule(&mut random, capacity, 40));
-        for workers in [2, 3, 16] {
-            schedules.push(interleaved::schedule(&mut random, capacity, workers, 150));
-        }
-    }
-    schedules.extend((0..8).map(|_| refused_whole(&mut random)));
-    let mut tally = Tally::default();
+    let mut schedules = match queue {
+        Queue::Bounded => ring(&mut random),
+        Queue::Single => one_slot(&mut random),
+    };
+    schedules.extend((0..8).map(|_| refused_whole(queue, &mut random)));
+    let mut tally = Tally::new(queue);
     let mut out = judged(&schedules, &mut tally);
     // Rare places are left to chance, but not whether they come.
-    while !complete(&tally) {
-        let more = interleaved::schedule(&mut random, 1, 3, 150);
+    while !tally.complete() {
+        let more = interleaved::schedule(&mut random, smallest(queue), 3, 150);
         out += &judged(std::slice::from_ref(&more), &mut tally);
         schedules.push(more);
     }
-    (header(seed) + &join(&schedules) + &footer(&tally), out)
+    (header(queue, seed) + &join(&schedules) + &footer(&tally), out)
+}
+
+fn smallest(queue: Queue) -> Making {
+    match queue {
+        Queue::Bounded => Making::Bounded { capacity: 1 },
+        Queue::Single => Making::Single,
+    }
+}
+
+fn ring(random: &mut Random) -> Vec<Schedule> {
+    let of = |capacity| Making::Bounded { capacity };
+    let mut schedules = runs_on_paper();
+    let limits = [(0, 1), (1025, 1), (1, 1), (1024, 16), (1, 0), (1, 17), (0, 0), (1025, 17)];
+    schedules.extend(limits.map(|(capacity, workers)| Schedule::new(of(capacity), workers)));
+    schedules.extend(refusals(of(2)));
+    schedules.push(Schedule { making: of(0), workers: 1, words: vec![8] });
+    schedules.extend([1, 2, 3].map(of).map(closed_full_and_emptied));
+    schedules.extend([255, 256, 257, 512, 1023, 1024].map(of).map(full_and_round));
+    schedules.extend([1, 2, 3, 4, 5, 7, 8].map(of).iter().flat_map(|making| any(random, *making)));
+    schedules
+}
+
+fn one_slot(random: &mut Random) -> Vec<Schedule> {
+    let mut schedules = one_slot_runs();
+    schedules.extend([0, 1, 16, 17].map(|workers| Schedule::new(Making::Single, workers)));
+    schedules.extend(refusals(Making::Single));
+    schedules.push(Schedule { making: Making::Single, workers: 0, words: vec![8] });
+    schedules.push(closed_full_and_emptied(Making::Single));
+    schedules.extend((0..3).flat_map(|_| any(random, Making::Single)));
+    schedules
+}
+
+/// A random schedule of calls one after another, and three of interleaved acts.
+fn any(random: &mut Random, making: Making) -> Vec<Schedule> {
+    let mut schedules = vec![sequential::schedule(random, making, 40)];
+    schedules.extend([2, 3, 16].map(|workers| interleaved::schedule(random, making, workers, 150)));
+    schedules
 }
 
 fn judged(schedules: &[Schedule], tally: &mut Tally) -> String {
     schedules.iter().map(|schedule| run(schedule, false, tally) + SEPARATOR + "\n").collect()
 }
 
-/// Whether all that can come has come.
-fn complete(tally: &Tally) -> bool {
-    tally.complete() && tally.closes_lost > 0 && REFUSALS.iter().all(|refusal| tally.times_refused(*refusal) > 0)
-}
-
-fn header(seed: u64) -> String {
+fn header(queue: Queue, seed: u64) -> String {
+    let Facts { name, list, begins_with, .. } = queue.facts();
+    let option = if queue == Queue::Bounded { String::new() } else { format!("--queue {name} ") };
     format!(
-        "# The fixed list, made by `judge list --seed {seed}`: the unmodified bounded.rs of concurrent-queue 2.5.0, run one
-# action at a time, gave the outputs in list.out. Schedules stand in replay's input format (capacity, workers, then pairs;
+        "# The fixed list, made by `judge list {option}--seed {seed}`: the unmodified {name}.rs of concurrent-queue 2.5.0, run one
+# action at a time, gave the outputs in {list}.out. Schedules stand in replay's input format ({begins_with}, then pairs;
 # '#' starts a comment) and are separated by a line with a single percent sign; each output is followed by such a line.
 # Not in the list: refusal 6 but after a refused making, 7 (it needs 4,294,967,295 acts) and 10 (a schedule has no buffer).
 "
@@ -67,10 +92,10 @@ struct Writer {
 }
 
 impl Writer {
-    fn new(capacity: u64, workers: u64) -> Writer {
+    fn new(making: Making, workers: u64) -> Writer {
         Writer {
-            schedule: Schedule::new(capacity, workers),
-            machine: Machine::make(capacity, workers).expect("within the limits"),
+            schedule: Schedule::new(making, workers),
+            machine: Machine::make(making, workers).expect("within the limits"),
         }
     }
 
@@ -95,16 +120,16 @@ impl Writer {
 
 /// Document 01's runs B to G: B to E in one, then F and G.
 fn runs_on_paper() -> Vec<Schedule> {
-    let mut b_to_e = Writer::new(2, 1);
+    let mut b_to_e = Writer::new(Making::Bounded { capacity: 2 }, 1);
     b_to_e.calls(&[(0, 5), (0, 6), (2, 0), (0, 7), (0, 8), (1, 8), (6, 0), (0, 9), (2, 0), (2, 0), (2, 0)]);
-    let mut f = Writer::new(1, 2);
+    let mut f = Writer::new(Making::Bounded { capacity: 1 }, 2);
     f.calls(&[(0, 7)]);
     f.entry(1, 8);
     f.acts(0, 2);
     f.calls(&[(16 + 6, 0)]);
     f.acts(0, 4);
     f.calls(&[(16 + 7, 0)]);
-    let mut g = Writer::new(1, 2);
+    let mut g = Writer::new(Making::Bounded { capacity: 1 }, 2);
     g.calls(&[(0, 7)]);
     g.entry(1, 8);
     g.acts(0, 3);
@@ -114,10 +139,24 @@ fn runs_on_paper() -> Vec<Schedule> {
     vec![b_to_e.schedule, f.schedule, g.schedule]
 }
 
-/// Each refusal by itself, the limits on both sides, and the order where two would apply.
-fn refusals() -> Vec<Schedule> {
-    let limits = [(0, 1), (1025, 1), (1, 1), (1024, 16), (1, 0), (1, 17), (0, 0), (1025, 17)];
-    let mut all: Vec<Schedule> = limits.map(|(capacity, workers)| Schedule::new(capacity, workers)).into();
+/// The run of request 1, and the two oddities that are kept: with worker 0's pop at C3 push answers Full, and pop Empty or, once
+/// closed, Closed. The last leaves an item in the closed queue.
+fn one_slot_runs() -> Vec<Schedule> {
+    let mut whole = Writer::new(Making::Single, 1);
+    whole.calls(&[(0, 5), (2, 0), (0, 6), (0, 7), (1, 8), (6, 0), (0, 9), (1, 9), (2, 0), (2, 0)]);
+    let mut odd = Writer::new(Making::Single, 2);
+    odd.calls(&[(0, 5)]);
+    odd.entry(2, 0);
+    odd.acts(0, 2);
+    odd.calls(&[(16, 6), (16 + 2, 0), (16 + 6, 0), (16 + 2, 0), (16, 7)]);
+    odd.acts(0, 1);
+    let mut held = Writer::new(Making::Single, 1);
+    held.calls(&[(0, 5), (1, 6), (6, 0)]);
+    vec![whole.schedule, odd.schedule, held.schedule]
+}
+
+/// Each refusal of an entry by itself, the order where two would apply, and an odd number of words.
+fn refusals(making: Making) -> Vec<Schedule> {
     let refused: [&[(u64, u64)]; 16] = [
         &[(0, 5), (8, 0), (16 + 8, 0)],            // 3: act of no worker
         &[(16 * 16, 5)],                           // 3: begin of no worker
@@ -136,20 +175,16 @@ fn refusals() -> Vec<Schedule> {
         &[(0, 5), (3, 7)],                         // 9 before 4
         &[(0, 5), (8, 0), (11, 0), (8, 0)],        // nothing is run after a refusal
     ];
-    for entries in refused {
-        let mut schedule = Schedule::new(2, 1);
-        entries.iter().for_each(|(first, second)| schedule.push(*first, *second));
-        all.push(schedule);
-    }
-    let odd = [(2, 1, vec![0]), (2, 1, vec![0, 5, 8]), (2, 1, vec![10, 0, 8]), (0, 1, vec![8])];
-    all.extend(odd.map(|(capacity, workers, words)| Schedule { capacity, workers, words }));
-    all
+    let odd = [vec![0], vec![0, 5, 8], vec![10, 0, 8]];
+    let words = |entries: &[(u64, u64)]| entries.iter().flat_map(|(first, second)| [*first, *second]).collect();
+    refused.map(words).into_iter().chain(odd).map(|words| Schedule { making, workers: 1, words }).collect()
 }
 
-/// A ring looked at after each call while it fills, is closed, and empties.
-fn closed_full_and_emptied(capacity: u64) -> Schedule {
+/// A queue looked at after each call while it fills, is closed, and empties.
+fn closed_full_and_emptied(making: Making) -> Schedule {
     let looks = [(3, 0), (4, 0), (5, 0), (7, 0)];
-    let mut writer = Writer::new(capacity, 1);
+    let capacity = making.room() as u64;
+    let mut writer = Writer::new(making, 1);
     let mut call = |code, item| {
         writer.calls(&[(code, item)]);
         writer.calls(&looks);
@@ -163,9 +198,9 @@ fn closed_full_and_emptied(capacity: u64) -> Schedule {
 }
 
 /// A large ring filled, found full, displaced in and popped over its end.
-fn full_and_round(capacity: u64) -> Schedule {
-    let mut writer = Writer::new(capacity, 1);
-    let pushes: Vec<_> = (0..capacity).map(|item| (0, 1000 + item)).collect();
+fn full_and_round(making: Making) -> Schedule {
+    let mut writer = Writer::new(making, 1);
+    let pushes: Vec<_> = (0..making.room() as u64).map(|item| (0, 1000 + item)).collect();
     writer.calls(&pushes);
     writer.calls(&[(5, 0), (0, 1), (1, 2), (2, 0), (3, 0), (0, 3), (1, 4), (6, 0), (2, 0), (3, 0), (4, 0)]);
     writer.schedule

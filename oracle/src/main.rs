@@ -2,6 +2,7 @@
 
 use oracle::drive::{first_difference, Module, Run};
 use oracle::exhaustive::Extent;
+use oracle::queue::Queue;
 use oracle::schedule::{run, split, Schedule, SEPARATOR};
 use oracle::tally::Tally;
 use oracle::{exhaustive, interleaved, list, sequential};
@@ -11,7 +12,8 @@ use std::process::ExitCode;
 use std::time::Instant;
 use std::{env, fs};
 
-const USAGE: &str = "judge expect FILE|- [--quiet] [--many]
+const USAGE: &str = "Each command takes --queue bounded|single; bounded unless told.
+judge expect FILE|- [--quiet] [--many]
 judge sequential --calls N --seed S [--module CMD [--many]] [--batch ENTRIES] [--save DIR]
 judge interleaved --acts N --seed S [--module CMD [--many]] [--batch ENTRIES] [--save DIR]
 judge exhaustive [--compact | --depth ACTS] [--module CMD [--many]] [--batch ENTRIES] [--save DIR]
@@ -63,7 +65,7 @@ impl Options {
             match argument.strip_prefix("--") {
                 None => options.plain.push(argument),
                 Some(flag @ ("quiet" | "many" | "compact")) => options.flags.push(flag.into()),
-                Some(name @ ("calls" | "acts" | "seed" | "module" | "batch" | "save" | "to" | "depth")) => {
+                Some(name @ ("calls" | "acts" | "seed" | "module" | "batch" | "save" | "to" | "depth" | "queue")) => {
                     let value = arguments.next().ok_or(format!("--{name} needs a value"))?;
                     options.values.push((name.into(), value));
                 }
@@ -86,6 +88,11 @@ impl Options {
         value.parse().map_err(|_| format!("--{name}: not a number: {value}"))
     }
 
+    fn queue(&self) -> Result<Queue, String> {
+        let name = self.value("queue").unwrap_or("bounded");
+        Queue::named(name).ok_or(format!("--queue: no such queue: {name}\n{USAGE}"))
+    }
+
     fn number_or(&self, name: &str, default: u64) -> Result<u64, String> {
         self.value(name).map_or(Ok(default), |_| self.number(name))
     }
@@ -106,13 +113,15 @@ fn expect(options: &Options) -> Result<(), String> {
         return Err(USAGE.into());
     };
     let text = read(path)?;
+    let queue = options.queue()?;
     let quiet = options.flag("quiet");
+    let mut tally = Tally::new(queue);
     if !options.flag("many") {
-        print!("{}", run(&Schedule::parse(&text)?, quiet, &mut Tally::default()));
+        print!("{}", run(&Schedule::parse(queue, &text)?, quiet, &mut tally));
         return Ok(());
     }
-    for schedule in Schedule::parse_many(&text)? {
-        println!("{}{SEPARATOR}", run(&schedule, quiet, &mut Tally::default()));
+    for schedule in Schedule::parse_many(queue, &text)? {
+        println!("{}{SEPARATOR}", run(&schedule, quiet, &mut tally));
     }
     Ok(())
 }
@@ -124,7 +133,7 @@ fn driven(options: &Options, drive: impl FnOnce(&mut Run) -> Result<(), String>)
         if module.is_some() { "compared, no difference" } else { "judged, nothing compared: no module given" };
     let batch = options.number_or("batch", 50_000)? as usize;
     let save = options.value("save").unwrap_or("differences").into();
-    let mut run = Run::new(module, batch.max(10), save);
+    let mut run = Run::new(options.queue()?, module, batch.max(10), save);
     let start = Instant::now();
     let result = drive(&mut run);
     let seconds = start.elapsed().as_secs_f64();
@@ -143,12 +152,15 @@ fn extent(options: &Options) -> Result<Extent, String> {
 }
 
 fn write_list(options: &Options) -> Result<(), String> {
-    let (input, output) = list::list(options.number("seed")?);
+    let queue = options.queue()?;
+    let (input, output) = list::list(queue, options.number("seed")?);
     let place = Path::new(options.value("to").unwrap_or("."));
-    let write =
-        |name: &str, text: String| fs::write(place.join(name), text).map_err(|error| format!("{name}: {error}"));
-    write("list.in", input)?;
-    write("list.out", output)
+    let write = |end: &str, text: String| {
+        let name = format!("{}.{end}", queue.facts().list);
+        fs::write(place.join(&name), text).map_err(|error| format!("{name}: {error}"))
+    };
+    write("in", input)?;
+    write("out", output)
 }
 
 /// Compares outputs that were recorded elsewhere with the judge's.
@@ -156,12 +168,13 @@ fn check_against(options: &Options) -> Result<(), String> {
     let [outputs, inputs] = options.plain.as_slice() else {
         return Err(USAGE.into());
     };
-    let schedules = Schedule::parse_many(&read(inputs)?)?;
+    let queue = options.queue()?;
+    let schedules = Schedule::parse_many(queue, &read(inputs)?)?;
     let outputs = split(&read(outputs)?);
     if outputs.len() != schedules.len() {
         return Err(format!("{} outputs for {} schedules", outputs.len(), schedules.len()));
     }
-    let mut tally = Tally::default();
+    let mut tally = Tally::new(queue);
     let mut different = 0;
     for (number, (schedule, output)) in schedules.iter().zip(&outputs).enumerate() {
         if let Some(lines) = first_difference(&run(schedule, false, &mut tally), output) {

@@ -1,44 +1,53 @@
 //! Schedules in `replay`'s input format, and the text that `replay` must print for them.
 
 use crate::machine::{Machine, Refusal};
+use crate::queue::{Making, Queue};
 use crate::tally::Tally;
 use std::fmt::Write;
 
 /// A line that stands between two schedules, and after each output, where there are several in one text.
 pub const SEPARATOR: &str = "%";
 
-/// Capacity, workers and the words of the entries, two to an entry if nothing is wrong.
+/// What the machine is made of and the words of the entries, two to an entry if nothing is wrong.
 #[derive(Clone, Debug, PartialEq, Eq)]
 pub struct Schedule {
-    pub capacity: u64,
+    pub making: Making,
     pub workers: u64,
     pub words: Vec<u64>,
 }
 
 impl Schedule {
-    pub fn new(capacity: u64, workers: u64) -> Schedule {
-        Schedule { capacity, workers, words: Vec::new() }
+    pub fn new(making: Making, workers: u64) -> Schedule {
+        Schedule { making, workers, words: Vec::new() }
     }
 
     /// Unsigned decimal numbers separated by white space; `#` starts a comment.
-    pub fn parse(text: &str) -> Result<Schedule, String> {
+    pub fn parse(queue: Queue, text: &str) -> Result<Schedule, String> {
         let mut numbers = text
             .lines()
             .flat_map(|line| line.split('#').next().unwrap_or("").split_whitespace())
             .map(|word| word.parse::<u64>().map_err(|_| format!("not an unsigned 64-bit number: {word}")));
         let mut need = |what| numbers.next().unwrap_or_else(|| Err(format!("no {what}")));
-        let (capacity, workers) = (need("capacity")?, need("number of workers")?);
+        let making = match queue {
+            Queue::Bounded => Making::Bounded { capacity: need("capacity")? },
+            Queue::Single => Making::Single,
+        };
+        let workers = need("number of workers")?;
         let words = numbers.collect::<Result<_, _>>()?;
-        Ok(Schedule { capacity, workers, words })
+        Ok(Schedule { making, workers, words })
     }
 
-    pub fn parse_many(text: &str) -> Result<Vec<Schedule>, String> {
-        split(text).iter().map(|part| Schedule::parse(part)).collect()
+    pub fn parse_many(queue: Queue, text: &str) -> Result<Vec<Schedule>, String> {
+        split(text).iter().map(|part| Schedule::parse(queue, part)).collect()
     }
 
     /// The input format, an entry to a line.
     pub fn text(&self) -> String {
-        let mut text = format!("{} {}\n", self.capacity, self.workers);
+        let mut text = match self.making {
+            Making::Bounded { capacity } => format!("{capacity} "),
+            Making::Single => String::new(),
+        };
+        text += &format!("{}\n", self.workers);
         for entry in self.words.chunks(2) {
             text += &entry.iter().map(u64::to_string).collect::<Vec<_>>().join(" ");
             text += "\n";
@@ -88,26 +97,27 @@ pub fn join<'a>(schedules: impl IntoIterator<Item = &'a Schedule>) -> String {
 pub fn run(schedule: &Schedule, quiet: bool, tally: &mut Tally) -> String {
     tally.schedules += 1;
     let mut out = String::new();
-    match Machine::make(schedule.capacity, schedule.workers) {
-        Err(refusal) => refused_making(&mut out, refusal, tally),
+    match Machine::make(schedule.making, schedule.workers) {
+        Err(refusal) => refused_making(&mut out, schedule.making.queue(), refusal, tally),
         Ok(machine) => run_on(machine, schedule, quiet, &mut out, tally),
     }
     out
 }
 
-/// The blank machine is broken: refusal 6 for the schedule and for the contents, and no slot to print.
-fn refused_making(out: &mut String, refusal: Refusal, tally: &mut Tally) {
+/// The blank machine is broken: refusal 6 for the schedule and for the contents.
+fn refused_making(out: &mut String, queue: Queue, refusal: Refusal, tally: &mut Tally) {
     tally.refusal(refusal);
     tally.refusal(6);
     tally.contents_refused[6] += 1;
-    *out = format!("made {refusal}\n0 6 h=0 t=0 m=0\nslots\ncontents refused 6\n");
+    let (words, slots) = (queue.facts().blank_words, queue.facts().blank_slots);
+    *out = format!("made {refusal}\n0 6 {words} m=0\n{slots}contents refused 6\n");
 }
 
 fn run_on(mut machine: Machine, schedule: &Schedule, quiet: bool, out: &mut String, tally: &mut Tally) {
     out.push_str("made 0\n");
-    if schedule.words.len() % 2 == 1 {
-        machine.tally.refusal(11);
-        report(out, 0, 11, &machine);
+    if let Some((place, refusal)) = refused_whole(schedule) {
+        machine.tally.refusal(refusal);
+        report(out, place, refusal, &machine);
         out.push('\n');
     } else {
         let (place, refusal) = run_entries(&mut machine, schedule, quiet, out);
@@ -117,8 +127,13 @@ fn run_on(mut machine: Machine, schedule: &Schedule, quiet: bool, out: &mut Stri
         }
     }
     tally.add(&machine.tally);
-    slots(out, &machine);
+    machine.source().write_slots(out);
     contents(out, machine, tally);
+}
+
+/// Place and refusal of a schedule of which nothing is run, on a machine that is not broken.
+fn refused_whole(schedule: &Schedule) -> Option<(usize, Refusal)> {
+    (schedule.words.len() % 2 == 1).then_some((0, 11))
 }
 
 /// Entry by entry to the first refusal. The report: that entry's place and refusal, or the count of entries and 0.
@@ -139,8 +154,9 @@ fn run_entries(machine: &mut Machine, schedule: &Schedule, quiet: bool, out: &mu
 // Writing to a `String` cannot fail, so the results of `write!` are let go below.
 
 fn report(out: &mut String, place: usize, refusal: Refusal, machine: &Machine) {
-    let (head, tail, meter) = (machine.head(), machine.tail(), machine.meter());
-    let _ = write!(out, "{place} {refusal} h={head} t={tail} m={meter}");
+    let _ = write!(out, "{place} {refusal} ");
+    machine.source().write_words(out);
+    let _ = write!(out, " m={}", machine.meter());
 }
 
 fn worker(out: &mut String, machine: &Machine, worker: u64) {
@@ -150,20 +166,15 @@ fn worker(out: &mut String, machine: &Machine, worker: u64) {
     };
 }
 
-fn slots(out: &mut String, machine: &Machine) {
-    out.push_str("slots");
-    for (stamp, value) in machine.slots() {
-        let _ = write!(out, " ({stamp},{value})");
-    }
-    out.push('\n');
-}
-
 fn contents(out: &mut String, machine: Machine, tally: &mut Tally) {
     out.push_str("contents");
     match machine.contents() {
-        Ok(items) => items.iter().for_each(|item| {
-            let _ = write!(out, " {item}");
-        }),
+        Ok(items) => {
+            tally.items_met += items.len() as u64;
+            for item in items {
+                let _ = write!(out, " {item}");
+            }
+        }
         Err(refusal) => {
             tally.contents_refused[refusal as usize] += 1;
             let _ = write!(out, " refused {refusal}");

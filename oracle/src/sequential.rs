@@ -1,8 +1,8 @@
 //! Random calls one after another, each run to its end before the next begins.
 
 use crate::drive::Run;
-use crate::interleaved::CAPACITIES;
 use crate::machine::Machine;
+use crate::queue::Making;
 use crate::random::Random;
 use crate::schedule::Schedule;
 
@@ -23,25 +23,24 @@ pub fn drive(run: &mut Run, calls: u64, seed: u64) -> Result<(), String> {
         // A call has about five entries.
         let most = if run.many() { 2000 } else { run.batch / 5 };
         let length = (1 + random.below(most)).min((calls - made) as usize);
-        let capacity = random.pick(&CAPACITIES);
-        run.add(schedule(&mut random, capacity, length))?;
+        let making = Making::random(run.queue, &mut random);
+        run.add(schedule(&mut random, making, length))?;
         made += length as u64;
     }
     run.flush()
 }
 
-pub fn schedule(random: &mut Random, capacity: u64, calls: usize) -> Schedule {
+pub fn schedule(random: &mut Random, making: Making, calls: usize) -> Schedule {
     let workers = random.pick(&[1, 1, 2, 16]);
-    let mut schedule = Schedule::new(capacity, workers);
-    let mut machine = Machine::make(capacity, workers).expect("within the limits");
-    // The ring stays closed, so closing comes late; some of what follows empties it.
-    let close_from =
-        if random.once_in(4) { calls } else { calls - random.below(calls.min(3 * capacity as usize + 20)) };
+    let mut schedule = Schedule::new(making, workers);
+    let mut machine = Machine::make(making, workers).expect("within the limits");
+    // The queue stays closed, so closing comes late; some of what follows empties it.
+    let close_from = if random.once_in(4) { calls } else { calls - random.below(calls.min(3 * making.room() + 20)) };
     let (mut mix, mut left) = (MIXES[0], 0);
     for done in 0..calls {
         if left == 0 {
             mix = random.pick(&MIXES);
-            left = 1 + random.below(2 * capacity as usize + 10);
+            left = 1 + random.below(2 * making.room() + 10);
         }
         left -= 1;
         mix[6] = usize::from(done >= close_from);

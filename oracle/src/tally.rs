@@ -1,10 +1,11 @@
 //! How often each place, answer, refusal and ending of an exchange was seen.
 
-use crate::machine::Call;
+use crate::call::Call;
+use crate::queue::Queue;
 use crate::state::Kind;
 use std::fmt;
 
-/// How a weak exchange ended.
+/// How an exchange ended; a strong one wins or is lost by the words.
 #[derive(Clone, Copy)]
 pub enum Ending {
     Won,
@@ -15,12 +16,13 @@ pub enum Ending {
 }
 
 const ENDINGS: [&str; 4] = ["won", "lost by the words", "lost by the schedule", "lost by both"];
-/// Three each of push, force_push and pop, one of len, two each of the other four.
-const ANSWERS: usize = 18;
-const KINDS: usize = Kind::ALL.len();
+const KINDS: usize = Kind::COUNT;
+/// No refusal has a higher number.
+const REFUSALS: usize = 12;
 
 #[derive(Clone)]
 pub struct Tally {
+    queue: Queue,
     pub schedules: u64,
     pub acts: u64,
     /// Marks that F7 wiped out of tail.
@@ -29,26 +31,28 @@ pub struct Tally {
     places: [u64; KINDS],
     answers: [[u64; KINDS]; 8],
     exchanges: [[u64; 4]; KINDS],
-    refusals: [u64; 12],
-    pub contents_refused: [u64; 12],
+    refusals: [u64; REFUSALS],
+    pub contents_refused: [u64; REFUSALS],
+    /// Items that `Drop` met.
+    pub items_met: u64,
 }
 
-impl Default for Tally {
-    fn default() -> Self {
+impl Tally {
+    pub fn new(queue: Queue) -> Tally {
         Tally {
+            queue,
             schedules: 0,
             acts: 0,
             closes_lost: 0,
             places: [0; KINDS],
             answers: [[0; KINDS]; 8],
             exchanges: [[0; 4]; KINDS],
-            refusals: [0; 12],
-            contents_refused: [0; 12],
+            refusals: [0; REFUSALS],
+            contents_refused: [0; REFUSALS],
+            items_met: 0,
         }
     }
-}
 
-impl Tally {
     pub fn place(&mut self, kind: Kind) {
         self.places[kind as usize] += 1;
     }
@@ -78,19 +82,24 @@ impl Tally {
         self.refusals[refusal as usize]
     }
 
-    /// Whether every place, every answer of every call and every ending of every exchange was seen.
+    /// Whether every place, every answer of every call, every ending of every exchange and every refusal was seen, and some
+    /// item among the contents.
     pub fn complete(&self) -> bool {
+        let facts = self.queue.facts();
         let seen = |counts: &[u64]| counts.iter().filter(|times| **times > 0).count();
-        let places = Kind::ALL.iter().filter(|kind| !kind.idle()).all(|kind| self.times_at(*kind) > 0);
-        places
-            && seen(self.answers.as_flattened()) == ANSWERS
-            && seen(self.exchanges.as_flattened()) == 4 * ENDINGS.len()
+        self.queue.places().all(|kind| self.times_at(kind) > 0)
+            && seen(self.answers.as_flattened()) == facts.answers
+            && seen(self.exchanges.as_flattened()) == 4 * facts.weak.len() + 2 * facts.strong.len()
+            && facts.refusals.iter().all(|refusal| self.times_refused(*refusal) > 0)
+            && self.items_met > 0
+            && (self.queue != Queue::Bounded || self.closes_lost > 0)
     }
 
     pub fn add(&mut self, other: &Tally) {
         self.schedules += other.schedules;
         self.acts += other.acts;
         self.closes_lost += other.closes_lost;
+        self.items_met += other.items_met;
         add_all(&mut self.places, &other.places);
         add_all(self.answers.as_flattened_mut(), other.answers.as_flattened());
         add_all(self.exchanges.as_flattened_mut(), other.exchanges.as_flattened());
@@ -106,21 +115,22 @@ fn add_all(to: &mut [u64], from: &[u64]) {
 impl fmt::Display for Tally {
     fn fmt(&self, f: &mut fmt::Formatter<'_>) -> fmt::Result {
         writeln!(f, "{} schedules, {} entries, {} acts", self.schedules, self.refusals[0], self.acts)?;
-        let places = || Kind::ALL.iter().filter(|kind| !kind.idle());
-        for kind in places() {
-            writeln!(f, "place {} {}", kind.name(), self.places[*kind as usize])?;
+        for kind in self.queue.places() {
+            writeln!(f, "place {} {}", kind.name(), self.times_at(kind))?;
         }
         for (call, answers) in Call::NAMES.iter().zip(&self.answers) {
-            for kind in Kind::ALL.iter().filter(|kind| answers[**kind as usize] > 0) {
+            for kind in Kind::ANSWERS.iter().filter(|kind| answers[**kind as usize] > 0) {
                 writeln!(f, "answer {call} {} {}", kind.name(), answers[*kind as usize])?;
             }
         }
-        for kind in places() {
-            for (ending, times) in ENDINGS.iter().zip(self.exchanges[*kind as usize]).filter(|(_, times)| *times > 0) {
+        for kind in self.queue.places() {
+            for (ending, times) in ENDINGS.iter().zip(self.exchanges[kind as usize]).filter(|(_, times)| *times > 0) {
                 writeln!(f, "exchange {} {ending} {times}", kind.name())?;
             }
         }
-        writeln!(f, "closes lost at F7 {}", self.closes_lost)?;
+        if self.queue == Queue::Bounded {
+            writeln!(f, "closes lost at F7 {}", self.closes_lost)?;
+        }
         for (refusal, times) in self.refusals.iter().enumerate().skip(1).filter(|(_, times)| **times > 0) {
             writeln!(f, "refusal {refusal} {times}")?;
         }

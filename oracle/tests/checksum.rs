@@ -1,11 +1,14 @@
-//! The source being judged is the published one, byte for byte.
+//! The sources being judged are the published ones, byte for byte.
 
-const PUBLISHED: &str = "f161cc0e03f59cc764a44dc0782f7fcef7325fc328dfc8cb8c7fd608fc259cc8";
+const BOUNDED: &str = "f161cc0e03f59cc764a44dc0782f7fcef7325fc328dfc8cb8c7fd608fc259cc8";
+const SINGLE: &str = "610671ffb6f3b3bc9d375b99f4e004c61eece74caa29c2a3af6977d4764185f4";
 
 #[test]
-fn source_is_unmodified() {
-    assert_eq!(sha256(include_bytes!("../src/bounded.rs")), PUBLISHED);
-    assert_eq!(include_str!("../src/bounded.rs.sha256"), format!("{PUBLISHED}  bounded.rs\n"));
+fn sources_are_unmodified() {
+    assert_eq!(sha256(include_bytes!("../src/bounded.rs")), BOUNDED);
+    assert_eq!(include_str!("../src/bounded.rs.sha256"), format!("{BOUNDED}  bounded.rs\n"));
+    assert_eq!(sha256(include_bytes!("../src/single.rs")), SINGLE);
+    assert_eq!(include_str!("../src/single.rs.sha256"), format!("{SINGLE}  single.rs\n"));
 }
 
 #[test]

@@ -3,14 +3,15 @@
 
 use oracle::drive::{Module, Run};
 use oracle::exhaustive::Extent;
+use oracle::queue::Queue;
 use oracle::{exhaustive, interleaved, list, sequential};
 use std::fs;
 use std::path::{Path, PathBuf};
 
 const JUDGE: &str = env!("CARGO_BIN_EXE_judge");
 
-fn differential(command: String, many: bool, place: &Path) -> Run {
-    Run::new(Some(Module { command, many }), 5000, place.into())
+fn differential(queue: Queue, command: String, many: bool, place: &Path) -> Run {
+    Run::new(queue, Some(Module { command, many }), 5000, place.into())
 }
 
 fn place(name: &str) -> PathBuf {
@@ -19,13 +20,16 @@ fn place(name: &str) -> PathBuf {
 
 #[test]
 fn the_judge_agrees_with_itself() {
-    let many = || differential(format!("{JUDGE} expect - --many"), true, &place("same"));
-    let one = || differential(format!("{JUDGE} expect -"), false, &place("same"));
-    assert_eq!(interleaved::drive(&mut many(), 100_000, 1), Ok(()));
-    assert_eq!(interleaved::drive(&mut one(), 20_000, 2), Ok(()));
-    assert_eq!(sequential::drive(&mut many(), 10_000, 3), Ok(()));
-    assert_eq!(sequential::drive(&mut one(), 5_000, 4), Ok(()));
-    assert_eq!(exhaustive::drive(&mut many(), Extent::Depth(4)), Ok(()));
+    for queue in Queue::ALL {
+        let judge = format!("{JUDGE} expect - --queue {}", queue.facts().name);
+        let many = || differential(queue, format!("{judge} --many"), true, &place("same"));
+        let one = || differential(queue, judge.clone(), false, &place("same"));
+        assert_eq!(interleaved::drive(&mut many(), 100_000, 1), Ok(()));
+        assert_eq!(interleaved::drive(&mut one(), 20_000, 2), Ok(()));
+        assert_eq!(sequential::drive(&mut many(), 10_000, 3), Ok(()));
+        assert_eq!(sequential::drive(&mut one(), 5_000, 4), Ok(()));
+        assert_eq!(exhaustive::drive(&mut many(), Extent::Depth(4)), Ok(()));
+    }
 }
 
 /// The faulty module says Closed for Full: the smallest prefix ends with the first Full.
@@ -33,7 +37,7 @@ fn the_judge_agrees_with_itself() {
 fn a_difference_is_cut_short_and_kept() {
     let script = concat!(env!("CARGO_MANIFEST_DIR"), "/tests/faulty.sh");
     let place = place("faulty");
-    let mut run = differential(format!("sh {script} {JUDGE}"), false, &place);
+    let mut run = differential(Queue::Bounded, format!("sh {script} {JUDGE}"), false, &place);
     let message = sequential::drive(&mut run, 10_000, 5).expect_err("the fault is found");
     assert!(message.contains("judge: ") && message.contains("module: "), "{message}");
     let expected = fs::read_to_string(place.join("difference.expected")).unwrap();
@@ -43,10 +47,14 @@ fn a_difference_is_cut_short_and_kept() {
     assert!(expected.lines().rev().nth(2).unwrap().contains("idle:full("));
 }
 
-/// The list in the repository is what its header says.
+/// The lists in the repository are what their headers say.
 #[test]
-fn the_list_is_the_judges() {
-    let (input, output) = list::list(1);
-    assert!(input == include_str!("../list/list.in"), "list.in differs");
-    assert!(output == include_str!("../list/list.out"), "list.out differs");
+fn the_lists_are_the_judges() {
+    let lists = [
+        (Queue::Bounded, include_str!("../list/list.in"), include_str!("../list/list.out")),
+        (Queue::Single, include_str!("../list/single.in"), include_str!("../list/single.out")),
+    ];
+    for (queue, input, output) in lists {
+        assert!(list::list(queue, 1) == (input.into(), output.into()), "the list of {queue:?} differs");
+    }
 }

@@ -1,6 +1,7 @@
 //! Document 01's eight runs on paper. All numbers are the document's.
 
 use oracle::machine::Machine;
+use oracle::queue::Making;
 use oracle::stage::{Action, Word};
 use oracle::state::Kind;
 
@@ -15,9 +16,25 @@ const ACT: u64 = 8;
 
 struct Bench(Machine);
 
+fn made(capacity: u64, workers: u64) -> Result<Machine, u64> {
+    Machine::make(Making::Bounded { capacity }, workers)
+}
+
 impl Bench {
     fn new(capacity: u64, workers: u64) -> Bench {
-        Bench(Machine::make(capacity, workers).unwrap_or_else(|refusal| panic!("refused {refusal}")))
+        Bench(made(capacity, workers).unwrap_or_else(|refusal| panic!("refused {refusal}")))
+    }
+
+    fn head(&self) -> u64 {
+        self.0.word(Word::Head)
+    }
+
+    fn tail(&self) -> u64 {
+        self.0.word(Word::Tail)
+    }
+
+    fn stamp(&self, slot: usize) -> u64 {
+        self.0.word(Word::Stamp(slot))
     }
 
     fn begin(&mut self, worker: u64, code: u64, item: u64) {
@@ -45,11 +62,11 @@ impl Bench {
     }
 
     fn ends(&self) -> (u64, u64) {
-        (self.0.head(), self.0.tail())
+        (self.head(), self.tail())
     }
 
-    fn stamps(&self) -> Vec<u64> {
-        self.0.slots().iter().map(|(stamp, _)| *stamp).collect()
+    fn stamps<const SLOTS: usize>(&self) -> [u64; SLOTS] {
+        std::array::from_fn(|slot| self.stamp(slot))
     }
 
     fn contents(self) -> Vec<u64> {
@@ -75,11 +92,11 @@ fn run_b() -> Bench {
 fn run_c() -> Bench {
     let mut bench = run_b();
     assert_eq!(bench.call(0, PUSH, 6), "idle:pushed");
-    assert_eq!((bench.0.tail(), bench.stamps()[1]), (8, 2));
+    assert_eq!((bench.tail(), bench.stamp(1)), (8, 2));
     assert_eq!(bench.call(0, POP, 0), "idle:popped(5)");
-    assert_eq!((bench.0.head(), bench.stamps()[0]), (1, 8));
+    assert_eq!((bench.head(), bench.stamp(0)), (1, 8));
     assert_eq!(bench.call(0, PUSH, 7), "idle:pushed");
-    assert_eq!((bench.0.tail(), bench.stamps()[0]), (9, 9));
+    assert_eq!((bench.tail(), bench.stamp(0)), (9, 9));
     bench.begin(0, PUSH, 8);
     assert_eq!(bench.end(0), ("idle:full(8)".into(), 3));
     bench
@@ -89,7 +106,7 @@ fn run_d() -> Bench {
     let mut bench = run_c();
     bench.begin(0, FORCE_PUSH, 8);
     assert_eq!(bench.end(0), ("idle:displaced(6)".into(), 6));
-    assert_eq!((bench.ends(), bench.stamps()[1]), ((8, 16), 10));
+    assert_eq!((bench.ends(), bench.stamp(1)), ((8, 16), 10));
     bench
 }
 
@@ -97,7 +114,7 @@ fn run_d() -> Bench {
 fn before_f6() -> Bench {
     let mut bench = Bench::new(1, 2);
     assert_eq!(bench.call(0, PUSH, 7), "idle:pushed");
-    assert_eq!((bench.0.tail(), bench.stamps()), (4, vec![1]));
+    assert_eq!((bench.tail(), bench.stamps()), (4, [1]));
     bench.begin(0, FORCE_PUSH, 8);
     bench.act(0);
     assert_eq!(bench.act(0), "F6(4,8)");
@@ -122,7 +139,7 @@ fn a_constants() {
 fn b_push() {
     let bench = run_b();
     assert_eq!(bench.ends(), (0, 1));
-    assert_eq!(bench.0.slots(), [(1, 5), (1, 0)]);
+    assert_eq!([0, 1].map(|slot| (bench.stamp(slot), bench.0.value(slot))), [(1, 5), (1, 0)]);
     assert_eq!(bench.0.meter(), 5);
     assert_eq!(bench.0.state(0).unwrap().to_string(), "idle:pushed");
     assert_eq!(bench.contents(), [5]);
@@ -142,21 +159,21 @@ fn d_displaced() {
 fn e_closed() {
     let mut bench = run_d();
     assert_eq!(bench.call(0, CLOSE, 0), "idle:yes");
-    assert_eq!(bench.0.tail(), 20);
+    assert_eq!(bench.tail(), 20);
     assert_eq!(bench.call(0, PUSH, 9), "idle:closed(9)");
     assert_eq!(bench.call(0, POP, 0), "idle:popped(7)");
     assert_eq!(bench.call(0, POP, 0), "idle:popped(8)");
     assert_eq!(bench.call(0, POP, 0), "idle:closed");
-    assert_eq!((bench.0.head(), bench.stamps()), (16, vec![16, 17]));
+    assert_eq!((bench.head(), bench.stamps()), (16, [16, 17]));
 }
 
 #[test]
 fn f_close_lost() {
     let mut bench = before_f6();
     assert_eq!(bench.call(1, CLOSE, 0), "idle:yes");
-    assert_eq!(bench.0.tail(), 6);
+    assert_eq!(bench.tail(), 6);
     assert_eq!(bench.end(0).0, "idle:displaced(7)");
-    assert_eq!((bench.ends(), bench.stamps()), ((4, 8), vec![5]));
+    assert_eq!((bench.ends(), bench.stamps()), ((4, 8), [5]));
     assert_eq!(bench.call(1, IS_CLOSED, 0), "idle:no");
     assert_eq!(bench.0.tally.closes_lost, 1);
 }
@@ -177,7 +194,7 @@ fn g_before_f7() {
 
 #[test]
 fn h_limits() {
-    let made = |capacity, workers| Machine::make(capacity, workers).err().unwrap_or(0);
-    assert_eq!([0, 1025, 1, 1024].map(|capacity| made(capacity, 1)), [1, 1, 0, 0]);
-    assert_eq!([0, 17, 1, 16].map(|workers| made(1, workers)), [2, 2, 0, 0]);
+    let refused = |capacity, workers| made(capacity, workers).err().unwrap_or(0);
+    assert_eq!([0, 1025, 1, 1024].map(|capacity| refused(capacity, 1)), [1, 1, 0, 0]);
+    assert_eq!([0, 17, 1, 16].map(|workers| refused(1, workers)), [2, 2, 0, 0]);
 }

@@ -1,14 +1,23 @@
 //! The text that `replay` must print, in the cases that are not entries of an accepted schedule.
 
+use oracle::queue::Queue;
 use oracle::schedule::{run, split, Schedule};
 use oracle::tally::Tally;
 
+fn text(queue: Queue, input: &str, quiet: bool) -> String {
+    run(&Schedule::parse(queue, input).unwrap(), quiet, &mut Tally::new(queue))
+}
+
 fn printed(input: &str) -> String {
-    run(&Schedule::parse(input).unwrap(), false, &mut Tally::default())
+    text(Queue::Bounded, input, false)
 }
 
 fn quiet(input: &str) -> String {
-    run(&Schedule::parse(input).unwrap(), true, &mut Tally::default())
+    text(Queue::Bounded, input, true)
+}
+
+fn single(input: &str) -> String {
+    text(Queue::Single, input, false)
 }
 
 #[test]
@@ -46,8 +55,12 @@ fn refused_entry_ends_the_run() {
 #[test]
 fn order_of_refusals() {
     let refusal = |entries: &str| {
-        let output = quiet(&format!("1 1 {entries}"));
-        output.lines().nth(1).unwrap().split(' ').nth(1).unwrap().to_string()
+        let outputs = [(Queue::Bounded, "1 1"), (Queue::Single, "1")].map(|(queue, making)| {
+            let output = text(queue, &format!("{making} {entries}"), true);
+            output.lines().nth(1).unwrap().split(' ').nth(1).unwrap().to_string()
+        });
+        assert!(outputs.iter().all(|output| *output == outputs[0]), "{outputs:?}");
+        outputs[0].clone()
     };
     assert_eq!(refusal("26 0"), "9", "code 10 of no worker");
     assert_eq!(refusal("18 1"), "9", "an item with a pop of no worker");
@@ -59,7 +72,7 @@ fn order_of_refusals() {
     assert_eq!(refusal("18446744073709551608 0"), "3", "act of the last worker a word can name");
     assert_eq!(refusal("2 0 2 0"), "4", "begin of a busy worker");
     assert_eq!(refusal("9 0"), "5", "lost act of an idle worker");
-    assert_eq!(refusal("2 0 9 0"), "8", "lost act at a load");
+    assert_eq!(refusal("2 0 9 0"), "8", "lost act at a load, or at a strong exchange");
 }
 
 /// A lost exchange with the words agreeing, then code 9 with the words differing.
@@ -77,9 +90,25 @@ fn code_9() {
 fn texts_of_many() {
     assert_eq!(split("1 1\n%\n2 2\n"), ["1 1\n", "2 2\n"]);
     assert_eq!(split("a\n%\nb\n%\n"), ["a\n", "b\n"]);
-    assert!(Schedule::parse("1").is_err());
-    assert!(Schedule::parse("1 1 x").is_err());
-    assert!(Schedule::parse("1 1 -1").is_err());
-    let schedule = Schedule::parse("1 1 0 5 8").unwrap();
-    assert_eq!(Schedule::parse(&schedule.text()), Ok(schedule));
+    assert!(Schedule::parse(Queue::Bounded, "1").is_err());
+    assert!(Schedule::parse(Queue::Single, "").is_err());
+    for queue in Queue::ALL {
+        assert!(Schedule::parse(queue, "1 1 x").is_err());
+        assert!(Schedule::parse(queue, "1 1 -1").is_err());
+        let schedule = Schedule::parse(queue, "1 1 0 5 8").unwrap();
+        assert_eq!(Schedule::parse(queue, &schedule.text()), Ok(schedule));
+    }
+}
+
+#[test]
+fn one_slot() {
+    assert_eq!(single("1"), "made 0\nvalue 0\ncontents\n");
+    assert_eq!(text(Queue::Single, "1", true), "made 0\n0 0 s=0 m=0\nvalue 0\ncontents\n");
+    let blank = "made 2\n0 6 s=0 m=0\nvalue 0\ncontents refused 6\n";
+    assert_eq!(["0", "17", "0 0 5 8"].map(single), [blank; 3]);
+    assert_eq!(single("1 0 5 8"), "made 0\n0 11 s=0 m=0\nvalue 0\ncontents\n");
+    let pushed = "made 0\n0 0 s=0 m=0 w0=A1(5)\n1 0 s=3 m=1 w0=A2(5)\n2 0 s=3 m=2 w0=A3\n3 0 s=2 m=3 w0=idle:pushed\n";
+    assert_eq!(single("1 0 5 8 0 8 0 8 0"), format!("{pushed}value 5\ncontents 5\n"));
+    assert_eq!(single("1 0 5 8 0 8 0 8 0 184 0 8 0"), format!("{pushed}4 3 s=2 m=3 w11=-\nvalue 5\ncontents 5\n"));
+    assert_eq!(text(Queue::Single, "1 0 5 8 0 8 0 9 0", true), "made 0\n3 8 s=3 m=2\nvalue 5\ncontents refused 4\n");
 }

@@ -1,5 +1,6 @@
 // Runs a schedule, from a file or from standard input, entry by entry, and writes what the machine holds after each.
 mod many;
+mod queue;
 
 use replay_options::Options;
 

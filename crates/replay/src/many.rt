@@ -1,5 +1,5 @@
 // One schedule, or one after another: each is read once to see that it can be run, and once more to run it.
-use replay_bounded::play::Run;
+use crate::queue::Run;
 use replay_input::source::Reading;
 use replay_options::Options;
 
@@ -45,8 +45,13 @@ fn surveyed(fd: i32, many: bool, offset: u64, line: u64) -> Survey {
     )
 }
 
+// The numbers, with the one that is put before them.
+fn numbers_of(s: Survey, o: Options) -> u64 {
+    std::num::wrapping_add_u64(s.count, crate::queue::before(o) as u64)
+}
+
 // Says what is wrong, and answers whether nothing is.
-fn is_sound(s: Survey, name: &[u8]) -> bool {
+fn is_sound(s: Survey, o: Options, name: &[u8]) -> bool {
     let r = s.reading;
     let scan = r.scan;
     let event = r.event;
@@ -75,11 +80,12 @@ fn is_sound(s: Survey, name: &[u8]) -> bool {
         }
         _ => {}
     }
-    if s.count == 0 {
+    let numbers = numbers_of(s, o);
+    if numbers == 0 {
         replay_input::say::fault(name, scan.line, scan.column, b"the capacity is missing");
         return false;
     }
-    if s.count == 1 {
+    if numbers == 1 {
         replay_input::say::fault(
             name,
             scan.line,
@@ -118,11 +124,10 @@ struct Playing {
     left: usize,
 }
 
-fn goes_on(p: Playing) -> bool {
+fn goes_on(p: Playing, o: Options) -> bool {
     let r = p.reading;
-    let run = p.run;
     if r.event == text_numbers::NOTHING {
-        run.refusal == 0
+        crate::queue::refusal(p.run, o) == 0
     } else {
         false
     }
@@ -130,8 +135,9 @@ fn goes_on(p: Playing) -> bool {
 
 // One piece of the schedule.
 fn play_some(run: Run, o: Options, odd: bool, list: &[u64], n: usize, out: &mut [u8]) -> Run {
-    let after = replay_bounded::play::pairs(run, o, odd, list, n, out);
-    progress(run.place, after.place);
+    let before = crate::queue::place(run, o);
+    let after = crate::queue::pairs(run, o, odd, list, n, out);
+    progress(before, crate::queue::place(after, o));
     after
 }
 
@@ -167,7 +173,7 @@ fn play_in(
 ) -> Run {
     let mut p = begin;
     let mut turns = u64::MAX;
-    while turns > 0 && goes_on(p) {
+    while turns > 0 && goes_on(p, o) {
         turns -= 1;
         p = read_and_play(p, o, fd, odd, bytes, list, out);
     }
@@ -175,11 +181,11 @@ fn play_in(
     run
 }
 
-fn play_begin(offset: u64, line: u64, at: usize) -> Playing {
+fn play_begin(o: Options, offset: u64, line: u64, at: usize) -> Playing {
     Playing {
         reading: replay_input::source::start(offset, line),
-        run: replay_bounded::play::start(at),
-        left: 0,
+        run: crate::queue::start(at),
+        left: crate::queue::before(o),
     }
 }
 
@@ -199,12 +205,13 @@ fn play(
     at: usize,
 ) -> Played {
     let mut bytes = [0u8; replay_input::source::BYTES];
-    let mut list = [0u64; replay_input::source::NUMBERS];
-    let begin = play_begin(offset, line, at);
+    // the number before the first, where one is put there
+    let mut list = [1u64; replay_input::source::NUMBERS];
+    let begin = play_begin(o, offset, line, at);
     let run = play_in(begin, o, fd, odd, &mut bytes, &mut list, out);
     Played {
-        at: replay_bounded::play::finish(run, o, out),
-        refused: run.refusal != 0,
+        at: crate::queue::finish(run, o, out),
+        refused: crate::queue::refusal(run, o) != 0,
     }
 }
 
@@ -253,7 +260,7 @@ fn after(s: Survey, at: usize, status: u8) -> Next {
 // Read once, and not run.
 fn look(o: Options, fd: i32, name: &[u8], from: Next) -> Next {
     let s = surveyed(fd, o.many, from.offset, from.line);
-    if is_sound(s, name) {
+    if is_sound(s, o, name) {
         after(s, 0, from.status)
     } else {
         stop()
@@ -266,7 +273,7 @@ fn worse(status: u8, refused: bool) -> u8 {
 
 fn one(o: Options, fd: i32, name: &[u8], from: Next, out: &mut [u8]) -> Next {
     let s = surveyed(fd, o.many, from.offset, from.line);
-    if is_sound(s, name) {} else {
+    if is_sound(s, o, name) {} else {
         return stop();
     }
     let p = play(
@@ -274,7 +281,7 @@ fn one(o: Options, fd: i32, name: &[u8], from: Next, out: &mut [u8]) -> Next {
         fd,
         from.offset,
         from.line,
-        s.count % 2 == 1,
+        numbers_of(s, o) % 2 == 1,
         out,
         from.at,
     );

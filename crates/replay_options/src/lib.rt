@@ -1,6 +1,14 @@
 // The arguments of replay.
 
+// The queues that replay knows.
+pub const BOUNDED: u8 = 0;
+
+pub const SINGLE: u8 = 1;
+
 pub struct Options {
+    pub queue: u8,
+    // the number of the argument --queue while its value is wanted; 0: it is not
+    pub naming: usize,
     pub quiet: bool,
     pub summary: bool,
     pub many: bool,
@@ -29,6 +37,8 @@ fn equal(a: &[u8], b: &[u8]) -> bool {
 
 fn none() -> Options {
     Options {
+        queue: BOUNDED,
+        naming: 0,
         quiet: false,
         summary: false,
         many: false,
@@ -56,8 +66,31 @@ fn named(before: Options, i: usize, word: &[u8]) -> Options {
     o
 }
 
+// The queue's name after --queue.
+fn with_queue(before: Options, i: usize, word: &[u8]) -> Options {
+    let mut o = before;
+    o.naming = 0;
+    if equal(word, b"bounded") {
+        o.queue = BOUNDED;
+        return o;
+    }
+    if equal(word, b"single") {
+        o.queue = SINGLE;
+        return o;
+    }
+    o.wrong = i;
+    o
+}
+
 fn with_word(before: Options, i: usize, word: &[u8]) -> Options {
     let mut o = before;
+    if o.naming != 0 {
+        return with_queue(o, i, word);
+    }
+    if equal(word, b"--queue") {
+        o.naming = i;
+        return o;
+    }
     if equal(word, b"--quiet") {
         o.quiet = true;
         return o;
@@ -87,13 +120,22 @@ fn with_argument(before: Options, i: usize) -> Options {
     with_word(before, i, &word[..n])
 }
 
-pub fn read() -> Options {
+fn arguments() -> Options {
     let mut o = none();
     let n = os::arg_count();
     let mut i = 1;
     while i < n {
         o = with_argument(o, i);
         i += 1;
+    }
+    o
+}
+
+// An option that is still without its value at the end is of no use.
+pub fn read() -> Options {
+    let mut o = arguments();
+    if o.naming != 0 {
+        o.wrong = o.naming;
     }
     o
 }
@@ -123,9 +165,9 @@ pub fn tell(o: Options, status: u8) {
 pub fn help() {
     io::write_all(
         libc::STDOUT_FILENO,
-        b"replay [--quiet] [--summary] [--many] [FILE]\n\
+        b"replay [--queue NAME] [--quiet] [--summary] [--many] [FILE]\n\
         \n\
-        Runs a schedule on the stamped ring. It is read from FILE, or from standard input: unsigned decimal\n\
+        Runs a schedule on the stamped ring, or on another queue. It is read from FILE, or from standard input: unsigned decimal\n\
         numbers separated by white space. The first is the capacity (1 to 1024), the second the number of\n\
         workers (1 to 16), then come the entries, two numbers each: 16 * worker + code, and the item.\n\
         Codes: 0 push, 1 force_push, 2 pop, 3 len, 4 is_empty, 5 is_full, 6 close, 7 is_closed begin a call;\n\
@@ -141,6 +183,8 @@ pub fn help() {
         9 unreadable entry, 11 odd number of words.\n\
         Status: 0 run to its end, 1 refused, 2 the input or the arguments cannot be read.\n\
         \n\
+        \x20 --queue single   the one-slot queue (bounded unless told): no capacity, the first number is that of the workers;\n\
+        \x20             lines are PLACE R s=STATE m=M wN=S, and at the end: value V, contents\n\
         \x20 --quiet     no line for each entry, one for the whole\n\
         \x20 --summary   then counts of acts, answers, claims, refusals and retries\n\
         \x20 --many      several schedules, separated by a line with a single %; a line % follows each output\n",

@@ -3,10 +3,10 @@ use mathlib.Core.Path.{_≡_}
 use lib.ListN.{length}
 use native.Mathlib.Omega.{arith}
 use borrow.Author.Needs.{needs}
-use Rattle.replay_options.proofs.read.Statement.{statement}
-use Rattle.replay_options.proofs.read.Tie as tie
-use Rattle.replay_options.proofs.read.Reads as reads
-use Rattle.replay_options.proofs.read.Lts as lts
+use Rattle.replay_options.proofs.arguments.Statement.{statement}
+use Rattle.replay_options.proofs.arguments.Tie as tie
+use Rattle.replay_options.proofs.arguments.Reads as reads
+use Rattle.replay_options.proofs.arguments.Lts as lts
 use Rattle.os.proofs.arg_count.Reads as arg-count-reads
 use Rattle.replay_options.proofs.none.Reads as none-reads
 use Rattle.replay_options.proofs.with_argument.Reads as with-argument-reads
@@ -49,8 +49,8 @@ loop-again c = search needs
 returns : tie.Need-returns Inv-loop μ-loop
 returns c = search needs
 
-pub read-spec : {M : Type 1} → statement M
-read-spec =
+pub arguments-spec : {M : Type 1} → statement M
+arguments-spec =
     tie.close
     (tie.spec
     Inv-loop

@@ -1,0 +1,1 @@
+// Schedules over any queue's machine: one worker's acts among them (specs/), and the laws that every queue's proofs rest on (proofs/). No code.

@@ -1,0 +1,274 @@
+// One act: the action of src/single.rs at a worker's place, with the local decisions up to the next.
+// One function for each place, and which is taken where: specs/Acts.antt has them beside the source's lines.
+ghost use mathlib.Core.Path.{_≡_};
+ghost use Rattle.single_words.specs.Words.{takenOf, closedOf};
+ghost use Rattle.single_acts.specs.Acts.{stay, stateTo, valueTo, exchanged, unlockedIn, lenOf, actA1, actA2, actA3, actB1, actB2, actB3, actB4, actB5, actC1, actC2, actC3, actLen1, actEmpty1, actFull1, actClose1, actIsClosed1, actOf};
+use single_places::Answer;
+use single_places::Place;
+use single_places::Single;
+use single_words::State;
+
+// What an act leaves: the queue, and the place its worker goes to.
+pub struct Acted {
+    pub single: Single,
+    pub place: Place,
+}
+
+fn stay(s: Single, p: Place) -> Acted
+    ensures { λ r. ⌜ r ≡ stay s p ⌝ }
+{
+    Acted {
+        single: s,
+        place: p,
+    }
+}
+
+// The kinds of effect.
+
+fn state_to(s: Single, w: State) -> Single
+    ensures { λ r. ⌜ r ≡ stateTo s w ⌝ }
+{
+    Single {
+        state: w,
+        value: s.value,
+    }
+}
+
+fn value_to(s: Single, v: u64) -> Single
+    ensures { λ r. ⌜ r ≡ valueTo s v ⌝ }
+{
+    let w = s.state;
+    Single { state: w, value: v }
+}
+
+// A strong exchange of e for w.
+fn exchange(s: Single, e: State, w: State) -> Single
+    ensures { λ r. ⌜ r ≡ exchanged s e w ⌝ }
+{
+    let found = s.state;
+    if single_words::same(found, e) {
+        state_to(s, w)
+    } else {
+        s
+    }
+}
+
+fn unlock(s: Single) -> Single
+    ensures { λ r. ⌜ r ≡ unlockedIn s ⌝ }
+{
+    let found = s.state;
+    state_to(s, single_words::unlocked(found))
+}
+
+// What pop exchanges e for.
+fn take(s: Single, e: State) -> Single
+    ensures { λ r. ⌜ r ≡ exchanged s e (takenOf e) ⌝ }
+{
+    exchange(s, e, single_words::taken(e))
+}
+
+fn shut(s: Single) -> Single
+    ensures { λ r. ⌜ r ≡ stateTo s (closedOf (s .state)) ⌝ }
+{
+    let found = s.state;
+    state_to(s, single_words::with_closed(found))
+}
+
+// push
+
+fn a1(s: Single, item: u64) -> Acted
+    ensures { λ r. ⌜ r ≡ actA1 s item ⌝ }
+{
+    let found = s.state;
+    let after = exchange(
+        s,
+        State(0),
+        State(single_words::LOCKED | single_words::PUSHED),
+    );
+    if single_words::same(found, State(0)) {
+        return stay(after, Place::A2(item));
+    }
+    if single_words::closed(found) {
+        stay(after, Place::Idle(Answer::Closed(item)))
+    } else {
+        stay(after, Place::Idle(Answer::Full(item)))
+    }
+}
+
+fn a2(s: Single, item: u64) -> Acted
+    ensures { λ r. ⌜ r ≡ actA2 s item ⌝ }
+{
+    stay(value_to(s, item), Place::A3)
+}
+
+fn a3(s: Single) -> Acted
+    ensures { λ r. ⌜ r ≡ actA3 s ⌝ }
+{
+    stay(unlock(s), Place::Idle(Answer::Pushed))
+}
+
+// force_push
+
+fn b1(s: Single, e: State, item: u64) -> Acted
+    ensures { λ r. ⌜ r ≡ actB1 s e item ⌝ }
+{
+    let found = s.state;
+    let after = exchange(s, e, State(single_words::LOCKED | single_words::PUSHED));
+    if single_words::closed(found) {
+        return stay(after, Place::Idle(Answer::Closed(item)));
+    }
+    if single_words::same(found, e) {
+        if single_words::pushed(found) {
+            stay(after, Place::B4(item))
+        } else {
+            stay(after, Place::B2(item))
+        }
+    } else {
+        let again = single_words::unlocked(found);
+        stay(after, Place::B1(again, item))
+    }
+}
+
+fn b2(s: Single, item: u64) -> Acted
+    ensures { λ r. ⌜ r ≡ actB2 s item ⌝ }
+{
+    stay(value_to(s, item), Place::B3)
+}
+
+fn b3(s: Single) -> Acted
+    ensures { λ r. ⌜ r ≡ actB3 s ⌝ }
+{
+    stay(unlock(s), Place::Idle(Answer::Pushed))
+}
+
+fn b4(s: Single, item: u64) -> Acted
+    ensures { λ r. ⌜ r ≡ actB4 s item ⌝ }
+{
+    let old = s.value;
+    stay(value_to(s, item), Place::B5(old))
+}
+
+fn b5(s: Single, old: u64) -> Acted
+    ensures { λ r. ⌜ r ≡ actB5 s old ⌝ }
+{
+    stay(unlock(s), Place::Idle(Answer::Displaced(old)))
+}
+
+// pop
+
+fn c1(s: Single, e: State) -> Acted
+    ensures { λ r. ⌜ r ≡ actC1 s e ⌝ }
+{
+    let found = s.state;
+    let after = take(s, e);
+    if single_words::same(found, e) {
+        return stay(after, Place::C2);
+    }
+    if single_words::pushed(found) {
+        let again = single_words::unlocked(found);
+        return stay(after, Place::C1(again));
+    }
+    if single_words::closed(found) {
+        stay(after, Place::Idle(Answer::PopClosed))
+    } else {
+        stay(after, Place::Idle(Answer::Empty))
+    }
+}
+
+fn c2(s: Single) -> Acted
+    ensures { λ r. ⌜ r ≡ actC2 s ⌝ }
+{
+    let value = s.value;
+    stay(s, Place::C3(value))
+}
+
+fn c3(s: Single, value: u64) -> Acted
+    ensures { λ r. ⌜ r ≡ actC3 s value ⌝ }
+{
+    stay(unlock(s), Place::Idle(Answer::Popped(value)))
+}
+
+// The lookers, and close.
+
+fn len_of(w: State) -> u64
+    ensures { λ r. ⌜ r ≡ lenOf w ⌝ }
+{
+    if single_words::pushed(w) { 1 } else { 0 }
+}
+
+fn len1(s: Single) -> Acted
+    ensures { λ r. ⌜ r ≡ actLen1 s ⌝ }
+{
+    let found = s.state;
+    stay(s, Place::Idle(Answer::Len(len_of(found))))
+}
+
+fn empty1(s: Single) -> Acted
+    ensures { λ r. ⌜ r ≡ actEmpty1 s ⌝ }
+{
+    let found = s.state;
+    if single_words::pushed(found) {
+        stay(s, Place::Idle(Answer::No))
+    } else {
+        stay(s, Place::Idle(Answer::Yes))
+    }
+}
+
+fn full1(s: Single) -> Acted
+    ensures { λ r. ⌜ r ≡ actFull1 s ⌝ }
+{
+    let found = s.state;
+    if single_words::pushed(found) {
+        stay(s, Place::Idle(Answer::Yes))
+    } else {
+        stay(s, Place::Idle(Answer::No))
+    }
+}
+
+fn close1(s: Single) -> Acted
+    ensures { λ r. ⌜ r ≡ actClose1 s ⌝ }
+{
+    let found = s.state;
+    let after = shut(s);
+    if single_words::closed(found) {
+        stay(after, Place::Idle(Answer::No))
+    } else {
+        stay(after, Place::Idle(Answer::Yes))
+    }
+}
+
+fn is_closed1(s: Single) -> Acted
+    ensures { λ r. ⌜ r ≡ actIsClosed1 s ⌝ }
+{
+    let found = s.state;
+    if single_words::closed(found) {
+        stay(s, Place::Idle(Answer::Yes))
+    } else {
+        stay(s, Place::Idle(Answer::No))
+    }
+}
+
+// One act of a worker that stands at p.
+pub fn act_at(s: Single, p: Place) -> Acted
+    ensures { λ r. ⌜ r ≡ actOf s p ⌝ }
+{
+    match p {
+        Place::Idle(a) => stay(s, Place::Idle(a)),
+        Place::A1(item) => a1(s, item),
+        Place::A2(item) => a2(s, item),
+        Place::A3 => a3(s),
+        Place::B1(e, item) => b1(s, e, item),
+        Place::B2(item) => b2(s, item),
+        Place::B3 => b3(s),
+        Place::B4(item) => b4(s, item),
+        Place::B5(old) => b5(s, old),
+        Place::C1(e) => c1(s, e),
+        Place::C2 => c2(s),
+        Place::C3(value) => c3(s, value),
+        Place::Len1 => len1(s),
+        Place::Empty1 => empty1(s),
+        Place::Full1 => full1(s),
+        Place::Close1 => close1(s),
+        Place::IsClosed1 => is_closed1(s),
+    }
+}

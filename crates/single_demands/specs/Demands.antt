@@ -1,0 +1,272 @@
+-- The demands on the one-slot queue, all of them, in the words of request 1 and of document 01. The notions (history, write, read, hand ..)
+-- are defined in Notions.antt. The proofs are gathered in crates/single_proof_all_demands/proofs/Headlines.antt; docs/PROMISES.md says in
+-- plain words what each says and what not.
+use Prim.Native.Nat.{ℕ, suc, _+_, _*_, _%_, _≤_, _<_}
+use mathlib.Core.Bool.{Bool, true, false}
+use mathlib.Core.List.{List, [], _∷_, _++_, map}
+use mathlib.Core.Path.{_≡_}
+use mathlib.Core.Logic.{_↔_, _≢_}
+use lib.ListN.{length, take}
+use Rattle.queue_entries.specs.Limits.{meterMost}
+use Rattle.queue_entries.specs.declared.Call.{Call}
+use Rattle.queue_entries.specs.declared.Told.{Told}
+use Rattle.queue_entries.specs.Told.{told}
+use Rattle.queue_entries.specs.Entries.{entryOf}
+use Rattle.queue_schedules.specs.Alone.{acts}
+use Rattle.single_words.specs.declared.State.{State}
+use Rattle.single_words.specs.Words.{lockedIn, pushedIn, closedIn}
+use Rattle.single_places.specs.declared.Answer.{Answer}
+use Rattle.single_places.specs.declared.Answer.the-variants.{Full, Closed, Empty, PopClosed}
+use Rattle.single_places.specs.declared.Place.{Place}
+use Rattle.single_places.specs.declared.Place.the-variants.{Idle, A1, A2, B1, C1}
+use Rattle.single_places.specs.Places as places
+use Rattle.single_acts.specs.Acts.{lenOf}
+use Rattle.single_machine.specs.declared.Machine.{Machine}
+use Rattle.single_machine.specs.declared.Event.{Event}
+use Rattle.single_machine.specs.declared.Did.{Did}
+use Rattle.single_machine.specs.declared.Ran.{Ran}
+use Rattle.single_machine.specs.Machine.{blank, freshOf, placeOf}
+use Rattle.single_machine.specs.Broken.{brokenOf, idleFrom}
+use Rattle.single_machine.specs.Contents.{countIn, contentsOf, contentsRefusal, written, capacityOf}
+use Rattle.single_machine.specs.Run.{runOf}
+use Rattle.single_machine.specs.History.{eventsOf}
+use Rattle.single.specs.Single.{makeOf, stepOf, beginOf, actOf}
+use Rattle.single_demands.specs.Notions.{Definition, Allowed, machineAfter, actsOf, Acts, AtEach, InHand, OtherHand, Popping, accessOf, isRead, Holds, HandsOut, Stands, Came, waiting, OneSlot, Took, closedBy, queueAnswer, Looks, FullWord, EmptyWord, PopClosedWord, Truth, mostOf, passed, ownActs, LetsGo}
+use Rattle.single_demands.specs.Foretold.{foretold}
+use Rattle.single_demands.specs.Attained.{Case, seenIn, attained, exactly}
+
+-- ==== 1. Any machine, entry or schedule handed in gets an answer or a numbered refusal; a refused step changes nothing.
+-- That each gets an answer is what the functions of crate single promise: none has a `requires`, and each answer is equal to a
+-- definition. What follows speaks of these definitions.
+
+-- Demand 1: a refused step changes nothing, in the machine or in a lent buffer.
+pub record RefusedUnchanged : Type 0 where
+  -- refusal 2 returns the blank machine
+  pub make : (workers : ℕ) → (makeOf workers .refusal ≡ 0 → ⊥) → makeOf workers .machine ≡ blank
+  pub step : (m : Machine) (first second : ℕ) → (stepOf m first second .refusal ≡ 0 → ⊥) → stepOf m first second .machine ≡ m
+  pub begin : (m : Machine) (first second : ℕ) → (beginOf m first second .refusal ≡ 0 → ⊥) → beginOf m first second .machine ≡ m
+  pub act : (m : Machine) (first second : ℕ) → (actOf m first second .refusal ≡ 0 → ⊥) → actOf m first second .machine ≡ m
+  -- a schedule that is refused at a place leaves what the entries before that place leave: they stand, and no more
+  pub run : (m : Machine) (s : List ℕ) → (runOf m s .refusal ≡ 0 → ⊥) → runOf m s .machine ≡ runOf m (take (2 * runOf m s .place) s) .machine
+  pub contents : (m : Machine) (buffer : List ℕ) → (contentsRefusal m (length buffer) ≡ 0 → ⊥) → written m buffer ≡ buffer
+
+-- Demand 1: a refusal is one of the eleven.
+pub record Numbered : Type 0 where
+  pub make : (workers : ℕ) → makeOf workers .refusal ≤ 11
+  pub step : (m : Machine) (first second : ℕ) → stepOf m first second .refusal ≤ 11
+  pub begin : (m : Machine) (first second : ℕ) → beginOf m first second .refusal ≤ 11
+  pub act : (m : Machine) (first second : ℕ) → actOf m first second .refusal ≤ 11
+  pub run : (m : Machine) (s : List ℕ) → runOf m s .refusal ≤ 11
+  pub contents : (m : Machine) (room : ℕ) → contentsRefusal m room ≤ 11
+
+-- No entry and no schedule breaks an unbroken machine, reached or not: so refusal 6 is tested once a schedule.
+pub record StaysUnbroken : Type 0 where
+  pub step : (m : Machine) (first second : ℕ) → brokenOf m ≡ false → brokenOf (stepOf m first second .machine) ≡ false
+  pub run : (m : Machine) (s : List ℕ) → brokenOf m ≡ false → brokenOf (runOf m s .machine) ≡ false
+  -- and a made machine is unbroken
+  pub made : (workers : ℕ) → makeOf workers .refusal ≡ 0 → brokenOf (makeOf workers .machine) ≡ false
+
+-- Only one answer meets a promise: of the whole answer, the machine and the lent buffer.
+pub record OnlyOne : Type 0 where
+  pub make : (workers : ℕ) (x y : Did) → x ≡ makeOf workers → y ≡ makeOf workers → x ≡ y
+  pub step : (m : Machine) (first second : ℕ) (x y : Did) → x ≡ stepOf m first second → y ≡ stepOf m first second → x ≡ y
+  pub begin : (m : Machine) (first second : ℕ) (x y : Did) → x ≡ beginOf m first second → y ≡ beginOf m first second → x ≡ y
+  pub act : (m : Machine) (first second : ℕ) (x y : Did) → x ≡ actOf m first second → y ≡ actOf m first second → x ≡ y
+  pub run : (m : Machine) (s : List ℕ) (x y : Ran) → x ≡ runOf m s → y ≡ runOf m s → x ≡ y
+  pub contents : (m : Machine) (before : List ℕ) (x y : Told) (a b : List ℕ)
+      → (x ≡ told (contentsRefusal m (length before)) (countIn m)) × (a ≡ written m before)
+      → (y ≡ told (contentsRefusal m (length before)) (countIn m)) × (b ≡ written m before) → (x ≡ y) × (a ≡ b)
+  pub capacity : (m : Machine) (x y : Told) → x ≡ capacityOf m → y ≡ capacityOf m → x ≡ y
+  pub broken : (m : Machine) (x y : Bool) → x ≡ brokenOf m → y ≡ brokenOf m → x ≡ y
+
+-- ==== 2. Under every schedule from a fresh machine. Said of the machine m that entries reach, and of the acts h behind it.
+
+-- What goes out was pushed by exactly one push or force_push: a value handed out was read by its call's act before, and was then the item
+-- of the latest write.
+abbrev pub GoesOut : List Event → Type 0
+GoesOut = AtEach (λ earlier act. (v : ℕ) → HandsOut (act .after) v → (k : ℕ) × Came earlier (act .worker) v k)
+
+-- An item goes out at most once: no two answers hand out the item of one write.
+abbrev pub OnceOut : List Event → Type 0
+OnceOut =
+    AtEach (λ before again. (u k : ℕ) → HandsOut (again .after) u → Came before (again .worker) u k
+    → AtEach (λ earlier act. (v : ℕ) → HandsOut (act .after) v → Came earlier (act .worker) v k → ⊥) before)
+
+-- Every read, whether its call has answered or not, takes along the item of the latest write, and no other read has had it.
+abbrev pub ReadsLatest : List Event → Type 0
+ReadsLatest =
+    AtEach (λ earlier act. isRead (accessOf (act .before)) ≡ true → (v k : ℕ) × Stands earlier v k × Holds (act .after) v)
+
+-- C2 and B4 read a written value: where one is next, the value in the slot is the item of the latest write, unread.
+abbrev pub ReadsWritten : Machine → List Event → Type 0
+ReadsWritten m h = (w : ℕ) → isRead (accessOf (placeOf (m .workers) w)) ≡ true → (k : ℕ) × Stands h (m .single .value) k
+
+-- The slot is in at most one hand.
+abbrev pub OneHand : Machine → Type 0
+OneHand m = (v w : ℕ) → InHand (placeOf (m .workers) v) → InHand (placeOf (m .workers) w) → v ≡ w
+
+-- LOCKED is set exactly while one worker is in hand.
+abbrev pub LockedInHand : Machine → Type 0
+LockedInHand m = lockedIn (m .single .state) ≡ true ↔ (w : ℕ) × InHand (placeOf (m .workers) w)
+
+-- PUSHED is set exactly while an item waits, CLOSED exactly when a close was made.
+abbrev pub PushedWaits : Machine → List Event → Type 0
+PushedWaits m h = lenOf (m .single .state) ≡ length (waiting h)
+
+abbrev pub ClosedHolds : Machine → List Event → Type 0
+ClosedHolds m h = closedIn (m .single .state) ≡ closedBy h
+
+-- Every run is one of a plain one-slot queue, and what a call hands out is what waited when its exchange took it.
+abbrev pub PlainQueue : List Event → Type 0
+PlainQueue h = OneSlot h (waiting h)
+
+abbrev pub TakesOut : List Event → Type 0
+TakesOut = AtEach (λ earlier act. (v : ℕ) → HandsOut (act .after) v → Took earlier (act .worker) v)
+
+-- With all workers idle contents are what waits: none or one item.
+abbrev pub ContentsWait : Machine → List Event → Type 0
+ContentsWait m h = idleFrom 0 (m .workers) ≡ true → contentsOf m ≡ waiting h
+
+-- An answer is true of the word at the act that decided it.
+abbrev pub AnswersTrue : Definition → Machine → Type 0
+AnswersTrue d m =
+    (w : ℕ) (next : Machine) (a : Answer) → Acts d m w next → placeOf (next .workers) w ≡ Idle a → Truth (m .single .state) a
+
+-- And exactly so. What Empty, Full and Closed mean, of the word that the exchange found: push has the slot exactly where the word is 0;
+-- it answers Full exactly where the word is another and not closed, Closed exactly where it is closed; pop answers Empty
+-- exactly where the word is neither pushed nor closed, and Closed exactly where it is closed and not pushed. LOCKED counts for neither.
+pub record Decides (d : Definition) (m : Machine) : Type 0 where
+  pub push-takes : (w x : ℕ) (next : Machine) → Acts d m w next → placeOf (m .workers) w ≡ A1 x
+      → (placeOf (next .workers) w ≡ A2 x ↔ m .single .state .0 ≡ 0)
+  pub push-full : (w x : ℕ) (next : Machine) → Acts d m w next → placeOf (m .workers) w ≡ A1 x
+      → (placeOf (next .workers) w ≡ Idle (Full x) ↔ FullWord (m .single .state))
+  pub push-closed : (w x : ℕ) (next : Machine) → Acts d m w next → placeOf (m .workers) w ≡ A1 x
+      → (placeOf (next .workers) w ≡ Idle (Closed x) ↔ closedIn (m .single .state) ≡ true)
+  pub force-closed : (w x : ℕ) (e : State) (next : Machine) → Acts d m w next → placeOf (m .workers) w ≡ B1 e x
+      → (placeOf (next .workers) w ≡ Idle (Closed x) ↔ closedIn (m .single .state) ≡ true)
+  pub pop-empty : (w : ℕ) (e : State) (next : Machine) → Acts d m w next → placeOf (m .workers) w ≡ C1 e
+      → (placeOf (next .workers) w ≡ Idle Empty ↔ EmptyWord (m .single .state))
+  pub pop-closed : (w : ℕ) (e : State) (next : Machine) → Acts d m w next → placeOf (m .workers) w ≡ C1 e
+      → (placeOf (next .workers) w ≡ Idle PopClosed ↔ PopClosedWord (m .single .state))
+
+-- What that comes to, of the queue: Full, and nothing waits, is where another's pop is in progress; Empty is where nothing waits, although
+-- another's pop may not have let go; and a pop's or a push's Closed is where a close was made.
+pub record Means (d : Definition) (m : Machine) (h : List Event) : Type 0 where
+  pub full : (w x : ℕ) (next : Machine) → Acts d m w next → placeOf (next .workers) w ≡ Idle (Full x)
+      → (closedBy h ≡ false) × (waiting h ≡ [] → (v : ℕ) × (v ≢ w) × Popping (placeOf (m .workers) v))
+  pub empty : (w : ℕ) (next : Machine) → Acts d m w next → placeOf (next .workers) w ≡ Idle Empty → (closedBy h ≡ false) × (waiting h ≡ [])
+  pub closed : (w x : ℕ) (next : Machine) → Acts d m w next → placeOf (next .workers) w ≡ Idle (Closed x) → closedBy h ≡ true
+  pub pop-closed : (w : ℕ) (next : Machine) → Acts d m w next → placeOf (next .workers) w ≡ Idle PopClosed
+      → (closedBy h ≡ true) × (waiting h ≡ [])
+
+-- len, is_empty, is_full, close and is_closed answer in one act as a one-slot queue does at that moment.
+abbrev pub LookersTrue : Definition → Machine → List Event → Type 0
+LookersTrue d m h =
+    (w : ℕ) (next : Machine) (c : Call) → Looks c → Acts d m w next → placeOf (m .workers) w ≡ places.beginOf c
+    → placeOf (next .workers) w ≡ Idle (queueAnswer c (closedBy h) (waiting h))
+
+pub record Demand2 (d : Definition) (workers : ℕ) (m : Machine) (h : List Event) : Type 0 where
+  -- It is the machine that was made, and its meter counts the acts.
+  pub team : m .count ≡ workers
+  pub meter : m .meter ≡ length h
+  -- No machine so reached is broken.
+  pub unbroken : brokenOf m ≡ false
+  pub goes-out : GoesOut h
+  pub once-out : OnceOut h
+  pub reads-latest : ReadsLatest h
+  pub reads-written : ReadsWritten m h
+  pub one-hand : OneHand m
+  pub locked : LockedInHand m
+  pub pushed : PushedWaits m h
+  pub closed : ClosedHolds m h
+  pub plain : PlainQueue h
+  pub takes-out : TakesOut h
+  pub contents : ContentsWait m h
+  pub answers : AnswersTrue d m
+  pub decides : Decides d m
+  pub means : Means d m h
+  pub lookers : LookersTrue d m h
+
+-- Every number of workers, every schedule.
+abbrev pub UnderEverySchedule : Definition → Type 0
+UnderEverySchedule d =
+    (workers : ℕ) → Allowed workers → (s : List ℕ) → Demand2 d workers (machineAfter d workers s) (actsOf d workers s)
+
+-- Each act is the one action that the source takes there: of entries that are accepted, each is one turn of the definition, on the
+-- machine and on the history; and a schedule of whole entries is run so.
+abbrev pub ActByAct : Definition → Type 0
+ActByAct d =
+    (m : Machine) (s : List ℕ) (first second : ℕ) → length s % 2 ≡ 0 → d .run m 0 s .refusal ≡ 0
+    → d .turn (d .run m 0 s .machine) first second .refusal ≡ 0
+    → (d .run m 0 (s ++ first ∷ second ∷ []) .machine ≡ d .turn (d .run m 0 s .machine) first second .machine)
+    × (d .history m (s ++ first ∷ second ∷ [])
+    ≡ d .history m s ++ eventsOf (d .run m 0 s .machine) (entryOf first second) (d .turn (d .run m 0 s .machine) first second .machine))
+
+abbrev pub WholeSchedules : Definition → Type 0
+WholeSchedules d =
+    (workers : ℕ) → Allowed workers → (s : List ℕ)
+    → (length s % 2 ≡ 0 → runOf (freshOf workers) s ≡ d .run (freshOf workers) 0 s)
+    × (length s % 2 ≡ 1 → runOf (freshOf workers) s .machine ≡ freshOf workers)
+
+-- ==== 3. Nobody waits without a holder. Said of the same machines and acts.
+
+-- Worker w's call, if only acts of w are scheduled (code 8), ends within so many of them, none refused; its answer is the one that the
+-- word and the value foretell (Foretold.antt), is true of the word at the act that decided it, hands out only what goes out once, and that of
+-- a call only begun is a one-slot queue's.
+pub record EndsAlone (d : Definition) (m : Machine) (h : List Event) (w most : ℕ) : Type 0 where
+  -- the acts before the last
+  pub before : ℕ
+  pub within : before + 1 ≤ most
+  pub accepted : d .run m 0 (acts w (suc before)) .refusal ≡ 0
+  pub busy : places.viewOf (placeOf (d .run m 0 (acts w before) .machine .workers) w) .busy ≡ true
+  pub answer : Answer
+  pub ends : placeOf (d .run m 0 (acts w (suc before)) .machine .workers) w ≡ Idle answer
+  pub as-foretold : answer ≡ foretold m w
+  pub true-then : Truth (d .run m 0 (acts w before) .machine .single .state) answer
+  pub goes-out : (v : ℕ) → HandsOut (Idle answer) v → (k : ℕ) × Came (h ++ d .history m (acts w before)) w v k
+  pub queue : (c : Call) → placeOf (m .workers) w ≡ places.beginOf c → answer ≡ queueAnswer c (closedBy h) (waiting h)
+
+-- Nothing but the meter refuses an act of a call under way.
+abbrev pub NeverRefused : Definition → Machine → Type 0
+NeverRefused d m =
+    (w : ℕ) → places.viewOf (placeOf (m .workers) w) .busy ≡ true → m .meter < meterMost → d .turn m (16 * w + 8) 0 .refusal ≡ 0
+
+-- With four acts left on the meter and the slot in no other worker's hand a call that alone is scheduled ends.
+abbrev pub AloneEnds : Definition → Machine → List Event → Type 0
+AloneEnds d m h =
+    (w : ℕ) → places.viewOf (placeOf (m .workers) w) .busy ≡ true → m .meter + 4 ≤ meterMost → (OtherHand m w → ⊥)
+    → EndsAlone d m h w (mostOf (placeOf (m .workers) w))
+
+-- One that is still under way after those acts has another worker's hand on the slot.
+abbrev pub InTheWay : Definition → Machine → Type 0
+InTheWay d m =
+    (w : ℕ) → m .meter + 4 ≤ meterMost
+    → places.viewOf (placeOf (d .run m 0 (acts w (mostOf (placeOf (m .workers) w))) .machine .workers) w) .busy ≡ true → OtherHand m w
+
+-- Whatever entries come between, a worker with the slot in hand lets go with its next acts: two of them, or one.
+abbrev pub HandLetsGo : Definition → Machine → Type 0
+HandLetsGo d m =
+    (w : ℕ) (entries : List ℕ) → InHand (placeOf (m .workers) w)
+    → mostOf (placeOf (m .workers) w) ≤ ownActs d w m entries → LetsGo d m w entries (mostOf (placeOf (m .workers) w))
+
+-- (Entries that are all accepted are passed as a schedule runs them.)
+abbrev pub PassedAsRun : Definition → Machine → Type 0
+PassedAsRun d m = (entries : List ℕ) → d .run m 0 entries .refusal ≡ 0 → passed d m entries ≡ d .run m 0 entries .machine
+
+pub record Demand3 (d : Definition) (m : Machine) (h : List Event) : Type 0 where
+  pub accepted : NeverRefused d m
+  pub alone : AloneEnds d m h
+  pub in-the-way : InTheWay d m
+  pub lets-go : HandLetsGo d m
+  pub as-run : PassedAsRun d m
+
+abbrev pub ScheduledAlone : Definition → Type 0
+ScheduledAlone d = (workers : ℕ) → Allowed workers → (s : List ℕ) → Demand3 d (machineAfter d workers s) (actsOf d workers s)
+
+-- The numbers are four at most, two in hand, and attained: each schedule of the table leads to its place, alone, and the call there needs
+-- exactly its number of acts.
+abbrev pub AtMost : Type 0
+AtMost = (p : Place) → (mostOf p ≤ 4) × (InHand p → mostOf p ≤ 2)
+
+abbrev pub Attained : Type 0
+Attained = map seenIn attained ≡ map (λ (c : Case). exactly (c .place) (c .number)) attained

@@ -1,0 +1,5 @@
+pub mod Notions
+pub mod Foretold
+pub mod Attained
+pub mod Runs
+pub mod Demands

@@ -1,0 +1,6 @@
+pub mod Machine
+pub mod Broken
+pub mod Turn
+pub mod Contents
+pub mod Run
+pub mod History

@@ -1,0 +1,22 @@
+-- "Schedules" of document 01: entries one after another, stopping at the first refusal.
+use Prim.Native.Nat.{ℕ}
+use mathlib.Core.List.{List}
+use Rattle.queue_entries.specs.Schedules.{runBy, scheduleBy}
+use Rattle.single_machine.specs.declared.Machine.{Machine}
+use Rattle.single_machine.specs.declared.Did.{Did}
+use Rattle.single_machine.specs.declared.Ran.{Ran}
+use Rattle.single_machine.specs.Broken.{brokenOf}
+use Rattle.single_machine.specs.Turn.{turnOf}
+
+unfoldable pub ran : ℕ → ℕ → Machine → Ran
+ran number place m = record { refusal = number; place = place; machine = m }
+
+-- The entries of a schedule, the first of them at this place, each by what it makes of a machine.
+abbrev pub runWith : (Machine → ℕ → ℕ → Did) → Machine → ℕ → List ℕ → Ran
+runWith turn = runBy (λ (d : Did). d .refusal) (λ (d : Did). d .machine) turn ran
+
+abbrev pub runFrom : Machine → ℕ → List ℕ → Ran
+runFrom = runWith turnOf
+
+abbrev pub runOf : Machine → List ℕ → Ran
+runOf = scheduleBy (λ (d : Did). d .refusal) (λ (d : Did). d .machine) turnOf ran brokenOf

@@ -1,0 +1,10 @@
+pub mod Splits
+pub mod Log
+pub mod Words
+pub mod Effects
+pub mod Grip
+pub mod Turns
+pub mod Reached
+pub mod Hands
+pub mod Answers
+pub mod Demand2

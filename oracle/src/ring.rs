@@ -1,0 +1,152 @@
+//! The ring: bounded.rs.
+
+use crate::call::Call;
+use crate::queue::Facts;
+use crate::source::{agree, Item, Seen, Source};
+use crate::stage::{Action, Pending, Word};
+use crate::state::{Kind, State};
+use bounded::Bounded;
+use std::fmt::Write;
+
+#[allow(dead_code)]
+mod bounded {
+    include!("bounded.rs");
+
+    /// The judge's window on the private words.
+    impl<T> Bounded<T> {
+        pub fn head(&self) -> &AtomicUsize {
+            &self.head
+        }
+
+        pub fn tail(&self) -> &AtomicUsize {
+            &self.tail
+        }
+
+        pub fn stamp(&self, slot: usize) -> &AtomicUsize {
+            &self.buffer[slot].stamp
+        }
+
+        pub fn value(&self, slot: usize) -> &UnsafeCell<MaybeUninit<T>> {
+            &self.buffer[slot].value
+        }
+    }
+}
+
+pub const FACTS: Facts = Facts {
+    name: "bounded",
+    list: "list",
+    begins_with: "capacity, workers",
+    places: &[Kind::BOUNDED, Kind::LOOKERS],
+    weak: &[Kind::P3Push, Kind::P3Force, Kind::F6, Kind::O3],
+    strong: &[],
+    // Three each of push, force_push and pop, one of len, two each of the other four.
+    answers: 18,
+    refusals: &[1, 2, 3, 4, 5, 6, 8, 9, 11],
+    blank_words: "h=0 t=0",
+    blank_slots: "slots\n",
+};
+
+pub struct Ring {
+    queue: Bounded<Item>,
+    capacity: usize,
+}
+
+impl Ring {
+    pub fn new(capacity: usize) -> Ring {
+        let queue = Bounded::new(capacity);
+        queue.head().name.set(Word::Head);
+        queue.tail().name.set(Word::Tail);
+        for slot in 0..capacity {
+            queue.stamp(slot).name.set(Word::Stamp(slot));
+            queue.value(slot).name.set(slot);
+        }
+        Ring { queue, capacity }
+    }
+}
+
+impl Source for Ring {
+    fn answer(&self, call: Call) -> State {
+        match call {
+            Call::Push(item) => self.queue.push(Item(item)).into(),
+            Call::ForcePush(item) => self.queue.force_push(Item(item)).into(),
+            Call::Pop => self.queue.pop().into(),
+            Call::Len => self.queue.len().into(),
+            Call::IsEmpty => self.queue.is_empty().into(),
+            Call::IsFull => self.queue.is_full().into(),
+            Call::Close => self.queue.close().into(),
+            Call::IsClosed => self.queue.is_closed().into(),
+        }
+    }
+
+    fn place(&self, call: Call, pending: Pending, seen: &Seen) -> State {
+        use Action::{FetchOr, Load, Store, Value, WeakExchange};
+        use Word::{Head, Stamp, Tail};
+        let (t, h) = (|| seen.t(), || seen.h());
+        match (call, pending.action) {
+            (Call::Push(item), Load(Tail)) => Kind::P1Push.with(&[item]),
+            (Call::Push(item), Load(Stamp(_))) => Kind::P2Push.with(&[t(), item]),
+            (Call::Push(item), WeakExchange(Tail, tail, _)) => Kind::P3Push.with(&[agree(t(), tail), item]),
+            (Call::Push(item), Load(Head)) => Kind::P6.with(&[t(), item]),
+
+            (Call::ForcePush(item), Load(Tail)) => Kind::P1Force.with(&[item]),
+            (Call::ForcePush(item), Load(Stamp(_))) => Kind::P2Force.with(&[t(), item]),
+            (Call::ForcePush(item), WeakExchange(Tail, tail, _)) => Kind::P3Force.with(&[agree(t(), tail), item]),
+            (Call::ForcePush(item), WeakExchange(Head, ..)) => Kind::F6.with(&[t(), item]),
+            (Call::ForcePush(item), Store(Tail, _)) => Kind::F7.with(&[t(), item]),
+            (Call::ForcePush(item), Value(_)) if seen.won == Some(Head) => Kind::F8.with(&[t(), item]),
+            (Call::ForcePush(_), Store(Stamp(_), stamp)) if seen.won == Some(Head) => {
+                Kind::F9.with(&[agree(t() + 1, stamp) - 1, seen.value])
+            }
+
+            (Call::Push(item) | Call::ForcePush(item), Value(_)) if seen.won == Some(Tail) => {
+                Kind::P4.with(&[t(), item])
+            }
+            (Call::Push(_) | Call::ForcePush(_), Store(Stamp(_), stamp)) if seen.won == Some(Tail) => {
+                Kind::P5.with(&[agree(t() + 1, stamp) - 1])
+            }
+
+            (Call::Pop, Load(Head)) => Kind::O1.alone(),
+            (Call::Pop, Load(Stamp(_))) => Kind::O2.with(&[h()]),
+            (Call::Pop, WeakExchange(Head, head, _)) => Kind::O3.with(&[agree(h(), head)]),
+            (Call::Pop, Value(_)) if seen.won == Some(Head) => Kind::O4.with(&[h()]),
+            (Call::Pop, Store(Stamp(_), _)) if seen.won == Some(Head) => Kind::O5.with(&[h(), seen.value]),
+            (Call::Pop, Load(Tail)) => Kind::O6.with(&[h()]),
+
+            (Call::Len, Load(Head)) => Kind::Len2.with(&[t()]),
+            (Call::Len, Load(Tail)) if seen.last_was(Load(Head)) => Kind::Len3.with(&[t(), h()]),
+            (Call::Len, Load(Tail)) => Kind::Len1.alone(),
+            (Call::IsEmpty, Load(Head)) => Kind::Empty1.alone(),
+            (Call::IsEmpty, Load(Tail)) => Kind::Empty2.with(&[h()]),
+            (Call::IsFull, Load(Tail)) => Kind::Full1.alone(),
+            (Call::IsFull, Load(Head)) => Kind::Full2.with(&[t()]),
+            (Call::Close, FetchOr(Tail, _)) => Kind::Close1.alone(),
+            (Call::IsClosed, Load(Tail)) => Kind::IsClosed1.alone(),
+            _ => panic!("no place stands for {pending:?} in {call:?}"),
+        }
+    }
+
+    fn word(&self, word: Word) -> u64 {
+        match word {
+            Word::Head => self.queue.head().peek(),
+            Word::Tail => self.queue.tail().peek(),
+            Word::Stamp(slot) => self.queue.stamp(slot).peek(),
+            _ => panic!("a ring has no {word:?}"),
+        }
+    }
+
+    fn value(&self, slot: usize) -> u64 {
+        self.queue.value(slot).peek()
+    }
+
+    fn write_words(&self, out: &mut String) {
+        let _ = write!(out, "h={} t={}", self.word(Word::Head), self.word(Word::Tail));
+    }
+
+    fn write_slots(&self, out: &mut String) {
+        out.push_str("slots");
+        for slot in 0..self.capacity {
+            let _ = write!(out, " ({},{})", self.word(Word::Stamp(slot)), self.value(slot));
+        }
+        out.push('\n');
+    }
+}
