@@ -18,7 +18,7 @@ use Rattle.bounded_machine.specs.Turn.{turnOf}
 use Rattle.bounded_machine.specs.Run.{ran, runFrom}
 use Rattle.bounded_machine.specs.History.{historyOf}
 use Rattle.bounded_demands.specs.Notions.{Definition, byTable, document01}
-use Rattle.bounded_demands.specs.Demands.{UnderEverySchedule, ActByAct, WholeSchedules, LenTrue, ScheduledAlone}
+use Rattle.bounded_demands.specs.Demands.{UnderEverySchedule, ActByAct, WholeSchedules, LenTrue, ScheduledAlone, CloseHolds, ClosedIsLast}
 
 -- ---- the slips
 
@@ -113,6 +113,10 @@ fullHeadFirst = 21
 abbrev pub pushWritesLate : ℕ
 pushWritesLate = 22
 
+-- F7 clears the mark, also in edition 2
+abbrev pub forceForgets : ℕ
+forceForgets = 23
+
 -- The row of document 01, but for this slip.
 abbrev but : ℕ → ℕ → Acted → Acted → Acted
 but n slip wrong right = cond (eqb n slip) wrong right
@@ -141,9 +145,10 @@ actWith n f e s (F6 t x) lose =
     (but n lostForceTakesTheHead (cond (same (e .head) (minus t (f .lap))) (actOf f e s (F6 t x) lose) (stay e s (P2 Force (e .head) x)))
     (actOf f e s (F6 t x) lose)))
 actWith n f e s (F7 t x) lose =
-    but n tailBeforeHead
+    but n forceForgets (stay (tailTo e (nextOf f t)) s (F8 t x))
+    (but n tailBeforeHead
     (cond (same (e .head) (minus t (f .lap))) (stay (headTo e (minus (nextOf f t) (f .lap))) s (F8 t x)) (stay e s (P1 Force x)))
-    (actOf f e s (F7 t x) lose)
+    (actOf f e s (F7 t x) lose))
 actWith n f e s (F8 t x) lose = but n stampBeforeValue (stay e (stampTo s (plus t 1)) (F9 t x)) (actOf f e s (F8 t x) lose)
 actWith n f e s (F9 t x) lose = but n stampBeforeValue (stay e (valueTo s x) (Idle (Displaced (s .value))))
     (but n pushWritesLate (stay e (valueTo s x) (Idle Pushed)) (actOf f e s (F9 t x) lose))
@@ -198,4 +203,5 @@ abbrev pub Faithful : Type 0
 Faithful = given ≡ document01
 
 abbrev pub Stands : Type 0
-Stands = UnderEverySchedule given × ActByAct given × WholeSchedules given × LenTrue given × ScheduledAlone given
+Stands =
+    UnderEverySchedule given × ActByAct given × WholeSchedules given × LenTrue given × ScheduledAlone given × CloseHolds given × ClosedIsLast given
