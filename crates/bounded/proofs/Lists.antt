@@ -17,7 +17,7 @@ use Rattle.bounded_machine.specs.declared.Machine.{Machine}
 use Rattle.bounded_machine.specs.declared.Did.{Did}
 use Rattle.bounded_machine.specs.Machine.{freshOf, blank, refused, accepted}
 use Rattle.bounded_machine.specs.Broken.{brokenOf, allIdle}
-use Rattle.bounded_machine.specs.Contents.{countIn, itemAt, itemsFrom, contentsOf, contentsRefusal, written, capacityOf, Counted}
+use Rattle.bounded_machine.specs.Contents.{capacityRefusal, countIn, itemAt, itemsFrom, contentsOf, contentsRefusal, written, capacityOf, Counted}
 use Rattle.bounded_machine.proofs.Kept.{unbroken-of, ruled-in}
 use Rattle.bounded.specs.Bounded.{makeOf}
 
