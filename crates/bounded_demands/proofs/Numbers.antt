@@ -120,28 +120,28 @@ module _ (m : Machine) (a b : ℕ) where
   turn-any = go (ltb (a % 16) 8) refl
     where
       go : (x : Bool) → ltb (a % 16) 8 ≡ x → Among entries (turnOf m a b)
-      go true l = wider begins entries _ refl (turn-begin l)
-      go false l = wider acts entries _ refl (turn-act l)
+      go true l = wider begins entries (turnOf m a b .refusal) refl (turn-begin l)
+      go false l = wider acts entries (turnOf m a b .refusal) refl (turn-act l)
 
   step-among : has (0 ∷ 3 ∷ 4 ∷ 5 ∷ 6 ∷ 7 ∷ 8 ∷ 9 ∷ []) (face.stepOf m a b .refusal) ≡ true
   unfolding face.stepOf has within refused
   step-among =
       picked (λ (d : Did). has (0 ∷ 3 ∷ 4 ∷ 5 ∷ 6 ∷ 7 ∷ 8 ∷ 9 ∷ []) (d .refusal) ≡ true) (brokenOf m) (refused 6 m) (turnOf m a b) refl
-      (wider entries (0 ∷ 3 ∷ 4 ∷ 5 ∷ 6 ∷ 7 ∷ 8 ∷ 9 ∷ []) _ refl turn-any)
+      (wider entries (0 ∷ 3 ∷ 4 ∷ 5 ∷ 6 ∷ 7 ∷ 8 ∷ 9 ∷ []) (turnOf m a b .refusal) refl turn-any)
 
   begin-among : has (0 ∷ 3 ∷ 4 ∷ 6 ∷ 9 ∷ []) (face.beginOf m a b .refusal) ≡ true
   unfolding face.beginOf has within refused
   begin-among =
       picked (λ (d : Did). has (0 ∷ 3 ∷ 4 ∷ 6 ∷ 9 ∷ []) (d .refusal) ≡ true) (brokenOf m) (refused 6 m) _ refl
       (either (λ (d : Did). has (0 ∷ 3 ∷ 4 ∷ 6 ∷ 9 ∷ []) (d .refusal) ≡ true) (ltb (a % 16) 8) (turnOf m a b) (refused 9 m)
-      (λ l. wider begins (0 ∷ 3 ∷ 4 ∷ 6 ∷ 9 ∷ []) _ refl (turn-begin l)) (λ l. refl))
+      (λ l. wider begins (0 ∷ 3 ∷ 4 ∷ 6 ∷ 9 ∷ []) (turnOf m a b .refusal) refl (turn-begin l)) (λ l. refl))
 
   act-among : has (0 ∷ 3 ∷ 5 ∷ 6 ∷ 7 ∷ 8 ∷ 9 ∷ []) (face.actOf m a b .refusal) ≡ true
   unfolding face.actOf has within refused
   act-among =
       picked (λ (d : Did). has (0 ∷ 3 ∷ 5 ∷ 6 ∷ 7 ∷ 8 ∷ 9 ∷ []) (d .refusal) ≡ true) (brokenOf m) (refused 6 m) _ refl
       (either (λ (d : Did). has (0 ∷ 3 ∷ 5 ∷ 6 ∷ 7 ∷ 8 ∷ 9 ∷ []) (d .refusal) ≡ true) (ltb (a % 16) 8) (refused 9 m) (turnOf m a b)
-      (λ l. refl) (λ l. wider acts (0 ∷ 3 ∷ 5 ∷ 6 ∷ 7 ∷ 8 ∷ 9 ∷ []) _ refl (turn-act l)))
+      (λ l. refl) (λ l. wider acts (0 ∷ 3 ∷ 5 ∷ 6 ∷ 7 ∷ 8 ∷ 9 ∷ []) (turnOf m a b .refusal) refl (turn-act l)))
 
 abbrev runs : List ℕ
 runs = 0 ∷ 3 ∷ 4 ∷ 5 ∷ 6 ∷ 7 ∷ 8 ∷ 9 ∷ 11 ∷ []
@@ -152,7 +152,7 @@ from-among m i [] = refl
 from-among m i (a ∷ []) = refl
 from-among m i (a ∷ b ∷ s) =
     picked (λ (r : Ran). has runs (r .refusal) ≡ true) (eqb (turnOf m a b .refusal) 0) (runFrom (turnOf m a b .machine) (i + 1) s) (ran (turnOf m a b .refusal) i m)
-    (from-among (turnOf m a b .machine) (i + 1) s) (wider entries runs _ refl (turn-any m a b))
+    (from-among (turnOf m a b .machine) (i + 1) s) (wider entries runs (turnOf m a b .refusal) refl (turn-any m a b))
 
 run-among : (m : Machine) (s : List ℕ) → has runs (runOf m s .refusal) ≡ true
 unfolding scheduleBy ran has
