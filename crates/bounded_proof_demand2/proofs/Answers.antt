@@ -61,7 +61,7 @@ module _ (c n workers : ℕ) (base : Base c n workers) (m : Machine) (h : List E
       let p : result c n workers base (r .ring) m pic w (d .team) (act .lose) (d .busy) .place ≡ Idle a =
       sym (acted-stood c n workers base (r .ring) m pic w (d .team) (act .lose) (d .busy)) ∙ ap (λ (z : Machine). stood z w) (sym (d .is)) ∙ e in
       let t : Truth (fixed c (markOf c) (m .ring .fixed .edition)) (endsOf c (markOf c) n (r .ring) (pic .shut)) a =
-      subst (λ (z : Place). Truth (fixed c (markOf c) (m .ring .fixed .edition)) (endsOf c (markOf c) n (r .ring) (pic .shut)) (answerIn (look c z))) p (truth c (markOf c) n (m .ring .fixed .edition) (r .ring) (pic .shut) _ (st .says)) in
+      subst (λ (z : Place). Truth (fixed c (markOf c) (m .ring .fixed .edition)) (endsOf c (markOf c) n (r .ring) (pic .shut)) (answerIn (look c z))) p (truth c (markOf c) n (m .ring .fixed .edition) (r .ring) (pic .shut) (answerIn (look c (result c n workers base (r .ring) m pic w (d .team) (act .lose) (d .busy) .place))) (st .says)) in
       subst (λ (f : Fixed). Truth f (m .ring .ends) a) (sym (pic .rule)) (subst (λ (z : Ends). Truth (fixed c (markOf c) (m .ring .fixed .edition)) z a) (sym (pic .ends)) t)
 
   -- where the act of a worker at p leads

@@ -37,8 +37,8 @@ use Rattle.bounded_proof_each_act.proofs.Steps.{Latch, Says, Step}
 use Rattle.bounded_proof_demand2.proofs.Lists.{Last, Earlier, split-end}
 use Rattle.bounded_proof_demand2.proofs.Turns.{Turned, began, did, stood, turned-fixed}
 use Rattle.bounded_proof_demand2.proofs.Logged.{movedBy, shows}
-use Rattle.bounded_proof_demand2.proofs.Pictured.{Base, Pictured, begun-pictured, acted-pictured, stepped, spot, spot-small, result, acted-stood}
-use Rattle.bounded_proof_demand2.proofs.Reached.{Reached, lapsOf, base-of, nil-split, along, entered}
+use Rattle.bounded_proof_demand2.proofs.Pictured.{Base, Pictured, stepped, spot, spot-small, result, acted-stood}
+use Rattle.bounded_proof_demand2.proofs.Reached.{Reached, lapsOf, base-of, nil-split, along, entered, begun-behind, did-behind}
 use Rattle.bounded_proof_demand2.proofs.Demand2.{fresh-reached, reached, same-fixed}
 
 -- ---- lists that grow at their end
@@ -144,6 +144,9 @@ module _ (c n workers : ℕ) (base : Base c n workers) where
     went : stood (acted m w (stood m w) lose) w ≡ result c n workers base (r .ring) m pic w l lose busy .place
     went = acted-stood c n workers base (r .ring) m pic w l lose busy
 
+    keeps-shut : ed ≡ 2 → pic .shut ≡ true → st .shut ≡ true
+    keeps-shut = latched (pic .shut) (st .shut) ed (st .effect) (st .latch)
+
     -- on a sealed ring
     calm : Sealed c (r .ring) (pic .shut)
         → (movedOf (new .after) ≡ Neither) × Sealed c (after c w (spot c n workers base (r .ring) m pic w l lose busy) (st .effect) (r .ring)) (st .shut)
@@ -215,19 +218,21 @@ module _ (c n workers : ℕ) (base : Base c n workers) where
           ∙ ap (λ (e : Ends). markedOf (fixed c (markOf c) ed) (e .tail)) (sym (st .ends))
           ∙ ap (markedOf (fixed c (markOf c) ed)) marked ∙ marked-tail c (markOf c) n (base .ground) ed (r .ring .tail) true
 
+  abbrev SealedRing : Shared × Bool → Type 0
+  SealedRing z = Sealed c (z .0) (z .1)
+
   closing-kept : (m : Machine) (h : List Event) (en : Entry) (next : Machine) (acts : List Event) → Closing m h → Turned m en next acts → Closing next (h ++ acts)
-  unfolding entered begun-pictured acted-pictured
   closing-kept m h en next acts o (began w call l idle) =
       record {
         behind = entered c n workers base m h en next acts (o .behind) (began w call l idle);
         none = rw (append-nil h) (o .none);
-        sealed = λ s. o .sealed (rw (append-nil h) at s);
+        sealed = λ s. subst SealedRing (sym (begun-behind c n workers base m h (o .behind) w l call idle)) (o .sealed (rw (append-nil h) at s));
       }
   closing-kept m h en next acts o (did w lose l busy early) =
       record {
         behind = entered c n workers base m h en next acts (o .behind) (did w lose l busy early);
         none = none-more m h (o .behind) w lose l busy (o .none) (o .sealed);
-        sealed = sealed-more m h (o .behind) w lose l busy (o .sealed);
+        sealed = λ s. subst SealedRing (sym (did-behind c n workers base m h (o .behind) w l lose busy early)) (sealed-more m h (o .behind) w lose l busy (o .sealed) s);
       }
 
   -- Edition 2.
@@ -238,25 +243,24 @@ module _ (c n workers : ℕ) (base : Base c n workers) where
     pub shut : Said ClosesYes h → behind .pictured .shut ≡ true
 
   shutting-kept : (m : Machine) (h : List Event) (en : Entry) (next : Machine) (acts : List Event) → Shutting m h → Turned m en next acts → Shutting next (h ++ acts)
-  unfolding entered begun-pictured acted-pictured
   shutting-kept m h en next acts o (began w call l idle) =
       record {
         behind = entered c n workers base m h en next acts (o .behind) (began w call l idle);
         second = ap (λ (f : Fixed). f .edition) (turned-fixed m en next acts (began w call l idle)) ∙ o .second;
         once = rw (append-nil h) (o .once);
-        shut = λ s. o .shut (rw (append-nil h) at s);
+        shut = λ s. ap (λ (z : Shared × Bool). z .1) (begun-behind c n workers base m h (o .behind) w l call idle) ∙ o .shut (rw (append-nil h) at s);
       }
   shutting-kept m h en next acts o (did w lose l busy early) =
       record {
         behind = entered c n workers base m h en next acts (o .behind) (did w lose l busy early);
         second = ap (λ (f : Fixed). f .edition) (turned-fixed m en next acts (did w lose l busy early)) ∙ o .second;
         once = once-more;
-        shut = λ s. go (said-more ClosesYes h (new m h (o .behind) w lose l busy) s);
+        shut = λ s. ap (λ (z : Shared × Bool). z .1) (did-behind c n workers base m h (o .behind) w l lose busy early) ∙ go (said-more ClosesYes h (new m h (o .behind) w lose l busy) s);
       }
     where
       go : ClosesYes (new m h (o .behind) w lose l busy) ⊎ Said ClosesYes h → st m h (o .behind) w lose l busy .shut ≡ true
       go (inl y) = now-shut m h (o .behind) w lose l busy y
-      go (inr s) = latched _ _ _ _ (st m h (o .behind) w lose l busy .latch) (o .second) (o .shut s)
+      go (inr s) = keeps-shut m h (o .behind) w lose l busy (o .second) (o .shut s)
 
       once-more : YesOnce (h ++ new m h (o .behind) w lose l busy ∷ [])
       once-more earlier between later act again z y x = each (split-end h (new m h (o .behind) w lose l busy) (earlier ++ act ∷ between) again later z)
@@ -267,22 +271,20 @@ module _ (c n workers : ℕ) (base : Base c n workers) where
               true≢false (sym (o .shut (record { earlier = earlier; act = act; later = between; is = sym (e .whole); so = y }))
               ∙ was-open m h (o .behind) w lose l busy (subst ClosesYes (e .one) x))
 
-  stays-shut : (m : Machine) (h : List Event) (r : Reached c n workers m h) → m .ring .fixed .edition ≡ 2 → r .pictured .shut ≡ true → (s : List ℕ)
-      → (q : Reached c n workers (runFrom m 0 s .machine) (h ++ historyOf m s)) × (q .pictured .shut ≡ true)
-  stays-shut m h r two shut s =
-      let k = along (λ (z : Machine) (l : List Event). (q : Reached c n workers z l) × (z .ring .fixed .edition ≡ 2) × (q .pictured .shut ≡ true)) kept s m h 0 (r, two, shut) in
-      (k .0, k .2)
-    where
-      kept : (z : Machine) (l : List Event) (en : Entry) (next : Machine) (acts : List Event)
-          → ((q : Reached c n workers z l) × (z .ring .fixed .edition ≡ 2) × (q .pictured .shut ≡ true)) → Turned z en next acts
-          → (q : Reached c n workers next (l ++ acts)) × (next .ring .fixed .edition ≡ 2) × (q .pictured .shut ≡ true)
-      unfolding entered begun-pictured acted-pictured
-      kept z l en next acts o (began w call b idle) =
-          (entered c n workers base z l en next acts (o .0) (began w call b idle), ap (λ (f : Fixed). f .edition) (turned-fixed z en next acts (began w call b idle)) ∙ o .1, o .2)
-      kept z l en next acts o (did w lose b busy early) =
-          (entered c n workers base z l en next acts (o .0) (did w lose b busy early),
-          ap (λ (f : Fixed). f .edition) (turned-fixed z en next acts (did w lose b busy early)) ∙ o .1,
-          latched _ _ _ _ (st z l (o .0) w lose b busy .latch) (o .1) (o .2))
+  abbrev Shut2 : Machine → List Event → Type 0
+  Shut2 m h = (r : Reached c n workers m h) × (m .ring .fixed .edition ≡ 2) × (r .pictured .shut ≡ true)
+
+  shut-kept : (m : Machine) (h : List Event) (en : Entry) (next : Machine) (acts : List Event) → Shut2 m h → Turned m en next acts → Shut2 next (h ++ acts)
+  shut-kept m h en next acts o (began w call l idle) =
+      (entered c n workers base m h en next acts (o .0) (began w call l idle), ap (λ (f : Fixed). f .edition) (turned-fixed m en next acts (began w call l idle)) ∙ o .1,
+      ap (λ (z : Shared × Bool). z .1) (begun-behind c n workers base m h (o .0) w l call idle) ∙ o .2)
+  shut-kept m h en next acts o (did w lose l busy early) =
+      (entered c n workers base m h en next acts (o .0) (did w lose l busy early),
+      ap (λ (f : Fixed). f .edition) (turned-fixed m en next acts (did w lose l busy early)) ∙ o .1,
+      ap (λ (z : Shared × Bool). z .1) (did-behind c n workers base m h (o .0) w l lose busy early) ∙ keeps-shut m h (o .0) w lose l busy (o .1) (o .2))
+
+  stays-shut : (m : Machine) (h : List Event) → Shut2 m h → (s : List ℕ) → Shut2 (runFrom m 0 s .machine) (h ++ historyOf m s)
+  stays-shut m h o s = along Shut2 shut-kept s m h 0 o
 
   -- the mark of the machine is the ring's
   shut-is : (m : Machine) (h : List Event) (r : Reached c n workers m h) → markedOf (m .ring .fixed) (m .ring .ends .tail) ≡ r .pictured .shut
@@ -310,13 +312,13 @@ close-holds capacity workers a s =
     let r = reached capacity workers 2 a s in
     let two : m .ring .fixed .edition ≡ 2 = ap (λ (f : Fixed). f .edition) (same-fixed (freshOf capacity workers 2) s) ∙ edition-of capacity workers 2 in (
       λ marked entries.
-      let q = stays-shut capacity n workers base m (actsOf document01 capacity workers 2 s) r two (sym (shut-is capacity n workers base m _ r) ∙ marked) entries in
-      ap (λ (f : Fixed). markedOf f (runFrom m 0 entries .machine .ring .ends .tail)) (sym (same-fixed m entries)) ∙ shut-is capacity n workers base (runFrom m 0 entries .machine) _ (q .0) ∙ q .1,
+      let q = stays-shut capacity n workers base m (actsOf document01 capacity workers 2 s) (r, two, sym (shut-is capacity n workers base m _ r) ∙ marked) entries in
+      ap (λ (f : Fixed). markedOf f (runFrom m 0 entries .machine .ring .ends .tail)) (sym (same-fixed m entries)) ∙ shut-is capacity n workers base (runFrom m 0 entries .machine) _ (q .0) ∙ q .2,
       along (Shutting capacity n workers base) (shutting-kept capacity n workers base) s (freshOf capacity workers 2) [] 0
       (record {
         behind = fresh-reached capacity workers 2 a;
         second = edition-of capacity workers 2;
-        once = λ earlier between later act again e. absurd (nil-split earlier act (between ++ again ∷ later) e);
+        once = λ earlier between later act again e. absurd (nil-split (earlier ++ act ∷ between) again later e);
         shut = λ o. absurd (nil-split (o .earlier) (o .act) (o .later) (o .is));
       })
       .once,

@@ -208,6 +208,10 @@ module _ (c n workers : ℕ) (base : Base c n workers) (s : Shared) (m : Machine
         meter-few = pic .meter-few;
       }
 
+  pub begun-shut : (q : Call) (idle : viewOf (stood m w) .busy ≡ false) → begun-pictured q idle .shut ≡ pic .shut
+  unfolding begun-pictured
+  begun-shut q idle = refl
+
   module _ (lose : Bool) (busy : viewOf (stood m w) .busy ≡ true) where
     abbrev pub spot : ℕ
     spot = spotOf (m .ring .fixed) (viewOf (stood m w) .held)
@@ -288,6 +292,10 @@ module _ (c n workers : ℕ) (base : Base c n workers) (s : Shared) (m : Machine
           claims-few = omega (arith, grows c s w spot effect, pic .claims-few);
           meter-few = omega arith;
         }
+
+    pub acted-shut : (early : m .meter < meterMost) → acted-pictured early .shut ≡ stepped .shut
+    unfolding acted-pictured
+    acted-shut early = refl
 
     -- the acting worker has no other slot in hand, and if it has that of its act afterwards then it has not answered
     pub alone : (i : ℕ) → i < c → i ≢ spot → Mine w (s .cell i) → ⊥

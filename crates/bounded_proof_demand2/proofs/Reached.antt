@@ -12,7 +12,10 @@ use lib.Seq.{getD-set-same, getD-set-other}
 use borrow.Author.Tests.{eqb-true, eq-eqb, ne-eqb, le-leb, lt-ltb}
 use Rattle.queue_entries.specs.Schedules.{runBy, historyBy}
 use Rattle.queue_entries.specs.Limits.{workersMost, meterMost, inLimits}
+use Rattle.queue_entries.specs.declared.Call.{Call}
+use Rattle.queue_entries.specs.declared.Order.the-variants.{Begin, Act}
 use Rattle.queue_entries.specs.declared.Entry.{Entry}
+use Rattle.queue_entries.specs.declared.Entry.the-variants.{Asks}
 use Rattle.queue_entries.specs.Entries.{entryOf}
 use Rattle.bounded_words.specs.Limits.{slotsMost, editionsMost, wide}
 use Rattle.bounded_words.specs.Words.{stamp, markOf, lapOf, fixedOf, markedOf, indexOf}
@@ -22,7 +25,7 @@ use Rattle.bounded_places.specs.declared.Place.{Place}
 use Rattle.bounded_places.specs.declared.Place.the-variants.{Idle}
 use Rattle.bounded_places.specs.declared.Answer.the-variants.{Nothing}
 use Rattle.bounded_places.specs.declared.Worker.{Worker}
-use Rattle.bounded_places.specs.Places.{inside, beginOf}
+use Rattle.bounded_places.specs.Places.{inside, viewOf, beginOf}
 use Rattle.bounded_machine.specs.declared.Machine.{Machine}
 use Rattle.bounded_machine.specs.declared.Event.{Event}
 use Rattle.bounded_machine.specs.Machine.{slot, emptySlots, stamped, freshSlots, idler, idlers, starts, freshOf}
@@ -37,7 +40,7 @@ use Rattle.bounded_proof_invariant.proofs.Ring.{Await, Shared}
 use Rattle.bounded_proof_each_act.proofs.Stamps.{fixed, tailWord, index-tail, marked-tail}
 use Rattle.bounded_proof_each_act.proofs.Sight.{endsOf}
 use Rattle.bounded_proof_demand2.proofs.Turns.{Turned, began, did, turned, stood}
-use Rattle.bounded_proof_demand2.proofs.Pictured.{Base, Pictured, begun-pictured, acted-pictured, stepped, effect, spot-small, next, result, acted-stood, alone, holding}
+use Rattle.bounded_proof_demand2.proofs.Pictured.{Base, Pictured, begun-pictured, begun-shut, acted-pictured, acted-shut, stepped, effect, spot-small, next, result, acted-stood, alone, holding}
 use Rattle.bounded_proof_demand2.proofs.Logged.{Logged, logged-after}
 
 -- how many laps there are to the width
@@ -282,6 +285,23 @@ module _ (c n workers : ℕ) (base : Base c n workers) where
             acted-meter m w (stood m w) lose ∙ ap (λ (k : ℕ). k + 1) (r .metered)
             ∙ sym (length-append h (event w (stood m w) (stood (acted m w (stood m w) lose) w) ∷ []));
       }
+
+  -- the ring and the mark behind a machine, and what an entry makes of them
+  abbrev pub markedRing : {m : Machine} {h : List Event} → Reached c n workers m h → Shared × Bool
+  markedRing r = (r .ring, r .pictured .shut)
+
+  module _ (m : Machine) (h : List Event) (r : Reached c n workers m h) (w : ℕ) (l : w < m .count) where
+    pub begun-behind : (q : Call) (idle : viewOf (stood m w) .busy ≡ false)
+        → markedRing (entered m h (Asks w (Begin q)) (begun m w (beginOf q)) [] r (began w q l idle)) ≡ markedRing r
+    unfolding entered
+    begun-behind q idle = ap (λ (b : Bool). (r .ring, b)) (begun-shut c n workers base (r .ring) m (r .pictured) w l q idle)
+
+    pub did-behind : (lose : Bool) (busy : viewOf (stood m w) .busy ≡ true) (early : m .meter < meterMost)
+        → markedRing (entered m h (Asks w (Act lose)) (acted m w (stood m w) lose) (event w (stood m w) (stood (acted m w (stood m w) lose) w) ∷ []) r (did w lose l busy early))
+        ≡ (next c n workers base (r .ring) m (r .pictured) w l lose busy, stepped c n workers base (r .ring) m (r .pictured) w l lose busy .shut)
+    unfolding entered
+    did-behind lose busy early =
+        ap (λ (b : Bool). (next c n workers base (r .ring) m (r .pictured) w l lose busy, b)) (acted-shut c n workers base (r .ring) m (r .pictured) w l lose busy early)
 
   -- and so does every list of entries
   pub entries : (s : List ℕ) (m : Machine) (h : List Event) (place : ℕ) → Reached c n workers m h → Reached c n workers (runFrom m place s .machine) (h ++ historyOf m s)
