@@ -275,13 +275,16 @@ module _ (c n workers : ℕ) (base : Base c n workers) where
   Shut2 m h = (r : Reached c n workers m h) × (m .ring .fixed .edition ≡ 2) × (r .pictured .shut ≡ true)
 
   shut-kept : (m : Machine) (h : List Event) (en : Entry) (next : Machine) (acts : List Event) → Shut2 m h → Turned m en next acts → Shut2 next (h ++ acts)
-  shut-kept m h en next acts o (began w call l idle) =
-      (entered c n workers base m h en next acts (o .0) (began w call l idle), ap (λ (f : Fixed). f .edition) (turned-fixed m en next acts (began w call l idle)) ∙ o .1,
-      ap (λ (z : Shared × Bool). z .1) (begun-behind c n workers base m h (o .0) w l call idle) ∙ o .2)
-  shut-kept m h en next acts o (did w lose l busy early) =
-      (entered c n workers base m h en next acts (o .0) (did w lose l busy early),
-      ap (λ (f : Fixed). f .edition) (turned-fixed m en next acts (did w lose l busy early)) ∙ o .1,
-      ap (λ (z : Shared × Bool). z .1) (did-behind c n workers base m h (o .0) w l lose busy early) ∙ keeps-shut m h (o .0) w lose l busy (o .1) (o .2))
+  shut-kept m h en next acts o (began w call l idle) = (
+    entered c n workers base m h en next acts (o .0) (began w call l idle),
+    ap (λ (f : Fixed). f .edition) (turned-fixed m en next acts (began w call l idle)) ∙ o .1,
+    ap (λ (z : Shared × Bool). z .1) (begun-behind c n workers base m h (o .0) w l call idle) ∙ o .2,
+  )
+  shut-kept m h en next acts o (did w lose l busy early) = (
+    entered c n workers base m h en next acts (o .0) (did w lose l busy early),
+    ap (λ (f : Fixed). f .edition) (turned-fixed m en next acts (did w lose l busy early)) ∙ o .1,
+    ap (λ (z : Shared × Bool). z .1) (did-behind c n workers base m h (o .0) w l lose busy early) ∙ keeps-shut m h (o .0) w lose l busy (o .1) (o .2),
+  )
 
   stays-shut : (m : Machine) (h : List Event) → Shut2 m h → (s : List ℕ) → Shut2 (runFrom m 0 s .machine) (h ++ historyOf m s)
   stays-shut m h o s = along Shut2 shut-kept s m h 0 o
@@ -312,14 +315,14 @@ close-holds capacity workers a s =
     let r = reached capacity workers 2 a s in
     let two : m .ring .fixed .edition ≡ 2 = ap (λ (f : Fixed). f .edition) (same-fixed (freshOf capacity workers 2) s) ∙ edition-of capacity workers 2 in (
       λ marked entries.
-      let q = stays-shut capacity n workers base m (actsOf document01 capacity workers 2 s) (r, two, sym (shut-is capacity n workers base m _ r) ∙ marked) entries in
-      ap (λ (f : Fixed). markedOf f (runFrom m 0 entries .machine .ring .ends .tail)) (sym (same-fixed m entries)) ∙ shut-is capacity n workers base (runFrom m 0 entries .machine) _ (q .0) ∙ q .2,
+          let q = stays-shut capacity n workers base m (actsOf document01 capacity workers 2 s) (r, two, sym (shut-is capacity n workers base m _ r) ∙ marked) entries in
+          ap (λ (f : Fixed). markedOf f (runFrom m 0 entries .machine .ring .ends .tail)) (sym (same-fixed m entries)) ∙ shut-is capacity n workers base (runFrom m 0 entries .machine) _ (q .0) ∙ q .2,
       along (Shutting capacity n workers base) (shutting-kept capacity n workers base) s (freshOf capacity workers 2) [] 0
-      (record {
-        behind = fresh-reached capacity workers 2 a;
-        second = edition-of capacity workers 2;
-        once = λ earlier between later act again e. absurd (nil-split (earlier ++ act ∷ between) again later e);
-        shut = λ o. absurd (nil-split (o .earlier) (o .act) (o .later) (o .is));
-      })
-      .once,
+          (record {
+            behind = fresh-reached capacity workers 2 a;
+            second = edition-of capacity workers 2;
+            once = λ earlier between later act again e. absurd (nil-split (earlier ++ act ∷ between) again later e);
+            shut = λ o. absurd (nil-split (o .earlier) (o .act) (o .later) (o .is));
+          })
+          .once,
     )

@@ -39,23 +39,29 @@ pub fn zeroed() -> Machine {
 pub fn with_fixed(m: Machine, capacity: u64, mark: u64, lap: u64) -> Machine {
     let ring = m.ring;
     let f = ring.fixed;
-    with_constants(m, Fixed {
-        mark: mark,
-        lap: lap,
-        capacity: capacity,
-        edition: f.edition,
-    })
+    with_constants(
+        m,
+        Fixed {
+            mark: mark,
+            lap: lap,
+            capacity: capacity,
+            edition: f.edition,
+        },
+    )
 }
 
 pub fn with_edition(m: Machine, edition: u64) -> Machine {
     let ring = m.ring;
     let f = ring.fixed;
-    with_constants(m, Fixed {
-        mark: f.mark,
-        lap: f.lap,
-        capacity: f.capacity,
-        edition: edition,
-    })
+    with_constants(
+        m,
+        Fixed {
+            mark: f.mark,
+            lap: f.lap,
+            capacity: f.capacity,
+            edition: edition,
+        },
+    )
 }
 
 fn with_constants(m: Machine, f: Fixed) -> Machine {

@@ -59,14 +59,7 @@ fn made(m: Machine, odd: bool, at: usize) -> Run {
     }
 }
 
-fn make(
-    o: Options,
-    capacity: u64,
-    workers: u64,
-    odd: bool,
-    out: &mut [u8],
-    at: usize,
-) -> Run {
+fn make(o: Options, capacity: u64, workers: u64, odd: bool, out: &mut [u8], at: usize) -> Run {
     let did = bounded::make(capacity, workers, o.edition);
     let end = text_output::form(out, at, b"made #\n", &[did.refusal]);
     made(did.machine, odd, end)
