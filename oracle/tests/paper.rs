@@ -17,7 +17,7 @@ const ACT: u64 = 8;
 struct Bench(Machine);
 
 fn made(capacity: u64, workers: u64) -> Result<Machine, u64> {
-    Machine::make(Making::Bounded { capacity }, workers)
+    Machine::make(Making::Bounded { capacity, edition: 1 }, workers)
 }
 
 impl Bench {
@@ -124,7 +124,9 @@ fn before_f6() -> Bench {
 /// Mark is what `close` sets; lap is what the first pop's stamp store adds to head 0.
 #[test]
 fn a_constants() {
-    for (capacity, mark, lap) in [(1, 2, 4), (2, 4, 8), (3, 4, 8), (4, 8, 16), (255, 256, 512), (256, 512, 1024), (1024, 2048, 4096)] {
+    for (capacity, mark, lap) in
+        [(1, 2, 4), (2, 4, 8), (3, 4, 8), (4, 8, 16), (255, 256, 512), (256, 512, 1024), (1024, 2048, 4096)]
+    {
         let mut bench = Bench::new(capacity, 2);
         bench.call(0, PUSH, 5);
         bench.begin(0, POP, 0);
