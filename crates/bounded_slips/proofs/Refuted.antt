@@ -12,10 +12,11 @@ use Rattle.bounded_words.specs.declared.Stamp.{Stamp}
 use Rattle.bounded_words.specs.Words.{doubled, markOf, markedOf, unmarkedOf, plus, minus, withMark, nextOf, same, onePast, lapBehind, lapBehindOnePast, stamp}
 use Rattle.bounded_places.specs.declared.Answer.{Answer}
 use Rattle.bounded_places.specs.declared.Answer.the-variants.{Nothing, Pushed, Full, Closed, Displaced, Popped, Empty, PopClosed, Len, Yes, No}
-use Rattle.bounded_places.specs.declared.Place.the-variants.{Idle, O1, O2, O5, O6}
+use Rattle.bounded_places.specs.declared.Place.the-variants.{Idle, O1, O2, O3, O4, O5, O6}
 use Rattle.bounded_places.specs.Places.{inside}
 use Rattle.bounded_acts.specs.Acts.{forcedTail, stay, tailTo, headTo, stampTo, valueTo, countOf}
 use Rattle.bounded_machine.specs.declared.Machine.{Machine}
+use Rattle.bounded_machine.specs.declared.Moved.the-variants.{Head, Neither}
 use Rattle.bounded_machine.specs.declared.Ran.{Ran}
 use Rattle.bounded_machine.specs.Machine.{emptySlots, stamped, freshSlots, idlers, freshOf, refused, accepted}
 use Rattle.bounded_machine.specs.Broken.{byRule, endsFit, recordFits, recordsFit, brokenOf, allIdle}
@@ -24,8 +25,8 @@ use Rattle.bounded_machine.specs.Turn.{begun, stored, actedBy, turnOfBy}
 use Rattle.bounded_machine.specs.Run.{ran}
 use Rattle.bounded_machine.specs.History.{event, tallyOf, stockOf}
 use Rattle.bounded_demands.specs.Notions.{acts, itemsOf, tailersOf, takersOf, handP4, handO4, readO4, popped, passed, ownActs, actsOf, Allowed}
-use Rattle.bounded_slips.specs.Slips.{actWith, slipped, emptyUnseen, fullUnseen, closedUnseen, emptyTailFirst, fullHeadFirst, lenLooksOnce, popKeepsItsWord, lostForceKeepsItsWord, lostForceTakesTheHead, unstamped, releasesWithNext, neverLetsGo, handsOutAgain, readsAfterItsStore, stampBeforeValue, pushWritesLate}
-use Rattle.bounded_slips.specs.Refuted.{Trial, reached, past, does, Refuted, popOfNothing, popLooksLate, pushLooksLate, pushLoses, emptyLooks, fullLooks, popAfterPush, secondLap, popOutOfDate, forceOutOfDate, popInHand, lenLooks, lenOutOfDate}
+use Rattle.bounded_slips.specs.Slips.{actWith, slipped, emptyUnseen, fullUnseen, closedUnseen, emptyTailFirst, fullHeadFirst, lenLooksOnce, popKeepsItsWord, lostForceKeepsItsWord, lostForceTakesTheHead, unstamped, releasesWithNext, neverLetsGo, handsOutAgain, readsAfterItsStore, stampBeforeValue, pushWritesLate, closedTooSoon}
+use Rattle.bounded_slips.specs.Refuted.{Trial, reached, past, does, Refuted, popOfNothing, popLooksLate, pushLooksLate, pushLoses, emptyLooks, fullLooks, popAfterPush, secondLap, popOutOfDate, forceOutOfDate, popInHand, lenLooks, lenOutOfDate, closedBefore}
 use Rattle.bounded_slips.proofs.Ways.{busyAt, nowhere, wrong-item, unclaimed, sole, acting, said, no-cons, untouched, quiet, no-hand, stillBusy, late, rests, at-once, busyAlong, holds-on}
 
 one-two : Allowed 1 2 1
@@ -56,6 +57,9 @@ lenIn No = 0
 -- the machine after worker 1's act
 abbrev next : Trial → Machine
 next t = turnOfBy (actWith (t .slip)) (reached t) 24 0 .machine
+
+claimed : Head ≡ Neither → ⊥
+claimed e = let q : _≡_ {A = ℕ} 0 1 = cc in omega arith
 
 pub refuted : Refuted
 unfolding forcedTail doubled markOf markedOf unmarkedOf plus minus withMark nextOf same onePast lapBehind lapBehindOnePast inside strayOf orderOf entryOf stay tailTo headTo stampTo valueTo countOf emptySlots stamped freshSlots idlers freshOf refused accepted all inLimits byRule endsFit recordFits recordsFit brokenOf allIdle countIn wrapped itemAt itemsFrom contentsOf begun stored actedBy turnOfBy ran runBy scheduleBy historyBy tallyOf stockOf acts itemsOf tailersOf takersOf passed ownActs nowhere stillBusy busyAlong
@@ -125,4 +129,8 @@ refuted =
       lets-go = λ l. holds-on (slipped neverLetsGo) (reached popInHand) 0 2 (acts 0 2) refl (l 0 (stamp 0) (acts 0 2) handO4 (let q : 2 ≤ 2 = omega arith in q));
       as-run = λ p. true≢false (ap (λ (m : Machine). busyAt m 0) (p (0 ∷ 5 ∷ []) refl));
       once-closed = λ o. true≢false (sym (o refl (acts 0 2)));
+      closed-last =
+          λ o.
+          let q = o (actsOf (slipped closedTooSoon) 1 2 1 closedBefore) (event 0 O1 (O2 (stamp 0)) ∷ event 0 (O2 (stamp 0)) (O3 (stamp 0)) ∷ event 0 (O3 (stamp 0)) (O4 (stamp 0)) ∷ []) (event 1 (O6 (stamp 0)) (Idle PopClosed)) refl refl in
+          claimed (q .1 .1 .0);
     }

@@ -8,8 +8,8 @@ use Rattle.bounded_machine.specs.declared.Machine.{Machine}
 use Rattle.bounded_machine.specs.declared.Event.{Event}
 use Rattle.bounded_machine.specs.Broken.{brokenOf}
 use Rattle.bounded_demands.specs.Notions.{Plain, machineAfter, actsOf, acts}
-use Rattle.bounded_demands.specs.Demands.{ClaimRule, OnceOut, OneHand, ReadsWritten, AnswersTrue, StockCounts, StockIsNumber, ContentsWait, PlainQueue, EmptyTrue, FullTrue, ActByAct, WholeSchedules, LenTrue, NeverRefused, AloneEnds, InTheWay, HandLetsGo, PassedAsRun, OnceClosed}
-use Rattle.bounded_slips.specs.Slips.{none, lostPushGoesOn, closedUnseen, unwrapped, tailUnmoved, unwritten, unstamped, fullUnseen, tailBeforeHead, lostForceKeepsItsWord, lostForceTakesTheHead, stampBeforeValue, stampUntested, readsAfterItsStore, releasesWithNext, neverLetsGo, emptyUnseen, handsOutAgain, popKeepsItsWord, lenLooksOnce, emptyTailFirst, fullHeadFirst, pushWritesLate, forceForgets, slipped, deaf, refusing}
+use Rattle.bounded_demands.specs.Demands.{ClaimRule, OnceOut, OneHand, ReadsWritten, AnswersTrue, StockCounts, StockIsNumber, ContentsWait, PlainQueue, EmptyTrue, FullTrue, ActByAct, WholeSchedules, LenTrue, NeverRefused, AloneEnds, InTheWay, HandLetsGo, PassedAsRun, OnceClosed, NoneAfterClosed}
+use Rattle.bounded_slips.specs.Slips.{none, lostPushGoesOn, closedUnseen, unwrapped, tailUnmoved, unwritten, unstamped, fullUnseen, tailBeforeHead, lostForceKeepsItsWord, lostForceTakesTheHead, stampBeforeValue, stampUntested, readsAfterItsStore, releasesWithNext, neverLetsGo, emptyUnseen, handsOutAgain, popKeepsItsWord, lenLooksOnce, emptyTailFirst, fullHeadFirst, pushWritesLate, forceForgets, closedTooSoon, slipped, deaf, refusing}
 
 -- A schedule for a machine of this capacity and edition with two workers, with this slip.
 pub record Trial : Type 0 where
@@ -128,6 +128,13 @@ popInHand = trial neverLetsGo 1 (does 0 0 5 5 ++ does 0 2 0 3)
 abbrev pub closedF : Trial
 closedF = trialIn 2 forceForgets 1 (does 0 0 7 5 ++ does 0 1 8 2 ++ does 1 6 0 1)
 
+-- a pop at O6 while a push and a close come between, answers Closed; the item is still inside, and the next pop claims it
+abbrev pub closedBefore : List ℕ
+closedBefore = does 1 2 0 2 ++ does 0 0 5 5 ++ does 0 6 0 1
+
+abbrev pub popAfterClosed : Trial
+popAfterClosed = trial closedTooSoon 1 (closedBefore ++ acts 1 1 ++ does 0 2 0 3)
+
 -- ---- what is false
 
 pub record Refuted : Type 0 where
@@ -175,3 +182,4 @@ pub record Refuted : Type 0 where
   pub as-run : PassedAsRun deaf (reached (trial none 1 [])) → ⊥
   -- a close that holds
   pub once-closed : OnceClosed (slipped forceForgets) (reached closedF) → ⊥
+  pub closed-last : NoneAfterClosed (past popAfterClosed) → ⊥
