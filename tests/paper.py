@@ -1,4 +1,4 @@
-"""A second reading of document 01, the scope paper: its machine, row by row. tests/tables holds the programs' tables against it.
+"""A second reading of document 01, the scope paper, with item 6 of document 02: its machine, row by row. tests/tables holds the programs' tables against it.
 
 It is written from the document and from none of the crates, so that a row misread there is not misread alike here. Places, calls,
 answers and refusals have the document's names and numbers; where it names no places, a call's loads are numbered. What the ring shares
@@ -12,6 +12,7 @@ from paper_entries import MOST_METER, MOST_WORKERS, Entries, busy, busy_past_the
 
 WIDE = 2**64
 MOST_SLOTS = 1024
+MOST_EDITIONS = 2
 
 
 # The words
@@ -63,6 +64,7 @@ class Ring:
     capacity: int
     mark: int
     lap: int
+    edition: int
     head: int
     tail: int
     slots: list
@@ -89,13 +91,13 @@ class Machine:
 
 
 def blank():
-    ring = Ring(capacity=0, mark=0, lap=0, head=0, tail=0, slots=[Slot()] * MOST_SLOTS)
+    ring = Ring(capacity=0, mark=0, lap=0, edition=0, head=0, tail=0, slots=[Slot()] * MOST_SLOTS)
     return Machine(ring, workers=[Worker()] * MOST_WORKERS, count=0, meter=0)
 
 
-def fresh(capacity, count):
+def fresh(capacity, count, edition):
     slots = [Slot(stamp=i) if i < capacity else Slot() for i in range(MOST_SLOTS)]
-    ring = Ring(capacity, mark_of(capacity), lap_of(capacity), head=0, tail=0, slots=slots)
+    ring = Ring(capacity, mark_of(capacity), lap_of(capacity), edition, head=0, tail=0, slots=slots)
     return replace(blank(), ring=ring, count=count)
 
 
@@ -177,7 +179,8 @@ def f6(ring, worker, fails):
 
 
 def f7(ring, worker, fails):
-    ring.tail = next_of(ring, worker.t)
+    kept = ring.mark if ring.edition == 2 and marked(ring, ring.tail) else 0
+    ring.tail = next_of(ring, worker.t) + kept
     return replace(worker, place='F8')
 
 
@@ -314,6 +317,8 @@ def broken(machine):
     ring = machine.ring
     if out_of_limits(ring.capacity, MOST_SLOTS) or out_of_limits(machine.count, MOST_WORKERS):
         return True
+    if out_of_limits(ring.edition, MOST_EDITIONS):
+        return True
     if ring.mark != mark_of(ring.capacity) or ring.lap != lap_of(ring.capacity):
         return True
     if marked(ring, ring.head) or index_amiss(ring, ring.head) or index_amiss(ring, ring.tail):
@@ -323,12 +328,14 @@ def broken(machine):
     return busy_past_the_count(machine)
 
 
-def make(capacity, count):
+def make(capacity, count, edition):
     if out_of_limits(capacity, MOST_SLOTS):
         return 1, blank()
     if out_of_limits(count, MOST_WORKERS):
         return 2, blank()
-    return 0, fresh(capacity, count)
+    if out_of_limits(edition, MOST_EDITIONS):
+        return 18, blank()
+    return 0, fresh(capacity, count, edition)
 
 
 def begun(call, item):

@@ -43,12 +43,14 @@ pub fn drive(run: &mut Run, extent: Extent) -> Result<(), String> {
 
 /// Empty, partly full and full, open and closed; rings fresh and on a later lap, the one slot with an old value in it.
 fn preloads(queue: Queue) -> Vec<Preload> {
-    let (makings, gone): (&[Making], &[u64]) = match queue {
-        Queue::Bounded => (&[Making::Bounded { capacity: 1 }, Making::Bounded { capacity: 2 }], &[0, 1]),
-        Queue::Single => (&[Making::Single], &[1]),
+    let (makings, gone): (Vec<Making>, &[u64]) = match queue {
+        Queue::Bounded { edition } => {
+            (vec![1, 2].into_iter().map(|capacity| Making::Bounded { capacity, edition }).collect(), &[0, 1])
+        }
+        Queue::Single => (vec![Making::Single], &[1]),
     };
     let mut all = Vec::new();
-    for making in makings.iter().copied() {
+    for making in makings {
         for gone in gone.iter().copied() {
             for held in 0..=making.room() as u64 {
                 all.extend([false, true].map(|closed| Preload { making, gone, held, closed }));
@@ -63,7 +65,7 @@ fn preloads(queue: Queue) -> Vec<Preload> {
 fn calls_at_once(queue: Queue) -> Vec<Vec<u64>> {
     let pairs = || (0..64).map(|pair| vec![pair / 8, pair % 8]);
     match queue {
-        Queue::Bounded => pairs().collect(),
+        Queue::Bounded { .. } => pairs().collect(),
         Queue::Single => pairs()
             .filter(|pair| pair[0] <= pair[1])
             .flat_map(|pair| (pair[1]..8).map(move |third| vec![pair[0], pair[1], third]))

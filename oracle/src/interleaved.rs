@@ -63,12 +63,17 @@ impl Phase {
     }
 }
 
-/// Schedules until so many acts were done.
-pub fn drive(run: &mut Run, acts: u64, seed: u64) -> Result<(), String> {
+/// Schedules until so many acts were done; with `closing`, short ones in which closes come at any time.
+pub fn drive(run: &mut Run, acts: u64, seed: u64, closing: bool) -> Result<(), String> {
     let mut random = Random::new(seed);
     while run.tally.acts < acts {
         let schedule = if random.once_in(25) {
             refused_whole(run.queue, &mut random)
+        } else if closing {
+            let making = Making::small(run.queue, &mut random);
+            let length = 20 + random.below(200);
+            let (workers, close_from) = (2 + random.below(4) as u64, random.below(length));
+            schedule_closed(&mut random, making, workers, length, close_from)
         } else {
             let making = Making::random(run.queue, &mut random);
             let workers = 1 + random.below(16) as u64;
@@ -83,10 +88,15 @@ pub fn drive(run: &mut Run, acts: u64, seed: u64) -> Result<(), String> {
 
 /// A schedule that is accepted but perhaps for its end.
 pub fn schedule(random: &mut Random, making: Making, workers: u64, length: usize) -> Schedule {
-    let mut schedule = Schedule::new(making, workers);
-    let mut machine = Machine::make(making, workers).expect("within the limits");
     // Little happens once the queue is closed, so closing comes late or not at all.
     let close_from = if random.once_in(2) { length - random.below(length.min(1500)) } else { length };
+    schedule_closed(random, making, workers, length, close_from)
+}
+
+/// From `close_from` on a call may be a close.
+fn schedule_closed(random: &mut Random, making: Making, workers: u64, length: usize, close_from: usize) -> Schedule {
+    let mut schedule = Schedule::new(making, workers);
+    let mut machine = Machine::make(making, workers).expect("within the limits");
     let mut phase = Phase::new(random, &schedule);
     let mut worker = 0;
     for done in 0..length {
@@ -154,7 +164,9 @@ pub fn any_entry(random: &mut Random, workers: u64) -> (u64, u64) {
 /// A making refused, or an odd number of words, or both.
 pub fn refused_whole(queue: Queue, random: &mut Random) -> Schedule {
     let making = match queue {
-        Queue::Bounded => Making::Bounded { capacity: random.pick(&[0, 1, 2, 257, 1024, 1025, u64::MAX]) },
+        Queue::Bounded { edition } => {
+            Making::Bounded { capacity: random.pick(&[0, 1, 2, 257, 1024, 1025, u64::MAX]), edition }
+        }
         Queue::Single => Making::Single,
     };
     let workers = random.pick(&[0, 1, 2, 16, 17, 64, u64::MAX]);

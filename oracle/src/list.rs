@@ -12,7 +12,7 @@ use crate::tally::Tally;
 pub fn list(queue: Queue, seed: u64) -> (String, String) {
     let mut random = Random::new(seed);
     let mut schedules = match queue {
-        Queue::Bounded => ring(&mut random),
+        Queue::Bounded { edition } => ring(&mut random, edition),
         Queue::Single => one_slot(&mut random),
     };
     schedules.extend((0..8).map(|_| refused_whole(queue, &mut random)));
@@ -29,14 +29,14 @@ pub fn list(queue: Queue, seed: u64) -> (String, String) {
 
 fn smallest(queue: Queue) -> Making {
     match queue {
-        Queue::Bounded => Making::Bounded { capacity: 1 },
+        Queue::Bounded { edition } => Making::Bounded { capacity: 1, edition },
         Queue::Single => Making::Single,
     }
 }
 
-fn ring(random: &mut Random) -> Vec<Schedule> {
-    let of = |capacity| Making::Bounded { capacity };
-    let mut schedules = runs_on_paper();
+fn ring(random: &mut Random, edition: u64) -> Vec<Schedule> {
+    let of = |capacity| Making::Bounded { capacity, edition };
+    let mut schedules = runs_on_paper(of);
     let limits = [(0, 1), (1025, 1), (1, 1), (1024, 16), (1, 0), (1, 17), (0, 0), (1025, 17)];
     schedules.extend(limits.map(|(capacity, workers)| Schedule::new(of(capacity), workers)));
     schedules.extend(refusals(of(2)));
@@ -70,7 +70,7 @@ fn judged(schedules: &[Schedule], tally: &mut Tally) -> String {
 
 fn header(queue: Queue, seed: u64) -> String {
     let Facts { name, list, begins_with, .. } = queue.facts();
-    let option = if queue == Queue::Bounded { String::new() } else { format!("--queue {name} ") };
+    let option = if queue == Queue::RING { String::new() } else { queue.options() + " " };
     format!(
         "# The fixed list, made by `judge list {option}--seed {seed}`: the unmodified {name}.rs of concurrent-queue 2.5.0, run one
 # action at a time, gave the outputs in {list}.out. Schedules stand in replay's input format ({begins_with}, then pairs;
@@ -119,17 +119,17 @@ impl Writer {
 }
 
 /// Document 01's runs B to G: B to E in one, then F and G.
-fn runs_on_paper() -> Vec<Schedule> {
-    let mut b_to_e = Writer::new(Making::Bounded { capacity: 2 }, 1);
+fn runs_on_paper(of: impl Fn(u64) -> Making) -> Vec<Schedule> {
+    let mut b_to_e = Writer::new(of(2), 1);
     b_to_e.calls(&[(0, 5), (0, 6), (2, 0), (0, 7), (0, 8), (1, 8), (6, 0), (0, 9), (2, 0), (2, 0), (2, 0)]);
-    let mut f = Writer::new(Making::Bounded { capacity: 1 }, 2);
+    let mut f = Writer::new(of(1), 2);
     f.calls(&[(0, 7)]);
     f.entry(1, 8);
     f.acts(0, 2);
     f.calls(&[(16 + 6, 0)]);
     f.acts(0, 4);
     f.calls(&[(16 + 7, 0)]);
-    let mut g = Writer::new(Making::Bounded { capacity: 1 }, 2);
+    let mut g = Writer::new(of(1), 2);
     g.calls(&[(0, 7)]);
     g.entry(1, 8);
     g.acts(0, 3);

@@ -44,12 +44,8 @@ pub struct Machine {
 }
 
 impl Machine {
-    /// Refusals 1 and 2, in this order.
     pub fn make(making: Making, workers: u64) -> Result<Machine, Refusal> {
-        let source = making.source()?;
-        if !(1..=16).contains(&workers) {
-            return Err(2);
-        }
+        let source = making.source(workers)?;
         Ok(Machine {
             queue: Box::into_raw(source),
             workers: (0..workers).map(|_| Worker::new()).collect(),
@@ -172,7 +168,9 @@ impl Machine {
                 self.tally.exchange(place, ending);
             }
             // Nothing but a close changes tail under a worker at F7.
-            Action::Store(Word::Tail, _) if seen.tail != Some(met.found as u64) => self.tally.closes_lost += 1,
+            Action::Store(Word::Tail, _) | Action::FetchAdd(Word::Tail, _) if seen.tail != Some(met.found as u64) => {
+                self.tally.closes_met += 1;
+            }
             _ => {}
         }
     }
@@ -217,9 +215,10 @@ mod tests {
     /// No run reaches the meter's limit, so it is set: 5, 7, 8 in this order, and a call may still begin.
     #[test]
     fn meter_at_its_limit() {
-        for (making, after) in
-            [(Making::Bounded { capacity: 1 }, Kind::P2Push.with(&[0, 5])), (Making::Single, Kind::A2.with(&[5]))]
-        {
+        for (making, after) in [
+            (Making::Bounded { capacity: 1, edition: 1 }, Kind::P2Push.with(&[0, 5])),
+            (Making::Single, Kind::A2.with(&[5])),
+        ] {
             let mut machine = Machine::make(making, 2).unwrap_or_else(|_| panic!("refused"));
             machine.meter = METER_LIMIT - 1;
             assert_eq!(
@@ -235,10 +234,10 @@ mod tests {
     #[test]
     fn stepped_and_direct_calls_agree() {
         let mut random = Random::new(3);
-        let rings = [1, 2, 3, 8, 256, 1024].map(|capacity| Making::Bounded { capacity });
-        for making in rings.into_iter().chain([Making::Single]) {
+        let rings = [1, 2].map(|edition| [1, 2, 3, 8, 256, 1024].map(|capacity| Making::Bounded { capacity, edition }));
+        for making in rings.into_iter().flatten().chain([Making::Single]) {
             let mut machine = Machine::make(making, 1).unwrap_or_else(|_| panic!("refused"));
-            let direct = making.source().unwrap_or_else(|_| panic!("refused"));
+            let direct = making.source(1).unwrap_or_else(|_| panic!("refused"));
             for round in 0..5000 {
                 let codes: &[u64] =
                     if round < 4900 { &[0, 0, 1, 2, 2, 3, 4, 5, 7] } else { &[0, 1, 2, 2, 3, 4, 5, 6, 7] };

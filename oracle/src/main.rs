@@ -12,10 +12,11 @@ use std::process::ExitCode;
 use std::time::Instant;
 use std::{env, fs};
 
-const USAGE: &str = "Each command takes --queue bounded|single; bounded unless told.
+const USAGE: &str =
+    "Each command takes --queue bounded|single, bounded unless told, and for that one --edition N, 1 unless told.
 judge expect FILE|- [--quiet] [--many]
 judge sequential --calls N --seed S [--module CMD [--many]] [--batch ENTRIES] [--save DIR]
-judge interleaved --acts N --seed S [--module CMD [--many]] [--batch ENTRIES] [--save DIR]
+judge interleaved --acts N --seed S [--closing] [--module CMD [--many]] [--batch ENTRIES] [--save DIR]
 judge exhaustive [--compact | --depth ACTS] [--module CMD [--many]] [--batch ENTRIES] [--save DIR]
 judge list --seed S [--to DIR]
 judge check-against FILE.out FILE.in";
@@ -39,9 +40,10 @@ fn command(arguments: &[String]) -> Result<(), String> {
         "sequential" => {
             driven(&options, |run| sequential::drive(run, options.number("calls")?, options.number("seed")?))
         }
-        "interleaved" => {
-            driven(&options, |run| interleaved::drive(run, options.number("acts")?, options.number("seed")?))
-        }
+        "interleaved" => driven(&options, |run| {
+            let closing = options.flag("closing");
+            interleaved::drive(run, options.number("acts")?, options.number("seed")?, closing)
+        }),
         "exhaustive" => driven(&options, |run| exhaustive::drive(run, extent(&options)?)),
         "list" => write_list(&options),
         "check-against" => check_against(&options),
@@ -64,8 +66,11 @@ impl Options {
         while let Some(argument) = arguments.next() {
             match argument.strip_prefix("--") {
                 None => options.plain.push(argument),
-                Some(flag @ ("quiet" | "many" | "compact")) => options.flags.push(flag.into()),
-                Some(name @ ("calls" | "acts" | "seed" | "module" | "batch" | "save" | "to" | "depth" | "queue")) => {
+                Some(flag @ ("quiet" | "many" | "compact" | "closing")) => options.flags.push(flag.into()),
+                Some(
+                    name @ ("calls" | "acts" | "seed" | "module" | "batch" | "save" | "to" | "depth" | "queue"
+                    | "edition"),
+                ) => {
                     let value = arguments.next().ok_or(format!("--{name} needs a value"))?;
                     options.values.push((name.into(), value));
                 }
@@ -90,7 +95,11 @@ impl Options {
 
     fn queue(&self) -> Result<Queue, String> {
         let name = self.value("queue").unwrap_or("bounded");
-        Queue::named(name).ok_or(format!("--queue: no such queue: {name}\n{USAGE}"))
+        match Queue::named(name).ok_or(format!("--queue: no such queue: {name}\n{USAGE}"))? {
+            Queue::Bounded { edition } => Ok(Queue::Bounded { edition: self.number_or("edition", edition)? }),
+            other if self.value("edition").is_some() => Err(format!("--edition: {other:?} has none\n{USAGE}")),
+            other => Ok(other),
+        }
     }
 
     fn number_or(&self, name: &str, default: u64) -> Result<u64, String> {

@@ -9,7 +9,7 @@ use crate::state::Kind;
 
 #[derive(Clone, Copy, Debug, PartialEq, Eq)]
 pub enum Queue {
-    Bounded,
+    Bounded { edition: u64 },
     Single,
 }
 
@@ -36,7 +36,9 @@ pub struct Facts {
 }
 
 impl Queue {
-    pub const ALL: [Queue; 2] = [Queue::Bounded, Queue::Single];
+    /// The source's ring, without request 6.
+    pub const RING: Queue = Queue::Bounded { edition: 1 };
+    pub const ALL: [Queue; 3] = [Queue::RING, Queue::Bounded { edition: 2 }, Queue::Single];
 
     pub fn named(name: &str) -> Option<Queue> {
         Queue::ALL.into_iter().find(|queue| queue.facts().name == name)
@@ -44,8 +46,18 @@ impl Queue {
 
     pub fn facts(self) -> &'static Facts {
         match self {
-            Queue::Bounded => &ring::FACTS,
+            Queue::Bounded { .. } => &ring::FACTS,
             Queue::Single => &one_slot::FACTS,
+        }
+    }
+
+    /// The options of `replay`, and of the judge, for this queue.
+    pub fn options(self) -> String {
+        let name = format!("--queue {}", self.facts().name);
+        match self {
+            Queue::RING => String::new(),
+            Queue::Bounded { edition } => format!("{name} --edition {edition}"),
+            _ => name,
         }
     }
 
@@ -57,7 +69,7 @@ impl Queue {
 /// What a machine is made of, beside its workers.
 #[derive(Clone, Copy, Debug, PartialEq, Eq)]
 pub enum Making {
-    Bounded { capacity: u64 },
+    Bounded { capacity: u64, edition: u64 },
     Single,
 }
 
@@ -68,16 +80,21 @@ pub const CAPACITIES: [u64; 13] = [1, 2, 3, 4, 5, 7, 8, 255, 256, 257, 512, 1023
 impl Making {
     pub fn queue(self) -> Queue {
         match self {
-            Making::Bounded { .. } => Queue::Bounded,
+            Making::Bounded { edition, .. } => Queue::Bounded { edition },
             Making::Single => Queue::Single,
         }
     }
 
-    /// The source's queue, or refusal 1.
-    pub fn source(self) -> Result<Box<dyn Source>, Refusal> {
+    /// The source's queue, or refusal 1, 2 or 18, in this order; the number of workers is the machine's.
+    pub fn source(self, workers: u64) -> Result<Box<dyn Source>, Refusal> {
+        if matches!(self, Making::Bounded { capacity, .. } if !(1..=SLOTS_MOST).contains(&capacity)) {
+            return Err(1);
+        }
+        if !(1..=16).contains(&workers) {
+            return Err(2);
+        }
         match self {
-            Making::Bounded { capacity: capacity @ 1..=SLOTS_MOST } => Ok(Box::new(Ring::new(capacity as usize))),
-            Making::Bounded { .. } => Err(1),
+            Making::Bounded { capacity, edition } => Ok(Box::new(Ring::new(capacity as usize, edition).ok_or(18_u64)?)),
             Making::Single => Ok(Box::new(OneSlot::new())),
         }
     }
@@ -85,7 +102,15 @@ impl Making {
     /// A making that is not refused.
     pub fn random(queue: Queue, random: &mut Random) -> Making {
         match queue {
-            Queue::Bounded => Making::Bounded { capacity: random.pick(&CAPACITIES) },
+            Queue::Bounded { edition } => Making::Bounded { capacity: random.pick(&CAPACITIES), edition },
+            Queue::Single => Making::Single,
+        }
+    }
+
+    /// One that a few calls fill.
+    pub fn small(queue: Queue, random: &mut Random) -> Making {
+        match queue {
+            Queue::Bounded { edition } => Making::Bounded { capacity: random.pick(&CAPACITIES[..4]), edition },
             Queue::Single => Making::Single,
         }
     }
@@ -93,7 +118,7 @@ impl Making {
     /// How many items it takes, about, to fill the queue.
     pub fn room(self) -> usize {
         match self {
-            Making::Bounded { capacity } => capacity as usize,
+            Making::Bounded { capacity, .. } => capacity as usize,
             Making::Single => 1,
         }
     }

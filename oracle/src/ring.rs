@@ -1,35 +1,70 @@
-//! The ring: bounded.rs.
+//! The ring: bounded.rs, and edition 2's copy of it (`edition_2.patch`, applied when the judge is built).
 
 use crate::call::Call;
 use crate::queue::Facts;
 use crate::source::{agree, Item, Seen, Source};
 use crate::stage::{Action, Pending, Word};
 use crate::state::{Kind, State};
-use bounded::Bounded;
+use crate::sync::atomic::AtomicUsize;
+use crate::sync::cell::UnsafeCell;
 use std::fmt::Write;
+use std::mem::MaybeUninit;
+
+/// A ring's calls, and the judge's window on its private words.
+trait Bounded {
+    fn call(&self, call: Call) -> State;
+    fn head(&self) -> &AtomicUsize;
+    fn tail(&self) -> &AtomicUsize;
+    fn stamp(&self, slot: usize) -> &AtomicUsize;
+    fn value(&self, slot: usize) -> &UnsafeCell<MaybeUninit<Item>>;
+}
+
+macro_rules! bounded {
+    () => {
+        impl super::Bounded for Bounded<super::Item> {
+            fn call(&self, call: super::Call) -> super::State {
+                use super::{Call, Item};
+                match call {
+                    Call::Push(item) => self.push(Item(item)).into(),
+                    Call::ForcePush(item) => self.force_push(Item(item)).into(),
+                    Call::Pop => self.pop().into(),
+                    Call::Len => self.len().into(),
+                    Call::IsEmpty => self.is_empty().into(),
+                    Call::IsFull => self.is_full().into(),
+                    Call::Close => self.close().into(),
+                    Call::IsClosed => self.is_closed().into(),
+                }
+            }
+
+            fn head(&self) -> &AtomicUsize {
+                &self.head
+            }
+
+            fn tail(&self) -> &AtomicUsize {
+                &self.tail
+            }
+
+            fn stamp(&self, slot: usize) -> &AtomicUsize {
+                &self.buffer[slot].stamp
+            }
+
+            fn value(&self, slot: usize) -> &UnsafeCell<MaybeUninit<super::Item>> {
+                &self.buffer[slot].value
+            }
+        }
+    };
+}
 
 #[allow(dead_code)]
-mod bounded {
+mod edition_1 {
     include!("bounded.rs");
+    bounded!();
+}
 
-    /// The judge's window on the private words.
-    impl<T> Bounded<T> {
-        pub fn head(&self) -> &AtomicUsize {
-            &self.head
-        }
-
-        pub fn tail(&self) -> &AtomicUsize {
-            &self.tail
-        }
-
-        pub fn stamp(&self, slot: usize) -> &AtomicUsize {
-            &self.buffer[slot].stamp
-        }
-
-        pub fn value(&self, slot: usize) -> &UnsafeCell<MaybeUninit<T>> {
-            &self.buffer[slot].value
-        }
-    }
+#[allow(dead_code)]
+mod edition_2 {
+    include!(concat!(env!("OUT_DIR"), "/edition_2.rs"));
+    bounded!();
 }
 
 pub const FACTS: Facts = Facts {
@@ -47,39 +82,35 @@ pub const FACTS: Facts = Facts {
 };
 
 pub struct Ring {
-    queue: Bounded<Item>,
+    queue: Box<dyn Bounded>,
     capacity: usize,
 }
 
 impl Ring {
-    pub fn new(capacity: usize) -> Ring {
-        let queue = Bounded::new(capacity);
+    /// None if there is no such edition.
+    pub fn new(capacity: usize, edition: u64) -> Option<Ring> {
+        let queue: Box<dyn Bounded> = match edition {
+            1 => Box::new(edition_1::Bounded::new(capacity)),
+            2 => Box::new(edition_2::Bounded::new(capacity)),
+            _ => return None,
+        };
         queue.head().name.set(Word::Head);
         queue.tail().name.set(Word::Tail);
         for slot in 0..capacity {
             queue.stamp(slot).name.set(Word::Stamp(slot));
             queue.value(slot).name.set(slot);
         }
-        Ring { queue, capacity }
+        Some(Ring { queue, capacity })
     }
 }
 
 impl Source for Ring {
     fn answer(&self, call: Call) -> State {
-        match call {
-            Call::Push(item) => self.queue.push(Item(item)).into(),
-            Call::ForcePush(item) => self.queue.force_push(Item(item)).into(),
-            Call::Pop => self.queue.pop().into(),
-            Call::Len => self.queue.len().into(),
-            Call::IsEmpty => self.queue.is_empty().into(),
-            Call::IsFull => self.queue.is_full().into(),
-            Call::Close => self.queue.close().into(),
-            Call::IsClosed => self.queue.is_closed().into(),
-        }
+        self.queue.call(call)
     }
 
     fn place(&self, call: Call, pending: Pending, seen: &Seen) -> State {
-        use Action::{FetchOr, Load, Store, Value, WeakExchange};
+        use Action::{FetchAdd, FetchOr, Load, Store, Value, WeakExchange};
         use Word::{Head, Stamp, Tail};
         let (t, h) = (|| seen.t(), || seen.h());
         match (call, pending.action) {
@@ -92,7 +123,7 @@ impl Source for Ring {
             (Call::ForcePush(item), Load(Stamp(_))) => Kind::P2Force.with(&[t(), item]),
             (Call::ForcePush(item), WeakExchange(Tail, tail, _)) => Kind::P3Force.with(&[agree(t(), tail), item]),
             (Call::ForcePush(item), WeakExchange(Head, ..)) => Kind::F6.with(&[t(), item]),
-            (Call::ForcePush(item), Store(Tail, _)) => Kind::F7.with(&[t(), item]),
+            (Call::ForcePush(item), Store(Tail, _) | FetchAdd(Tail, _)) => Kind::F7.with(&[t(), item]),
             (Call::ForcePush(item), Value(_)) if seen.won == Some(Head) => Kind::F8.with(&[t(), item]),
             (Call::ForcePush(_), Store(Stamp(_), stamp)) if seen.won == Some(Head) => {
                 Kind::F9.with(&[agree(t() + 1, stamp) - 1, seen.value])

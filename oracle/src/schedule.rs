@@ -29,7 +29,7 @@ impl Schedule {
             .map(|word| word.parse::<u64>().map_err(|_| format!("not an unsigned 64-bit number: {word}")));
         let mut need = |what| numbers.next().unwrap_or_else(|| Err(format!("no {what}")));
         let making = match queue {
-            Queue::Bounded => Making::Bounded { capacity: need("capacity")? },
+            Queue::Bounded { edition } => Making::Bounded { capacity: need("capacity")?, edition },
             Queue::Single => Making::Single,
         };
         let workers = need("number of workers")?;
@@ -44,7 +44,7 @@ impl Schedule {
     /// The input format, an entry to a line.
     pub fn text(&self) -> String {
         let mut text = match self.making {
-            Making::Bounded { capacity } => format!("{capacity} "),
+            Making::Bounded { capacity, .. } => format!("{capacity} "),
             Making::Single => String::new(),
         };
         text += &format!("{}\n", self.workers);

@@ -29,6 +29,7 @@ pub enum Action {
     WeakExchange(Word, usize, usize),
     FetchOr(Word, usize),
     FetchAnd(Word, usize),
+    FetchAdd(Word, usize),
     /// Read, write or replace the value of this slot.
     Value(usize),
 }

@@ -44,6 +44,11 @@ pub mod atomic {
             self.change(|word| Action::FetchAnd(word, bits), |found| found & bits)
         }
 
+        #[track_caller]
+        pub fn fetch_add(&self, number: usize, _: Ordering) -> usize {
+            self.change(|word| Action::FetchAdd(word, number), |found| found.wrapping_add(number))
+        }
+
         /// Fails when the words differ.
         #[track_caller]
         pub fn compare_exchange(&self, expected: usize, new: usize, _: Ordering, _: Ordering) -> Result<usize, usize> {

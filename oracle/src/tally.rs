@@ -18,15 +18,15 @@ pub enum Ending {
 const ENDINGS: [&str; 4] = ["won", "lost by the words", "lost by the schedule", "lost by both"];
 const KINDS: usize = Kind::COUNT;
 /// No refusal has a higher number.
-const REFUSALS: usize = 12;
+const REFUSALS: usize = 19;
 
 #[derive(Clone)]
 pub struct Tally {
     queue: Queue,
     pub schedules: u64,
     pub acts: u64,
-    /// Marks that F7 wiped out of tail.
-    pub closes_lost: u64,
+    /// Marks that F7 met in tail: edition 1 wipes them out, edition 2 keeps them.
+    pub closes_met: u64,
     /// Entries after which a worker stood in a place or was idle with an answer.
     places: [u64; KINDS],
     answers: [[u64; KINDS]; 8],
@@ -43,7 +43,7 @@ impl Tally {
             queue,
             schedules: 0,
             acts: 0,
-            closes_lost: 0,
+            closes_met: 0,
             places: [0; KINDS],
             answers: [[0; KINDS]; 8],
             exchanges: [[0; 4]; KINDS],
@@ -92,13 +92,13 @@ impl Tally {
             && seen(self.exchanges.as_flattened()) == 4 * facts.weak.len() + 2 * facts.strong.len()
             && facts.refusals.iter().all(|refusal| self.times_refused(*refusal) > 0)
             && self.items_met > 0
-            && (self.queue != Queue::Bounded || self.closes_lost > 0)
+            && (!matches!(self.queue, Queue::Bounded { .. }) || self.closes_met > 0)
     }
 
     pub fn add(&mut self, other: &Tally) {
         self.schedules += other.schedules;
         self.acts += other.acts;
-        self.closes_lost += other.closes_lost;
+        self.closes_met += other.closes_met;
         self.items_met += other.items_met;
         add_all(&mut self.places, &other.places);
         add_all(self.answers.as_flattened_mut(), other.answers.as_flattened());
@@ -128,8 +128,8 @@ impl fmt::Display for Tally {
                 writeln!(f, "exchange {} {ending} {times}", kind.name())?;
             }
         }
-        if self.queue == Queue::Bounded {
-            writeln!(f, "closes lost at F7 {}", self.closes_lost)?;
+        if let Queue::Bounded { edition } = self.queue {
+            writeln!(f, "closes {} at F7 {}", if edition == 1 { "lost" } else { "kept" }, self.closes_met)?;
         }
         for (refusal, times) in self.refusals.iter().enumerate().skip(1).filter(|(_, times)| **times > 0) {
             writeln!(f, "refusal {refusal} {times}")?;

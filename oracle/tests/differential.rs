@@ -21,11 +21,11 @@ fn place(name: &str) -> PathBuf {
 #[test]
 fn the_judge_agrees_with_itself() {
     for queue in Queue::ALL {
-        let judge = format!("{JUDGE} expect - --queue {}", queue.facts().name);
+        let judge = format!("{JUDGE} expect - {}", queue.options());
         let many = || differential(queue, format!("{judge} --many"), true, &place("same"));
         let one = || differential(queue, judge.clone(), false, &place("same"));
-        assert_eq!(interleaved::drive(&mut many(), 100_000, 1), Ok(()));
-        assert_eq!(interleaved::drive(&mut one(), 20_000, 2), Ok(()));
+        assert_eq!(interleaved::drive(&mut many(), 100_000, 1, false), Ok(()));
+        assert_eq!(interleaved::drive(&mut one(), 20_000, 2, false), Ok(()));
         assert_eq!(sequential::drive(&mut many(), 10_000, 3), Ok(()));
         assert_eq!(sequential::drive(&mut one(), 5_000, 4), Ok(()));
         assert_eq!(exhaustive::drive(&mut many(), Extent::Depth(4)), Ok(()));
@@ -37,7 +37,7 @@ fn the_judge_agrees_with_itself() {
 fn a_difference_is_cut_short_and_kept() {
     let script = concat!(env!("CARGO_MANIFEST_DIR"), "/tests/faulty.sh");
     let place = place("faulty");
-    let mut run = differential(Queue::Bounded, format!("sh {script} {JUDGE}"), false, &place);
+    let mut run = differential(Queue::RING, format!("sh {script} {JUDGE}"), false, &place);
     let message = sequential::drive(&mut run, 10_000, 5).expect_err("the fault is found");
     assert!(message.contains("judge: ") && message.contains("module: "), "{message}");
     let expected = fs::read_to_string(place.join("difference.expected")).unwrap();
@@ -51,7 +51,7 @@ fn a_difference_is_cut_short_and_kept() {
 #[test]
 fn the_lists_are_the_judges() {
     let lists = [
-        (Queue::Bounded, include_str!("../list/list.in"), include_str!("../list/list.out")),
+        (Queue::RING, include_str!("../list/list.in"), include_str!("../list/list.out")),
         (Queue::Single, include_str!("../list/single.in"), include_str!("../list/single.out")),
     ];
     for (queue, input, output) in lists {

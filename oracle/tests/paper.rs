@@ -1,4 +1,4 @@
-//! Document 01's eight runs on paper. All numbers are the document's.
+//! Document 01's eight runs on paper, and case F in edition 2 as request 6 has it. All numbers are the documents'.
 
 use oracle::machine::Machine;
 use oracle::queue::Making;
@@ -16,13 +16,21 @@ const ACT: u64 = 8;
 
 struct Bench(Machine);
 
+fn made_in(edition: u64, capacity: u64, workers: u64) -> Result<Machine, u64> {
+    Machine::make(Making::Bounded { capacity, edition }, workers)
+}
+
 fn made(capacity: u64, workers: u64) -> Result<Machine, u64> {
-    Machine::make(Making::Bounded { capacity }, workers)
+    made_in(1, capacity, workers)
 }
 
 impl Bench {
     fn new(capacity: u64, workers: u64) -> Bench {
-        Bench(made(capacity, workers).unwrap_or_else(|refusal| panic!("refused {refusal}")))
+        Bench::of(made(capacity, workers))
+    }
+
+    fn of(made: Result<Machine, u64>) -> Bench {
+        Bench(made.unwrap_or_else(|refusal| panic!("refused {refusal}")))
     }
 
     fn head(&self) -> u64 {
@@ -111,8 +119,8 @@ fn run_d() -> Bench {
 }
 
 /// Capacity 1, holding 7, and worker 0 at F6 of force_push 8.
-fn before_f6() -> Bench {
-    let mut bench = Bench::new(1, 2);
+fn before_f6(edition: u64) -> Bench {
+    let mut bench = Bench::of(made_in(edition, 1, 2));
     assert_eq!(bench.call(0, PUSH, 7), "idle:pushed");
     assert_eq!((bench.tail(), bench.stamps()), (4, [1]));
     bench.begin(0, FORCE_PUSH, 8);
@@ -124,7 +132,9 @@ fn before_f6() -> Bench {
 /// Mark is what `close` sets; lap is what the first pop's stamp store adds to head 0.
 #[test]
 fn a_constants() {
-    for (capacity, mark, lap) in [(1, 2, 4), (2, 4, 8), (3, 4, 8), (4, 8, 16), (255, 256, 512), (256, 512, 1024), (1024, 2048, 4096)] {
+    for (capacity, mark, lap) in
+        [(1, 2, 4), (2, 4, 8), (3, 4, 8), (4, 8, 16), (255, 256, 512), (256, 512, 1024), (1024, 2048, 4096)]
+    {
         let mut bench = Bench::new(capacity, 2);
         bench.call(0, PUSH, 5);
         bench.begin(0, POP, 0);
@@ -169,18 +179,30 @@ fn e_closed() {
 
 #[test]
 fn f_close_lost() {
-    let mut bench = before_f6();
+    let mut bench = before_f6(1);
     assert_eq!(bench.call(1, CLOSE, 0), "idle:yes");
     assert_eq!(bench.tail(), 6);
     assert_eq!(bench.end(0).0, "idle:displaced(7)");
     assert_eq!((bench.ends(), bench.stamps()), ((4, 8), [5]));
     assert_eq!(bench.call(1, IS_CLOSED, 0), "idle:no");
-    assert_eq!(bench.0.tally.closes_lost, 1);
+    assert_eq!(bench.0.tally.closes_met, 1);
+}
+
+#[test]
+fn f_in_edition_2() {
+    let mut bench = before_f6(2);
+    assert_eq!(bench.call(1, CLOSE, 0), "idle:yes");
+    assert_eq!(bench.tail(), 6);
+    assert_eq!(bench.end(0).0, "idle:displaced(7)");
+    assert_eq!((bench.ends(), bench.stamps()), ((4, 10), [5]));
+    assert_eq!(bench.call(1, IS_CLOSED, 0), "idle:yes");
+    assert_eq!(bench.0.tally.closes_met, 1);
+    assert_eq!(bench.contents(), [8]);
 }
 
 #[test]
 fn g_before_f7() {
-    let mut bench = before_f6();
+    let mut bench = before_f6(1);
     assert_eq!(bench.act(0), "F7(4,8)");
     assert_eq!(bench.ends(), (4, 4));
     assert_eq!(bench.call(1, LEN, 0), "idle:len(0)");
@@ -195,6 +217,9 @@ fn g_before_f7() {
 #[test]
 fn h_limits() {
     let refused = |capacity, workers| made(capacity, workers).err().unwrap_or(0);
+    let in_edition = |edition, capacity, workers| made_in(edition, capacity, workers).err().unwrap_or(0);
+    assert_eq!([0, 1, 2, 3, u64::MAX].map(|edition| in_edition(edition, 1, 1)), [18, 0, 0, 18, 18]);
+    assert_eq!([in_edition(3, 0, 17), in_edition(3, 1, 17)], [1, 2]);
     assert_eq!([0, 1025, 1, 1024].map(|capacity| refused(capacity, 1)), [1, 1, 0, 0]);
     assert_eq!([0, 17, 1, 16].map(|workers| refused(1, workers)), [2, 2, 0, 0]);
 }

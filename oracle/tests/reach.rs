@@ -9,7 +9,7 @@ use oracle::tally::Tally;
 
 fn short_run(queue: Queue) -> Tally {
     let mut run = Run::new(queue, None, 1000, "differences".into());
-    interleaved::drive(&mut run, 1_000_000, 7).unwrap();
+    interleaved::drive(&mut run, 1_000_000, 7, false).unwrap();
     run.tally
 }
 
@@ -30,7 +30,8 @@ fn every_place_answer_and_refusal() {
 /// A call's first actions show that words have their right names.
 #[test]
 fn words_have_their_names() {
-    let mut machine = Machine::make(Making::Bounded { capacity: 3 }, 4).unwrap_or_else(|_| panic!("refused"));
+    let mut machine =
+        Machine::make(Making::Bounded { capacity: 3, edition: 1 }, 4).unwrap_or_else(|_| panic!("refused"));
     for (worker, code, first) in [(0, 0, Word::Tail), (1, 2, Word::Head), (2, 4, Word::Head), (3, 5, Word::Tail)] {
         assert_eq!(machine.enter(16 * worker + code, 0), 0);
         assert_eq!(machine.pending(worker), Some(Action::Load(first)));

@@ -9,11 +9,11 @@ fn text(queue: Queue, input: &str, quiet: bool) -> String {
 }
 
 fn printed(input: &str) -> String {
-    text(Queue::Bounded, input, false)
+    text(Queue::RING, input, false)
 }
 
 fn quiet(input: &str) -> String {
-    text(Queue::Bounded, input, true)
+    text(Queue::RING, input, true)
 }
 
 fn single(input: &str) -> String {
@@ -55,7 +55,7 @@ fn refused_entry_ends_the_run() {
 #[test]
 fn order_of_refusals() {
     let refusal = |entries: &str| {
-        let outputs = [(Queue::Bounded, "1 1"), (Queue::Single, "1")].map(|(queue, making)| {
+        let outputs = [(Queue::RING, "1 1"), (Queue::Single, "1")].map(|(queue, making)| {
             let output = text(queue, &format!("{making} {entries}"), true);
             output.lines().nth(1).unwrap().split(' ').nth(1).unwrap().to_string()
         });
@@ -90,7 +90,7 @@ fn code_9() {
 fn texts_of_many() {
     assert_eq!(split("1 1\n%\n2 2\n"), ["1 1\n", "2 2\n"]);
     assert_eq!(split("a\n%\nb\n%\n"), ["a\n", "b\n"]);
-    assert!(Schedule::parse(Queue::Bounded, "1").is_err());
+    assert!(Schedule::parse(Queue::RING, "1").is_err());
     assert!(Schedule::parse(Queue::Single, "").is_err());
     for queue in Queue::ALL {
         assert!(Schedule::parse(queue, "1 1 x").is_err());

@@ -12,12 +12,12 @@ use Rattle.queue_entries.specs.Limits.{workersMost, inLimits}
 use Rattle.queue_entries.specs.declared.Told.{Told}
 use Rattle.queue_entries.specs.declared.Told.the-variants.{Number, Refused}
 use Rattle.queue_entries.specs.Told.{told}
-use Rattle.bounded_words.specs.Limits.{slotsMost}
+use Rattle.bounded_words.specs.Limits.{slotsMost, editionsMost}
 use Rattle.bounded_machine.specs.declared.Machine.{Machine}
 use Rattle.bounded_machine.specs.declared.Did.{Did}
 use Rattle.bounded_machine.specs.Machine.{freshOf, blank, refused, accepted}
 use Rattle.bounded_machine.specs.Broken.{brokenOf, allIdle}
-use Rattle.bounded_machine.specs.Contents.{countIn, itemAt, itemsFrom, contentsOf, contentsRefusal, written, capacityOf, Counted}
+use Rattle.bounded_machine.specs.Contents.{capacityRefusal, countIn, itemAt, itemsFrom, contentsOf, contentsRefusal, written, capacityOf, Counted}
 use Rattle.bounded_machine.proofs.Kept.{unbroken-of, ruled-in}
 use Rattle.bounded.specs.Bounded.{makeOf}
 
@@ -99,11 +99,11 @@ filled-more m b after k v h e q =
 -- ---- capacity
 module _ (m : Machine) (b : Bool) (e : b ≡ brokenOf m) where
   pub capacity-6 : b ≡ true → Refused 6 ≡ capacityOf m
-  unfolding capacityOf told
+  unfolding capacityRefusal capacityOf told
   capacity-6 h = rw (sym e ∙ h) refl
 
   pub capacity-is : b ≡ false → Number (m .ring .fixed .capacity) ≡ capacityOf m
-  unfolding capacityOf told
+  unfolding capacityRefusal capacityOf told
   capacity-is h = rw (sym e ∙ h) refl
 
 -- an item of the list is one of the slots
@@ -111,16 +111,21 @@ pub small-count : (m : Machine) (n k : ℕ) → brokenOf m ≡ false → Counted
 small-count m n k h c l = omega (arith, c .most, ruled-in m (unbroken-of m h) .most)
 
 -- ---- making
-module _ (capacity workers : ℕ) (a : Bool) (ea : a ≡ inLimits capacity slotsMost) where
-  pub make-1 : (m : Machine) (r : Did) → a ≡ false → m ≡ blank → r ≡ refused 1 m → r ≡ makeOf capacity workers
+module _ (capacity workers edition : ℕ) (a : Bool) (ea : a ≡ inLimits capacity slotsMost) where
+  pub make-1 : (m : Machine) (r : Did) → a ≡ false → m ≡ blank → r ≡ refused 1 m → r ≡ makeOf capacity workers edition
   unfolding makeOf
   make-1 m r h q e = no _ a _ _ _ ea h (e ∙ ap (refused 1) q)
 
   module _ (ha : a ≡ true) (b : Bool) (eb : b ≡ inLimits workers workersMost) where
-    pub make-2 : (m : Machine) (r : Did) → b ≡ false → m ≡ blank → r ≡ refused 2 m → r ≡ makeOf capacity workers
+    pub make-2 : (m : Machine) (r : Did) → b ≡ false → m ≡ blank → r ≡ refused 2 m → r ≡ makeOf capacity workers edition
     unfolding makeOf
     make-2 m r h q e = yes _ a _ _ _ ea ha (no _ b _ _ _ eb h (e ∙ ap (refused 2) q))
 
-    pub make-0 : (m : Machine) (r : Did) → b ≡ true → m ≡ freshOf capacity workers → r ≡ accepted m → r ≡ makeOf capacity workers
-    unfolding makeOf
-    make-0 m r h q e = yes _ a _ _ _ ea ha (yes _ b _ _ _ eb h (e ∙ ap accepted q))
+    module _ (hb : b ≡ true) (x : Bool) (ex : x ≡ inLimits edition editionsMost) where
+      pub make-18 : (m : Machine) (r : Did) → x ≡ false → m ≡ blank → r ≡ refused 18 m → r ≡ makeOf capacity workers edition
+      unfolding makeOf
+      make-18 m r h q e = yes _ a _ _ _ ea ha (yes _ b _ _ _ eb hb (no _ x _ _ _ ex h (e ∙ ap (refused 18) q)))
+
+      pub make-0 : (m : Machine) (r : Did) → x ≡ true → m ≡ freshOf capacity workers edition → r ≡ accepted m → r ≡ makeOf capacity workers edition
+      unfolding makeOf
+      make-0 m r h q e = yes _ a _ _ _ ea ha (yes _ b _ _ _ eb hb (yes _ x _ _ _ ex h (e ∙ ap accepted q)))

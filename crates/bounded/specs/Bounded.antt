@@ -4,7 +4,7 @@ use mathlib.Core.Bool.{cond}
 use lib.Dec.{ltb}
 use Rattle.queue_entries.specs.Limits.{workersMost, inLimits}
 use Rattle.bounded_words.specs.declared.Claim.{Claim}
-use Rattle.bounded_words.specs.Limits.{slotsMost, wide}
+use Rattle.bounded_words.specs.Limits.{slotsMost, editionsMost, wide}
 use Rattle.bounded_words.specs.Words.{claim}
 use Rattle.bounded_machine.specs.declared.Machine.{Machine}
 use Rattle.bounded_machine.specs.declared.Did.{Did}
@@ -15,11 +15,13 @@ use Rattle.bounded_machine.specs.Machine.{freshOf, blank, refused, accepted}
 use Rattle.bounded_machine.specs.Broken.{brokenOf}
 use Rattle.bounded_machine.specs.Turn.{turnOf}
 
--- Order: making 1, 2. A refused making returns the blank machine.
-unfoldable pub makeOf : ℕ → ℕ → Did
-makeOf capacity workers =
+-- Order: making 1, 2, 18. A refused making returns the blank machine.
+unfoldable pub makeOf : ℕ → ℕ → ℕ → Did
+makeOf capacity workers edition =
     cond (inLimits capacity slotsMost)
-    (cond (inLimits workers workersMost) (accepted (freshOf capacity workers)) (refused 2 blank))
+    (cond (inLimits workers workersMost)
+    (cond (inLimits edition editionsMost) (accepted (freshOf capacity workers edition)) (refused 18 blank))
+    (refused 2 blank))
     (refused 1 blank)
 
 -- One entry of a schedule by itself.

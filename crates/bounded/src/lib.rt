@@ -16,9 +16,9 @@ use bounded_places::Place;
 use bounded_words::Claim;
 use queue_entries::Told;
 
-// A fresh machine, or refusal 1 or 2 with the blank one.
-pub fn make(capacity: u64, workers: u64) -> Did
-    ensures { λ r. ⌜ r ≡ makeOf capacity workers ⌝ }
+// A fresh machine, or refusal 1, 2 or 18 with the blank one.
+pub fn make(capacity: u64, workers: u64, edition: u64) -> Did
+    ensures { λ r. ⌜ r ≡ makeOf capacity workers edition ⌝ }
 {
     if queue_entries::in_limits(capacity, bounded_words::SLOTS as u64) {} else {
         return bounded_machine::refuse(bounded_machine::blank(), 1);
@@ -26,7 +26,10 @@ pub fn make(capacity: u64, workers: u64) -> Did
     if queue_entries::in_limits(workers, queue_entries::WORKERS as u64) {} else {
         return bounded_machine::refuse(bounded_machine::blank(), 2);
     }
-    bounded_machine::accept(bounded_machine::fresh(capacity, workers))
+    if queue_entries::in_limits(edition, bounded_words::EDITIONS) {} else {
+        return bounded_machine::refuse(bounded_machine::blank(), 18);
+    }
+    bounded_machine::accept(bounded_machine::fresh(capacity, workers, edition))
 }
 
 pub fn broken(m: Machine) -> bool

@@ -2,10 +2,10 @@
 use Prim.Native.Nat.{ℕ, _+_, _<_, _≤_, _-_}
 use mathlib.Core.Path.{_≡_, refl, sym, ap, _∙_}
 use mathlib.Core.Bool.{Bool, true, false}
-use Rattle.queue_entries.proofs.Pick.{along, yes, no, below, above}
+use Rattle.queue_entries.proofs.Pick.{along, yes, no, below, above, equal, other}
 use Rattle.bounded_words.specs.declared.Stamp.{Stamp}
 use Rattle.bounded_words.specs.declared.Fixed.{Fixed}
-use Rattle.bounded_words.specs.Words.{Indexed, same, unmarkedOf}
+use Rattle.bounded_words.specs.Words.{Indexed, same, unmarkedOf, markedOf, nextOf, withMark}
 use Rattle.bounded_places.specs.declared.Slot.{Slot}
 use Rattle.bounded_places.specs.declared.Ends.{Ends}
 use Rattle.bounded_places.specs.declared.Kind.{Kind}
@@ -13,7 +13,7 @@ use Rattle.bounded_places.specs.declared.Place.{Place}
 use Rattle.bounded_places.specs.declared.Place.the-variants.{Idle}
 use Rattle.bounded_places.specs.declared.Answer.the-variants.{Len, Yes, No}
 use Rattle.bounded_acts.specs.declared.Acted.{Acted}
-use Rattle.bounded_acts.specs.Acts.{stay, tailTo, headTo, stampTo, yesNo, countOf, fullAt}
+use Rattle.bounded_acts.specs.Acts.{stay, tailTo, headTo, stampTo, forcedTail, yesNo, countOf, fullAt}
 
 pub ends : (e e′ : Ends) (s : Slot) (p : Place) (r : Acted) → r ≡ stay e′ s p → e′ ≡ e → r ≡ stay e s p
 ends e e′ s p r q h = q ∙ ap (λ (x : Ends). stay x s p) h
@@ -41,6 +41,21 @@ head-is e w v h = ap (headTo e) h
 pub stamp-is : (s : Slot) (w v : Stamp) → w ≡ v → record { stamp = w; value = s .value } ≡ stampTo s v
 unfolding stampTo
 stamp-is s w v h = ap (stampTo s) h
+
+-- what F7 stores, by the way that the code took
+module _ (f : Fixed) (tail t w : Stamp) (e : w ≡ nextOf f t) where
+  pub forced-first : (f .edition ≡ 2 → ⊥) → w ≡ forcedTail f tail t
+  unfolding forcedTail
+  forced-first h = other (f .edition) 2 _ _ _ h e
+
+  module _ (h : f .edition ≡ 2) (b : Bool) (m : b ≡ markedOf f tail) where
+    pub forced-clear : b ≡ false → w ≡ forcedTail f tail t
+    unfolding forcedTail
+    forced-clear k = equal (f .edition) 2 _ _ _ h (no _ b _ _ _ m k e)
+
+    pub forced-marked : (r : Stamp) → b ≡ true → r ≡ withMark f w → r ≡ forcedTail f tail t
+    unfolding forcedTail
+    forced-marked r k q = equal (f .edition) 2 _ _ _ h (yes _ b _ _ _ m k (q ∙ ap (withMark f) e))
 
 -- the answer that a looker gives
 pub told-yes : (e : Ends) (s : Slot) (b : Bool) (r : Acted) → b ≡ true → r ≡ stay e s (Idle Yes) → r ≡ stay e s (Idle (yesNo b))

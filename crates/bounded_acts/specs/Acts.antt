@@ -2,7 +2,7 @@
 use Prim.Native.Nat.{ℕ, _+_, _-_, _<_}
 use mathlib.Core.Bool.{Bool, true, false, cond}
 use mathlib.Core.Path.{_≡_}
-use lib.Dec.{ltb}
+use lib.Dec.{ltb, eqb}
 use Rattle.bounded_words.specs.declared.Stamp.{Stamp}
 use Rattle.bounded_words.specs.declared.Fixed.{Fixed}
 use Rattle.bounded_words.specs.Words.{plus, minus, indexOf, markedOf, unmarkedOf, withMark, nextOf, same, onePast, lapBehind, lapBehindOnePast, Fair}
@@ -71,9 +71,14 @@ actF6 f e s t x lose =
     (cond lose (stay e s (P1 Force x)) (stay (headTo e (minus (nextOf f t) (f .lap))) s (F7 t x)))
     (stay e s (P1 Force x))
 
+-- F7 makes tail next(t); in edition 2 it keeps tail's mark.
+unfoldable pub forcedTail : Fixed → Stamp → Stamp → Stamp
+forcedTail f tail t =
+    cond (eqb (f .edition) 2) (cond (markedOf f tail) (withMark f (nextOf f t)) (nextOf f t)) (nextOf f t)
+
 -- F7 | store next(t) in tail | F8
 abbrev pub actF7 : Fixed → Ends → Slot → Stamp → ℕ → Acted
-actF7 f e s t x = stay (tailTo e (nextOf f t)) s (F8 t x)
+actF7 f e s t x = stay (tailTo e (forcedTail f (e .tail) t)) s (F8 t x)
 
 -- F8 | read old value, write new | F9
 abbrev pub actF8 : Ends → Slot → Stamp → ℕ → Acted

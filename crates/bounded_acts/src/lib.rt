@@ -3,7 +3,7 @@
 ghost use mathlib.Core.Path.{_≡_};
 ghost use Rattle.bounded_words.specs.Words.{Fair, plus, minus, nextOf, withMark};
 ghost use Rattle.bounded_places.specs.declared.Place.the-variants.{Idle};
-ghost use Rattle.bounded_acts.specs.Acts.{stay, tailTo, headTo, stampTo, valueTo, fullAt, countOf, yesNo, actP1, actP2, actP3, actP5, actP6, actF6, actF7, actF8, actF9, actO2, actO3, actO5, actO6, actLen3, actEmpty2, actFull2, actClose1, actIsClosed1, Within};
+ghost use Rattle.bounded_acts.specs.Acts.{stay, tailTo, headTo, stampTo, valueTo, forcedTail, fullAt, countOf, yesNo, actP1, actP2, actP3, actP5, actP6, actF6, actF7, actF8, actF9, actO2, actO3, actO5, actO6, actLen3, actEmpty2, actFull2, actClose1, actIsClosed1, Within};
 use bounded_places::Answer;
 use bounded_places::Ends;
 use bounded_places::Kind;
@@ -57,6 +57,32 @@ fn tail_to_marked(f: Fixed, e: Ends) -> Ends
 {
     let h = e.head;
     let w = bounded_words::with_mark(f, e.tail);
+    Ends { head: h, tail: w }
+}
+
+// The word that F7 stores: "in edition 2 .. next(t) but keeps tail's mark, in one action".
+fn forced_tail(f: Fixed, tail: Stamp, t: Stamp) -> Stamp
+    requires { ⌜ Fair f ⌝ }
+    ensures { λ r. ⌜ r ≡ forcedTail f tail t ⌝ }
+{
+    let w = bounded_words::next(f, t);
+    if f.edition == 2 {
+        if bounded_words::marked(f, tail) {
+            bounded_words::with_mark(f, w)
+        } else {
+            w
+        }
+    } else {
+        w
+    }
+}
+
+fn tail_to_forced(f: Fixed, e: Ends, t: Stamp) -> Ends
+    requires { ⌜ Fair f ⌝ }
+    ensures { λ r. ⌜ r ≡ tailTo e (forcedTail f (e .tail) t) ⌝ }
+{
+    let h = e.head;
+    let w = forced_tail(f, e.tail, t);
     Ends { head: h, tail: w }
 }
 
@@ -189,7 +215,7 @@ pub fn f7(f: Fixed, e: Ends, s: Slot, t: Stamp, item: u64) -> Acted
     requires { ⌜ Fair f ⌝ }
     ensures { λ r. ⌜ r ≡ actF7 f e s t item ⌝ }
 {
-    stay(tail_to_next(f, e, t), s, Place::F8(t, item))
+    stay(tail_to_forced(f, e, t), s, Place::F8(t, item))
 }
 
 pub fn f8(e: Ends, s: Slot, t: Stamp, item: u64) -> Acted

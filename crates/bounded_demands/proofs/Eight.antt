@@ -6,7 +6,7 @@ use Rattle.queue_entries.specs.Limits.{all, inLimits}
 use Rattle.queue_entries.specs.Told.{told}
 use Rattle.bounded_words.specs.Words.{doubled, markOf, markedOf, unmarkedOf, plus, minus, withMark, nextOf, same, onePast, lapBehind, lapBehindOnePast}
 use Rattle.bounded_places.specs.Places.{inside}
-use Rattle.bounded_acts.specs.Acts.{stay, tailTo, headTo, stampTo, valueTo, countOf}
+use Rattle.bounded_acts.specs.Acts.{stay, tailTo, headTo, stampTo, valueTo, forcedTail, countOf}
 use Rattle.bounded_machine.specs.Machine.{emptySlots, stamped, freshSlots, idlers, freshOf, blank, refused, accepted}
 use Rattle.bounded_machine.specs.Broken.{byRule, endsFit, recordFits, recordsFit, brokenOf, allIdle}
 use Rattle.bounded_machine.specs.Contents.{countIn, wrapped, itemAt, itemsFrom, contentsOf}
@@ -18,5 +18,5 @@ use Rattle.bounded_demands.specs.Notions.{acts}
 use Rattle.bounded_demands.specs.Eight.{EightRuns, found, foundIn, table}
 
 pub eight-runs : EightRuns
-unfolding doubled markOf markedOf unmarkedOf plus minus withMark nextOf same onePast lapBehind lapBehindOnePast inside strayOf orderOf entryOf stay tailTo headTo stampTo valueTo countOf emptySlots stamped freshSlots idlers freshOf blank refused accepted all inLimits byRule endsFit recordFits recordsFit brokenOf allIdle told countIn wrapped itemAt itemsFrom contentsOf begun stored actedBy turnOfBy ran runBy scheduleBy historyBy tallyOf stockOf makeOf found foundIn acts table
+unfolding doubled markOf markedOf unmarkedOf plus minus withMark nextOf same onePast lapBehind lapBehindOnePast inside strayOf orderOf entryOf stay tailTo headTo stampTo valueTo forcedTail countOf emptySlots stamped freshSlots idlers freshOf blank refused accepted all inLimits byRule endsFit recordFits recordsFit brokenOf allIdle told countIn wrapped itemAt itemsFrom contentsOf begun stored actedBy turnOfBy ran runBy scheduleBy historyBy tallyOf stockOf makeOf found foundIn acts table
 eight-runs = refl

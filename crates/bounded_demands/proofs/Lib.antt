@@ -1,4 +1,6 @@
 pub mod Eight
+pub mod Numbers
 pub mod Refusals
 pub mod Attained
 pub mod Foretold
+pub mod CaseF

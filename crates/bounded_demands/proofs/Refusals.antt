@@ -10,27 +10,25 @@ use native.Mathlib.Decide.{decLt}
 use lib.ListN.{length, take, length-take, getD-replicate}
 use borrow.Author.Tests.{ne-eqb, eq-eqb, lt-ltb, ltb-true}
 use Rattle.queue_entries.specs.Schedules.{runBy, scheduleBy}
-use Rattle.queue_entries.specs.Limits.{workersMost, meterMost, inLimits}
+use Rattle.queue_entries.specs.Limits.{workersMost, inLimits}
 use Rattle.queue_entries.specs.declared.Order.{Order}
-use Rattle.queue_entries.specs.declared.Order.the-variants.{Begin, Act}
 use Rattle.queue_entries.specs.declared.Entry.{Entry}
 use Rattle.queue_entries.specs.declared.Entry.the-variants.{Unreadable, Asks}
 use Rattle.queue_entries.specs.Entries.{entryOf}
 use Rattle.queue_entries.specs.declared.Verdict.{Verdict}
 use Rattle.queue_entries.specs.declared.Verdict.the-variants.{Refuse, Start, Move}
-use Rattle.bounded_words.specs.Limits.{slotsMost}
+use Rattle.bounded_words.specs.Limits.{slotsMost, editionsMost}
 use Rattle.bounded_words.specs.declared.Stamp.{Stamp}
 use Rattle.bounded_words.specs.declared.Fixed.{Fixed}
 use Rattle.bounded_words.specs.Words.{stamp, markOf, lapOf, fixedOf}
 use Rattle.bounded_words.proofs.Fits.{Plain, plain}
-use Rattle.bounded_places.specs.declared.Place.{Place}
-use Rattle.bounded_places.specs.Places.{viewOf, inside, beginOf}
+use Rattle.bounded_places.specs.Places.{inside, beginOf}
 use Rattle.bounded_machine.specs.declared.Machine.{Machine}
 use Rattle.bounded_machine.specs.declared.Did.{Did}
 use Rattle.bounded_machine.specs.declared.Ran.{Ran}
 use Rattle.bounded_machine.specs.Machine.{starts, idler, idlers, placeOf, freshOf, blank, refused, accepted}
-use Rattle.bounded_machine.specs.Broken.{byRule, endsFit, recordFits, brokenOf, allIdle}
-use Rattle.bounded_machine.specs.Contents.{countIn, contentsRefusal, written}
+use Rattle.bounded_machine.specs.Broken.{byRule, endsFit, recordFits, brokenOf}
+use Rattle.bounded_machine.specs.Contents.{contentsRefusal, written}
 use Rattle.bounded_machine.specs.Turn.{verdictOf, carried, turn, turnOf, turnOfBy, begun, acted}
 use Rattle.bounded_machine.specs.Run.{ran, runFrom, runOf}
 use Rattle.bounded_machine.proofs.Laws.{ruled-of}
@@ -38,7 +36,8 @@ use Rattle.bounded_machine.proofs.Kept.{ends-of, either, Unbroken, unbroken-of,
 use Rattle.bounded_runs.proofs.Turns.{move-busy}
 use Rattle.bounded.proofs.Steps.{turn-unchanged}
 use Rattle.bounded.specs.Bounded as face
-use Rattle.bounded_demands.specs.Demands.{RefusedUnchanged, Numbered, StaysUnbroken, OnlyOne}
+use Rattle.bounded_demands.specs.Demands.{RefusedUnchanged, StaysUnbroken, OnlyOne}
+use Rattle.bounded_demands.proofs.Numbers.{picked}
 
 -- ---- one answer
 one : {A : Type 0} (d x y : A) → x ≡ d → y ≡ d → x ≡ y
@@ -46,7 +45,7 @@ one d x y p q = p ∙ sym q
 
 pub only-one : OnlyOne
 only-one = record {
-  make = (λ c w. one (face.makeOf c w));
+  make = (λ c w e. one (face.makeOf c w e));
   step = (λ m a b. one (face.stepOf m a b));
   begin = (λ m a b. one (face.beginOf m a b));
   act = (λ m a b. one (face.actOf m a b));
@@ -58,98 +57,6 @@ only-one = record {
   tally = (λ t p. one _);
   stock = (λ t. one _);
 }
-
--- ---- numbered
-Low : Did → Type 0
-Low d = d .refusal ≤ 11
-
--- a pick between two
-picked : {A : Type 0} (P : A → Type 0) (b : Bool) (x y : A) → P x → P y → P (cond b x y)
-picked P b x y p q = either P b x y (λ h. p) (λ h. q)
-
-refused-low : (k : ℕ) (m : Machine) → k ≤ 11 → refused k m .refusal ≤ 11
-unfolding refused
-refused-low k m h = h
-
-accepted-low : (m : Machine) → accepted m .refusal ≤ 11
-unfolding accepted
-accepted-low m = omega arith
-
-abbrev Sure : Verdict → Type 0
-Sure (Refuse k) = k ≤ 11
-Sure (Start c) = 0 ≤ 11
-Sure (Move lose) = 0 ≤ 11
-
-sure : (meter : ℕ) (p : Place) (o : Order) → Sure (verdictOf meter p o)
-sure meter p (Begin c) = picked Sure (viewOf p .busy) (Refuse 4) (Start c) (omega arith) (omega arith)
-sure meter p (Act lose) =
-    picked Sure (viewOf p .busy) _ (Refuse 5)
-    (picked Sure (ltb meter meterMost) _ (Refuse 7)
-    (picked Sure lose _ (Move false) (picked Sure (viewOf p .weak) (Move true) (Refuse 8) (omega arith) (omega arith)) (omega arith))
-    (omega arith))
-    (omega arith)
-
-carried-low : (m : Machine) (w : ℕ) (p : Place) (v : Verdict) → Sure v → carried m w p v .refusal ≤ 11
-carried-low m w p (Refuse k) h = refused-low k m h
-carried-low m w p (Start c) h = accepted-low (begun m w (beginOf c))
-carried-low m w p (Move lose) h = accepted-low (acted m w p lose)
-
-turn-low : (m : Machine) (x : Entry) → turn m x .refusal ≤ 11
-turn-low m Unreadable = refused-low 9 m (omega arith)
-turn-low m (Asks w o) =
-    picked (λ (d : Did). d .refusal ≤ 11) (ltb w (m .count)) _ (refused 3 m)
-    (carried-low m w (placeOf (m .workers) w) (verdictOf (m .meter) (placeOf (m .workers) w) o) (sure (m .meter) (placeOf (m .workers) w) o)) (refused-low 3 m (omega arith))
-
-turn-of-low : (m : Machine) (a b : ℕ) → turnOf m a b .refusal ≤ 11
-unfolding turnOfBy
-turn-of-low m a b = turn-low m (entryOf a b)
-
-from-low : (m : Machine) (i : ℕ) (s : List ℕ) → runFrom m i s .refusal ≤ 11
-unfolding runBy ran
-from-low m i [] = omega arith
-from-low m i (a ∷ []) = omega arith
-from-low m i (a ∷ b ∷ s) =
-    picked (λ (r : Ran). r .refusal ≤ 11) (eqb (turnOf m a b .refusal) 0) (runFrom (turnOf m a b .machine) (i + 1) s) (ran (turnOf m a b .refusal) i m)
-    (from-low (turnOf m a b .machine) (i + 1) s) (turn-of-low m a b)
-
-module _ (m : Machine) (a b : ℕ) where
-  step-low : face.stepOf m a b .refusal ≤ 11
-  unfolding face.stepOf
-  step-low = picked (λ (d : Did). d .refusal ≤ 11) (brokenOf m) (refused 6 m) (turnOf m a b) (refused-low 6 m (omega arith)) (turn-of-low m a b)
-
-  begin-low : face.beginOf m a b .refusal ≤ 11
-  unfolding face.beginOf
-  begin-low =
-      picked (λ (d : Did). d .refusal ≤ 11) (brokenOf m) (refused 6 m) _ (refused-low 6 m (omega arith))
-      (picked (λ (d : Did). d .refusal ≤ 11) (ltb (a % 16) 8) (turnOf m a b) (refused 9 m) (turn-of-low m a b) (refused-low 9 m (omega arith)))
-
-  act-low : face.actOf m a b .refusal ≤ 11
-  unfolding face.actOf
-  act-low =
-      picked (λ (d : Did). d .refusal ≤ 11) (brokenOf m) (refused 6 m) _ (refused-low 6 m (omega arith))
-      (picked (λ (d : Did). d .refusal ≤ 11) (ltb (a % 16) 8) (refused 9 m) (turnOf m a b) (refused-low 9 m (omega arith)) (turn-of-low m a b))
-
-make-low : (c w : ℕ) → face.makeOf c w .refusal ≤ 11
-unfolding face.makeOf
-make-low c w =
-    picked (λ (d : Did). d .refusal ≤ 11) (inLimits c slotsMost) _ (refused 1 blank)
-    (picked (λ (d : Did). d .refusal ≤ 11) (inLimits w workersMost) (accepted (freshOf c w)) (refused 2 blank) (accepted-low (freshOf c w)) (refused-low 2 blank (omega arith)))
-    (refused-low 1 blank (omega arith))
-
-run-low : (m : Machine) (s : List ℕ) → runOf m s .refusal ≤ 11
-unfolding scheduleBy ran
-run-low m s =
-    picked (λ (r : Ran). r .refusal ≤ 11) (brokenOf m) (ran 6 0 m) _ (omega arith)
-    (picked (λ (r : Ran). r .refusal ≤ 11) (eqb (length s % 2) 1) (ran 11 0 m) (runFrom m 0 s) (omega arith) (from-low m 0 s))
-
-contents-low : (m : Machine) (room : ℕ) → contentsRefusal m room ≤ 11
-unfolding contentsRefusal
-contents-low m room =
-    picked (λ (k : ℕ). k ≤ 11) (brokenOf m) 6 _ (omega arith)
-    (picked (λ (k : ℕ). k ≤ 11) (allIdle (m .workers)) _ 4 (picked (λ (k : ℕ). k ≤ 11) (ltb room (countIn m)) 10 0 (omega arith) (omega arith)) (omega arith))
-
-pub numbered : Numbered
-numbered = record { make = make-low; step = step-low; begin = begin-low; act = act-low; run = run-low; contents = contents-low }
 
 -- ---- unchanged
 abbrev Kept : Machine → Did → Type 0
@@ -184,11 +91,13 @@ module _ (m : Machine) (a b : ℕ) where
       picked (Kept m) (brokenOf m) (refused 6 m) _ (refused-kept 6 m)
       (picked (Kept m) (ltb (a % 16) 8) (refused 9 m) (turnOf m a b) (refused-kept 9 m) (turn-kept m a b))
 
-make-blank : (c w : ℕ) → Kept blank (face.makeOf c w)
+make-blank : (c w e : ℕ) → Kept blank (face.makeOf c w e)
 unfolding face.makeOf
-make-blank c w =
+make-blank c w e =
     picked (Kept blank) (inLimits c slotsMost) _ (refused 1 blank)
-    (picked (Kept blank) (inLimits w workersMost) (accepted (freshOf c w)) (refused 2 blank) (accepted-kept blank (freshOf c w)) (refused-kept 2 blank))
+    (picked (Kept blank) (inLimits w workersMost) _ (refused 2 blank)
+    (picked (Kept blank) (inLimits e editionsMost) (accepted (freshOf c w e)) (refused 18 blank) (accepted-kept blank (freshOf c w e)) (refused-kept 18 blank))
+    (refused-kept 2 blank))
     (refused-kept 1 blank)
 
 contents-kept : (m : Machine) (buffer : List ℕ) → (contentsRefusal m (length buffer) ≡ 0 → ⊥) → written m buffer ≡ buffer
@@ -317,35 +226,41 @@ run-unbroken m s h =
     (picked (λ (r : Ran). brokenOf (r .machine) ≡ false) (eqb (length s % 2) 1) (ran 11 0 m) (runFrom m 0 s) h
     (of-unbroken (runFrom m 0 s .machine) (from-unbroken s m 0 (unbroken-of m h))))
 
-fixed-by-rule : (c : ℕ) → byRule (fixedOf c) ≡ true
+fixed-by-rule : (c e : ℕ) → byRule (fixedOf c e) ≡ true
 unfolding byRule
-fixed-by-rule c = simp (eq-eqb (markOf c) (markOf c) refl, eq-eqb (lapOf c) (lapOf c) refl)
+fixed-by-rule c e = simp (eq-eqb (markOf c) (markOf c) refl, eq-eqb (lapOf c) (lapOf c) refl)
 
 inside-of-plain : (f : Fixed) (w : Stamp) → Plain f w → inside f w ≡ true
 unfolding inside
 inside-of-plain f w p = lt-ltb _ _ (p .low)
 
-starts-fit : (c : ℕ) → inLimits c slotsMost ≡ true → endsFit (fixedOf c) starts ≡ true
-starts-fit c h =
-    let r = ruled-of (fixedOf c) h (fixed-by-rule c) in
-    let p : Plain (fixedOf c) (stamp 0) = plain (fixedOf c) r (stamp 0) (rw (zero-mod (lapOf c)) (r .some)) in
-    ends-of (fixedOf c) starts p (inside-of-plain (fixedOf c) (stamp 0) p)
+starts-fit : (c e : ℕ) → inLimits c slotsMost ≡ true → endsFit (fixedOf c e) starts ≡ true
+starts-fit c e h =
+    let r = ruled-of (fixedOf c e) h (fixed-by-rule c e) in
+    let p : Plain (fixedOf c e) (stamp 0) = plain (fixedOf c e) r (stamp 0) (rw (zero-mod (lapOf c)) (r .some)) in
+    ends-of (fixedOf c e) starts p (inside-of-plain (fixedOf c e) (stamp 0) p)
 
 idlers-fit : (f : Fixed) (w i : ℕ) → i < workersMost → recordFits f (placeOf idlers i) (ltb i w) ≡ true
 unfolding recordFits idlers
 idlers-fit f w i l = rw (getD-replicate workersMost i idler idler l) refl
 
-pub fresh-unbroken : (c w : ℕ) → inLimits c slotsMost ≡ true → inLimits w workersMost ≡ true → Unbroken (freshOf c w)
+pub fresh-unbroken : (c w e : ℕ) → inLimits c slotsMost ≡ true → inLimits w workersMost ≡ true → inLimits e editionsMost ≡ true → Unbroken (freshOf c w e)
 unfolding freshOf
-fresh-unbroken c w hc hw = record { capacity = hc; count = hw; rule = fixed-by-rule c; ends = starts-fit c hc; records = idlers-fit (fixedOf c) w }
+fresh-unbroken c w e hc hw he =
+    record { capacity = hc; count = hw; edition = he; rule = fixed-by-rule c e; ends = starts-fit c e hc; records = idlers-fit (fixedOf c e) w }
 
-made-unbroken : (c w : ℕ) → face.makeOf c w .refusal ≡ 0 → brokenOf (face.makeOf c w .machine) ≡ false
+made-unbroken : (c w e : ℕ) → face.makeOf c w e .refusal ≡ 0 → brokenOf (face.makeOf c w e .machine) ≡ false
 unfolding face.makeOf refused accepted
-made-unbroken c w =
-    either (λ (d : Did). d .refusal ≡ 0 → brokenOf (d .machine) ≡ false) (inLimits c slotsMost) _ (refused 1 blank)
-    (λ hc. either (λ (d : Did). d .refusal ≡ 0 → brokenOf (d .machine) ≡ false) (inLimits w workersMost) (accepted (freshOf c w)) (refused 2 blank)
-    (λ hw z. of-unbroken (freshOf c w) (fresh-unbroken c w hc hw)) (λ hw z. absurd (omega arith)))
+made-unbroken c w e =
+    either Made (inLimits c slotsMost) _ (refused 1 blank)
+    (λ hc. either Made (inLimits w workersMost) _ (refused 2 blank)
+    (λ hw. either Made (inLimits e editionsMost) (accepted (freshOf c w e)) (refused 18 blank)
+    (λ he z. of-unbroken (freshOf c w e) (fresh-unbroken c w e hc hw he)) (λ he z. absurd (omega arith)))
+    (λ hw z. absurd (omega arith)))
     (λ hc z. absurd (omega arith))
+  where
+    Made : Did → Type 0
+    Made d = d .refusal ≡ 0 → brokenOf (d .machine) ≡ false
 
 pub stays-unbroken : StaysUnbroken
 stays-unbroken = record { step = step-unbroken; run = run-unbroken; made = made-unbroken }

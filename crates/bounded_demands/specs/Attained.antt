@@ -57,7 +57,7 @@ abbrev needs : ℕ → List ℕ → Place → ℕ → Case
 needs c s p n = record { capacity = c; schedule = s; place = p; number = n }
 
 unfoldable pub seenIn : Case → Sight
-seenIn r = sightOf (runOf (freshOf (r .capacity) 2) (r .schedule) .refusal) (runOf (freshOf (r .capacity) 2) (r .schedule) .machine)
+seenIn r = sightOf (runOf (freshOf (r .capacity) 2 1) (r .schedule) .refusal) (runOf (freshOf (r .capacity) 2 1) (r .schedule) .machine)
 
 -- Worker 0 begins the call of a code and does so many acts of it.
 abbrev its : ℕ → ℕ → List ℕ

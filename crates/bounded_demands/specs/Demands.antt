@@ -14,7 +14,7 @@ use Rattle.queue_entries.specs.Entries.{entryOf}
 use Rattle.bounded_words.specs.declared.Stamp.{Stamp}
 use Rattle.bounded_words.specs.Words.{fixedOf, indexOf, markedOf, unmarkedOf, lapBehind}
 use Rattle.bounded_places.specs.declared.Answer.{Answer}
-use Rattle.bounded_places.specs.declared.Answer.the-variants.{Yes}
+use Rattle.bounded_places.specs.declared.Answer.the-variants.{Yes, PopClosed}
 use Rattle.bounded_places.specs.declared.Place.{Place}
 use Rattle.bounded_places.specs.declared.Place.the-variants.{Idle, Empty2, Full2}
 use Rattle.bounded_places.specs.Places as places
@@ -26,12 +26,13 @@ use Rattle.bounded_machine.specs.declared.Moved.{Moved}
 use Rattle.bounded_machine.specs.declared.Tally.{Tally}
 use Rattle.bounded_machine.specs.Machine.{blank, freshOf, placeOf}
 use Rattle.bounded_machine.specs.Broken.{brokenOf, allIdle}
-use Rattle.bounded_machine.specs.Contents.{countIn, contentsOf, contentsRefusal, written, capacityOf}
+use Rattle.bounded_machine.specs.Contents.{countIn, contentsOf, contentsRefusal, written, capacityRefusal, capacityOf}
 use Rattle.bounded_machine.specs.Run.{runOf}
 use Rattle.bounded_machine.specs.History.{eventsOf, movedOf, stockOf}
 use Rattle.bounded.specs.Bounded.{makeOf, stepOf, beginOf, actOf, talliedOf}
-use Rattle.bounded_demands.specs.Notions.{Definition, Allowed, machineAfter, actsOf, Acts, acts, InHand, HandsOut, Reads, Truth, itemsOf, takersOf, LatestIn, ItemIn, WrittenIn, CallClaim, tally, waiting, Fifo, Plain, valueAt, queueAnswer, LenAnswers, mostOf, OtherHand, passed, ownActs, LetsGo}
+use Rattle.bounded_demands.specs.Notions.{Definition, Allowed, machineAfter, actsOf, Acts, acts, InHand, HandsOut, Reads, Truth, itemsOf, takersOf, LatestIn, ItemIn, WrittenIn, CallClaim, tally, waiting, Fifo, Plain, valueAt, queueAnswer, LenAnswers, mostOf, OtherHand, passed, ownActs, LetsGo, has, ClosesYes, NoClaims, ClaimsOn}
 use Rattle.bounded_demands.specs.Foretold.{foretold, Telling, toldIn, tellings, asForetold}
+use Rattle.bounded_demands.specs.Eight.{closedF, caseF}
 use Rattle.bounded_demands.specs.Attained.{Case, seenIn, attained, exactly}
 
 -- ==== 1. Any machine, entry or schedule handed in gets an answer or a numbered refusal; a refused step changes nothing.
@@ -40,8 +41,8 @@ use Rattle.bounded_demands.specs.Attained.{Case, seenIn, attained, exact
 
 -- Demand 1: a refused step changes nothing, in the machine or in a lent buffer.
 pub record RefusedUnchanged : Type 0 where
-  -- refusals 1 and 2 return the blank machine
-  pub make : (capacity workers : ℕ) → (makeOf capacity workers .refusal ≡ 0 → ⊥) → makeOf capacity workers .machine ≡ blank
+  -- refusals 1, 2 and 18 return the blank machine
+  pub make : (capacity workers edition : ℕ) → (makeOf capacity workers edition .refusal ≡ 0 → ⊥) → makeOf capacity workers edition .machine ≡ blank
   pub step : (m : Machine) (first second : ℕ) → (stepOf m first second .refusal ≡ 0 → ⊥) → stepOf m first second .machine ≡ m
   pub begin : (m : Machine) (first second : ℕ) → (beginOf m first second .refusal ≡ 0 → ⊥) → beginOf m first second .machine ≡ m
   pub act : (m : Machine) (first second : ℕ) → (actOf m first second .refusal ≡ 0 → ⊥) → actOf m first second .machine ≡ m
@@ -49,25 +50,26 @@ pub record RefusedUnchanged : Type 0 where
   pub run : (m : Machine) (s : List ℕ) → (runOf m s .refusal ≡ 0 → ⊥) → runOf m s .machine ≡ runOf m (take (2 * runOf m s .place) s) .machine
   pub contents : (m : Machine) (buffer : List ℕ) → (contentsRefusal m (length buffer) ≡ 0 → ⊥) → written m buffer ≡ buffer
 
--- Demand 1: a refusal is one of the eleven.
+-- Demand 1: the refusals that each function can give; 0 is none.
 pub record Numbered : Type 0 where
-  pub make : (capacity workers : ℕ) → makeOf capacity workers .refusal ≤ 11
-  pub step : (m : Machine) (first second : ℕ) → stepOf m first second .refusal ≤ 11
-  pub begin : (m : Machine) (first second : ℕ) → beginOf m first second .refusal ≤ 11
-  pub act : (m : Machine) (first second : ℕ) → actOf m first second .refusal ≤ 11
-  pub run : (m : Machine) (s : List ℕ) → runOf m s .refusal ≤ 11
-  pub contents : (m : Machine) (room : ℕ) → contentsRefusal m room ≤ 11
+  pub make : (capacity workers edition : ℕ) → has (0 ∷ 1 ∷ 2 ∷ 18 ∷ []) (makeOf capacity workers edition .refusal) ≡ true
+  pub step : (m : Machine) (first second : ℕ) → has (0 ∷ 3 ∷ 4 ∷ 5 ∷ 6 ∷ 7 ∷ 8 ∷ 9 ∷ []) (stepOf m first second .refusal) ≡ true
+  pub begin : (m : Machine) (first second : ℕ) → has (0 ∷ 3 ∷ 4 ∷ 6 ∷ 9 ∷ []) (beginOf m first second .refusal) ≡ true
+  pub act : (m : Machine) (first second : ℕ) → has (0 ∷ 3 ∷ 5 ∷ 6 ∷ 7 ∷ 8 ∷ 9 ∷ []) (actOf m first second .refusal) ≡ true
+  pub run : (m : Machine) (s : List ℕ) → has (0 ∷ 3 ∷ 4 ∷ 5 ∷ 6 ∷ 7 ∷ 8 ∷ 9 ∷ 11 ∷ []) (runOf m s .refusal) ≡ true
+  pub contents : (m : Machine) (room : ℕ) → has (0 ∷ 4 ∷ 6 ∷ 10 ∷ []) (contentsRefusal m room) ≡ true
+  pub capacity : (m : Machine) → has (0 ∷ 6 ∷ []) (capacityRefusal m) ≡ true
 
 -- No entry and no schedule breaks an unbroken machine, reached or not: so refusal 6 is tested once a schedule.
 pub record StaysUnbroken : Type 0 where
   pub step : (m : Machine) (first second : ℕ) → brokenOf m ≡ false → brokenOf (stepOf m first second .machine) ≡ false
   pub run : (m : Machine) (s : List ℕ) → brokenOf m ≡ false → brokenOf (runOf m s .machine) ≡ false
   -- and a made machine is unbroken
-  pub made : (capacity workers : ℕ) → makeOf capacity workers .refusal ≡ 0 → brokenOf (makeOf capacity workers .machine) ≡ false
+  pub made : (capacity workers edition : ℕ) → makeOf capacity workers edition .refusal ≡ 0 → brokenOf (makeOf capacity workers edition .machine) ≡ false
 
 -- Only one answer meets a promise: of the whole answer, the machine and the lent buffer.
 pub record OnlyOne : Type 0 where
-  pub make : (capacity workers : ℕ) (x y : Did) → x ≡ makeOf capacity workers → y ≡ makeOf capacity workers → x ≡ y
+  pub make : (capacity workers edition : ℕ) (x y : Did) → x ≡ makeOf capacity workers edition → y ≡ makeOf capacity workers edition → x ≡ y
   pub step : (m : Machine) (first second : ℕ) (x y : Did) → x ≡ stepOf m first second → y ≡ stepOf m first second → x ≡ y
   pub begin : (m : Machine) (first second : ℕ) (x y : Did) → x ≡ beginOf m first second → y ≡ beginOf m first second → x ≡ y
   pub act : (m : Machine) (first second : ℕ) (x y : Did) → x ≡ actOf m first second → y ≡ actOf m first second → x ≡ y
@@ -139,9 +141,9 @@ FullTrue d m =
     (w : ℕ) (next : Machine) (t : Stamp) → placeOf (m .workers) w ≡ Full2 t → Acts d m w next → placeOf (next .workers) w ≡ Idle Yes
     → lapBehind (m .ring .fixed) (m .ring .ends .head) (unmarkedOf (m .ring .fixed) (m .ring .ends .tail)) ≡ true
 
-pub record Demand2 (d : Definition) (capacity workers : ℕ) (m : Machine) (h : List Event) : Type 0 where
+pub record Demand2 (d : Definition) (capacity workers edition : ℕ) (m : Machine) (h : List Event) : Type 0 where
   -- It is the machine that was made, and its meter counts the acts.
-  pub made : m .ring .fixed ≡ fixedOf capacity
+  pub made : m .ring .fixed ≡ fixedOf capacity edition
   pub team : m .count ≡ workers
   pub meter : m .meter ≡ length h
   -- No machine so reached is broken, and no stamp wraps.
@@ -162,11 +164,11 @@ pub record Demand2 (d : Definition) (capacity workers : ℕ) (m : Machine) (h : 
   pub empty : EmptyTrue d m
   pub full : FullTrue d m
 
--- Every capacity, every number of workers, every schedule.
+-- Every capacity, every number of workers, both editions, every schedule.
 abbrev pub UnderEverySchedule : Definition → Type 0
 UnderEverySchedule d =
-    (capacity workers : ℕ) → Allowed capacity workers → (s : List ℕ)
-    → Demand2 d capacity workers (machineAfter d capacity workers s) (actsOf d capacity workers s)
+    (capacity workers edition : ℕ) → Allowed capacity workers edition → (s : List ℕ)
+    → Demand2 d capacity workers edition (machineAfter d capacity workers edition s) (actsOf d capacity workers edition s)
 
 -- Each act is the one action that document 01 reads out of the source: of entries that are accepted, each is one turn of the
 -- definition, on the machine and on the history; and a schedule of whole entries is run so.
@@ -180,15 +182,15 @@ ActByAct d =
 
 abbrev pub WholeSchedules : Definition → Type 0
 WholeSchedules d =
-    (capacity workers : ℕ) → Allowed capacity workers → (s : List ℕ)
-    → (length s % 2 ≡ 0 → runOf (freshOf capacity workers) s ≡ d .run (freshOf capacity workers) 0 s)
-    × (length s % 2 ≡ 1 → runOf (freshOf capacity workers) s .machine ≡ freshOf capacity workers)
+    (capacity workers edition : ℕ) → Allowed capacity workers edition → (s : List ℕ)
+    → (length s % 2 ≡ 0 → runOf (freshOf capacity workers edition) s ≡ d .run (freshOf capacity workers edition) 0 s)
+    × (length s % 2 ≡ 1 → runOf (freshOf capacity workers edition) s .machine ≡ freshOf capacity workers edition)
 
 -- Beside the demand: `len`'s count is true at its head load.
 abbrev pub LenTrue : Definition → Type 0
 LenTrue d =
-    (capacity workers : ℕ) → Allowed capacity workers → (s : List ℕ) (w n : ℕ) → LenAnswers d capacity workers s w n
-    → n ≡ stockOf (tally (actsOf d capacity workers s))
+    (capacity workers edition : ℕ) → Allowed capacity workers edition → (s : List ℕ) (w n : ℕ) → LenAnswers d capacity workers edition s w n
+    → n ≡ stockOf (tally (actsOf d capacity workers edition s))
 
 -- ==== 3. Nobody waits without a holder. Said of the same machines and acts.
 
@@ -247,8 +249,8 @@ pub record Demand3 (d : Definition) (m : Machine) (h : List Event) : Type 0 wher
 
 abbrev pub ScheduledAlone : Definition → Type 0
 ScheduledAlone d =
-    (capacity workers : ℕ) → Allowed capacity workers → (s : List ℕ)
-    → Demand3 d (machineAfter d capacity workers s) (actsOf d capacity workers s)
+    (capacity workers edition : ℕ) → Allowed capacity workers edition → (s : List ℕ)
+    → Demand3 d (machineAfter d capacity workers edition s) (actsOf d capacity workers edition s)
 
 -- The numbers are attained: each schedule of the table leads to its place, alone, and the call there needs exactly its number of acts.
 abbrev pub Attained : Type 0
@@ -257,3 +259,34 @@ Attained = map seenIn attained ≡ map (λ (c : Case). exactly (c .place) (c .nu
 -- Each schedule of the table leads to the answer that is foretold there.
 abbrev pub AsForetold : Type 0
 AsForetold = map toldIn tellings ≡ map (λ (r : Telling). asForetold (r .answer)) tellings
+
+-- ==== A close that holds (document 02, item 6). Said of the same machines and acts.
+
+-- Edition 2: once closed, always closed.
+abbrev pub OnceClosed : Definition → Machine → Type 0
+OnceClosed d m =
+    markedOf (m .ring .fixed) (m .ring .ends .tail) ≡ true → (entries : List ℕ)
+    → markedOf (m .ring .fixed) (d .run m 0 entries .machine .ring .ends .tail) ≡ true
+
+-- Edition 2: from the first on, a close answers yes at most once.
+abbrev pub YesOnce : List Event → Type 0
+YesOnce h =
+    (earlier between later : List Event) (act again : Event) → h ≡ earlier ++ act ∷ between ++ again ∷ later → ClosesYes act → ClosesYes again → ⊥
+
+-- Both editions: after any pop has answered Closed there is no further tail or head claim.
+abbrev pub NoneAfterClosed : List Event → Type 0
+NoneAfterClosed h = (earlier later : List Event) (act : Event) → h ≡ earlier ++ act ∷ later → act .after ≡ Idle PopClosed → NoClaims later
+
+abbrev pub CloseHolds : Definition → Type 0
+CloseHolds d =
+    (capacity workers : ℕ) → Allowed capacity workers 2 → (s : List ℕ)
+    → OnceClosed d (machineAfter d capacity workers 2 s) × YesOnce (actsOf d capacity workers 2 s)
+
+abbrev pub ClosedIsLast : Definition → Type 0
+ClosedIsLast d = (capacity workers edition : ℕ) → Allowed capacity workers edition → (s : List ℕ) → NoneAfterClosed (actsOf d capacity workers edition s)
+
+-- Edition 2: a force_push past its load may still claim, by case F. Edition 1: the two that hold of edition 2 do not, by case F and a close more.
+pub record CaseF (d : Definition) : Type 0 where
+  pub still-claims : ClaimsOn (actsOf d 1 2 2 caseF)
+  pub forgets : OnceClosed d (machineAfter d 1 2 1 closedF) → ⊥
+  pub yes-again : YesOnce (actsOf d 1 2 1 (caseF ++ 22 ∷ 0 ∷ acts 1 1)) → ⊥

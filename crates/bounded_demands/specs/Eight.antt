@@ -1,4 +1,4 @@
--- "Eight runs on paper" of document 01, as one table.
+-- "Eight runs on paper" of document 01, as one table: edition 1's, and case F in edition 2.
 use Prim.Native.Nat.{ℕ, _+_, _*_}
 use mathlib.Core.Path.{_≡_}
 use mathlib.Core.List.{List, [], _∷_, _++_, map}
@@ -20,8 +20,8 @@ use Rattle.bounded_demands.specs.Notions.{acts}
 pub data Fact : Type 0 where
   -- capacity, mark, lap
   constants : ℕ → ℕ → ℕ → Fact
-  -- capacity, workers, refusal
-  made : ℕ → ℕ → ℕ → Fact
+  -- capacity, workers, edition, refusal
+  made : ℕ → ℕ → ℕ → ℕ → Fact
   -- refusal and place of the report
   ended : ℕ → ℕ → Fact
   head : ℕ → Fact
@@ -39,7 +39,7 @@ pub data Fact : Type 0 where
 -- The same fact as the definitions have it, of a run's report and history.
 unfoldable pub found : Ran → List Event → Fact → Fact
 found r h (constants c m l) = constants c (markOf c) (lapOf c)
-found r h (made c w n) = made c w (makeOf c w .refusal)
+found r h (made c w e n) = made c w e (makeOf c w e .refusal)
 found r h (ended n k) = ended (r .refusal) (r .place)
 found r h (head n) = head (r .machine .ring .ends .head .0)
 found r h (tail n) = tail (r .machine .ring .ends .tail .0)
@@ -50,19 +50,26 @@ found r h (stands w p) = stands w (placeOf (r .machine .workers) w)
 found r h (contents l) = contents (contentsOf (r .machine))
 found r h (stock n) = stock (stockOf (tallyOf h (record { tail = claim 0; head = claim 0 })))
 
--- A run: capacity, workers, the schedule from the fresh machine, and what the text says of it.
+-- A run: edition, capacity, workers, the schedule from the fresh machine, and what the text says of it.
 pub record Row : Type 0 where
+  pub edition : ℕ
   pub capacity : ℕ
   pub workers : ℕ
   pub schedule : List ℕ
   pub facts : List Fact
 
+abbrev pub rowIn : ℕ → ℕ → ℕ → List ℕ → List Fact → Row
+rowIn e c w s l = record { edition = e; capacity = c; workers = w; schedule = s; facts = l }
+
 abbrev pub row : ℕ → ℕ → List ℕ → List Fact → Row
-row c w s l = record { capacity = c; workers = w; schedule = s; facts = l }
+row = rowIn 1
 
 unfoldable pub foundIn : Row → List Fact
 foundIn r =
-    map (found (runOf (freshOf (r .capacity) (r .workers)) (r .schedule)) (historyOf (freshOf (r .capacity) (r .workers)) (r .schedule))) (r .facts)
+    map
+    (found (runOf (freshOf (r .capacity) (r .workers) (r .edition)) (r .schedule))
+    (historyOf (freshOf (r .capacity) (r .workers) (r .edition)) (r .schedule)))
+    (r .facts)
 
 abbrev entry : ℕ → ℕ → ℕ → List ℕ
 entry worker code item = (16 * worker + code) ∷ item ∷ []
@@ -112,21 +119,21 @@ runE = runE₄ ++ pop 3
 abbrev runF₁ : List ℕ
 runF₁ = push 7 5
 
-abbrev runF₂ : List ℕ
-runF₂ = runF₁ ++ (entry 0 1 8 ++ acts 0 2)
+abbrev pub pastLoad : List ℕ
+pastLoad = runF₁ ++ (entry 0 1 8 ++ acts 0 2)
 
-abbrev runF₃ : List ℕ
-runF₃ = runF₂ ++ (entry 1 6 0 ++ acts 1 1)
+abbrev pub closedF : List ℕ
+closedF = pastLoad ++ (entry 1 6 0 ++ acts 1 1)
 
-abbrev runF₄ : List ℕ
-runF₄ = runF₃ ++ acts 0 4
+abbrev pub caseF : List ℕ
+caseF = closedF ++ acts 0 4
 
 abbrev runF : List ℕ
-runF = runF₄ ++ (entry 1 7 0 ++ acts 1 1)
+runF = caseF ++ (entry 1 7 0 ++ acts 1 1)
 
 -- G: as F without close, stopped before F7.
 abbrev runG : List ℕ
-runG = runF₂ ++ acts 0 1
+runG = pastLoad ++ acts 0 1
 
 -- Row by row: A to H.
 unfoldable pub table : List Row
@@ -144,16 +151,21 @@ table =
     ∷ row 2 1 runE₄ (stands 0 (Idle (Popped 8)) ∷ [])
     ∷ row 2 1 runE (stands 0 (Idle PopClosed) ∷ head 16 ∷ stamped 0 16 ∷ stamped 1 17 ∷ [])
     ∷ row 1 2 runF₁ (tail 4 ∷ stamped 0 1 ∷ contents (7 ∷ []) ∷ [])
-    ∷ row 1 2 runF₃ (stands 1 (Idle Yes) ∷ tail 6 ∷ [])
-    ∷ row 1 2 runF₄ (stands 0 (Idle (Displaced 7)) ∷ head 4 ∷ tail 8 ∷ stamped 0 5 ∷ [])
+    ∷ row 1 2 closedF (stands 1 (Idle Yes) ∷ tail 6 ∷ [])
+    ∷ row 1 2 caseF (stands 0 (Idle (Displaced 7)) ∷ head 4 ∷ tail 8 ∷ stamped 0 5 ∷ [])
     ∷ row 1 2 runF (stands 1 (Idle No) ∷ [])
+    ∷ rowIn 2 1 2 closedF (stands 1 (Idle Yes) ∷ tail 6 ∷ [])
+    ∷ rowIn 2 1 2 caseF (stands 0 (Idle (Displaced 7)) ∷ head 4 ∷ tail 10 ∷ stamped 0 5 ∷ contents (8 ∷ []) ∷ [])
+    ∷ rowIn 2 1 2 runF (stands 1 (Idle Yes) ∷ [])
     ∷ row 1 2 runG (head 4 ∷ tail 4 ∷ stock 0 ∷ [])
     ∷ row 1 2 (runG ++ (entry 1 3 0 ++ acts 1 3)) (stands 1 (Idle (Len 0)) ∷ [])
     ∷ row 1 2 (runG ++ (entry 1 4 0 ++ acts 1 2)) (stands 1 (Idle Yes) ∷ [])
     ∷ row 1 2 (runG ++ entry 1 2 0) (stands 1 O1 ∷ [])
     ∷ row 1 2 (runG ++ (entry 1 2 0 ++ acts 1 1)) (stands 1 (O2 (stamp 4)) ∷ [])
     ∷ row 1 2 (runG ++ (entry 1 2 0 ++ acts 1 2)) (stands 1 O1 ∷ [])
-    ∷ row 1 1 [] (made 0 1 1 ∷ made 1025 1 1 ∷ made 1 1 0 ∷ made 1024 1 0 ∷ made 1 0 2 ∷ made 1 17 2 ∷ made 1 1 0 ∷ made 1 16 0 ∷ [])
+    ∷ row 1 1 [] (made 0 1 1 1 ∷ made 1025 1 1 1 ∷ made 1 1 1 0 ∷ made 1024 1 1 0 ∷ made 1 0 1 2 ∷ made 1 17 1 2 ∷ made 1 1 1 0 ∷ made 1 16 1 0 ∷ [])
+    -- 18, after 1 and 2: any edition but 1 or 2
+    ∷ row 1 1 [] (made 1 1 0 18 ∷ made 1 1 3 18 ∷ made 1 1 2 0 ∷ made 0 1 3 1 ∷ made 1 17 3 2 ∷ [])
     ∷ []
 
 -- The definitions give them.

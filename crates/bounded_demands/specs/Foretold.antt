@@ -90,7 +90,7 @@ unfoldable pub toldBy : Machine → Told
 toldBy m = record { foretold-is = foretold m 0; ends-at = placeOf (runOf m (acts 0 7) .machine .workers) 0 }
 
 unfoldable pub toldIn : Telling → Told
-toldIn r = toldBy (runOf (freshOf (r .capacity) 2) (r .schedule) .machine)
+toldIn r = toldBy (runOf (freshOf (r .capacity) 2 1) (r .schedule) .machine)
 
 abbrev pub asForetold : Answer → Told
 asForetold a = record { foretold-is = a; ends-at = Idle a }

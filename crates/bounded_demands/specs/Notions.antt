@@ -16,7 +16,7 @@ use Rattle.queue_entries.specs.declared.Entry.the-variants.{Unreadable, Asks}
 use Rattle.queue_entries.specs.Entries.{entryOf}
 use Rattle.bounded_words.specs.declared.Stamp.{Stamp}
 use Rattle.bounded_words.specs.declared.Fixed.{Fixed}
-use Rattle.bounded_words.specs.Limits.{slotsMost, wide}
+use Rattle.bounded_words.specs.Limits.{slotsMost, editionsMost, wide}
 use Rattle.bounded_words.specs.Words.{claim, indexOf, markedOf, unmarkedOf, lapBehind}
 use Rattle.bounded_places.specs.declared.Ends.{Ends}
 use Rattle.bounded_places.specs.declared.Kind.{Kind}
@@ -56,19 +56,26 @@ byTable table = record { turn = turnOfBy table; run = runWith (turnOfBy table); 
 abbrev pub document01 : Definition
 document01 = byTable actOf
 
--- Every capacity and every number of workers that making accepts.
-pub record Allowed (capacity workers : ℕ) : Type 0 where
+-- Every capacity, number of workers and edition that making accepts.
+pub record Allowed (capacity workers edition : ℕ) : Type 0 where
   pub slot-some : 0 < capacity
   pub slot-most : capacity ≤ slotsMost
   pub worker-some : 0 < workers
   pub worker-most : workers ≤ workersMost
+  pub edition-some : 0 < edition
+  pub edition-most : edition ≤ editionsMost
 
 -- What a schedule makes of a fresh machine, and its acts.
-abbrev pub machineAfter : Definition → ℕ → ℕ → List ℕ → Machine
-machineAfter d capacity workers s = d .run (freshOf capacity workers) 0 s .machine
+abbrev pub machineAfter : Definition → ℕ → ℕ → ℕ → List ℕ → Machine
+machineAfter d capacity workers edition s = d .run (freshOf capacity workers edition) 0 s .machine
 
-abbrev pub actsOf : Definition → ℕ → ℕ → List ℕ → List Event
-actsOf d capacity workers s = d .history (freshOf capacity workers) s
+abbrev pub actsOf : Definition → ℕ → ℕ → ℕ → List ℕ → List Event
+actsOf d capacity workers edition s = d .history (freshOf capacity workers edition) s
+
+-- A number of this list.
+unfoldable pub has : List ℕ → ℕ → Bool
+has [] n = false
+has (x ∷ l) n = cond (eqb n x) true (has l n)
 
 -- An act of worker w that is accepted takes the machine m to the machine next.
 pub record Acts (d : Definition) (m : Machine) (w : ℕ) (next : Machine) : Type 0 where
@@ -270,11 +277,11 @@ Unmoved w (e ∷ h) = (e .worker ≢ w) × Unmoved w h
 
 -- A call of `len` by worker w that answers n: its head load is w's act on the machine after s; in the entries `rest` it does not
 -- act; its next act answers.
-pub record LenAnswers (d : Definition) (capacity workers : ℕ) (s : List ℕ) (w n : ℕ) : Type 0 where
+pub record LenAnswers (d : Definition) (capacity workers edition : ℕ) (s : List ℕ) (w n : ℕ) : Type 0 where
   pub tail : Stamp
-  pub loads : placeOf (machineAfter d capacity workers s .workers) w ≡ Len2 tail
+  pub loads : placeOf (machineAfter d capacity workers edition s .workers) w ≡ Len2 tail
   pub loaded : Machine
-  pub load : Acts d (machineAfter d capacity workers s) w loaded
+  pub load : Acts d (machineAfter d capacity workers edition s) w loaded
   pub rest : List ℕ
   pub still : Unmoved w (d .history loaded rest)
   pub answered : Machine
@@ -347,3 +354,25 @@ pub record LetsGo (d : Definition) (m : Machine) (w : ℕ) (entries : List ℕ) 
   pub own : ownActs d w m before ≡ n
   pub answer : Answer
   pub ends : placeOf (passed d m before .workers) w ≡ Idle answer
+
+-- ---- closing
+
+-- A close that answered yes.
+abbrev pub ClosesYes : Event → Type 0
+ClosesYes e = (e .before ≡ Close1) × (e .after ≡ Idle Yes)
+
+-- No act among these is a claim.
+abbrev pub NoClaims : List Event → Type 0
+NoClaims [] = Unit {0}
+NoClaims (e ∷ h) = (movedOf (e .after) ≡ Neither) × NoClaims h
+
+-- A tail claim that follows a close's yes.
+pub record ClaimsOn (h : List Event) : Type 0 where
+  pub earlier : List Event
+  pub close : Event
+  pub between : List Event
+  pub claim : Event
+  pub later : List Event
+  pub is : h ≡ earlier ++ close ∷ between ++ claim ∷ later
+  pub yes : ClosesYes close
+  pub claims : movedOf (claim .after) ≡ Tail

@@ -5,7 +5,7 @@ use mathlib.Core.Bool.{Bool, true, false, cond, not, true≢false}
 use mathlib.Core.List.{List, [], _∷_}
 use native.Mathlib.Omega.{arith}
 use native.Mathlib.Decide.{decLt}
-use lib.Dec.{ltb}
+use lib.Dec.{ltb, eqb}
 use lib.ListN.{getD, set}
 use borrow.Author.Tests.{lt-ltb, ltb-true, not-false}
 use Rattle.queue_entries.specs.Limits.{workersMost, all, inLimits}
@@ -15,7 +15,7 @@ use Rattle.queue_entries.specs.declared.Call.the-variants as call
 use Rattle.queue_entries.proofs.Limits.{limit-most}
 use Rattle.bounded_words.specs.declared.Stamp.{Stamp}
 use Rattle.bounded_words.specs.declared.Fixed.{Fixed}
-use Rattle.bounded_words.specs.Limits.{slotsMost}
+use Rattle.bounded_words.specs.Limits.{slotsMost, editionsMost}
 use Rattle.bounded_words.specs.Words.{markedOf, unmarkedOf, nextOf, plus, minus, withMark, same, onePast, lapBehind, lapBehindOnePast, Fair}
 use Rattle.bounded_words.proofs.Marks.{Ruled, fair}
 use Rattle.bounded_words.proofs.Fits.{Plain, next-plain, minus-plain, mark-index}
@@ -30,7 +30,7 @@ use Rattle.bounded_places.specs.declared.Held.the-variants as held
 use Rattle.bounded_places.specs.declared.Worker.{Worker}
 use Rattle.bounded_places.specs.Places.{viewOf, inside, fitsOf, beginOf}
 use Rattle.bounded_acts.specs.declared.Acted.{Acted}
-use Rattle.bounded_acts.specs.Acts.{stay, tailTo, headTo, stampTo, valueTo, actOf, actP1, fullAt, yesNo, countOf}
+use Rattle.bounded_acts.specs.Acts.{stay, tailTo, headTo, stampTo, valueTo, forcedTail, actOf, actP1, fullAt, yesNo, countOf}
 use Rattle.bounded_machine.specs.declared.Machine.{Machine}
 use Rattle.bounded_machine.specs.Machine.{placeOf, idler}
 use Rattle.bounded_machine.specs.Broken.{byRule, endsFit, recordFits, recordsFit, brokenOf}
@@ -86,6 +86,7 @@ placed (y ∷ ys) (suc w) (suc i) x d P p q = placed ys w i x d P (λ e. p (ap s
 pub record Unbroken (m : Machine) : Type 0 where
   pub capacity : inLimits (m .ring .fixed .capacity) slotsMost ≡ true
   pub count : inLimits (m .count) workersMost ≡ true
+  pub edition : inLimits (m .ring .fixed .edition) editionsMost ≡ true
   pub rule : byRule (m .ring .fixed) ≡ true
   pub ends : endsFit (m .ring .fixed) (m .ring .ends) ≡ true
   pub records : (i : ℕ) → i < workersMost → recordFits (m .ring .fixed) (placeOf (m .workers) i) (ltb i (m .count)) ≡ true
@@ -101,13 +102,15 @@ pass a b p q = either (λ (x : Bool). x ≡ false) a b true (λ h. q) (λ h. abs
 pub unbroken-of : (m : Machine) → brokenOf m ≡ false → Unbroken m
 unfolding brokenOf recordsFit
 unbroken-of m h =
-    let a = passes (inLimits (m .ring .fixed .capacity) slotsMost) _ h in
+    let x = passes (inLimits (m .ring .fixed .edition) editionsMost) _ h in
+    let a = passes (inLimits (m .ring .fixed .capacity) slotsMost) _ (x .1) in
     let b = passes (inLimits (m .count) workersMost) _ (a .1) in
     let c = passes (byRule (m .ring .fixed)) _ (b .1) in
     let d = passes (endsFit (m .ring .fixed) (m .ring .ends)) _ (c .1) in
     record {
       capacity = a .0;
       count = b .0;
+      edition = x .0;
       rule = c .0;
       ends = d .0;
       records = (λ i l. every workersMost 0 (λ (k : ℕ). recordFits (m .ring .fixed) (placeOf (m .workers) k) (ltb k (m .count))) (not-false _ (d .1)) i (omega arith) (omega arith));
@@ -116,8 +119,8 @@ unbroken-of m h =
 pub of-unbroken : (m : Machine) → Unbroken m → brokenOf m ≡ false
 unfolding brokenOf recordsFit
 of-unbroken m u =
-    pass _ _ (u .capacity) (pass _ _ (u .count) (pass _ _ (u .rule) (pass _ _ (u .ends)
-    (ap not (all-of workersMost 0 (λ (k : ℕ). recordFits (m .ring .fixed) (placeOf (m .workers) k) (ltb k (m .count))) (λ k l g. u .records k (omega arith)))))))
+    pass _ _ (u .edition) (pass _ _ (u .capacity) (pass _ _ (u .count) (pass _ _ (u .rule) (pass _ _ (u .ends)
+    (ap not (all-of workersMost 0 (λ (k : ℕ). recordFits (m .ring .fixed) (placeOf (m .workers) k) (ltb k (m .count))) (λ k l g. u .records k (omega arith))))))))
 
 module _ (m : Machine) (u : Unbroken m) where
   pub ruled-in : Ruled (m .ring .fixed)
@@ -180,21 +183,32 @@ module _ (f : Fixed) (r : Ruled f) where
         either Ok (markedOf f (e .tail)) _ _ (λ q. stays e s (Idle (Closed x)) h refl)
         (λ q. stays e s (P2 k (e .tail) x) h (plain-fits f (e .tail) (plain-tail q)))
 
-    tail-moves : (t : Stamp) (p : Place) → Plain f t → fitsOf f (viewOf p .held) ≡ true → Ok (stay (tailTo e (nextOf f t)) s p)
-    unfolding tailTo inside
-    tail-moves t p q k =
-        stays (tailTo e (nextOf f t)) s p (ends-of f (tailTo e (nextOf f t)) (head-plain f e h) (lt-ltb _ _ (next-plain f r t q .low))) k
+    -- tail to a word whose index is below capacity
+    tail-goes : (w : Stamp) (p : Place) → inside f w ≡ true → fitsOf f (viewOf p .held) ≡ true → Ok (stay (tailTo e w) s p)
+    unfolding tailTo
+    tail-goes w p q k = stays (tailTo e w) s p (ends-of f (tailTo e w) (head-plain f e h) q) k
+
+    next-inside : (t : Stamp) → Plain f t → inside f (nextOf f t) ≡ true
+    unfolding inside
+    next-inside t q = lt-ltb _ _ (next-plain f r t q .low)
+
+    marked-inside : (w : Stamp) → inside f w ≡ true → inside f (withMark f w) ≡ true
+    unfolding inside
+    marked-inside w q = lt-ltb _ _ (subst (λ (i : ℕ). i < f .capacity) (sym (mark-index f r w)) (ltb-true _ _ q))
+
+    forced-inside : (t : Stamp) → Plain f t → inside f (forcedTail f (e .tail) t) ≡ true
+    unfolding forcedTail
+    forced-inside t q =
+        either In (eqb (f .edition) 2) (cond (markedOf f (e .tail)) (withMark f (nextOf f t)) (nextOf f t)) (nextOf f t)
+        (λ b. either In (markedOf f (e .tail)) (withMark f (nextOf f t)) (nextOf f t) (λ d. marked-inside (nextOf f t) (next-inside t q)) (λ d. next-inside t q))
+        (λ b. next-inside t q)
+      where
+        In : Stamp → Type 0
+        In w = inside f w ≡ true
 
     head-moves : (w : Stamp) (p : Place) → Plain f w → fitsOf f (viewOf p .held) ≡ true → Ok (stay (headTo e w) s p)
     unfolding headTo
     head-moves w p q k = stays (headTo e w) s p (ends-of f (headTo e w) q (tail-inside f e h)) k
-
-    closes : Ok (stay (tailTo e (withMark f (e .tail))) s (Idle Yes))
-    unfolding tailTo inside
-    closes =
-        stays (tailTo e (withMark f (e .tail))) s (Idle Yes)
-        (ends-of f (tailTo e (withMark f (e .tail))) (head-plain f e h)
-        (lt-ltb _ _ (subst (λ (i : ℕ). i < f .capacity) (sym (mark-index f r (e .tail))) (ltb-true _ _ (tail-inside f e h))))) refl
 
     full-fits : (k : Kind) (t : Stamp) (x : ℕ) → fitsOf f (held.End t) ≡ true → fitsOf f (viewOf (fullAt k t x) .held) ≡ true
     full-fits Push t x q = q
@@ -211,7 +225,7 @@ module _ (f : Fixed) (r : Ruled f) where
     keeps (P3 k t x) lose q =
         either Ok (same (e .tail) t) _ (actP1 f e s k x)
         (λ b. either Ok lose (stay e s (P2 k t x)) (stay (tailTo e (nextOf f t)) s (P4 t x))
-        (λ d. stays e s (P2 k t x) h q) (λ d. tail-moves t (P4 t x) (fits-plain f t q) q))
+        (λ d. stays e s (P2 k t x) h q) (λ d. tail-goes (nextOf f t) (P4 t x) (next-inside t (fits-plain f t q)) q))
         (λ b. loads-tail k x)
     keeps (P4 t x) lose q = stays e (valueTo s x) (P5 t) h q
     keeps (P5 t) lose q = stays e (stampTo s (plus t 1)) (Idle Pushed) h refl
@@ -224,7 +238,7 @@ module _ (f : Fixed) (r : Ruled f) where
         (λ d. stays e s (P1 Force x) h refl)
         (λ d. head-moves (minus (nextOf f t) (f .lap)) (F7 t x) (minus-plain f r (nextOf f t) (next-plain f r t (fits-plain f t q))) q))
         (λ b. stays e s (P1 Force x) h refl)
-    keeps (F7 t x) lose q = tail-moves t (F8 t x) (fits-plain f t q) q
+    keeps (F7 t x) lose q = tail-goes (forcedTail f (e .tail) t) (F8 t x) (forced-inside t (fits-plain f t q)) q
     keeps (F8 t x) lose q = stays e (valueTo s x) (F9 t (s .value)) h q
     keeps (F9 t old) lose q = stays e (stampTo s (plus t 1)) (Idle (Displaced old)) h refl
     keeps O1 lose q = stays e s (O2 (e .head)) h (plain-fits f (e .head) (head-plain f e h))
@@ -254,7 +268,7 @@ module _ (f : Fixed) (r : Ruled f) where
     keeps (Full2 t) lose q = stays e s (Idle (yesNo (lapBehind f (e .head) (unmarkedOf f t)))) h refl
     keeps Close1 lose q =
         either Ok (markedOf f (e .tail)) (stay e s (Idle No)) (stay (tailTo e (withMark f (e .tail))) s (Idle Yes))
-        (λ b. stays e s (Idle No) h refl) (λ b. closes)
+        (λ b. stays e s (Idle No) h refl) (λ b. tail-goes (withMark f (e .tail)) (Idle Yes) (marked-inside (e .tail) (tail-inside f e h)) refl)
     keeps IsClosed1 lose q = stays e s (Idle (yesNo (markedOf f (e .tail)))) h refl
 
 -- a call begins with no word loaded
@@ -290,6 +304,7 @@ module _ (m : Machine) (u : Unbroken m) (w : ℕ) (l : w < m .count) where
       record {
         capacity = u .capacity;
         count = u .count;
+        edition = u .edition;
         rule = u .rule;
         ends = u .ends;
         records = records-with (beginOf c) (ap (fitsOf (m .ring .fixed)) (begin-holds c));
@@ -302,7 +317,7 @@ module _ (m : Machine) (u : Unbroken m) (w : ℕ) (l : w < m .count) where
   pub stored-unbroken : (i : ℕ) (a : Acted) → Ok (m .ring .fixed) (ruled-in m u) a → Unbroken (stored m w i a)
   unfolding stored
   stored-unbroken i a k =
-      record { capacity = u .capacity; count = u .count; rule = u .rule; ends = k .ends; records = records-with (a .place) (k .held) }
+      record { capacity = u .capacity; count = u .count; edition = u .edition; rule = u .rule; ends = k .ends; records = records-with (a .place) (k .held) }
 
   pub acted-unbroken : (lose : Bool) → viewOf (placeOf (m .workers) w) .busy ≡ true → Unbroken (acted m w (placeOf (m .workers) w) lose)
   unfolding actedBy

@@ -11,7 +11,7 @@ use Rattle.queue_entries.proofs.Pick.{yes, no, on, off, equal, other, both-left
 use Rattle.queue_entries.proofs.Limits.{limit-some, limit-most}
 use Rattle.bounded_words.specs.declared.Stamp.{Stamp}
 use Rattle.bounded_words.specs.declared.Fixed.{Fixed}
-use Rattle.bounded_words.specs.Limits.{slotsMost}
+use Rattle.bounded_words.specs.Limits.{slotsMost, editionsMost}
 use Rattle.bounded_words.specs.Words.{markOf, lapOf, Indexed, Fair}
 use Rattle.bounded_words.proofs.Marks.{Ruled, ruled, fair}
 use Rattle.bounded_places.specs.declared.Place.{Place}
@@ -71,37 +71,43 @@ pub fair-of : (f : Fixed) (b d : Bool) → b ≡ inLimits (f .capacity) slotsMos
 fair-of f b d e h k l = fair f (ruled-of f (sym e ∙ h) (sym k ∙ l))
 
 -- broken, by the first test that fails, or unbroken
-module _ (m : Machine) (a : Bool) (ea : a ≡ inLimits (m .ring .fixed .capacity) slotsMost) where
-  pub broken-capacity : a ≡ false → true ≡ brokenOf m
+module _ (m : Machine) (x : Bool) (ex : x ≡ inLimits (m .ring .fixed .edition) editionsMost) where
+  pub broken-edition : x ≡ false → true ≡ brokenOf m
   unfolding brokenOf
-  broken-capacity h = no _ a _ _ _ ea h refl
+  broken-edition h = no _ x _ _ _ ex h refl
 
-  module _ (ha : a ≡ true) (b : Bool) (eb : b ≡ inLimits (m .count) workersMost) where
-    pub broken-count : b ≡ false → true ≡ brokenOf m
+  module _ (hx : x ≡ true) (a : Bool) (ea : a ≡ inLimits (m .ring .fixed .capacity) slotsMost) where
+    pub broken-capacity : a ≡ false → true ≡ brokenOf m
     unfolding brokenOf
-    broken-count h = yes _ a _ _ _ ea ha (no _ b _ _ _ eb h refl)
+    broken-capacity h = yes _ x _ _ _ ex hx (no _ a _ _ _ ea h refl)
 
-    module _ (hb : b ≡ true) (d : Bool) (ed : d ≡ byRule (m .ring .fixed)) where
-      pub broken-rule : d ≡ false → true ≡ brokenOf m
+    module _ (ha : a ≡ true) (b : Bool) (eb : b ≡ inLimits (m .count) workersMost) where
+      pub broken-count : b ≡ false → true ≡ brokenOf m
       unfolding brokenOf
-      broken-rule h = yes _ a _ _ _ ea ha (yes _ b _ _ _ eb hb (no _ d _ _ _ ed h refl))
+      broken-count h = yes _ x _ _ _ ex hx (yes _ a _ _ _ ea ha (no _ b _ _ _ eb h refl))
 
-      module _ (hd : d ≡ true) (g : Bool) (eg : g ≡ endsFit (m .ring .fixed) (m .ring .ends)) where
-        pub broken-ends : g ≡ false → true ≡ brokenOf m
+      module _ (hb : b ≡ true) (d : Bool) (ed : d ≡ byRule (m .ring .fixed)) where
+        pub broken-rule : d ≡ false → true ≡ brokenOf m
         unfolding brokenOf
-        broken-ends h = yes _ a _ _ _ ea ha (yes _ b _ _ _ eb hb (yes _ d _ _ _ ed hd (no _ g _ _ _ eg h refl)))
+        broken-rule h = yes _ x _ _ _ ex hx (yes _ a _ _ _ ea ha (yes _ b _ _ _ eb hb (no _ d _ _ _ ed h refl)))
 
-        pub broken-records : (k : Bool) → g ≡ true → k ≡ recordsFit (m .ring .fixed) (m .count) (m .workers) → not k ≡ brokenOf m
-        unfolding brokenOf
-        broken-records k h e = yes _ a _ _ _ ea ha (yes _ b _ _ _ eb hb (yes _ d _ _ _ ed hd (yes _ g _ _ _ eg h (ap not e))))
+        module _ (hd : d ≡ true) (g : Bool) (eg : g ≡ endsFit (m .ring .fixed) (m .ring .ends)) where
+          pub broken-ends : g ≡ false → true ≡ brokenOf m
+          unfolding brokenOf
+          broken-ends h = yes _ x _ _ _ ex hx (yes _ a _ _ _ ea ha (yes _ b _ _ _ eb hb (yes _ d _ _ _ ed hd (no _ g _ _ _ eg h refl))))
 
-        pub broken-record : (k : Bool) → g ≡ true → k ≡ recordsFit (m .ring .fixed) (m .count) (m .workers) → k ≡ false → true ≡ brokenOf m
-        broken-record k h e l = sym (ap not l) ∙ broken-records k h e
+          pub broken-records : (k : Bool) → g ≡ true → k ≡ recordsFit (m .ring .fixed) (m .count) (m .workers) → not k ≡ brokenOf m
+          unfolding brokenOf
+          broken-records k h e =
+              yes _ x _ _ _ ex hx (yes _ a _ _ _ ea ha (yes _ b _ _ _ eb hb (yes _ d _ _ _ ed hd (yes _ g _ _ _ eg h (ap not e)))))
 
-        pub unbroken : (k : Bool) → g ≡ true → k ≡ recordsFit (m .ring .fixed) (m .count) (m .workers) → k ≡ true → false ≡ brokenOf m
-        unbroken k h e l = sym (ap not l) ∙ broken-records k h e
+          pub broken-record : (k : Bool) → g ≡ true → k ≡ recordsFit (m .ring .fixed) (m .count) (m .workers) → k ≡ false → true ≡ brokenOf m
+          broken-record k h e l = sym (ap not l) ∙ broken-records k h e
+
+          pub unbroken : (k : Bool) → g ≡ true → k ≡ recordsFit (m .ring .fixed) (m .count) (m .workers) → k ≡ true → false ≡ brokenOf m
+          unbroken k h e l = sym (ap not l) ∙ broken-records k h e
 
 -- a fresh machine, from its mark and its slots
-pub fresh-is : (capacity workers m : ℕ) (s : List Slot) → m ≡ markOf capacity → s ≡ freshSlots capacity → machineOf (record { mark = m; lap = 2 * m; capacity = capacity }) starts s (replicate workersMost idler) workers 0 ≡ freshOf capacity workers
+pub fresh-is : (capacity workers edition m : ℕ) (s : List Slot) → m ≡ markOf capacity → s ≡ freshSlots capacity → machineOf (record { mark = m; lap = 2 * m; capacity = capacity; edition = edition }) starts s (replicate workersMost idler) workers 0 ≡ freshOf capacity workers edition
 unfolding freshOf idlers
-fresh-is capacity workers m s e h = rw (e, h)
+fresh-is capacity workers edition m s e h = rw (e, h)

@@ -5,7 +5,7 @@ use mathlib.Core.List.{List}
 use lib.Dec.{ltb, eqb}
 use Rattle.queue_entries.specs.Limits.{workersMost, inLimits, all}
 use Rattle.bounded_words.specs.declared.Fixed.{Fixed}
-use Rattle.bounded_words.specs.Limits.{slotsMost}
+use Rattle.bounded_words.specs.Limits.{slotsMost, editionsMost}
 use Rattle.bounded_words.specs.Words.{markOf, lapOf, markedOf}
 use Rattle.bounded_places.specs.declared.Ends.{Ends}
 use Rattle.bounded_places.specs.declared.Place.{Place}
@@ -29,14 +29,16 @@ recordFits f p counted = cond (viewOf p .busy) (cond counted (fitsOf f (viewOf p
 unfoldable pub recordsFit : Fixed → ℕ → List Worker → Bool
 recordsFit f count ws = all workersMost 0 (λ (i : ℕ). recordFits f (placeOf ws i) (ltb i count))
 
+-- an edition that is neither 1 nor 2, and the rest
 unfoldable pub brokenOf : Machine → Bool
 brokenOf m =
-    cond (inLimits (m .ring .fixed .capacity) slotsMost)
+    cond (inLimits (m .ring .fixed .edition) editionsMost)
+    (cond (inLimits (m .ring .fixed .capacity) slotsMost)
     (cond (inLimits (m .count) workersMost)
     (cond (byRule (m .ring .fixed))
     (cond (endsFit (m .ring .fixed) (m .ring .ends))
     (not (recordsFit (m .ring .fixed) (m .count) (m .workers)))
-    true) true) true) true
+    true) true) true) true) true
 
 -- no worker is busy
 unfoldable pub allIdle : List Worker → Bool

@@ -45,8 +45,11 @@ written m buffer =
     cond (eqb (contentsRefusal m (length buffer)) 0) (contentsOf m ++ drop (countIn m) buffer) buffer
 
 -- `capacity`: 6, else the machine's capacity at any time
+unfoldable pub capacityRefusal : Machine → ℕ
+capacityRefusal m = cond (brokenOf m) 6 0
+
 unfoldable pub capacityOf : Machine → Told
-capacityOf m = told (cond (brokenOf m) 6 0) (m .ring .fixed .capacity)
+capacityOf m = told (capacityRefusal m) (m .ring .fixed .capacity)
 
 -- the count of an unbroken machine, and its bound
 pub record Counted (m : Machine) (n : ℕ) : Type 0 where

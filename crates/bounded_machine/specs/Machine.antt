@@ -44,12 +44,12 @@ machineOf f e s w n k = record { ring = record { fixed = f; ends = e; slots = s 
 abbrev pub starts : Ends
 starts = record { head = stamp 0; tail = stamp 0 }
 
-unfoldable pub freshOf : ℕ → ℕ → Machine
-freshOf capacity workers = machineOf (fixedOf capacity) starts (freshSlots capacity) idlers workers 0
+unfoldable pub freshOf : ℕ → ℕ → ℕ → Machine
+freshOf capacity workers edition = machineOf (fixedOf capacity edition) starts (freshSlots capacity) idlers workers 0
 
 -- blank machine: all numbers 0, workers idle
 unfoldable pub blank : Machine
-blank = machineOf (record { mark = 0; lap = 0; capacity = 0 }) starts emptySlots idlers 0 0
+blank = machineOf (record { mark = 0; lap = 0; capacity = 0; edition = 0 }) starts emptySlots idlers 0 0
 
 -- Where the worker numbered w stands.
 abbrev pub placeOf : List Worker → ℕ → Place

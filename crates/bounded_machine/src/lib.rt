@@ -110,9 +110,9 @@ pub fn fresh_slots(capacity: u64) -> [Slot; bounded_words::SLOTS]
     slots
 }
 
-pub fn fresh(capacity: u64, workers: u64) -> Machine
+pub fn fresh(capacity: u64, workers: u64, edition: u64) -> Machine
     requires { ⌜ capacity ≤ slotsMost ⌝ }
-    ensures { λ r. ⌜ r ≡ freshOf capacity workers ⌝ }
+    ensures { λ r. ⌜ r ≡ freshOf capacity workers edition ⌝ }
 {
     let mark = bounded_words::mark_of(capacity);
     let slots = fresh_slots(capacity);
@@ -122,6 +122,7 @@ pub fn fresh(capacity: u64, workers: u64) -> Machine
                 mark: mark,
                 lap: 2 * mark,
                 capacity: capacity,
+                edition: edition,
             },
             ends: Ends {
                 head: Stamp(0),
@@ -147,6 +148,7 @@ pub fn blank() -> Machine
                 mark: 0,
                 lap: 0,
                 capacity: 0,
+                edition: 0,
             },
             ends: Ends {
                 head: Stamp(0),
@@ -236,6 +238,9 @@ pub fn broken(m: Machine) -> bool
     let f = ring.fixed;
     let e = ring.ends;
     let workers = m.workers;
+    if queue_entries::in_limits(f.edition, bounded_words::EDITIONS) {} else {
+        return true;
+    }
     if queue_entries::in_limits(f.capacity, bounded_words::SLOTS as u64) {} else {
         return true;
     }

@@ -1,14 +1,17 @@
 -- The demands of document 01, proved. What they say, in document 01's words, is crates/bounded_demands/specs/Demands.antt; the
 -- runs on paper are Eight.antt beside it.
 use Rattle.bounded_demands.specs.Notions.{document01}
-use Rattle.bounded_demands.specs.Demands.{RefusedUnchanged, Numbered, StaysUnbroken, OnlyOne, UnderEverySchedule, ActByAct, WholeSchedules, LenTrue, ScheduledAlone, Attained, AsForetold}
+use Rattle.bounded_demands.specs.Demands.{RefusedUnchanged, Numbered, StaysUnbroken, OnlyOne, UnderEverySchedule, ActByAct, WholeSchedules, LenTrue, ScheduledAlone, Attained, AsForetold, CloseHolds, ClosedIsLast, CaseF}
 use Rattle.bounded_demands.specs.Eight.{EightRuns}
-use Rattle.bounded_demands.proofs.Refusals.{refused-unchanged, numbered, stays-unbroken, only-one}
+use Rattle.bounded_demands.proofs.Numbers.{numbered}
+use Rattle.bounded_demands.proofs.Refusals.{refused-unchanged, stays-unbroken, only-one}
 use Rattle.bounded_demands.proofs.Attained.{numbers-attained}
 use Rattle.bounded_demands.proofs.Foretold.{as-foretold}
+use Rattle.bounded_demands.proofs.CaseF.{case-f}
 use Rattle.bounded_demands.proofs.Eight.{eight-runs}
 use Rattle.bounded_proof_demand2.proofs.Demand2.{demand2, act-by-act, whole-schedules}
 use Rattle.bounded_proof_demand2.proofs.Lens.{len-true}
+use Rattle.bounded_proof_demand2.proofs.Closing.{close-holds, closed-is-last}
 use Rattle.bounded_proof_demand3.proofs.Demand3.{demand3}
 
 -- 1. Any machine, entry or schedule handed in gets an answer or a numbered refusal (the functions of crate bounded have no
@@ -29,3 +32,7 @@ demand-3 = (demand3, numbers-attained, as-foretold)
 -- The eight runs on paper.
 pub on-paper : EightRuns
 on-paper = eight-runs
+
+-- A close that holds: edition 2; what follows a pop's Closed, in both editions; case F.
+pub close-that-holds : CloseHolds document01 × ClosedIsLast document01 × CaseF document01
+close-that-holds = (close-holds, closed-is-last, case-f)

@@ -29,6 +29,7 @@ use Rattle.bounded_demands.specs.Notions.{document01, Acts, Truth}
 use Rattle.bounded_proof_invariant.proofs.Width.{Near}
 use Rattle.bounded_proof_each_act.proofs.Stamps.{fixed, W, unmarked-tail, same-is, behind-is}
 use Rattle.bounded_proof_each_act.proofs.Sight.{look, answerIn, endsOf, Stands}
+use Rattle.bounded_proof_each_act.proofs.Steps.{truth}
 use Rattle.bounded_proof_demand2.proofs.Turns.{Turned, did, turned, stood}
 use Rattle.bounded_proof_demand2.proofs.Pictured.{Base, first-turn, stepped, result, acted-stood}
 use Rattle.bounded_proof_demand2.proofs.Reached.{Reached}
@@ -59,13 +60,13 @@ module _ (c n workers : ℕ) (base : Base c n workers) (m : Machine) (h : List E
       let st = stepped c n workers base (r .ring) m pic w (d .team) (act .lose) (d .busy) in
       let p : result c n workers base (r .ring) m pic w (d .team) (act .lose) (d .busy) .place ≡ Idle a =
       sym (acted-stood c n workers base (r .ring) m pic w (d .team) (act .lose) (d .busy)) ∙ ap (λ (z : Machine). stood z w) (sym (d .is)) ∙ e in
-      let t : Truth (fixed c (markOf c)) (endsOf c (markOf c) n (r .ring) (pic .shut)) a =
-      subst (λ (z : Place). Truth (fixed c (markOf c)) (endsOf c (markOf c) n (r .ring) (pic .shut)) (answerIn (look c z))) p (st .truth) in
-      subst (λ (f : Fixed). Truth f (m .ring .ends) a) (sym (pic .rule)) (subst (λ (z : Ends). Truth (fixed c (markOf c)) z a) (sym (pic .ends)) t)
+      let t : Truth (fixed c (markOf c) (m .ring .fixed .edition)) (endsOf c (markOf c) n (r .ring) (pic .shut)) a =
+      subst (λ (z : Place). Truth (fixed c (markOf c) (m .ring .fixed .edition)) (endsOf c (markOf c) n (r .ring) (pic .shut)) (answerIn (look c z))) p (truth c (markOf c) n (m .ring .fixed .edition) (r .ring) (pic .shut) (answerIn (look c (result c n workers base (r .ring) m pic w (d .team) (act .lose) (d .busy) .place))) (st .says)) in
+      subst (λ (f : Fixed). Truth f (m .ring .ends) a) (sym (pic .rule)) (subst (λ (z : Ends). Truth (fixed c (markOf c) (m .ring .fixed .edition)) z a) (sym (pic .ends)) t)
 
   -- where the act of a worker at p leads
   pub leads : (w : ℕ) (next : Machine) (p : Place) → Acts document01 m w next → stood m w ≡ p
-      → (z : Slot) × (lose : Bool) × (stood next w ≡ actOf (fixed c (markOf c)) (endsOf c (markOf c) n (r .ring) (r .pictured .shut)) z p lose .place)
+      → (z : Slot) × (lose : Bool) × (stood next w ≡ actOf (fixed c (markOf c) (m .ring .fixed .edition)) (endsOf c (markOf c) n (r .ring) (r .pictured .shut)) z p lose .place)
   leads w next p act e =
       let d = acts-done m w next act in
       let pic = r .pictured in
@@ -74,8 +75,8 @@ module _ (c n workers : ℕ) (base : Base c n workers) (m : Machine) (h : List E
         act .lose,
         ap (λ (x : Machine). stood x w) (d .is) ∙ acted-stood c n workers base (r .ring) m pic w (d .team) (act .lose) (d .busy)
             ∙ ap (λ (f : Fixed). actOf f (m .ring .ends) z (stood m w) (act .lose) .place) (pic .rule)
-            ∙ ap (λ (x : Ends). actOf (fixed c (markOf c)) x z (stood m w) (act .lose) .place) (pic .ends)
-            ∙ ap (λ (x : Place). actOf (fixed c (markOf c)) (endsOf c (markOf c) n (r .ring) (pic .shut)) z x (act .lose) .place) e,
+            ∙ ap (λ (x : Ends). actOf (fixed c (markOf c) (m .ring .fixed .edition)) x z (stood m w) (act .lose) .place) (pic .ends)
+            ∙ ap (λ (x : Place). actOf (fixed c (markOf c) (m .ring .fixed .edition)) (endsOf c (markOf c) n (r .ring) (pic .shut)) z x (act .lose) .place) e,
       )
 
   said-yes : (b : Bool) → Idle (yesNo b) ≡ Idle Yes → b ≡ true
@@ -89,10 +90,10 @@ module _ (c n workers : ℕ) (base : Base c n workers) (m : Machine) (h : List E
   E = endsOf c (markOf c) n (r .ring) (r .pictured .shut)
 
   abbrev F : Fixed
-  F = fixed c (markOf c)
+  F = fixed c (markOf c) (m .ring .fixed .edition)
 
   unmarked-is : unmarkedOf F (E .tail) ≡ W c (markOf c) n (r .ring .tail)
-  unmarked-is = unmarked-tail c (markOf c) n (base .ground) (r .ring .tail) (r .pictured .shut)
+  unmarked-is = unmarked-tail c (markOf c) n (base .ground) (m .ring .fixed .edition) (r .ring .tail) (r .pictured .shut)
 
   empty-yes : (w : ℕ) (t : Stamp) → stood m w ≡ Empty2 t → same (unmarkedOf F (E .tail)) t ≡ true → unmarkedOf F (E .tail) ≡ E .head
   empty-yes w t at e =
@@ -111,11 +112,11 @@ module _ (c n workers : ℕ) (base : Base c n workers) (m : Machine) (h : List E
   full-yes w t at e =
       let o = stood-at w (Full2 t) at in
       let inv = r .pictured .inv in
-      let u : unmarkedOf F t ≡ W c (markOf c) n (o .0) = ap (unmarkedOf F) (o .2) ∙ unmarked-tail c (markOf c) n (base .ground) (o .0) (o .1) in
+      let u : unmarkedOf F t ≡ W c (markOf c) n (o .0) = ap (unmarkedOf F) (o .2) ∙ unmarked-tail c (markOf c) n (base .ground) (m .ring .fixed .edition) (o .0) (o .1) in
       let z : lapBehind F (W c (markOf c) n (r .ring .head)) (W c (markOf c) n (o .0)) ≡ true = ap (lapBehind F (E .head)) (sym u) ∙ e in
       let turn = first-turn c n workers base (r .ring) m (r .pictured) in
       let near : Near (n * c) (r .ring .head + c) (o .0) = omega (arith, turn, o .3, inv .low, inv .high) in
-      let q : r .ring .head + c ≡ o .0 = eqb-true _ _ (sym (behind-is c (markOf c) n (base .ground) (r .ring .head) (o .0) near) ∙ z) in
+      let q : r .ring .head + c ≡ o .0 = eqb-true _ _ (sym (behind-is c (markOf c) n (base .ground) (m .ring .fixed .edition) (r .ring .head) (o .0) near) ∙ z) in
       let even : r .ring .tail ≡ o .0 = omega (arith, o .3, inv .high) in
       ap (lapBehind F (E .head)) (unmarked-is ∙ ap (W c (markOf c) n) even) ∙ z
 

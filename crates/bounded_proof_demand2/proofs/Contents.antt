@@ -50,8 +50,8 @@ module _ (c n workers : ℕ) (base : Base c n workers) (m : Machine) (h : List E
   count-in =
       let pic = r .pictured in
       ap (λ (f : Fixed). countOf f (m .ring .ends .tail) (m .ring .ends .head)) (pic .rule)
-      ∙ ap (λ (e : Ends). countOf (fixed c (markOf c)) (e .tail) (e .head)) (pic .ends)
-      ∙ count-is c (markOf c) n (base .ground) (r .ring .head) (r .ring .tail) (pic .shut) (pic .inv .low) (pic .inv .high)
+      ∙ ap (λ (e : Ends). countOf (fixed c (markOf c) (m .ring .fixed .edition)) (e .tail) (e .head)) (pic .ends)
+      ∙ count-is c (markOf c) n (m .ring .fixed .edition) (base .ground) (r .ring .head) (r .ring .tail) (pic .shut) (pic .inv .low) (pic .inv .high)
 
   pub stock-is : stockOf (tally h) ≡ r .ring .tail - r .ring .head
   unfolding stockOf
@@ -97,7 +97,7 @@ module _ (c n workers : ℕ) (base : Base c n workers) (m : Machine) (h : List E
         let some = base .ground .laws .some in
         let cap : m .ring .fixed .capacity ≡ c = ap (λ (f : Fixed). f .capacity) (pic .rule) in
         let head-index : indexOf (m .ring .fixed) (m .ring .ends .head) ≡ r .ring .head % c =
-        ap (λ (f : Fixed). indexOf f (m .ring .ends .head)) (pic .rule) ∙ ap (λ (e : Ends). indexOf (fixed c (markOf c)) (e .head)) (pic .ends)
+        ap (λ (f : Fixed). indexOf f (m .ring .ends .head)) (pic .rule) ∙ ap (λ (e : Ends). indexOf (fixed c (markOf c) (m .ring .fixed .edition)) (e .head)) (pic .ends)
         ∙ index-word c (markOf c) n (base .ground .laws) (r .ring .head) in
         let few : d < c = omega (arith, pic .inv .high) in
         let there : wrapped (m .ring .fixed .capacity) (indexOf (m .ring .fixed) (m .ring .ends .head) + d) ≡ (r .ring .head + d) % c =

@@ -126,23 +126,23 @@ module _ (c n workers : ℕ) (base : Base c n workers) (m : Machine) (h : List E
         let E = endsOf c mark n (r₂ .ring) (r₂ .pictured .shut) in
         let l = leads c n workers base m₂ h₂ r₂ w answered (Len3 t (W c mark n (r .ring .head))) act stays in
         let q =
-        len-said (same (E .tail) t) E (l .0) (countOf (fixed c mark) t (W c mark n (r .ring .head))) k (sym (l .2) ∙ is) in
+        len-said (same (E .tail) t) E (l .0) (countOf (fixed c mark (m₂ .ring .fixed .edition)) t (W c mark n (r .ring .head))) k (sym (l .2) ∙ is) in
         let turn = first-turn c n workers base (r₂ .ring) m₂ (r₂ .pictured) in
         let near : Near (n * c) (r₂ .ring .tail) (tail-seen .0) = omega (arith, turn, tail-seen .3) in
         let y : same (E .tail) (tailWord c mark n (tail-seen .0) (tail-seen .1)) ≡ true = ap (same (E .tail)) (sym (tail-seen .2)) ∙ q .0 in
         let one : r₂ .ring .tail ≡ tail-seen .0 = tails-one c mark n (base .ground) (r₂ .ring .tail) (tail-seen .0) (r₂ .pictured .shut) (tail-seen .1) near y in
         let now : r .ring .tail ≡ tail-seen .0 = omega (arith, tail-seen .3) in
-        q .1 ∙ ap (λ (z : Stamp). countOf (fixed c mark) z (W c mark n (r .ring .head))) (tail-seen .2)
-        ∙ count-is c mark n (base .ground) (r .ring .head) (tail-seen .0) (tail-seen .1) (omega (arith, r .pictured .inv .low)) (omega (arith, r .pictured .inv .high))
+        q .1 ∙ ap (λ (z : Stamp). countOf (fixed c mark (m₂ .ring .fixed .edition)) z (W c mark n (r .ring .head))) (tail-seen .2)
+        ∙ count-is c mark n (m₂ .ring .fixed .edition) (base .ground) (r .ring .head) (tail-seen .0) (tail-seen .1) (omega (arith, r .pictured .inv .low)) (omega (arith, r .pictured .inv .high))
         ∙ ap (λ (z : ℕ). z - r .ring .head) (sym now)
 
 pub len-true : LenTrue document01
-len-true capacity workers a s w k o =
+len-true capacity workers edition a s w k o =
     let n = lapsOf capacity in
-    let base = base-of capacity workers a in
-    let m = machineAfter document01 capacity workers s in
-    let h = actsOf document01 capacity workers s in
-    let r = reached capacity workers a s in
+    let base = base-of capacity workers edition a in
+    let m = machineAfter document01 capacity workers edition s in
+    let h = actsOf document01 capacity workers edition s in
+    let r = reached capacity workers edition a s in
     let e = event w (stood m w) (stood (o .loaded) w) in
     let r₁ = reached-loaded capacity n workers base m h r w (o .tail) (o .loads) (o .loaded) (o .load) in
     let r₂ = entries capacity n workers base (o .rest) (o .loaded) (h ++ e ∷ []) 0 r₁ in

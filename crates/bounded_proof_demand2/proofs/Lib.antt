@@ -11,3 +11,4 @@ pub mod Contents
 pub mod Plain
 pub mod Demand2
 pub mod Lens
+pub mod Closing

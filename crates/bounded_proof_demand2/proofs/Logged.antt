@@ -32,7 +32,7 @@ itemsBy Heading = []
 itemsBy (Tailing x) = x ∷ []
 itemsBy (Giving v) = []
 
-abbrev movedBy : Tale → Moved
+abbrev pub movedBy : Tale → Moved
 movedBy Quiet = end.Neither
 movedBy Heading = end.Head
 movedBy (Tailing x) = end.Tail

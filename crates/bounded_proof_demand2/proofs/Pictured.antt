@@ -48,7 +48,7 @@ pub record Base (c n workers : ℕ) : Type 0 where
 pub record Pictured (c n workers : ℕ) (s : Shared) (m : Machine) : Type 0 where
   pub inv : Inv c s
   pub unbroken : Unbroken m
-  pub rule : m .ring .fixed ≡ fixed c (markOf c)
+  pub rule : m .ring .fixed ≡ fixed c (markOf c) (m .ring .fixed .edition)
   pub count : m .count ≡ workers
   pub shut : Bool
   pub ends : m .ring .ends ≡ endsOf c (markOf c) n s shut
@@ -110,33 +110,33 @@ hand-busy c mark i p o = go (viewOf p .busy) refl
     go false e = absurd (idle-hand c mark i p e o)
 
 -- a hand is on the slot at the index of its worker's word
-pub hand-spot : (c mark i : ℕ) (p : Place) → HandAt mark (look c p) i → i ≡ spotOf (fixed c mark) (viewOf p .held)
-hand-spot c mark i (Idle a) h = absurd h
-hand-spot c mark i (P1 k x) h = absurd h
-hand-spot c mark i (P2 k t x) h = sym (h .1)
-hand-spot c mark i (P3 k t x) h = sym (h .1)
-hand-spot c mark i (P4 t x) h = sym (h .1)
-hand-spot c mark i (P5 t) h = sym (h .1)
-hand-spot c mark i (P6 t x) h = sym (h .1)
-hand-spot c mark i (F6 t x) h = sym (h .1)
-hand-spot c mark i (F7 t x) h = sym (h .1)
-hand-spot c mark i (F8 t x) h = sym (h .1)
-hand-spot c mark i (F9 t old) h = sym (h .1)
-hand-spot c mark i O1 h = absurd h
-hand-spot c mark i (O2 w) h = sym (h .1)
-hand-spot c mark i (O3 w) h = sym (h .1)
-hand-spot c mark i (O4 w) h = sym (h .1)
-hand-spot c mark i (O5 w v) h = sym (h .1)
-hand-spot c mark i (O6 w) h = sym (h .1)
-hand-spot c mark i Len1 h = absurd h
-hand-spot c mark i (Len2 t) h = absurd h
-hand-spot c mark i (Len3 t w) h = absurd h
-hand-spot c mark i Empty1 h = absurd h
-hand-spot c mark i (Empty2 w) h = absurd (true≢false (sym (h .0)))
-hand-spot c mark i Full1 h = absurd h
-hand-spot c mark i (Full2 t) h = absurd h
-hand-spot c mark i Close1 h = absurd h
-hand-spot c mark i IsClosed1 h = absurd h
+pub hand-spot : (c mark ed i : ℕ) (p : Place) → HandAt mark (look c p) i → i ≡ spotOf (fixed c mark ed) (viewOf p .held)
+hand-spot c mark ed i (Idle a) h = absurd h
+hand-spot c mark ed i (P1 k x) h = absurd h
+hand-spot c mark ed i (P2 k t x) h = sym (h .1)
+hand-spot c mark ed i (P3 k t x) h = sym (h .1)
+hand-spot c mark ed i (P4 t x) h = sym (h .1)
+hand-spot c mark ed i (P5 t) h = sym (h .1)
+hand-spot c mark ed i (P6 t x) h = sym (h .1)
+hand-spot c mark ed i (F6 t x) h = sym (h .1)
+hand-spot c mark ed i (F7 t x) h = sym (h .1)
+hand-spot c mark ed i (F8 t x) h = sym (h .1)
+hand-spot c mark ed i (F9 t old) h = sym (h .1)
+hand-spot c mark ed i O1 h = absurd h
+hand-spot c mark ed i (O2 w) h = sym (h .1)
+hand-spot c mark ed i (O3 w) h = sym (h .1)
+hand-spot c mark ed i (O4 w) h = sym (h .1)
+hand-spot c mark ed i (O5 w v) h = sym (h .1)
+hand-spot c mark ed i (O6 w) h = sym (h .1)
+hand-spot c mark ed i Len1 h = absurd h
+hand-spot c mark ed i (Len2 t) h = absurd h
+hand-spot c mark ed i (Len3 t w) h = absurd h
+hand-spot c mark ed i Empty1 h = absurd h
+hand-spot c mark ed i (Empty2 w) h = absurd (true≢false (sym (h .0)))
+hand-spot c mark ed i Full1 h = absurd h
+hand-spot c mark ed i (Full2 t) h = absurd h
+hand-spot c mark ed i Close1 h = absurd h
+hand-spot c mark ed i IsClosed1 h = absurd h
 
 -- a call begins with no word
 begin-calm : (c : ℕ) (q : Call) → look c (beginOf q) ≡ Calm Nothing
@@ -177,6 +177,9 @@ module _ (c n workers : ℕ) (base : Base c n workers) (s : Shared) (m : Machine
   abbrev mark : ℕ
   mark = markOf c
 
+  abbrev ed : ℕ
+  ed = m .ring .fixed .edition
+
   seat : w < length (m .workers)
   seat = omega (arith, pic .workers-long, pic .count, base .team)
 
@@ -205,6 +208,10 @@ module _ (c n workers : ℕ) (base : Base c n workers) (s : Shared) (m : Machine
         meter-few = pic .meter-few;
       }
 
+  pub begun-shut : (q : Call) (idle : viewOf (stood m w) .busy ≡ false) → begun-pictured q idle .shut ≡ pic .shut
+  unfolding begun-pictured
+  begun-shut q idle = refl
+
   module _ (lose : Bool) (busy : viewOf (stood m w) .busy ≡ true) where
     abbrev pub spot : ℕ
     spot = spotOf (m .ring .fixed) (viewOf (stood m w) .held)
@@ -219,17 +226,17 @@ module _ (c n workers : ℕ) (base : Base c n workers) (s : Shared) (m : Machine
         subst (λ (z : ℕ). spot < z) (ap (λ (f : Fixed). f .capacity) (pic .rule)) b
 
     -- the act, as an effect on the ring
-    pub stepped : Step c mark n s w spot (pic .shut) (stood m w) result
+    pub stepped : Step c mark n ed s w spot (pic .shut) (stood m w) result
     stepped =
         let p : Place = stood m w in
         let o : Stands c mark n s w (look c p) = pic .stands w in
-        let at : spot ≡ spotOf (fixed c mark) (viewOf p .held) = ap (λ (f : Fixed). spotOf f (viewOf p .held)) (pic .rule) in
-        let same : result ≡ actOf (fixed c mark) (endsOf c mark n s (pic .shut)) (slotOf c mark n (s .cell spot) (s .val spot)) p lose =
+        let at : spot ≡ spotOf (fixed c mark ed) (viewOf p .held) = ap (λ (f : Fixed). spotOf f (viewOf p .held)) (pic .rule) in
+        let same : result ≡ actOf (fixed c mark ed) (endsOf c mark n s (pic .shut)) (slotOf c mark n (s .cell spot) (s .val spot)) p lose =
         ap (λ (f : Fixed). actOf f (m .ring .ends) (getD (m .ring .slots) spot (slot 0 0)) p lose) (pic .rule)
-        ∙ ap (λ (e : Ends). actOf (fixed c mark) e (getD (m .ring .slots) spot (slot 0 0)) p lose) (pic .ends)
-        ∙ ap (λ (z : Slot). actOf (fixed c mark) (endsOf c mark n s (pic .shut)) z p lose) (pic .slots spot spot-small) in
-        subst (Step c mark n s w spot (pic .shut) p) (sym same)
-        (step c mark n (base .ground) s (pic .inv) w spot spot-small (pic .shut) p lose busy at o (young-recent c mark n s w (pic .inv .low) (first-turn c n workers base s m pic) (look c p) o))
+        ∙ ap (λ (e : Ends). actOf (fixed c mark ed) e (getD (m .ring .slots) spot (slot 0 0)) p lose) (pic .ends)
+        ∙ ap (λ (z : Slot). actOf (fixed c mark ed) (endsOf c mark n s (pic .shut)) z p lose) (pic .slots spot spot-small) in
+        subst (Step c mark n ed s w spot (pic .shut) p) (sym same)
+        (step c mark n ed (base .ground) s (pic .inv) w spot spot-small (pic .shut) p lose busy at o (young-recent c mark n s w (pic .inv .low) (first-turn c n workers base s m pic) (look c p) o))
 
     abbrev pub effect : Effect
     effect = stepped .effect
@@ -250,7 +257,7 @@ module _ (c n workers : ℕ) (base : Base c n workers) (s : Shared) (m : Machine
 
     -- the acting worker's hand is on the slot of its act
     hand-here : (i : ℕ) → HandAt mark (look c (stood m w)) i → i ≡ spot
-    hand-here i h = hand-spot c mark i (stood m w) h ∙ ap (λ (f : Fixed). spotOf f (viewOf (stood m w) .held)) (sym (pic .rule))
+    hand-here i h = hand-spot c mark ed i (stood m w) h ∙ ap (λ (f : Fixed). spotOf f (viewOf (stood m w) .held)) (sym (pic .rule))
 
     back-next : (i : ℕ) → i < c → (j : ℕ) → Mine j (next .cell i) → HandAt mark (look c (placeOf (set (m .workers) w (record { place = result .place })) j)) i
     back-next i l =
@@ -285,6 +292,10 @@ module _ (c n workers : ℕ) (base : Base c n workers) (s : Shared) (m : Machine
           claims-few = omega (arith, grows c s w spot effect, pic .claims-few);
           meter-few = omega arith;
         }
+
+    pub acted-shut : (early : m .meter < meterMost) → acted-pictured early .shut ≡ stepped .shut
+    unfolding acted-pictured
+    acted-shut early = refl
 
     -- the acting worker has no other slot in hand, and if it has that of its act afterwards then it has not answered
     pub alone : (i : ℕ) → i < c → i ≢ spot → Mine w (s .cell i) → ⊥

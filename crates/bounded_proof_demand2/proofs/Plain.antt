@@ -49,8 +49,8 @@ module _ (c n workers : ℕ) (base : Base c n workers) (m : Machine) (h : List E
   plain-tail : unmarkedOf (m .ring .fixed) (m .ring .ends .tail) .0 ≡ plainWord (m .ring .fixed) (tally h .tail .0)
   plain-tail =
       ap (λ (f : Fixed). unmarkedOf f (m .ring .ends .tail) .0) (r .pictured .rule)
-      ∙ ap (λ (e : Ends). unmarkedOf (fixed c (markOf c)) (e .tail) .0) (r .pictured .ends)
-      ∙ ap (λ (w : Stamp). w .0) (unmarked-tail c (markOf c) n (base .ground) (r .ring .tail) (r .pictured .shut))
+      ∙ ap (λ (e : Ends). unmarkedOf (fixed c (markOf c) (m .ring .fixed .edition)) (e .tail) .0) (r .pictured .ends)
+      ∙ ap (λ (w : Stamp). w .0) (unmarked-tail c (markOf c) n (base .ground) (m .ring .fixed .edition) (r .ring .tail) (r .pictured .shut))
       ∙ plain-is (r .ring .tail) (omega arith) ∙ ap (plainWord (m .ring .fixed)) (sym tails)
 
   one-more : (b : Bool) (x : ℕ) → cond b (x + 1) x ≡ x + cond b 1 0
@@ -78,9 +78,9 @@ module _ (c n workers : ℕ) (base : Base c n workers) (m : Machine) (h : List E
         omega (arith, tails, cap),
       )
 
-  room : plainWord (fixed c (markOf c)) (tally h .tail .0 + c) + 2 * (2 * markOf c) < wide
+  room : plainWord (fixed c (markOf c) (m .ring .fixed .edition)) (tally h .tail .0 + c) + 2 * (2 * markOf c) < wide
   room =
-      let u : Ruled (fixedOf c) = ruled (fixedOf c) (base .ground .laws .some) (base .few) refl refl in
+      let u : Ruled (fixedOf c 1) = ruled (fixedOf c 1) (base .ground .laws .some) (base .few) refl refl in
       let small : 2 * markOf c ≤ 4 * (slotsMost + 1) = omega (arith, u .small) in
       let most : tally h .tail .0 + c ≤ meterMost + slotsMost = omega (arith, tails, base .few, r .pictured .claims-few, r .pictured .meter-few) in
       omega (

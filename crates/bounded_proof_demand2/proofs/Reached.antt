@@ -12,9 +12,12 @@ use lib.Seq.{getD-set-same, getD-set-other}
 use borrow.Author.Tests.{eqb-true, eq-eqb, ne-eqb, le-leb, lt-ltb}
 use Rattle.queue_entries.specs.Schedules.{runBy, historyBy}
 use Rattle.queue_entries.specs.Limits.{workersMost, meterMost, inLimits}
+use Rattle.queue_entries.specs.declared.Call.{Call}
+use Rattle.queue_entries.specs.declared.Order.the-variants.{Begin, Act}
 use Rattle.queue_entries.specs.declared.Entry.{Entry}
+use Rattle.queue_entries.specs.declared.Entry.the-variants.{Asks}
 use Rattle.queue_entries.specs.Entries.{entryOf}
-use Rattle.bounded_words.specs.Limits.{slotsMost, wide}
+use Rattle.bounded_words.specs.Limits.{slotsMost, editionsMost, wide}
 use Rattle.bounded_words.specs.Words.{stamp, markOf, lapOf, fixedOf, markedOf, indexOf}
 use Rattle.bounded_words.proofs.Marks.{Ruled, ruled}
 use Rattle.bounded_places.specs.declared.Slot.{Slot}
@@ -22,7 +25,7 @@ use Rattle.bounded_places.specs.declared.Place.{Place}
 use Rattle.bounded_places.specs.declared.Place.the-variants.{Idle}
 use Rattle.bounded_places.specs.declared.Answer.the-variants.{Nothing}
 use Rattle.bounded_places.specs.declared.Worker.{Worker}
-use Rattle.bounded_places.specs.Places.{inside, beginOf}
+use Rattle.bounded_places.specs.Places.{inside, viewOf, beginOf}
 use Rattle.bounded_machine.specs.declared.Machine.{Machine}
 use Rattle.bounded_machine.specs.declared.Event.{Event}
 use Rattle.bounded_machine.specs.Machine.{slot, emptySlots, stamped, freshSlots, idler, idlers, starts, freshOf}
@@ -37,16 +40,16 @@ use Rattle.bounded_proof_invariant.proofs.Ring.{Await, Shared}
 use Rattle.bounded_proof_each_act.proofs.Stamps.{fixed, tailWord, index-tail, marked-tail}
 use Rattle.bounded_proof_each_act.proofs.Sight.{endsOf}
 use Rattle.bounded_proof_demand2.proofs.Turns.{Turned, began, did, turned, stood}
-use Rattle.bounded_proof_demand2.proofs.Pictured.{Base, Pictured, begun-pictured, acted-pictured, stepped, effect, spot-small, next, result, acted-stood, alone, holding}
+use Rattle.bounded_proof_demand2.proofs.Pictured.{Base, Pictured, begun-pictured, begun-shut, acted-pictured, acted-shut, stepped, effect, spot-small, next, result, acted-stood, alone, holding}
 use Rattle.bounded_proof_demand2.proofs.Logged.{Logged, logged-after}
 
 -- how many laps there are to the width
 pub lapsOf : ℕ → ℕ
 lapsOf c = wide / (2 * markOf c)
 
-pub base-of : (c workers : ℕ) → Allowed c workers → Base c (lapsOf c) workers
+pub base-of : (c workers edition : ℕ) → Allowed c workers edition → Base c (lapsOf c) workers
 unfolding lapsOf
-base-of c workers a =
+base-of c workers edition a =
     record {
       ground =
           record {
@@ -58,8 +61,8 @@ base-of c workers a =
       long = many;
     }
   where
-    r : Ruled (fixedOf c)
-    r = ruled (fixedOf c) (a .slot-some) (a .slot-most) refl refl
+    r : Ruled (fixedOf c edition)
+    r = ruled (fixedOf c edition) (a .slot-some) (a .slot-most) refl refl
 
     whole : wide / (2 * markOf c) * (2 * markOf c) ≡ wide
     whole = div-mul-cancel _ (r .laps)
@@ -80,9 +83,9 @@ idle-all zero i = refl
 idle-all (suc n) zero = refl
 idle-all (suc n) (suc i) = idle-all n i
 
-fresh-stood : (c workers w : ℕ) → stood (freshOf c workers) w ≡ Idle Nothing
+fresh-stood : (c workers ed w : ℕ) → stood (freshOf c workers ed) w ≡ Idle Nothing
 unfolding freshOf idlers
-fresh-stood c workers w = ap (λ (z : Worker). z .place) (idle-all workersMost w)
+fresh-stood c workers ed w = ap (λ (z : Worker). z .place) (idle-all workersMost w)
 
 idlers-long : length idlers ≡ workersMost
 unfolding idlers
@@ -129,15 +132,15 @@ limits-true : (k most : ℕ) → 0 < k → k ≤ most → inLimits k most ≡ tr
 unfolding inLimits
 limits-true k most some few = rw (ne-eqb k 0 (λ e. omega arith)) (le-leb k most few)
 
-rule-true : (c : ℕ) → byRule (fixedOf c) ≡ true
+rule-true : (c ed : ℕ) → byRule (fixedOf c ed) ≡ true
 unfolding byRule
-rule-true c = rw (eq-eqb (markOf c) (markOf c) refl) (eq-eqb (lapOf c) (lapOf c) refl)
+rule-true c ed = rw (eq-eqb (markOf c) (markOf c) refl) (eq-eqb (lapOf c) (lapOf c) refl)
 
-idle-fits : (c : ℕ) (p : Place) (b : Bool) → p ≡ Idle Nothing → recordFits (fixedOf c) p b ≡ true
+idle-fits : (c ed : ℕ) (p : Place) (b : Bool) → p ≡ Idle Nothing → recordFits (fixedOf c ed) p b ≡ true
 unfolding recordFits
-idle-fits c p b e = rw e
+idle-fits c ed p b e = rw e
 
-module _ (c n workers : ℕ) (base : Base c n workers) where
+module _ (c n workers ed : ℕ) (base : Base c n workers) where
   zero-word : word c (markOf c) n 0 ≡ 0
   zero-word = word-first c (markOf c) n (base .ground .laws) 0 (base .ground .laws .some)
 
@@ -145,47 +148,49 @@ module _ (c n workers : ℕ) (base : Base c n workers) where
   unfolding ring0
   starts-are = rw zero-word
 
-  starts-fit : endsFit (fixedOf c) starts ≡ true
+  starts-fit : endsFit (fixedOf c ed) starts ≡ true
   unfolding inside
   starts-fit =
       let some = base .ground .laws .some in
-      let i : indexOf (fixed c (markOf c)) (tailWord c (markOf c) n 0 false) ≡ 0 % c = index-tail c (markOf c) n (base .ground) 0 false in
-      let m : markedOf (fixed c (markOf c)) (tailWord c (markOf c) n 0 false) ≡ false = marked-tail c (markOf c) n (base .ground) 0 false in
+      let i : tailWord c (markOf c) n 0 false .0 % markOf c ≡ 0 % c = index-tail c (markOf c) n (base .ground) 0 false in
+      let m : markedOf (fixed c (markOf c) ed) (tailWord c (markOf c) n 0 false) ≡ false = marked-tail c (markOf c) n (base .ground) ed 0 false in
       let z : 0 % c ≡ 0 = mod-eq-of-lt some in
-      let low : indexOf (fixedOf c) (stamp 0) < c = omega (arith, ap (λ (k : ℕ). k % markOf c) zero-word) in
-      ends-of (fixedOf c) starts (record { unmarked = rw zero-word at m; low = low }) (lt-ltb (indexOf (fixedOf c) (stamp 0)) c low)
+      let low : indexOf (fixedOf c ed) (stamp 0) < c = omega (arith, ap (λ (k : ℕ). k % markOf c) zero-word) in
+      ends-of (fixedOf c ed) starts (record { unmarked = rw zero-word at m; low = low }) (lt-ltb (indexOf (fixedOf c ed) (stamp 0)) c low)
 
-  fresh-unbroken : 0 < workers → Unbroken (freshOf c workers)
-  unfolding freshOf
-  fresh-unbroken some =
-      record {
-        capacity = limits-true c slotsMost (base .ground .laws .some) (base .few);
-        count = limits-true workers workersMost some (base .team);
-        rule = rule-true c;
-        ends = starts-fit;
-        records = λ i l. idle-fits c _ (ltb i workers) (fresh-stood c workers i);
-      }
+  module _ (some : 0 < workers) (first : 0 < ed) (last : ed ≤ editionsMost) where
+    fresh-unbroken : Unbroken (freshOf c workers ed)
+    unfolding freshOf
+    fresh-unbroken =
+        record {
+          capacity = limits-true c slotsMost (base .ground .laws .some) (base .few);
+          count = limits-true workers workersMost some (base .team);
+          edition = limits-true ed editionsMost first last;
+          rule = rule-true c ed;
+          ends = starts-fit;
+          records = λ i l. idle-fits c ed _ (ltb i workers) (fresh-stood c workers ed i);
+        }
 
-  pub fresh-pictured : 0 < workers → Pictured c n workers ring0 (freshOf c workers)
-  unfolding freshOf ring0
-  fresh-pictured some =
-      record {
-        inv = record { low = omega arith; high = omega arith; cells = λ i l. (mod-eq-of-lt l, omega arith, omega arith) };
-        unbroken = fresh-unbroken some;
-        rule = refl;
-        count = refl;
-        shut = false;
-        ends = starts-are;
-        slots-long = fresh-long c;
-        slots = λ i l. fresh-at c i (base .few) l ∙ rw (word-first c (markOf c) n (base .ground .laws) i l);
-        workers-long = idlers-long;
-        stands = λ w. rw (fresh-stood c workers w) tt;
-        back = λ i l w m. absurd m;
-        claims-few = omega arith;
-        meter-few = omega arith;
-      }
+    pub fresh-pictured : Pictured c n workers ring0 (freshOf c workers ed)
+    unfolding freshOf ring0
+    fresh-pictured =
+        record {
+          inv = record { low = omega arith; high = omega arith; cells = λ i l. (mod-eq-of-lt l, omega arith, omega arith) };
+          unbroken = fresh-unbroken;
+          rule = refl;
+          count = refl;
+          shut = false;
+          ends = starts-are;
+          slots-long = fresh-long c;
+          slots = λ i l. fresh-at c i (base .few) l ∙ rw (word-first c (markOf c) n (base .ground .laws) i l);
+          workers-long = idlers-long;
+          stands = λ w. rw (fresh-stood c workers ed w) tt;
+          back = λ i l w m. absurd m;
+          claims-few = omega arith;
+          meter-few = omega arith;
+        }
 
-nil-split : {A : Type 0} (xs : List A) (y : A) (ys : List A) → [] ≡ xs ++ y ∷ ys → ⊥
+pub nil-split : {A : Type 0} (xs : List A) (y : A) (ys : List A) → [] ≡ xs ++ y ∷ ys → ⊥
 nil-split [] y ys e = let q : _≡_ {A = ℕ} 0 1 = cc in omega arith
 nil-split (x ∷ xs) y ys e = let q : _≡_ {A = ℕ} 0 1 = cc in omega arith
 
@@ -207,9 +212,9 @@ fresh-logged c =
       once = λ earlier between later act again v u k e. absurd (nil-split (earlier ++ act ∷ between) again later e);
     }
 
-pub fresh-metered : (c workers : ℕ) → freshOf c workers .meter ≡ 0
+pub fresh-metered : (c workers ed : ℕ) → freshOf c workers ed .meter ≡ 0
 unfolding freshOf
-fresh-metered c workers = refl
+fresh-metered c workers ed = refl
 
 -- the meter rises with each act
 begun-meter : (m : Machine) (w : ℕ) (q : Place) → begun m w q .meter ≡ m .meter
@@ -219,6 +224,34 @@ begun-meter m w q = refl
 acted-meter : (m : Machine) (w : ℕ) (p : Place) (lose : Bool) → acted m w p lose .meter ≡ m .meter + 1
 unfolding actedBy stored
 acted-meter m w p lose = refl
+
+-- What holds of a machine and of the acts behind it, and is kept by each accepted entry, is kept along every list of entries.
+module _ (P : Machine → List Event → Type 0)
+    (kept : (m : Machine) (h : List Event) (en : Entry) (next : Machine) (acts : List Event) → P m h → Turned m en next acts → P next (h ++ acts)) where
+  one-entry : (m : Machine) (h : List Event) (first second : ℕ) → P m h → turnOf m first second .refusal ≡ 0
+      → P (turnOf m first second .machine) (h ++ eventsOf m (entryOf first second) (turnOf m first second .machine))
+  unfolding turnOfBy
+  one-entry m h first second p e = kept m h (entryOf first second) _ _ p (turned m (entryOf first second) e)
+
+  pub along : (s : List ℕ) (m : Machine) (h : List Event) (place : ℕ) → P m h → P (runFrom m place s .machine) (h ++ historyOf m s)
+  unfolding runBy historyBy ran
+  along [] m h place p = rw (append-nil h) p
+  along (first ∷ []) m h place p = rw (append-nil h) p
+  along (first ∷ second ∷ rest) m h place p =
+      go (λ (q : P (turnOf m first second .machine) (h ++ eventsOf m (entryOf first second) (turnOf m first second .machine))).
+      along rest (turnOf m first second .machine) (h ++ eventsOf m (entryOf first second) (turnOf m first second .machine)) (place + 1) q)
+      (eqb (turnOf m first second .refusal) 0) refl
+    where
+      go : (P (turnOf m first second .machine) (h ++ eventsOf m (entryOf first second) (turnOf m first second .machine))
+          → P (runFrom (turnOf m first second .machine) (place + 1) rest .machine)
+          (h ++ eventsOf m (entryOf first second) (turnOf m first second .machine) ++ historyOf (turnOf m first second .machine) rest))
+          → (b : Bool) → eqb (turnOf m first second .refusal) 0 ≡ b
+          → P (cond b (runFrom (turnOf m first second .machine) (place + 1) rest) (ran (turnOf m first second .refusal) place m) .machine)
+          (h ++ cond b (eventsOf m (entryOf first second) (turnOf m first second .machine) ++ historyOf (turnOf m first second .machine) rest) [])
+      go more true e =
+          rw (← append-assoc h (eventsOf m (entryOf first second) (turnOf m first second .machine)) (historyOf (turnOf m first second .machine) rest))
+          (more (one-entry m h first second p (eqb-true _ 0 e)))
+      go more false e = rw (append-nil h) p
 
 -- What every reached machine has behind it.
 pub record Reached (c n workers : ℕ) (m : Machine) (h : List Event) : Type 0 where
@@ -253,29 +286,23 @@ module _ (c n workers : ℕ) (base : Base c n workers) where
             ∙ sym (length-append h (event w (stood m w) (stood (acted m w (stood m w) lose) w) ∷ []));
       }
 
-  one-entry : (m : Machine) (h : List Event) (first second : ℕ) → Reached c n workers m h → turnOf m first second .refusal ≡ 0
-      → Reached c n workers (turnOf m first second .machine) (h ++ eventsOf m (entryOf first second) (turnOf m first second .machine))
-  unfolding turnOfBy
-  one-entry m h first second r e = entered m h (entryOf first second) _ _ r (turned m (entryOf first second) e)
+  -- the ring and the mark behind a machine, and what an entry makes of them
+  abbrev pub markedRing : {m : Machine} {h : List Event} → Reached c n workers m h → Shared × Bool
+  markedRing r = (r .ring, r .pictured .shut)
+
+  module _ (m : Machine) (h : List Event) (r : Reached c n workers m h) (w : ℕ) (l : w < m .count) where
+    pub begun-behind : (q : Call) (idle : viewOf (stood m w) .busy ≡ false)
+        → markedRing (entered m h (Asks w (Begin q)) (begun m w (beginOf q)) [] r (began w q l idle)) ≡ markedRing r
+    unfolding entered
+    begun-behind q idle = ap (λ (b : Bool). (r .ring, b)) (begun-shut c n workers base (r .ring) m (r .pictured) w l q idle)
+
+    pub did-behind : (lose : Bool) (busy : viewOf (stood m w) .busy ≡ true) (early : m .meter < meterMost)
+        → markedRing (entered m h (Asks w (Act lose)) (acted m w (stood m w) lose) (event w (stood m w) (stood (acted m w (stood m w) lose) w) ∷ []) r (did w lose l busy early))
+        ≡ (next c n workers base (r .ring) m (r .pictured) w l lose busy, stepped c n workers base (r .ring) m (r .pictured) w l lose busy .shut)
+    unfolding entered
+    did-behind lose busy early =
+        ap (λ (b : Bool). (next c n workers base (r .ring) m (r .pictured) w l lose busy, b)) (acted-shut c n workers base (r .ring) m (r .pictured) w l lose busy early)
 
   -- and so does every list of entries
-  pub entries : (s : List ℕ) (m : Machine) (h : List Event) (place : ℕ) → Reached c n workers m h
-      → Reached c n workers (runFrom m place s .machine) (h ++ historyOf m s)
-  unfolding runBy historyBy ran
-  entries [] m h place r = rw (append-nil h) r
-  entries (first ∷ []) m h place r = rw (append-nil h) r
-  entries (first ∷ second ∷ rest) m h place r =
-      go (λ (q : Reached c n workers (turnOf m first second .machine) (h ++ eventsOf m (entryOf first second) (turnOf m first second .machine))).
-      entries rest (turnOf m first second .machine) (h ++ eventsOf m (entryOf first second) (turnOf m first second .machine)) (place + 1) q)
-      (eqb (turnOf m first second .refusal) 0) refl
-    where
-      go : (Reached c n workers (turnOf m first second .machine) (h ++ eventsOf m (entryOf first second) (turnOf m first second .machine))
-          → Reached c n workers (runFrom (turnOf m first second .machine) (place + 1) rest .machine)
-          (h ++ eventsOf m (entryOf first second) (turnOf m first second .machine) ++ historyOf (turnOf m first second .machine) rest))
-          → (b : Bool) → eqb (turnOf m first second .refusal) 0 ≡ b
-          → Reached c n workers (cond b (runFrom (turnOf m first second .machine) (place + 1) rest) (ran (turnOf m first second .refusal) place m) .machine)
-          (h ++ cond b (eventsOf m (entryOf first second) (turnOf m first second .machine) ++ historyOf (turnOf m first second .machine) rest) [])
-      go more true e =
-          rw (← append-assoc h (eventsOf m (entryOf first second) (turnOf m first second .machine)) (historyOf (turnOf m first second .machine) rest))
-          (more (one-entry m h first second r (eqb-true _ 0 e)))
-      go more false e = rw (append-nil h) r
+  pub entries : (s : List ℕ) (m : Machine) (h : List Event) (place : ℕ) → Reached c n workers m h → Reached c n workers (runFrom m place s .machine) (h ++ historyOf m s)
+  entries = along (Reached c n workers) entered

@@ -1,5 +1,5 @@
 -- What an accepted entry did: a call begun, or one act.
-use mathlib.Core.Path.{_≡_}
+use mathlib.Core.Path.{_≡_, refl}
 use mathlib.Core.Bool.{Bool, true, false, cond}
 use mathlib.Core.List.{List, [], _∷_}
 use Prim.Native.Nat.{ℕ, _<_}
@@ -19,7 +19,7 @@ use Rattle.bounded_machine.specs.declared.Machine.{Machine}
 use Rattle.bounded_machine.specs.declared.Did.{Did}
 use Rattle.bounded_machine.specs.declared.Event.{Event}
 use Rattle.bounded_machine.specs.Machine.{placeOf, refused, accepted}
-use Rattle.bounded_machine.specs.Turn.{verdictOf, carried, turn, begun, acted}
+use Rattle.bounded_machine.specs.Turn.{verdictOf, carried, turn, begun, stored, acted, actedBy}
 use Rattle.bounded_machine.proofs.Kept.{either}
 use Rattle.bounded_machine.specs.History.{event, eventsOf}
 
@@ -71,3 +71,9 @@ turned m (Asks w (Act lose)) =
   where
     R : Verdict → Type 0
     R v = Result m (Asks w (Act lose)) (carried m w (stood m w) v)
+
+-- the constants stay
+pub turned-fixed : (m : Machine) (en : Entry) (next : Machine) (h : List Event) → Turned m en next h → next .ring .fixed ≡ m .ring .fixed
+unfolding begun actedBy stored
+turned-fixed m en next h (began w call l idle) = refl
+turned-fixed m en next h (did w lose l busy early) = refl

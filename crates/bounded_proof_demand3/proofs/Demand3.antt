@@ -65,5 +65,6 @@ module _ (c n workers : ℕ) (base : Base c n workers) (m : Machine) (h : List E
       }
 
 pub demand3 : ScheduledAlone document01
-demand3 capacity workers a s =
-    demanded capacity (lapsOf capacity) workers (base-of capacity workers a) (machineAfter document01 capacity workers s) (actsOf document01 capacity workers s) (reached capacity workers a s)
+demand3 capacity workers edition a s =
+    demanded capacity (lapsOf capacity) workers (base-of capacity workers edition a) (machineAfter document01 capacity workers edition s)
+    (actsOf document01 capacity workers edition s) (reached capacity workers edition a s)

@@ -63,9 +63,9 @@ unless : (b t : Bool) → cond b false t ≡ true → (b ≡ false) × (t ≡ tr
 unless true t h = absurd (true≢false (sym h))
 unless false t h = (refl, h)
 
-module _ (c mark n : ℕ) (g : Ground c mark n) (s : Shared) (inv : Inv c s) (young : s .tail + 2 * c < n * c) where
+module _ (c mark n ed : ℕ) (g : Ground c mark n) (s : Shared) (inv : Inv c s) (young : s .tail + 2 * c < n * c) where
   abbrev f : Fixed
-  f = fixed c mark
+  f = fixed c mark ed
 
   abbrev Word : ℕ → Stamp
   Word k = W c mark n k
@@ -77,7 +77,7 @@ module _ (c mark n : ℕ) (g : Ground c mark n) (s : Shared) (inv : Inv c s) (yo
   pub tail-is : (b : Bool) (m : ℕ) → m ≤ s .tail → same (unmarkedOf f (tailWord c mark n (s .tail) b)) (Word m) ≡ eqb (s .tail) m
   tail-is b m le =
       let r : Near (n * c) (s .tail) m = omega (arith, turn) in
-      rw (Stamps.unmarked-tail c mark n g (s .tail) b) (Stamps.same-is c mark n g (s .tail) m r)
+      rw (Stamps.unmarked-tail c mark n g ed (s .tail) b) (Stamps.same-is c mark n g (s .tail) m r)
 
   head-is : (m : ℕ) → m ≤ s .head → same (Word (s .head)) (Word m) ≡ eqb (s .head) m
   head-is m le =
@@ -87,7 +87,7 @@ module _ (c mark n : ℕ) (g : Ground c mark n) (s : Shared) (inv : Inv c s) (yo
   pub behind-is : (m : ℕ) → m ≤ s .tail → lapBehind f (Word (s .head)) (Word m) ≡ eqb (s .head + c) m
   behind-is m le =
       let r : Near (n * c) (s .head + c) m = omega (arith, turn, inv .low, inv .high) in
-      Stamps.behind-is c mark n g (s .head) m r
+      Stamps.behind-is c mark n g ed (s .head) m r
 
   before-is : (m : ℕ) → m ≤ s .head → same (Word (s .head)) (minus (Word (m + c)) (2 * mark)) ≡ eqb (s .head) m
   before-is m le =
@@ -109,7 +109,7 @@ module _ (c mark n : ℕ) (g : Ground c mark n) (s : Shared) (inv : Inv c s) (yo
         let r : Near (n * c) k m = omega (arith, turn, inv .low, inv .high, o .1, o .2) in
         let r' : Near (n * c) (k + c) m = omega (arith, turn, inv .low, inv .high, o .1, o .2) in
         let here = Stamps.stamp-same c mark n g false k m (o .0 ∙ sym at) r in
-        let past = Stamps.stamp-behind c mark n g false k m (o .0 ∙ sym at) r' in
+        let past = Stamps.stamp-behind c mark n g ed false k m (o .0 ∙ sym at) r' in
         record {
           decides =
               λ q h d.
@@ -128,7 +128,7 @@ module _ (c mark n : ℕ) (g : Ground c mark n) (s : Shared) (inv : Inv c s) (yo
         let r : Near (n * c) k m = omega (arith, turn, inv .low, inv .high, o .1, o .2) in
         let r' : Near (n * c) (k + c) m = omega (arith, turn, inv .low, inv .high, o .1, o .2) in
         let here = Stamps.stamp-same c mark n g true k m (o .0 ∙ sym at) r in
-        let past = Stamps.stamp-behind c mark n g true k m (o .0 ∙ sym at) r' in
+        let past = Stamps.stamp-behind c mark n g ed true k m (o .0 ∙ sym at) r' in
         record {
           decides =
               λ q h d.
@@ -188,7 +188,7 @@ module _ (c mark n : ℕ) (g : Ground c mark n) (s : Shared) (inv : Inv c s) (yo
       let q = unless b _ (sym (Stamps.same-tail c mark n g (s .tail) m b r) ∙ h) in
       let e : s .tail ≡ m = eqb-true _ _ (q .1) in
       let k = cell-at m (Await m) (o .1 e) in
-      (Stamps.marked-tail c mark n g (s .tail) b ∙ q .0, rw (Stamps.unmarked-tail c mark n g (s .tail) b) (behind-is (s .tail) (omega arith) ∙ ne-eqb (s .head + c) (s .tail) (λ z. omega (arith, k .2))))
+      (Stamps.marked-tail c mark n g ed (s .tail) b ∙ q .0, rw (Stamps.unmarked-tail c mark n g ed (s .tail) b) (behind-is (s .tail) (omega arith) ∙ ne-eqb (s .head + c) (s .tail) (λ z. omega (arith, k .2))))
 
   won-head : (b : Bool) (m w : ℕ) → ViewOk c s w (Holds m) → same (Word (s .head)) (Word m) ≡ true
       → same (unmarkedOf f (tailWord c mark n (s .tail) b)) (Word (s .head)) ≡ false
@@ -229,7 +229,7 @@ module _ (c mark n : ℕ) (g : Ground c mark n) (s : Shared) (inv : Inv c s) (yo
   finds w i b (O3 h) small at o loose = rw (o .1) (won-head b (o .0) w (o .2))
   finds w i b (O4 h) small at o loose = tt
   finds w i b (O5 h v) small at o loose = tt
-  finds w i b (O6 h) small at o loose = rw (o .1) (last-load b (o .0) (o .2))
+  finds w i b (O6 h) small at o loose = rw (o .1) (last-load b (o .0) (o .2 .0))
   finds w i b Len1 small at o loose = tt
   finds w i b (Len2 t) small at o loose = tt
   finds w i b (Len3 t h) small at o loose = tt

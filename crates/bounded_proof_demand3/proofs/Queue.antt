@@ -97,9 +97,9 @@ module _ (c n workers : ℕ) (base : Base c n workers) (m : Machine) (h : List E
       let inv = pic .inv in
       let young = first-turn c n workers base s m pic in
       ap (λ (f : Fixed). lapBehind f (m .ring .ends .head) (unmarkedOf f (m .ring .ends .tail))) (pic .rule)
-      ∙ ap (λ (e : Ends). lapBehind (fixed c mark) (e .head) (unmarkedOf (fixed c mark) (e .tail))) (pic .ends)
-      ∙ ap (λ (z : Stamp). lapBehind (fixed c mark) (W c mark n (s .head)) z) (unmarked-tail c mark n (base .ground) (s .tail) (pic .shut))
-      ∙ behind-is c mark n (base .ground) s inv young (s .tail) (omega arith)
+      ∙ ap (λ (e : Ends). lapBehind (fixed c mark (m .ring .fixed .edition)) (e .head) (unmarkedOf (fixed c mark (m .ring .fixed .edition)) (e .tail))) (pic .ends)
+      ∙ ap (λ (z : Stamp). lapBehind (fixed c mark (m .ring .fixed .edition)) (W c mark n (s .head)) z) (unmarked-tail c mark n (base .ground) (m .ring .fixed .edition) (s .tail) (pic .shut))
+      ∙ behind-is c mark n (m .ring .fixed .edition) (base .ground) s inv young (s .tail) (omega arith)
       ∙ as-one (s .head + c) (s .tail) (length (waiting h)) c (λ z. omega (arith, long)) (λ z. omega (arith, long, inv .low))
       ∙ ap (λ (f : Fixed). eqb (length (waiting h)) (f .capacity)) (sym (pic .rule))
 
@@ -109,8 +109,8 @@ module _ (c n workers : ℕ) (base : Base c n workers) (m : Machine) (h : List E
       let inv = pic .inv in
       let young = first-turn c n workers base s m pic in
       ap (λ (f : Fixed). same (unmarkedOf f (m .ring .ends .tail)) (m .ring .ends .head)) (pic .rule)
-      ∙ ap (λ (e : Ends). same (unmarkedOf (fixed c mark) (e .tail)) (e .head)) (pic .ends)
-      ∙ tail-is c mark n (base .ground) s inv young (pic .shut) (s .head) (inv .low)
+      ∙ ap (λ (e : Ends). same (unmarkedOf (fixed c mark (m .ring .fixed .edition)) (e .tail)) (e .head)) (pic .ends)
+      ∙ tail-is c mark n (m .ring .fixed .edition) (base .ground) s inv young (pic .shut) (s .head) (inv .low)
       ∙ as-one (s .tail) (s .head) (length (waiting h)) 0 (λ z. omega (arith, long)) (λ z. omega (arith, long, inv .low))
 
   -- the first item is in the slot at head

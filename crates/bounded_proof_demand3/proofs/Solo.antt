@@ -119,12 +119,12 @@ module _ (c n workers : ℕ) (base : Base c n workers) (s : Shared) (m : Machine
 
     found : Finds (m .ring .fixed) (m .ring .ends) (ownSlot m p) p
     found =
-        let at : i ≡ spotOf (fixed c (markOf c)) (viewOf p .held) = ap (λ (f : Fixed). spotOf f (viewOf p .held)) (pic .rule) in
-        let d : Finds (fixed c (markOf c)) (endsOf c (markOf c) n s (pic .shut)) (slotOf c (markOf c) n (s .cell i) (s .val i)) p =
-        finds c (markOf c) n (base .ground) s (pic .inv) (first-turn c n workers base s m pic) w i (pic .shut) p small at (pic .stands w) (loose i small) in
+        let at : i ≡ spotOf (fixed c (markOf c) (m .ring .fixed .edition)) (viewOf p .held) = ap (λ (f : Fixed). spotOf f (viewOf p .held)) (pic .rule) in
+        let d : Finds (fixed c (markOf c) (m .ring .fixed .edition)) (endsOf c (markOf c) n s (pic .shut)) (slotOf c (markOf c) n (s .cell i) (s .val i)) p =
+        finds c (markOf c) n (m .ring .fixed .edition) (base .ground) s (pic .inv) (first-turn c n workers base s m pic) w i (pic .shut) p small at (pic .stands w) (loose i small) in
         subst (λ (f : Fixed). Finds f (m .ring .ends) (ownSlot m p) p) (sym (pic .rule))
-        (subst (λ (e : Ends). Finds (fixed c (markOf c)) e (ownSlot m p) p) (sym (pic .ends))
-        (subst (λ (z : Slot). Finds (fixed c (markOf c)) (endsOf c (markOf c) n s (pic .shut)) z p) (sym (pic .slots i small)) d))
+        (subst (λ (e : Ends). Finds (fixed c (markOf c) (m .ring .fixed .edition)) e (ownSlot m p) p) (sym (pic .ends))
+        (subst (λ (z : Slot). Finds (fixed c (markOf c) (m .ring .fixed .edition)) (endsOf c (markOf c) n s (pic .shut)) z p) (sym (pic .slots i small)) d))
 
     abbrev next : Machine
     next = acted m w p false

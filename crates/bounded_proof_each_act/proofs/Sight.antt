@@ -12,7 +12,7 @@ use Rattle.bounded_places.specs.declared.Answer.{Answer}
 use Rattle.bounded_places.specs.declared.Answer.the-variants.{Nothing, Pushed, Full, Closed, Displaced, Popped, Empty, PopClosed, Len, Yes, No}
 use Rattle.bounded_places.specs.declared.Place.{Place}
 use Rattle.bounded_places.specs.declared.Place.the-variants.{Idle, P1, P2, P3, P4, P5, P6, F6, F7, F8, F9, O1, O2, O3, O4, O5, O6, Len1, Len2, Len3, Empty1, Empty2, Full1, Full2, Close1, IsClosed1}
-use Rattle.bounded_proof_invariant.proofs.Ring.{Fill, Filled, Take, Grab, Swap, Swapped, taking, Cell, Await, Hold, Hand, number, Shared, View, Tail, Head, Awaits, Holds, Forces, Owns, Keeps, ViewOk, CellOk, Inv}
+use Rattle.bounded_proof_invariant.proofs.Ring.{Fill, Filled, Take, Grab, Swap, Swapped, taking, Cell, Await, Hold, Hand, number, Shared, View, Tail, Head, Awaits, Holds, Forces, Rests, Owns, Keeps, ViewOk, CellOk, Inv}
 use Rattle.bounded_proof_invariant.proofs.Effects.{Effect, Still, Tailed, Taken, Grabbed, Forced, Fills, Swaps, Frees, Gives, Course, view-course, tail-course}
 use Rattle.bounded_proof_each_act.proofs.Stamps.{W, tailWord, slotWord}
 
@@ -42,7 +42,7 @@ look c (O2 h) = Sees h Head
 look c (O3 h) = Sees h Holds
 look c (O4 h) = Sees h (Owns Take)
 look c (O5 h v) = Sees h (λ m. Keeps Take m v m)
-look c (O6 h) = Sees h Head
+look c (O6 h) = Sees h Rests
 look c Len1 = Calm Nothing
 look c (Len2 t) = Tails t
 look c (Len3 t h) = Counts t h
@@ -60,6 +60,7 @@ grips (Head h) = false
 grips (Awaits t) = false
 grips (Holds h) = false
 grips (Forces h) = false
+grips (Rests h) = false
 grips (Owns st k) = true
 grips (Keeps st k a m) = true
 
@@ -94,6 +95,7 @@ claimed (Head h) = Quiet
 claimed (Awaits t) = Quiet
 claimed (Holds h) = Quiet
 claimed (Forces h) = Quiet
+claimed (Rests h) = Quiet
 claimed (Owns Fill k) = Quiet
 claimed (Owns Filled k) = Quiet
 claimed (Owns Take k) = Heading
@@ -145,6 +147,7 @@ endSeen s (Head h) = s .head
 endSeen s (Awaits t) = s .tail
 endSeen s (Holds h) = s .head
 endSeen s (Forces h) = s .tail
+endSeen s (Rests h) = s .head
 endSeen s (Owns st k) = s .tail
 endSeen s (Keeps st k a m) = s .tail
 
@@ -154,6 +157,7 @@ end-most s le (Head h) = le
 end-most s le (Awaits t) = omega arith
 end-most s le (Holds h) = le
 end-most s le (Forces h) = omega arith
+end-most s le (Rests h) = le
 end-most s le (Owns st k) = omega arith
 end-most s le (Keeps st k a m) = omega arith
 

@@ -10,7 +10,8 @@ use borrow.Author.Tests.{lt-ltb, le-ltb, eq-eqb, ne-eqb, eqb-true, eqb-false}
 use Rattle.bounded_words.specs.declared.Stamp.{Stamp}
 use Rattle.bounded_words.specs.declared.Fixed.{Fixed}
 use Rattle.bounded_words.specs.Limits.{wide}
-use Rattle.bounded_words.specs.Words.{stamp, indexOf, markedOf, unmarkedOf, plus, minus, withMark, nextOf, same, onePast, lapBehind, lapBehindOnePast}
+use Rattle.bounded_words.specs.Words.{stamp, markedOf, unmarkedOf, plus, minus, withMark, nextOf, same, onePast, lapBehind, lapBehindOnePast}
+use Rattle.bounded_acts.specs.Acts.{forcedTail}
 use Rattle.bounded_proof_invariant.proofs.Width.{word, Wide, Near, below, index-word, index-marked, clear-word, set-word, marked-below, lap-word, lap-full, lap-back, next-within, next-over, word-one, word-odd}
 
 -- The constants of a ring, with so many laps to the width.
@@ -18,8 +19,8 @@ pub record Ground (c mark n : ℕ) : Type 0 where
   pub laws : Wide c mark n
   pub whole : n * (2 * mark) ≡ wide
 
-abbrev pub fixed : ℕ → ℕ → Fixed
-fixed c mark = record { mark = mark; lap = 2 * mark; capacity = c }
+abbrev pub fixed : ℕ → ℕ → ℕ → Fixed
+fixed c mark ed = record { mark = mark; lap = 2 * mark; capacity = c; edition = ed }
 
 -- the word of claim k; tail's, marked or not; the stamp of a slot, full or not
 abbrev pub W : ℕ → ℕ → ℕ → ℕ → Stamp
@@ -63,9 +64,9 @@ module _ (c mark n : ℕ) (g : Ground c mark n) where
   unfolding plus
   over-lap w = ap (λ (z : ℕ). stamp ((w + 2 * mark) % z)) (sym (g .whole))
 
-  pub next-is : (k : ℕ) → nextOf (fixed c mark) (W c mark n k) ≡ W c mark n (k + 1)
+  pub next-is : (ed k : ℕ) → nextOf (fixed c mark ed) (W c mark n k) ≡ W c mark n (k + 1)
   unfolding nextOf
-  next-is k = rw (index-word c mark n (g .laws) k) (go (decLt (k % c + 1) c))
+  next-is ed k = rw (index-word c mark n (g .laws) k) (go (decLt (k % c + 1) c))
     where
       go : Dec (k % c + 1 < c)
           → cond (ltb (k % c + 1) c) (plus (W c mark n k) 1) (plus (stamp (word c mark n k - k % c)) (2 * mark)) ≡ W c mark n (k + 1)
@@ -75,38 +76,48 @@ module _ (c mark n : ℕ) (g : Ground c mark n) where
           rw (le-ltb (k % c + 1) c l) (over-lap (word c mark n k - k % c) ∙ ap stamp (sym (next-over c mark n (g .laws) k l)))
 
   -- next(t) less a lap, a lap behind
-  pub next-back : (k : ℕ) → minus (nextOf (fixed c mark) (W c mark n (k + c))) (2 * mark) ≡ W c mark n (k + 1)
-  next-back k =
+  pub next-back : (ed k : ℕ) → minus (nextOf (fixed c mark ed) (W c mark n (k + c))) (2 * mark) ≡ W c mark n (k + 1)
+  next-back ed k =
       let q : k + c + 1 ≡ k + 1 + c = omega arith in
-      rw (next-is (k + c), q) (minus-lap (k + 1))
+      rw (next-is ed (k + c), q) (minus-lap (k + 1))
 
   -- the slot of a claim's word, and of a word a lap on
-  pub word-slot : (t : Stamp) (k : ℕ) → t ≡ W c mark n k → indexOf (fixed c mark) t ≡ k % c
+  pub word-slot : (t : Stamp) (k : ℕ) → t ≡ W c mark n k → t .0 % mark ≡ k % c
   word-slot t k e = ap (λ (z : Stamp). z .0 % mark) e ∙ index-word c mark n (g .laws) k
 
-  pub lap-slot : (t : Stamp) (k : ℕ) → t ≡ W c mark n (k + c) → indexOf (fixed c mark) t ≡ k % c
+  pub lap-slot : (t : Stamp) (k : ℕ) → t ≡ W c mark n (k + c) → t .0 % mark ≡ k % c
   lap-slot t k e = word-slot t (k + c) e ∙ add-mod-right k c
 
   -- the mark
-  pub index-tail : (k : ℕ) (b : Bool) → indexOf (fixed c mark) (tailWord c mark n k b) ≡ k % c
+  pub index-tail : (k : ℕ) (b : Bool) → tailWord c mark n k b .0 % mark ≡ k % c
   index-tail k true = index-marked c mark n (g .laws) k
   index-tail k false = index-word c mark n (g .laws) k
 
-  pub marked-tail : (k : ℕ) (b : Bool) → markedOf (fixed c mark) (tailWord c mark n k b) ≡ b
+  pub marked-tail : (ed k : ℕ) (b : Bool) → markedOf (fixed c mark ed) (tailWord c mark n k b) ≡ b
   unfolding markedOf
-  marked-tail k true = eq-eqb ((word c mark n k + mark) / mark % 2) 1 (set-word c mark n (g .laws) k)
-  marked-tail k false = ne-eqb (word c mark n k / mark % 2) 1 (λ e. omega (arith, clear-word c mark n (g .laws) k))
+  marked-tail ed k true = eq-eqb ((word c mark n k + mark) / mark % 2) 1 (set-word c mark n (g .laws) k)
+  marked-tail ed k false = ne-eqb (word c mark n k / mark % 2) 1 (λ e. omega (arith, clear-word c mark n (g .laws) k))
 
-  pub unmarked-tail : (k : ℕ) (b : Bool) → unmarkedOf (fixed c mark) (tailWord c mark n k b) ≡ W c mark n k
+  pub unmarked-tail : (ed k : ℕ) (b : Bool) → unmarkedOf (fixed c mark ed) (tailWord c mark n k b) ≡ W c mark n k
   unfolding unmarkedOf
-  unmarked-tail k true = rw (marked-tail k true) (ap stamp (omega arith))
-  unmarked-tail k false = rw (marked-tail k false)
+  unmarked-tail ed k true = rw (marked-tail ed k true) (ap stamp (omega arith))
+  unmarked-tail ed k false = rw (marked-tail ed k false)
 
-  pub with-mark : (k : ℕ) → withMark (fixed c mark) (tailWord c mark n k false) ≡ tailWord c mark n k true
+  pub with-mark : (ed k : ℕ) → withMark (fixed c mark ed) (tailWord c mark n k false) ≡ tailWord c mark n k true
   unfolding withMark plus
-  with-mark k =
+  with-mark ed k =
       let l : word c mark n k + mark < wide = rw (g .whole) at (marked-below c mark n (g .laws) k) in
-      rw (marked-tail k false) (ap stamp (mod-eq-of-lt l))
+      rw (marked-tail ed k false) (ap stamp (mod-eq-of-lt l))
+
+  -- what F7 makes of tail: the next claim's word, in edition 2 with the mark that tail had
+  pub forced-is : (ed j k : ℕ) (b : Bool) → forcedTail (fixed c mark ed) (tailWord c mark n j b) (W c mark n k) ≡ tailWord c mark n (k + 1) (cond (eqb ed 2) b false)
+  unfolding forcedTail
+  forced-is ed j k b = rw (marked-tail ed j b, next-is ed k) (go (eqb ed 2) b)
+    where
+      go : (two b : Bool) → cond two (cond b (withMark (fixed c mark ed) (W c mark n (k + 1))) (W c mark n (k + 1))) (W c mark n (k + 1)) ≡ tailWord c mark n (k + 1) (cond two b false)
+      go true true = with-mark ed (k + 1)
+      go true false = refl
+      go false b = refl
 
   -- the tests, on words less than a turn apart
   pub same-is : (j k : ℕ) → Near (n * c) j k → same (W c mark n j) (W c mark n k) ≡ eqb j k
@@ -124,9 +135,9 @@ module _ (c mark n : ℕ) (g : Ground c mark n) where
   same-tail j k false r = same-is j k r
   same-tail j k true r = ne-eqb (word c mark n j + mark) (word c mark n k) (never-marked j k)
 
-  pub behind-is : (j k : ℕ) → Near (n * c) (j + c) k → lapBehind (fixed c mark) (W c mark n j) (W c mark n k) ≡ eqb (j + c) k
+  pub behind-is : (ed j k : ℕ) → Near (n * c) (j + c) k → lapBehind (fixed c mark ed) (W c mark n j) (W c mark n k) ≡ eqb (j + c) k
   unfolding lapBehind
-  behind-is j k r = rw (plus-lap j) (same-is (j + c) k r)
+  behind-is ed j k r = rw (plus-lap j) (same-is (j + c) k r)
 
   pub before-is : (j k : ℕ) → Near (n * c) j k → same (W c mark n j) (minus (W c mark n (k + c)) (2 * mark)) ≡ eqb j k
   before-is j k r = rw (minus-lap k) (same-is j k r)
@@ -145,12 +156,12 @@ module _ (c mark n : ℕ) (g : Ground c mark n) where
       (test-is (word c mark n j + 1) (word c mark n k + 1) j k (λ e. ap (λ (z : ℕ). word c mark n z + 1) e)
       (λ e. let q : word c mark n j ≡ word c mark n k = omega arith in word-one c mark n (g .laws) j k r q))
 
-  pub stamp-behind : (b : Bool) (j k : ℕ) → j % c ≡ k % c → Near (n * c) (j + c) k
-      → lapBehindOnePast (fixed c mark) (slotWord c mark n b j) (W c mark n k) ≡ cond b (eqb (j + c) k) false
+  pub stamp-behind : (ed : ℕ) (b : Bool) (j k : ℕ) → j % c ≡ k % c → Near (n * c) (j + c) k
+      → lapBehindOnePast (fixed c mark ed) (slotWord c mark n b j) (W c mark n k) ≡ cond b (eqb (j + c) k) false
   unfolding lapBehindOnePast lapBehind same
-  stamp-behind false j k i r =
+  stamp-behind ed false j k i r =
       rw (plus-one k, plus-lap j) (ne-eqb (word c mark n (j + c)) (word c mark n k + 1) (word-odd c mark n (g .laws) (j + c) k (add-mod-right j c ∙ i)))
-  stamp-behind true j k i r =
+  stamp-behind ed true j k i r =
       rw (plus-one k, full-lap j)
       (test-is (word c mark n (j + c) + 1) (word c mark n k + 1) (j + c) k (λ e. ap (λ (z : ℕ). word c mark n z + 1) e)
       (λ e. let q : word c mark n (j + c) ≡ word c mark n k = omega arith in word-one c mark n (g .laws) (j + c) k r q))

@@ -4,7 +4,8 @@ use mathlib.Core.Bool.{Bool, true, false, cond, true≢false}
 use Prim.Native.Nat.{ℕ, _+_, _*_, _%_, _≤_, _<_}
 use native.Mathlib.Omega.{arith}
 use native.Mathlib.Nat.{add-mod-right}
-use borrow.Author.Tests.{eqb-true}
+use lib.Dec.{eqb}
+use borrow.Author.Tests.{eqb-true, eq-eqb}
 use Rattle.bounded_words.specs.declared.Stamp.{Stamp}
 use Rattle.bounded_words.specs.declared.Fixed.{Fixed}
 use Rattle.bounded_words.specs.Words.{stamp, indexOf, markedOf, unmarkedOf, minus, withMark, nextOf, same, onePast, lapBehind, lapBehindOnePast}
@@ -12,7 +13,8 @@ use Rattle.bounded_places.specs.declared.Slot.{Slot}
 use Rattle.bounded_places.specs.declared.Ends.{Ends}
 use Rattle.bounded_places.specs.declared.Kind.{Kind}
 use Rattle.bounded_places.specs.declared.Kind.the-variants.{Push, Force}
-use Rattle.bounded_places.specs.declared.Answer.the-variants.{Full, Closed, Empty, PopClosed, Len, Yes, No}
+use Rattle.bounded_places.specs.declared.Answer.{Answer}
+use Rattle.bounded_places.specs.declared.Answer.the-variants.{Nothing, Pushed, Full, Closed, Displaced, Popped, Empty, PopClosed, Len, Yes, No}
 use Rattle.bounded_places.specs.declared.Place.{Place}
 use Rattle.bounded_places.specs.declared.Place.the-variants.{Idle, P1, P2, P3, P4, P5, P6, F6, F7, F8, F9, O1, O2, O3, O4, O5, O6, Len1, Len2, Len3, Empty1, Empty2, Full1, Full2, Close1, IsClosed1}
 use Rattle.bounded_places.specs.declared.Held.the-variants as held
@@ -24,7 +26,7 @@ use Rattle.bounded_machine.proofs.Kept.{either}
 use Rattle.bounded_demands.specs.Notions.{Truth, Writes, writeP4, writeF8}
 use Rattle.bounded_proof_invariant.proofs.Width.{word, Near, index-word, turn-long}
 use Rattle.bounded_proof_invariant.proofs.Upd.{upd, upd-same}
-use Rattle.bounded_proof_invariant.proofs.Ring.{Stage, Fill, Filled, Take, Grab, Swap, Swapped, Cell, Await, Hold, Hand, number, Mine, Shared, Latest, Awaits, Holds, Forces, Owns, Keeps, ViewOk, CellOk, Owned, Inv}
+use Rattle.bounded_proof_invariant.proofs.Ring.{Stage, Fill, Filled, Take, Grab, Swap, Swapped, Cell, Await, Hold, Hand, number, Mine, Shared, Latest, Awaits, Holds, Forces, Rests, Owns, Keeps, ViewOk, CellOk, Owned, Inv}
 use Rattle.bounded_proof_invariant.proofs.Effects.{Effect, Still, Tailed, Taken, Grabbed, Forced, Fills, Swaps, Frees, Gives, after, Fits, Loose, loose-mine, ok-at}
 use Rattle.bounded_proof_each_act.proofs.Stamps
 use Rattle.bounded_proof_each_act.proofs.Stamps.{Ground, fixed, W, tailWord}
@@ -51,8 +53,49 @@ WritesBy (Swaps k a) p = Writes p a
 WritesBy (Frees k y) p = Unit {0}
 WritesBy (Gives k y v) p = Unit {0}
 
+-- What an answer says of the ring at the act that gave it: that it is true of the words, and of pop's Closed that no slot waits for tail's claim
+-- in another's hand.
+abbrev pub Says : (c mark n ed : ℕ) → Shared → Bool → Answer → Type 0
+Says c mark n ed s b Nothing = Unit {0}
+Says c mark n ed s b Pushed = Unit {0}
+Says c mark n ed s b (Full x) = Truth (fixed c mark ed) (endsOf c mark n s b) (Full x)
+Says c mark n ed s b (Closed x) = Truth (fixed c mark ed) (endsOf c mark n s b) (Closed x)
+Says c mark n ed s b (Displaced v) = Unit {0}
+Says c mark n ed s b (Popped v) = Unit {0}
+Says c mark n ed s b Empty = Truth (fixed c mark ed) (endsOf c mark n s b) Empty
+Says c mark n ed s b PopClosed =
+    Truth (fixed c mark ed) (endsOf c mark n s b) PopClosed × (s .tail ≡ s .head) × (b ≡ true) × (s .cell (s .tail % c) ≡ Await (s .tail))
+Says c mark n ed s b (Len k) = Unit {0}
+Says c mark n ed s b Yes = Unit {0}
+Says c mark n ed s b No = Unit {0}
+
+pub truth : (c mark n ed : ℕ) (s : Shared) (b : Bool) (a : Answer) → Says c mark n ed s b a → Truth (fixed c mark ed) (endsOf c mark n s b) a
+truth c mark n ed s b Nothing h = tt
+truth c mark n ed s b Pushed h = tt
+truth c mark n ed s b (Full x) h = h
+truth c mark n ed s b (Closed x) h = h
+truth c mark n ed s b (Displaced v) h = tt
+truth c mark n ed s b (Popped v) h = tt
+truth c mark n ed s b Empty h = h
+truth c mark n ed s b PopClosed h = h .0
+truth c mark n ed s b (Len k) h = tt
+truth c mark n ed s b Yes h = tt
+truth c mark n ed s b No h = tt
+
+-- What becomes of the mark: a tail claim at P3 is made of an unmarked tail, one at F7 keeps the mark in edition 2, and no other act clears it.
+abbrev pub Latch : ℕ → Bool → Bool → Effect → Type 0
+Latch ed b shut Still = b ≡ true → shut ≡ true
+Latch ed b shut (Tailed x) = b ≡ false
+Latch ed b shut Taken = b ≡ true → shut ≡ true
+Latch ed b shut Grabbed = b ≡ true → shut ≡ true
+Latch ed b shut (Forced k x) = ed ≡ 2 → b ≡ true → shut ≡ true
+Latch ed b shut (Fills k a) = b ≡ true → shut ≡ true
+Latch ed b shut (Swaps k a) = b ≡ true → shut ≡ true
+Latch ed b shut (Frees k y) = b ≡ true → shut ≡ true
+Latch ed b shut (Gives k y v) = b ≡ true → shut ≡ true
+
 -- What an act of w at the slot i, from the place p, comes to.
-pub record Step (c mark n : ℕ) (s : Shared) (w i : ℕ) (b : Bool) (p : Place) (a : Acted) : Type 0 where
+pub record Step (c mark n ed : ℕ) (s : Shared) (w i : ℕ) (b : Bool) (p : Place) (a : Acted) : Type 0 where
   pub effect : Effect
   pub fits : Fits c s w i effect
   pub shut : Bool
@@ -60,13 +103,15 @@ pub record Step (c mark n : ℕ) (s : Shared) (w i : ℕ) (b : Bool) (p : Place)
   pub slot : a .slot ≡ slotOf c mark n (after c w i effect s .cell i) (after c w i effect s .val i)
   pub stands : Stands c mark n (after c w i effect s) w (look c (a .place))
   pub tells : tale (look c (a .place)) ≡ told effect
-  pub truth : Truth (fixed c mark) (endsOf c mark n s b) (answerIn (look c (a .place)))
+  pub says : Says c mark n ed s b (answerIn (look c (a .place)))
+  -- the mark, before and after
+  pub latch : Latch ed b shut effect
   pub grip : (Mine w (s .cell i) → HandAt mark (look c p) i) → Mine w (after c w i effect s .cell i) → HandAt mark (look c (a .place)) i
   pub writes : WritesBy effect p
 
-module _ (c mark n : ℕ) (g : Ground c mark n) (s : Shared) (inv : Inv c s) (w i : ℕ) (small : i < c) where
+module _ (c mark n ed : ℕ) (g : Ground c mark n) (s : Shared) (inv : Inv c s) (w i : ℕ) (small : i < c) where
   abbrev f : Fixed
-  f = fixed c mark
+  f = fixed c mark ed
 
   abbrev E : Bool → Ends
   E b = endsOf c mark n s b
@@ -75,7 +120,7 @@ module _ (c mark n : ℕ) (g : Ground c mark n) (s : Shared) (inv : Inv c s) (w 
   S = slotOf c mark n (s .cell i) (s .val i)
 
   abbrev Does : Bool → Place → Acted → Type 0
-  Does b p a = Step c mark n s w i b p a
+  Does b p a = Step c mark n ed s w i b p a
 
   abbrev Word : ℕ → Stamp
   Word k = W c mark n k
@@ -91,7 +136,7 @@ module _ (c mark n : ℕ) (g : Ground c mark n) (s : Shared) (inv : Inv c s) (w 
   turn = turn-long c mark n (g .laws)
 
   -- an act that changes nothing but its worker's place, from a place that is not in hand
-  still : (b : Bool) (p q : Place) → (HandAt mark (look c p) i → ⊥) → tale (look c q) ≡ Quiet → Truth f (E b) (answerIn (look c q))
+  still : (b : Bool) (p q : Place) → (HandAt mark (look c p) i → ⊥) → tale (look c q) ≡ Quiet → Says c mark n ed s b (answerIn (look c q))
       → Stands c mark n s w (look c q) → Does b p (stay (E b) S q)
   unfolding stay
   still b p q loose t r o =
@@ -103,7 +148,8 @@ module _ (c mark n : ℕ) (g : Ground c mark n) (s : Shared) (inv : Inv c s) (w 
         slot = refl;
         stands = o;
         tells = t;
-        truth = r;
+        says = r;
+        latch = λ e. e;
         grip = λ back m. absurd (loose (back m));
         writes = tt;
       }
@@ -113,7 +159,7 @@ module _ (c mark n : ℕ) (g : Ground c mark n) (s : Shared) (inv : Inv c s) (w 
 
   -- tail unmarked is the word of its number
   clear-tail : (b : Bool) → markedOf f (E b .tail) ≡ false → tailWord c mark n (s .tail) b ≡ Word (s .tail)
-  clear-tail b h = let q : b ≡ false = sym (Stamps.marked-tail c mark n g (s .tail) b) ∙ h in rw q
+  clear-tail b h = let q : b ≡ false = sym (Stamps.marked-tail c mark n g ed (s .tail) b) ∙ h in rw q
 
   -- P1, and P3 that lost: load tail
   loads : (b : Bool) (p : Place) (k : Kind) (x : ℕ) → (HandAt mark (look c p) i → ⊥) → Does b p (actP1 f (E b) S k x)
@@ -129,6 +175,12 @@ module _ (c mark n : ℕ) (g : Ground c mark n) (s : Shared) (inv : Inv c s) (w 
   same-slot : (m : ℕ) → m % c ≡ i → number (s .cell i) % c ≡ m % c
   same-slot m at = number-slot c s inv i (s .cell i) ok-here ∙ sym at
 
+  -- a stamp that is the word of tail's number: the slot waits for that claim
+  waits : (m : ℕ) → m % c ≡ i → Near (n * c) (number (s .cell i)) m → same (S .stamp) (Word m) ≡ true → s .tail ≡ m → s .cell i ≡ Await m
+  waits m at r h e =
+      let q = unless (full (s .cell i)) _ (sym (Stamps.stamp-same c mark n g (full (s .cell i)) (number (s .cell i)) m (same-slot m at) r) ∙ h) in
+      see-free c s inv i m (s .cell i) ok-here (q .0) (eqb-true _ _ (q .1)) e
+
   p2 : (b : Bool) (k : Kind) (m x : ℕ) → m % c ≡ i → m ≤ s .tail → Late m → Does b (P2 k (Word m) x) (actP2 f (E b) S k (Word m) x)
   p2 b k m x at le late =
       either (Does b (P2 k (Word m) x)) (same (S .stamp) (Word m)) (stay (E b) S (P3 k (Word m) x)) _
@@ -143,14 +195,13 @@ module _ (c mark n : ℕ) (g : Ground c mark n) (s : Shared) (inv : Inv c s) (w 
       free : same (S .stamp) (Word m) ≡ true → s .tail ≡ m → s .cell (m % c) ≡ Await m
       free h e =
           let r : Near (n * c) (number (s .cell i)) m = omega (arith, near, turn, inv .low, inv .high) in
-          let q = unless (full (s .cell i)) _ (sym (Stamps.stamp-same c mark n g (full (s .cell i)) (number (s .cell i)) m (same-slot m at) r) ∙ h) in
-          rw at (see-free c s inv i m (s .cell i) ok-here (q .0) (eqb-true _ _ (q .1)) e)
+          rw at (waits m at r h e)
 
       behind : (k : Kind) → lapBehindOnePast f (S .stamp) (Word m) ≡ true → Does b (P2 k (Word m) x) (stay (E b) S (fullAt k (Word m) x))
       behind Push d = still b (P2 Push (Word m) x) (P6 (Word m) x) no-hand refl tt (m, refl, le)
       behind Force d =
           let r : Near (n * c) (number (s .cell i) + c) m = omega (arith, near, turn, inv .low, inv .high) in
-          let q = when (full (s .cell i)) _ (sym (Stamps.stamp-behind c mark n g (full (s .cell i)) (number (s .cell i)) m (same-slot m at) r) ∙ d) in
+          let q = when (full (s .cell i)) _ (sym (Stamps.stamp-behind c mark n g ed (full (s .cell i)) (number (s .cell i)) m (same-slot m at) r) ∙ d) in
           let e : number (s .cell i) + c ≡ m = eqb-true _ _ (q .1) in
           let at-j : number (s .cell i) % c ≡ i = number-slot c s inv i (s .cell i) ok-here in
           still b (P2 Force (Word m) x) (F6 (Word m) x) no-hand refl tt (
@@ -171,7 +222,8 @@ module _ (c mark n : ℕ) (g : Ground c mark n) (s : Shared) (inv : Inv c s) (w 
         effect = Tailed x;
         fits = e;
         shut = false;
-        ends = rw (Stamps.next-is c mark n g (s .tail));
+        latch = refl;
+        ends = rw (Stamps.next-is c mark n g ed (s .tail));
         slot = rw (upd-same (s .cell) i (Hand Fill (s .tail) w), e);
         stands = (
           s .tail,
@@ -179,7 +231,7 @@ module _ (c mark n : ℕ) (g : Ground c mark n) (s : Shared) (inv : Inv c s) (w 
           ((rw at (upd-same (s .cell) i (Hand Fill (s .tail) w)), newest (s .tailer) (s .tail)), omega arith, sym (upd-same (s .item) (s .tail) x)),
         );
         tells = refl;
-        truth = tt;
+        says = tt;
         grip = λ back m. (refl, index-word c mark n (g .laws) (s .tail) ∙ at);
         writes = tt;
       }
@@ -212,11 +264,12 @@ module _ (c mark n : ℕ) (g : Ground c mark n) (s : Shared) (inv : Inv c s) (w 
         effect = Fills m x;
         fits = (e, o .2, o .0 .1);
         shut = b;
+        latch = λ e. e;
         ends = refl;
         slot = rw (upd-same (s .cell) i (Hand Filled m w), upd-same (s .val) i x, e);
         stands = (m, refl, (rw at (upd-same (s .cell) i (Hand Filled m w)), tt));
         tells = refl;
-        truth = tt;
+        says = tt;
         grip = λ back z. (refl, index-word c mark n (g .laws) m ∙ at);
         writes = writeP4;
       }
@@ -234,11 +287,12 @@ module _ (c mark n : ℕ) (g : Ground c mark n) (s : Shared) (inv : Inv c s) (w 
         effect = Frees m (Hold m);
         fits = (Filled, e, omega arith, tt, (at, k .1 .0, k .1 .1, k .1 .2));
         shut = b;
+        latch = λ e. e;
         ends = refl;
         slot = rw (upd-same (s .cell) i (Hold m), Stamps.plus-one c mark n g m);
         stands = tt;
         tells = refl;
-        truth = tt;
+        says = tt;
         grip = λ back z. gone (Hold m) tt z;
         writes = tt;
       }
@@ -252,9 +306,9 @@ module _ (c mark n : ℕ) (g : Ground c mark n) (s : Shared) (inv : Inv c s) (w 
       full-true : lapBehind f (E b .head) (Word m) ≡ true → lapBehind f (E b .head) (unmarkedOf f (E b .tail)) ≡ true
       full-true h =
           let r : Near (n * c) (s .head + c) m = omega (arith, turn, inv .low, inv .high) in
-          let q : s .head + c ≡ m = eqb-true _ _ (sym (Stamps.behind-is c mark n g (s .head) m r) ∙ h) in
+          let q : s .head + c ≡ m = eqb-true _ _ (sym (Stamps.behind-is c mark n g ed (s .head) m r) ∙ h) in
           let e : s .tail ≡ m = omega (arith, inv .high) in
-          rw (Stamps.unmarked-tail c mark n g (s .tail) b, e) h
+          rw (Stamps.unmarked-tail c mark n g ed (s .tail) b, e) h
 
   won-grab : (b : Bool) (x : ℕ) → s .head % c ≡ i → s .cell i ≡ Hold (s .head) → s .head + c ≤ s .tail
       → Does b (F6 (Word (s .head + c)) x) (stay (headTo (E b) (minus (nextOf f (Word (s .head + c))) (2 * mark))) S (F7 (Word (s .head + c)) x))
@@ -264,11 +318,12 @@ module _ (c mark n : ℕ) (g : Ground c mark n) (s : Shared) (inv : Inv c s) (w 
         effect = Grabbed;
         fits = (e, omega (arith, inv .high));
         shut = b;
-        ends = rw (Stamps.next-back c mark n g (s .head));
+        latch = λ e. e;
+        ends = rw (Stamps.next-back c mark n g ed (s .head));
         slot = rw (upd-same (s .cell) i (Hand Grab (s .head) w), e);
         stands = (s .head, refl, (rw at (upd-same (s .cell) i (Hand Grab (s .head) w)), newest (s .taker) (s .head)));
         tells = refl;
-        truth = tt;
+        says = tt;
         grip = λ back m. (refl, index-word c mark n (g .laws) (s .head + c) ∙ add-mod-right (s .head) c ∙ at);
         writes = tt;
       }
@@ -295,10 +350,10 @@ module _ (c mark n : ℕ) (g : Ground c mark n) (s : Shared) (inv : Inv c s) (w 
   lap-index m at = index-word c mark n (g .laws) (m + c) ∙ add-mod-right m c ∙ at
 
   -- force_push's tail claim, whatever the act makes of the mark
-  forces : (b shut : Bool) (m x : ℕ) → m % c ≡ i → ViewOk c s w (Owns Grab m)
+  forces : (b shut : Bool) → (ed ≡ 2 → b ≡ true → shut ≡ true) → (m x : ℕ) → m % c ≡ i → ViewOk c s w (Owns Grab m)
       → Does b (F7 (Word (m + c)) x) (stay (tailTo (E b) (tailWord c mark n (m + c + 1) shut)) S (F8 (Word (m + c)) x))
   unfolding stay tailTo
-  forces b shut m x at o =
+  forces b shut kept m x at o =
       let e = owned-here Grab m at o in
       let k = ok-at c s w i small inv (Hand Grab m w) e in
       let q : s .tail ≡ m + c = k .1 .1 in
@@ -306,18 +361,21 @@ module _ (c mark n : ℕ) (g : Ground c mark n) (s : Shared) (inv : Inv c s) (w 
         effect = Forced m x;
         fits = e;
         shut = shut;
+        latch = kept;
         ends = rw q;
         slot = rw (upd-same (s .cell) i (Hand Swap m w), e);
         stands =
             (m, refl, ((rw at (upd-same (s .cell) i (Hand Swap m w)), (o .1, rw (← q) (newest (s .tailer) (s .tail)))), omega arith, rw (← q) (sym (upd-same (s .item) (s .tail) x))));
         tells = refl;
-        truth = tt;
+        says = tt;
         grip = λ back z. (refl, lap-index m at);
         writes = tt;
       }
 
   f7 : (b : Bool) (m x : ℕ) → m % c ≡ i → ViewOk c s w (Owns Grab m) → Does b (F7 (Word (m + c)) x) (actF7 f (E b) S (Word (m + c)) x)
-  f7 b m x at o = rw (Stamps.next-is c mark n g (m + c)) (forces b false m x at o)
+  f7 b m x at o =
+      rw (Stamps.forced-is c mark n g ed (s .tail) (m + c) b)
+      (forces b (cond (eqb ed 2) b false) (λ two shut. ap (λ (z : Bool). cond z b false) (eq-eqb ed 2 two) ∙ shut) m x at o)
 
   f8 : (b : Bool) (m x : ℕ) → m % c ≡ i → ViewOk c s w (Keeps Swap m x (m + c)) → Does b (F8 (Word (m + c)) x) (actF8 (E b) S (Word (m + c)) x)
   unfolding stay valueTo
@@ -328,12 +386,13 @@ module _ (c mark n : ℕ) (g : Ground c mark n) (s : Shared) (inv : Inv c s) (w 
         effect = Swaps m x;
         fits = (e, o .2, o .0 .1 .1);
         shut = b;
+        latch = λ e. e;
         ends = refl;
         slot = rw (upd-same (s .cell) i (Hand Swapped m w), upd-same (s .val) i x, e);
         stands =
             (m, refl, ((rw at (upd-same (s .cell) i (Hand Swapped m w)), o .0 .1 .0), omega (arith, o .1), k .1 .2 .0));
         tells = refl;
-        truth = tt;
+        says = tt;
         grip = λ back z. (refl, lap-index m at);
         writes = writeF8;
       }
@@ -348,11 +407,12 @@ module _ (c mark n : ℕ) (g : Ground c mark n) (s : Shared) (inv : Inv c s) (w 
         fits =
             ((Swapped, e, omega arith, tt, (add-mod-right m c ∙ at, k .1 .0, k .1 .1, k .1 .2)), refl, omega arith, o .2, o .1, o .0 .1);
         shut = b;
+        latch = λ e. e;
         ends = refl;
         slot = rw (upd-same (s .cell) i (Hold (m + c)), Stamps.plus-one c mark n g (m + c));
         stands = tt;
         tells = refl;
-        truth = tt;
+        says = tt;
         grip = λ back z. gone (Hold (m + c)) tt z;
         writes = tt;
       }
@@ -362,7 +422,7 @@ module _ (c mark n : ℕ) (g : Ground c mark n) (s : Shared) (inv : Inv c s) (w 
       either (Does b (O2 (Word m))) (onePast (S .stamp) (Word m)) (stay (E b) S (O3 (Word m))) _
       (λ h. still b (O2 (Word m)) (O3 (Word m)) no-hand refl tt (m, refl, (le, holds h)))
       (λ h. either (Does b (O2 (Word m))) (same (S .stamp) (Word m)) (stay (E b) S (O6 (Word m))) (stay (E b) S O1)
-      (λ d. still b (O2 (Word m)) (O6 (Word m)) no-hand refl tt (m, refl, le))
+      (λ d. still b (O2 (Word m)) (O6 (Word m)) no-hand refl tt (m, refl, (le, rests d)))
       (λ d. still b (O2 (Word m)) O1 no-hand refl tt tt))
     where
       holds : onePast (S .stamp) (Word m) ≡ true → s .head ≡ m → s .cell (m % c) ≡ Hold m
@@ -370,6 +430,11 @@ module _ (c mark n : ℕ) (g : Ground c mark n) (s : Shared) (inv : Inv c s) (w 
           let r : Near (n * c) (number (s .cell i)) m = omega (arith, number-near c s inv i (s .cell i) ok-here, turn, inv .low, inv .high) in
           let q = when (full (s .cell i)) _ (sym (Stamps.stamp-past c mark n g (full (s .cell i)) (number (s .cell i)) m (same-slot m at) r) ∙ h) in
           rw at (see-full c s inv i m (s .cell i) ok-here (q .0) (eqb-true _ _ (q .1)) e)
+
+      rests : same (S .stamp) (Word m) ≡ true → s .tail ≡ m → s .cell (m % c) ≡ Await m
+      rests h e =
+          let r : Near (n * c) (number (s .cell i)) m = omega (arith, number-near c s inv i (s .cell i) ok-here, turn, inv .low, inv .high) in
+          rw at (waits m at r h e)
 
   won-take : (b : Bool) → s .head % c ≡ i → s .cell i ≡ Hold (s .head)
       → Does b (O3 (Word (s .head))) (stay (headTo (E b) (nextOf f (Word (s .head)))) S (O4 (Word (s .head))))
@@ -379,11 +444,12 @@ module _ (c mark n : ℕ) (g : Ground c mark n) (s : Shared) (inv : Inv c s) (w 
         effect = Taken;
         fits = e;
         shut = b;
-        ends = rw (Stamps.next-is c mark n g (s .head));
+        latch = λ e. e;
+        ends = rw (Stamps.next-is c mark n g ed (s .head));
         slot = rw (upd-same (s .cell) i (Hand Take (s .head) w), e);
         stands = (s .head, refl, (rw at (upd-same (s .cell) i (Hand Take (s .head) w)), newest (s .taker) (s .head)));
         tells = refl;
-        truth = tt;
+        says = tt;
         grip = λ back m. (refl, index-word c mark n (g .laws) (s .head) ∙ at);
         writes = tt;
       }
@@ -411,11 +477,12 @@ module _ (c mark n : ℕ) (g : Ground c mark n) (s : Shared) (inv : Inv c s) (w 
         effect = Still;
         fits = tt;
         shut = b;
+        latch = λ e. e;
         ends = refl;
         slot = refl;
         stands = (m, refl, (o, omega (arith, k .1 .0, inv .low), k .1 .2 .0));
         tells = refl;
-        truth = tt;
+        says = tt;
         grip = λ back z. (refl, index-word c mark n (g .laws) m ∙ at);
         writes = tt;
       }
@@ -430,29 +497,36 @@ module _ (c mark n : ℕ) (g : Ground c mark n) (s : Shared) (inv : Inv c s) (w 
         fits =
             ((Take, e, omega arith, tt, (add-mod-right m c ∙ at, k .1 .1, omega (arith, k .1 .0))), refl, omega arith, o .2, o .1, o .0 .1);
         shut = b;
+        latch = λ e. e;
         ends = refl;
         slot = rw (upd-same (s .cell) i (Await (m + c)), Stamps.plus-lap c mark n g m);
         stands = tt;
         tells = refl;
-        truth = tt;
+        says = tt;
         grip = λ back z. gone (Await (m + c)) tt z;
         writes = tt;
       }
 
-  o6 : (b : Bool) (m : ℕ) → m ≤ s .head → LateHead m → Does b (O6 (Word m)) (actO6 f (E b) S (Word m))
-  o6 b m le late =
+  o6 : (b : Bool) (m : ℕ) → ViewOk c s w (Rests m) → LateHead m → Does b (O6 (Word m)) (actO6 f (E b) S (Word m))
+  o6 b m o late =
       either (Does b (O6 (Word m))) (same (unmarkedOf f (E b .tail)) (Word m)) _ (stay (E b) S O1)
       (λ h. either (Does b (O6 (Word m))) (markedOf f (E b .tail)) (stay (E b) S (Idle PopClosed)) (stay (E b) S (Idle Empty))
-      (λ d. still b (O6 (Word m)) (Idle PopClosed) no-hand refl (d, Stamps.unmarked-tail c mark n g (s .tail) b ∙ ap Word (even h)) tt)
+      (λ d. still b (O6 (Word m)) (Idle PopClosed) no-hand refl
+      ((d, Stamps.unmarked-tail c mark n g ed (s .tail) b ∙ ap Word (even h)), even h, sym (Stamps.marked-tail c mark n g ed (s .tail) b) ∙ d, rests h) tt)
       (λ d. still b (O6 (Word m)) (Idle Empty) no-hand refl (d, clear-tail b d ∙ ap Word (even h)) tt))
       (λ h. still b (O6 (Word m)) O1 no-hand refl tt tt)
     where
+      found : same (unmarkedOf f (E b .tail)) (Word m) ≡ true → s .tail ≡ m
+      found h =
+          let r : Near (n * c) (s .tail) m = omega (arith, turn, o .0, inv .low, inv .high) in
+          let z : same (Word (s .tail)) (Word m) ≡ true = rw (Stamps.unmarked-tail c mark n g ed (s .tail) b) at h in
+          eqb-true _ _ (sym (Stamps.same-is c mark n g (s .tail) m r) ∙ z)
+
       even : same (unmarkedOf f (E b .tail)) (Word m) ≡ true → s .tail ≡ s .head
-      even h =
-          let r : Near (n * c) (s .tail) m = omega (arith, turn, inv .low, inv .high) in
-          let z : same (Word (s .tail)) (Word m) ≡ true = rw (Stamps.unmarked-tail c mark n g (s .tail) b) at h in
-          let q : s .tail ≡ m = eqb-true _ _ (sym (Stamps.same-is c mark n g (s .tail) m r) ∙ z) in
-          omega (arith, inv .low)
+      even h = omega (arith, found h, o .0, inv .low)
+
+      rests : same (unmarkedOf f (E b .tail)) (Word m) ≡ true → s .cell (s .tail % c) ≡ Await (s .tail)
+      rests h = let e : s .tail ≡ m = found h in rw e (o .1 e)
 
   -- the lookers change nothing
   says : (b : Bool) (p : Place) (a : Bool) → (HandAt mark (look c p) i → ⊥) → Does b p (stay (E b) S (Idle (yesNo a)))
@@ -475,16 +549,17 @@ module _ (c mark n : ℕ) (g : Ground c mark n) (s : Shared) (inv : Inv c s) (w 
   closes : (b : Bool) → markedOf f (E b .tail) ≡ false → Does b Close1 (stay (tailTo (E b) (withMark f (E b .tail))) S (Idle Yes))
   unfolding stay tailTo
   closes b h =
-      let q : b ≡ false = sym (Stamps.marked-tail c mark n g (s .tail) b) ∙ h in
+      let q : b ≡ false = sym (Stamps.marked-tail c mark n g ed (s .tail) b) ∙ h in
       record {
         effect = Still;
         fits = tt;
         shut = true;
-        ends = rw (q, Stamps.with-mark c mark n g (s .tail));
+        latch = λ e. refl;
+        ends = rw (q, Stamps.with-mark c mark n g ed (s .tail));
         slot = refl;
         stands = tt;
         tells = refl;
-        truth = tt;
+        says = tt;
         grip = λ back m. absurd (back m);
         writes = tt;
       }

@@ -58,7 +58,7 @@ Latest who count w k = (k < count) × (who k ≡ w) × ((n : ℕ) → k < n → 
 
 -- What a worker's place relies on.
 pub data View : Type 0 where
-  Tail Head Awaits Holds Forces : ℕ → View
+  Tail Head Awaits Holds Forces Rests : ℕ → View
   -- a slot in hand at claim k
   Owns : Stage → ℕ → View
   -- the same, with a value that is the item of claim n
@@ -100,6 +100,7 @@ module _ (c : ℕ) where
   ViewOk s w (Awaits t) = (t ≤ s .tail) × (s .tail ≡ t → s .cell (t % c) ≡ Await t)
   ViewOk s w (Holds h) = (h ≤ s .head) × (s .head ≡ h → s .cell (h % c) ≡ Hold h)
   ViewOk s w (Forces h) = (h ≤ s .head) × (s .head ≡ h → s .cell (h % c) ≡ Hold h) × (h + c ≤ s .tail)
+  ViewOk s w (Rests h) = (h ≤ s .head) × (s .tail ≡ h → s .cell (h % c) ≡ Await h)
   ViewOk s w (Owns st k) = Owned s w st k
   ViewOk s w (Keeps st k a n) = Owned s w st k × (n < s .tail) × (a ≡ s .item n)
 
@@ -177,6 +178,7 @@ module _ (c : ℕ) (s u : Shared) (w i : ℕ) (inv : Inv c s) (d : Change c s u 
   view-else j n (Awaits t) o = (omega (arith, d .tailUp), await-else t (o .0) (o .1))
   view-else j n (Holds h) o = (omega (arith, d .headUp), hold-else h (o .0) (o .1))
   view-else j n (Forces h) o = (omega (arith, d .headUp), hold-else h (o .0) (o .1), omega (arith, d .tailUp))
+  view-else j n (Rests h) o = (omega (arith, d .headUp), await-else h (omega (arith, o .0, inv .low)) (o .1))
   view-else j n (Owns st k) o = owned-else j n st k o
   view-else j n (Keeps st k a m) o = (owned-else j n st k (o .0), omega (arith, d .tailUp), o .2 ∙ sym (d .itemOld m (o .1)))
 

@@ -32,6 +32,22 @@ fn constants(m: Machine) {
     fixed(m, 1024, 2048, 4096);
 }
 
+fn edition(m: Machine, n: u64) {
+    bounded_text_answers::judge::machine(
+        b"edition #",
+        &[n],
+        bounded_text_machine::build::with_edition(m, n),
+    );
+}
+
+fn editions(m: Machine) {
+    edition(m, 0);
+    edition(m, 1);
+    edition(m, 2);
+    edition(m, 3);
+    edition(m, 18446744073709551615);
+}
+
 fn count(m: Machine, n: u64) {
     bounded_text_answers::judge::machine(
         b"workers #",
@@ -224,6 +240,7 @@ fn at_the_count(m: Machine) {
 pub fn all() {
     let m = bounded_text_answers::base::base();
     constants(m);
+    editions(m);
     counts(m);
     heads(m);
     tails(m);

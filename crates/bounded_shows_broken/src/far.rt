@@ -3,7 +3,7 @@ use bounded_machine::Machine;
 
 // Capacity 2, empty, one step below the last lap's end.
 fn late() -> Machine {
-    let made = bounded::make(2, 1);
+    let made = bounded::make(2, 1, 1);
     let m = made.machine;
     let ends = bounded_text_machine::build::with_ends(
         m,

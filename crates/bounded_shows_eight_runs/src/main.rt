@@ -12,8 +12,8 @@ struct Scene {
     refusal: u64,
 }
 
-fn opened(capacity: u64, workers: u64) -> Scene {
-    let made = bounded::make(capacity, workers);
+fn opened(capacity: u64, workers: u64, edition: u64) -> Scene {
+    let made = bounded::make(capacity, workers, edition);
     let m = made.machine;
     Scene {
         machine: m,
@@ -137,7 +137,7 @@ fn play(begin: Scene, from: usize, to: usize) {
 }
 
 fn constants(capacity: u64) {
-    let made = bounded::make(capacity, 1);
+    let made = bounded::make(capacity, 1, 1);
     let n = bounded_text_machine::numbers(made.machine);
     text_output::say(b"A capacity #: mark and lap # #\n", &[capacity, n[4], n[5]]);
 }
@@ -162,14 +162,14 @@ fn say_ran(r: Ran) {
 
 // B by the document's own words, as one schedule.
 fn run_b_whole() {
-    let made = bounded::make(2, 1);
+    let made = bounded::make(2, 1, 1);
     let words_of = [0, 5, 8, 0, 8, 0, 8, 0, 8, 0, 8, 0];
     say_ran(bounded::run(made.machine, &words_of));
 }
 
 // H CAPACITY WORKERS: REFUSAL, and the numbers of workers and slots that came of it.
 fn making(capacity: u64, workers: u64) {
-    let made = bounded::make(capacity, workers);
+    let made = bounded::make(capacity, workers, 1);
     let n = bounded_text_machine::numbers(made.machine);
     let numbers = [capacity, workers, made.refusal, n[3], n[6]];
     text_output::say(b"H make # #: # capacity=# workers=#\n", &numbers);
@@ -189,8 +189,10 @@ fn run_h() {
 fn main() {
     run_a();
     run_b_whole();
-    play(opened(2, 1), 0, 11);
-    play(opened(1, 2), 11, 16);
-    play(opened(1, 2), 16, 23);
+    play(opened(2, 1, 1), 0, 11);
+    play(opened(1, 2, 1), 11, 16);
+    text_output::say(b"F in edition 2:\n", &[]);
+    play(opened(1, 2, 2), 11, 16);
+    play(opened(1, 2, 1), 16, 23);
     run_h();
 }

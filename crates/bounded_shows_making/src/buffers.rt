@@ -33,7 +33,7 @@ fn lengths(label: &[u8], m: Machine) {
 
 // Document 01's run D: 7 and 8 from index 0 on.
 fn d() -> Machine {
-    let made = bounded::make(2, 2);
+    let made = bounded::make(2, 2, 1);
     let ends = bounded_text_machine::build::with_ends(made.machine, 8, 16);
     bounded_text_machine::build::with_slot(
         bounded_text_machine::build::with_slot(ends, 0, 9, 7),
@@ -65,7 +65,7 @@ fn ends(m: Machine) {
 
 // 1,024 items, the most there are.
 fn full() -> Machine {
-    let made = bounded::make(1024, 1);
+    let made = bounded::make(1024, 1, 1);
     let mut m = made.machine;
     let mut i = 0;
     while i < 1024 {

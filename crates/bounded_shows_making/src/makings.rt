@@ -1,4 +1,4 @@
-// Refusals 1 and 2.
+// Refusals 1, 2 and 18.
 use bounded_machine::Machine;
 
 fn say_blank(out: &mut [u8], at: usize, blank: bool) {
@@ -11,12 +11,12 @@ fn say_blank(out: &mut [u8], at: usize, blank: bool) {
     }
 }
 
-fn say_made(out: &mut [u8], at: usize, n: [u64; 7]) {
-    let numbers = [n[3], n[4], n[5], n[6], n[0], n[1], n[2]];
+fn say_made(out: &mut [u8], at: usize, n: [u64; 8]) {
+    let numbers = [n[3], n[4], n[5], n[6], n[7], n[0], n[1], n[2]];
     let p = text_output::form(
         out,
         at,
-        b" capacity=# mark=# lap=# workers=# h=# t=# m=#",
+        b" capacity=# mark=# lap=# workers=# edition=# h=# t=# m=#",
         &numbers,
     );
     text_output::end(out, p);
@@ -35,12 +35,29 @@ fn stands(out: &mut [u8], at: usize, refusal: u64, m: Machine) {
     }
 }
 
-fn make(capacity: u64, workers: u64) {
+fn make_in(edition: u64, capacity: u64, workers: u64) {
     let mut out = [0u8; 512];
-    let made = bounded::make(capacity, workers);
-    let numbers = [capacity, workers, made.refusal];
-    let p = text_output::form(&mut out, 0, b"make # #: #", &numbers);
+    let made = bounded::make(capacity, workers, edition);
+    let numbers = [capacity, workers, edition, made.refusal];
+    let p = text_output::form(&mut out, 0, b"make # # #: #", &numbers);
     stands(&mut out, p, made.refusal, made.machine);
+}
+
+fn make(capacity: u64, workers: u64) {
+    make_in(1, capacity, workers);
+}
+
+// Any edition but 1 or 2 is 18, after 1 and 2.
+fn editions() {
+    make_in(0, 1, 1);
+    make_in(2, 1, 1);
+    make_in(2, 1024, 16);
+    make_in(3, 1, 1);
+    make_in(18446744073709551615, 1, 1);
+    make_in(0, 0, 1);
+    make_in(3, 1025, 17);
+    make_in(3, 1, 0);
+    make_in(3, 1, 17);
 }
 
 fn makings() {
@@ -82,13 +99,14 @@ fn say_workers(m: Machine) {
 
 // Every worker of a fresh machine is idle and has no answer; so is every record past the count.
 fn fresh(capacity: u64, workers: u64) {
-    let made = bounded::make(capacity, workers);
+    let made = bounded::make(capacity, workers, 1);
     say_workers(made.machine);
     bounded_text_answers::entry::slots(made.machine);
 }
 
 pub fn all() {
     makings();
+    editions();
     fresh(3, 16);
     fresh(3, 15);
     fresh(1024, 1);

@@ -34,7 +34,7 @@ fn tell(call: &[u8], m: Machine) {
 }
 
 fn say(call: &[u8], capacity: u64, schedule: &[u64]) {
-    let made = bounded::make(capacity, 2);
+    let made = bounded::make(capacity, 2, 1);
     let r = bounded::run(made.machine, schedule);
     tell(call, r.machine);
 }

@@ -8,9 +8,10 @@ use Rattle.bounded_places.specs.declared.Place.{Place}
 use Rattle.bounded_places.specs.declared.Place.the-variants.{Idle, P1, P2, P3, P4, P5, P6, F6, F7, F8, F9, O1, O2, O3, O4, O5, O6, Len1, Len2, Len3, Empty1, Empty2, Full1, Full2, Close1, IsClosed1}
 use Rattle.bounded_acts.specs.Acts.{actOf}
 use Rattle.bounded_demands.specs.Notions.{byTable}
-use Rattle.bounded_demands.specs.Demands.{UnderEverySchedule, ActByAct, WholeSchedules, LenTrue, ScheduledAlone}
+use Rattle.bounded_demands.specs.Demands.{UnderEverySchedule, ActByAct, WholeSchedules, LenTrue, ScheduledAlone, CloseHolds, ClosedIsLast}
 use Rattle.bounded_proof_demand2.proofs.Demand2.{demand2, act-by-act, whole-schedules}
 use Rattle.bounded_proof_demand2.proofs.Lens.{len-true}
+use Rattle.bounded_proof_demand2.proofs.Closing.{close-holds, closed-is-last}
 use Rattle.bounded_proof_demand3.proofs.Demand3.{demand3}
 use Rattle.bounded_slips.specs.Slips.{planted, actWith, Faithful, Stands}
 
@@ -53,4 +54,6 @@ stands = (
   subst WholeSchedules (sym faithful) whole-schedules,
   subst LenTrue (sym faithful) len-true,
   subst ScheduledAlone (sym faithful) demand3,
+  subst CloseHolds (sym faithful) close-holds,
+  subst ClosedIsLast (sym faithful) closed-is-last,
 )

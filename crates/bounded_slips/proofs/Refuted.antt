@@ -12,10 +12,11 @@ use Rattle.bounded_words.specs.declared.Stamp.{Stamp}
 use Rattle.bounded_words.specs.Words.{doubled, markOf, markedOf, unmarkedOf, plus, minus, withMark, nextOf, same, onePast, lapBehind, lapBehindOnePast, stamp}
 use Rattle.bounded_places.specs.declared.Answer.{Answer}
 use Rattle.bounded_places.specs.declared.Answer.the-variants.{Nothing, Pushed, Full, Closed, Displaced, Popped, Empty, PopClosed, Len, Yes, No}
-use Rattle.bounded_places.specs.declared.Place.the-variants.{Idle, O1, O2, O5, O6}
+use Rattle.bounded_places.specs.declared.Place.the-variants.{Idle, O1, O2, O3, O4, O5, O6}
 use Rattle.bounded_places.specs.Places.{inside}
-use Rattle.bounded_acts.specs.Acts.{stay, tailTo, headTo, stampTo, valueTo, countOf}
+use Rattle.bounded_acts.specs.Acts.{forcedTail, stay, tailTo, headTo, stampTo, valueTo, countOf}
 use Rattle.bounded_machine.specs.declared.Machine.{Machine}
+use Rattle.bounded_machine.specs.declared.Moved.the-variants.{Head, Neither}
 use Rattle.bounded_machine.specs.declared.Ran.{Ran}
 use Rattle.bounded_machine.specs.Machine.{emptySlots, stamped, freshSlots, idlers, freshOf, refused, accepted}
 use Rattle.bounded_machine.specs.Broken.{byRule, endsFit, recordFits, recordsFit, brokenOf, allIdle}
@@ -24,12 +25,20 @@ use Rattle.bounded_machine.specs.Turn.{begun, stored, actedBy, turnOfBy}
 use Rattle.bounded_machine.specs.Run.{ran}
 use Rattle.bounded_machine.specs.History.{event, tallyOf, stockOf}
 use Rattle.bounded_demands.specs.Notions.{acts, itemsOf, tailersOf, takersOf, handP4, handO4, readO4, popped, passed, ownActs, actsOf, Allowed}
-use Rattle.bounded_slips.specs.Slips.{actWith, slipped, emptyUnseen, fullUnseen, closedUnseen, emptyTailFirst, fullHeadFirst, lenLooksOnce, popKeepsItsWord, lostForceKeepsItsWord, lostForceTakesTheHead, unstamped, releasesWithNext, neverLetsGo, handsOutAgain, readsAfterItsStore, stampBeforeValue, pushWritesLate}
-use Rattle.bounded_slips.specs.Refuted.{Trial, reached, past, does, Refuted, popOfNothing, popLooksLate, pushLooksLate, pushLoses, emptyLooks, fullLooks, popAfterPush, secondLap, popOutOfDate, forceOutOfDate, popInHand, lenLooks, lenOutOfDate}
+use Rattle.bounded_slips.specs.Slips.{actWith, slipped, emptyUnseen, fullUnseen, closedUnseen, emptyTailFirst, fullHeadFirst, lenLooksOnce, popKeepsItsWord, lostForceKeepsItsWord, lostForceTakesTheHead, unstamped, releasesWithNext, neverLetsGo, handsOutAgain, readsAfterItsStore, stampBeforeValue, pushWritesLate, closedTooSoon}
+use Rattle.bounded_slips.specs.Refuted.{Trial, reached, past, does, Refuted, popOfNothing, popLooksLate, pushLooksLate, pushLoses, emptyLooks, fullLooks, popAfterPush, secondLap, popOutOfDate, forceOutOfDate, popInHand, lenLooks, lenOutOfDate, closedBefore}
 use Rattle.bounded_slips.proofs.Ways.{busyAt, nowhere, wrong-item, unclaimed, sole, acting, said, no-cons, untouched, quiet, no-hand, stillBusy, late, rests, at-once, busyAlong, holds-on}
 
-one-two : Allowed 1 2
-one-two = record { slot-some = omega arith; slot-most = omega arith; worker-some = omega arith; worker-most = omega arith }
+one-two : Allowed 1 2 1
+one-two =
+    record {
+      slot-some = omega arith;
+      slot-most = omega arith;
+      worker-some = omega arith;
+      worker-most = omega arith;
+      edition-some = omega arith;
+      edition-most = omega arith;
+    }
 
 -- the number that len answered
 abbrev lenIn : Answer → ℕ
@@ -49,18 +58,21 @@ lenIn No = 0
 abbrev next : Trial → Machine
 next t = turnOfBy (actWith (t .slip)) (reached t) 24 0 .machine
 
+claimed : Head ≡ Neither → ⊥
+claimed e = let q : _≡_ {A = ℕ} 0 1 = cc in omega arith
+
 pub refuted : Refuted
-unfolding doubled markOf markedOf unmarkedOf plus minus withMark nextOf same onePast lapBehind lapBehindOnePast inside strayOf orderOf entryOf stay tailTo headTo stampTo valueTo countOf emptySlots stamped freshSlots idlers freshOf refused accepted all inLimits byRule endsFit recordFits recordsFit brokenOf allIdle countIn wrapped itemAt itemsFrom contentsOf begun stored actedBy turnOfBy ran runBy scheduleBy historyBy tallyOf stockOf acts itemsOf tailersOf takersOf passed ownActs nowhere stillBusy busyAlong
+unfolding forcedTail doubled markOf markedOf unmarkedOf plus minus withMark nextOf same onePast lapBehind lapBehindOnePast inside strayOf orderOf entryOf stay tailTo headTo stampTo valueTo countOf emptySlots stamped freshSlots idlers freshOf refused accepted all inLimits byRule endsFit recordFits recordsFit brokenOf allIdle countIn wrapped itemAt itemsFrom contentsOf begun stored actedBy turnOfBy ran runBy scheduleBy historyBy tallyOf stockOf acts itemsOf tailersOf takersOf passed ownActs nowhere stillBusy busyAlong
 refuted =
     record {
-      act-by-act = λ a. true≢false (sym (ap (λ (m : Machine). busyAt m 0) (a (freshOf 1 2) [] 0 5 refl refl refl .0)));
-      whole-schedules = λ w. true≢false (ap (λ (r : Ran). busyAt (r .machine) 0) (w 1 2 one-two (0 ∷ 5 ∷ []) .0 refl));
-      claim-rule = λ r. wrong-item _ 1 6 refl (r (actsOf (slipped readsAfterItsStore) 1 2 (does 0 0 5 5 ++ does 1 2 0 4 ++ does 0 0 6 5)) [] (event 1 (O5 (stamp 0) 0) (Idle (Popped 6))) 6 refl popped);
-      claim-rule-push = λ r. wrong-item _ 1 0 refl (r (actsOf (slipped pushWritesLate) 1 2 (does 0 0 5 4 ++ does 1 2 0 4)) [] (event 1 (O5 (stamp 0) 0) (Idle (Popped 0))) 0 refl popped);
-      claim-rule-force = λ r. wrong-item _ 0 5 refl (r (actsOf (slipped stampBeforeValue) 1 2 (does 0 0 5 5 ++ does 1 1 6 5 ++ does 0 2 0 4)) [] (event 0 (O5 (stamp 4) 5) (Idle (Popped 5))) 5 refl popped);
+      act-by-act = λ a. true≢false (sym (ap (λ (m : Machine). busyAt m 0) (a (freshOf 1 2 1) [] 0 5 refl refl refl .0)));
+      whole-schedules = λ w. true≢false (ap (λ (r : Ran). busyAt (r .machine) 0) (w 1 2 1 one-two (0 ∷ 5 ∷ []) .0 refl));
+      claim-rule = λ r. wrong-item _ 1 6 refl (r (actsOf (slipped readsAfterItsStore) 1 2 1 (does 0 0 5 5 ++ does 1 2 0 4 ++ does 0 0 6 5)) [] (event 1 (O5 (stamp 0) 0) (Idle (Popped 6))) 6 refl popped);
+      claim-rule-push = λ r. wrong-item _ 1 0 refl (r (actsOf (slipped pushWritesLate) 1 2 1 (does 0 0 5 4 ++ does 1 2 0 4)) [] (event 1 (O5 (stamp 0) 0) (Idle (Popped 0))) 0 refl popped);
+      claim-rule-force = λ r. wrong-item _ 0 5 refl (r (actsOf (slipped stampBeforeValue) 1 2 1 (does 0 0 5 5 ++ does 1 1 6 5 ++ does 0 2 0 4)) [] (event 0 (O5 (stamp 4) 5) (Idle (Popped 5))) 5 refl popped);
       once-out =
           λ o.
-          o (actsOf (slipped handsOutAgain) 1 2 (does 0 0 5 5 ++ does 0 2 0 4)) (event 0 O1 (O2 (stamp 4)) ∷ event 0 (O2 (stamp 4)) (O6 (stamp 4)) ∷ []) []
+          o (actsOf (slipped handsOutAgain) 1 2 1 (does 0 0 5 5 ++ does 0 2 0 4)) (event 0 O1 (O2 (stamp 4)) ∷ event 0 (O2 (stamp 4)) (O6 (stamp 4)) ∷ []) []
           (event 0 (O5 (stamp 0) 5) (Idle (Popped 5))) (event 0 (O6 (stamp 4)) (Idle (Popped 5))) 5 5 0 refl popped popped sole sole;
       one-hand = λ h. let q : _≡_ {A = ℕ} 0 1 = h 0 1 (stamp 0) (stamp 0) handP4 handP4 refl in omega arith;
       answers-empty = λ a. let q = ap (λ (s : Stamp). s .0) (said (slipped emptyUnseen) (reached popLooksLate) 1 Empty a refl refl refl .1) in omega arith;
@@ -81,7 +93,7 @@ refuted =
       len =
           λ l.
           let q : _≡_ {A = ℕ} 0 1 =
-          l 1 2 one-two (lenLooks .schedule) 1 0
+          l 1 2 1 one-two (lenLooks .schedule) 1 0
           (record {
             tail = stamp 0;
             loads = refl;
@@ -116,4 +128,9 @@ refuted =
       in-the-way = λ i. no-hand (reached popAfterPush) 0 refl refl quiet (i 0 (omega arith) refl);
       lets-go = λ l. holds-on (slipped neverLetsGo) (reached popInHand) 0 2 (acts 0 2) refl (l 0 (stamp 0) (acts 0 2) handO4 (let q : 2 ≤ 2 = omega arith in q));
       as-run = λ p. true≢false (ap (λ (m : Machine). busyAt m 0) (p (0 ∷ 5 ∷ []) refl));
+      once-closed = λ o. true≢false (sym (o refl (acts 0 2)));
+      closed-last =
+          λ o.
+          let q = o (actsOf (slipped closedTooSoon) 1 2 1 closedBefore) (event 0 O1 (O2 (stamp 0)) ∷ event 0 (O2 (stamp 0)) (O3 (stamp 0)) ∷ event 0 (O3 (stamp 0)) (O4 (stamp 0)) ∷ []) (event 1 (O6 (stamp 0)) (Idle PopClosed)) refl refl in
+          claimed (q .1 .1 .0);
     }

@@ -8,23 +8,27 @@ use Rattle.bounded_machine.specs.declared.Machine.{Machine}
 use Rattle.bounded_machine.specs.declared.Event.{Event}
 use Rattle.bounded_machine.specs.Broken.{brokenOf}
 use Rattle.bounded_demands.specs.Notions.{Plain, machineAfter, actsOf, acts}
-use Rattle.bounded_demands.specs.Demands.{ClaimRule, OnceOut, OneHand, ReadsWritten, AnswersTrue, StockCounts, StockIsNumber, ContentsWait, PlainQueue, EmptyTrue, FullTrue, ActByAct, WholeSchedules, LenTrue, NeverRefused, AloneEnds, InTheWay, HandLetsGo, PassedAsRun}
-use Rattle.bounded_slips.specs.Slips.{none, lostPushGoesOn, closedUnseen, unwrapped, tailUnmoved, unwritten, unstamped, fullUnseen, tailBeforeHead, lostForceKeepsItsWord, lostForceTakesTheHead, stampBeforeValue, stampUntested, readsAfterItsStore, releasesWithNext, neverLetsGo, emptyUnseen, handsOutAgain, popKeepsItsWord, lenLooksOnce, emptyTailFirst, fullHeadFirst, pushWritesLate, slipped, deaf, refusing}
+use Rattle.bounded_demands.specs.Demands.{ClaimRule, OnceOut, OneHand, ReadsWritten, AnswersTrue, StockCounts, StockIsNumber, ContentsWait, PlainQueue, EmptyTrue, FullTrue, ActByAct, WholeSchedules, LenTrue, NeverRefused, AloneEnds, InTheWay, HandLetsGo, PassedAsRun, OnceClosed, NoneAfterClosed}
+use Rattle.bounded_slips.specs.Slips.{none, lostPushGoesOn, closedUnseen, unwrapped, tailUnmoved, unwritten, unstamped, fullUnseen, tailBeforeHead, lostForceKeepsItsWord, lostForceTakesTheHead, stampBeforeValue, stampUntested, readsAfterItsStore, releasesWithNext, neverLetsGo, emptyUnseen, handsOutAgain, popKeepsItsWord, lenLooksOnce, emptyTailFirst, fullHeadFirst, pushWritesLate, forceForgets, closedTooSoon, slipped, deaf, refusing}
 
--- A schedule for a machine of this capacity with two workers, with this slip.
+-- A schedule for a machine of this capacity and edition with two workers, with this slip.
 pub record Trial : Type 0 where
   pub slip : ℕ
+  pub edition : ℕ
   pub capacity : ℕ
   pub schedule : List ℕ
 
+abbrev pub trialIn : ℕ → ℕ → ℕ → List ℕ → Trial
+trialIn e n c s = record { slip = n; edition = e; capacity = c; schedule = s }
+
 abbrev pub trial : ℕ → ℕ → List ℕ → Trial
-trial n c s = record { slip = n; capacity = c; schedule = s }
+trial = trialIn 1
 
 abbrev pub reached : Trial → Machine
-reached t = machineAfter (slipped (t .slip)) (t .capacity) 2 (t .schedule)
+reached t = machineAfter (slipped (t .slip)) (t .capacity) 2 (t .edition) (t .schedule)
 
 abbrev pub past : Trial → List Event
-past t = actsOf (slipped (t .slip)) (t .capacity) 2 (t .schedule)
+past t = actsOf (slipped (t .slip)) (t .capacity) 2 (t .edition) (t .schedule)
 
 -- Worker w begins the call of this code and item, and does so many acts of it.
 abbrev pub does : ℕ → ℕ → ℕ → ℕ → List ℕ
@@ -118,6 +122,19 @@ lenOutOfDate = trial lenLooksOnce 1 (does 1 3 0 2 ++ does 0 0 5 5)
 abbrev pub popInHand : Trial
 popInHand = trial neverLetsGo 1 (does 0 0 5 5 ++ does 0 2 0 3)
 
+-- ---- a close that holds
+
+-- case F in edition 2, up to the close: a force_push past its load, and then a close
+abbrev pub closedF : Trial
+closedF = trialIn 2 forceForgets 1 (does 0 0 7 5 ++ does 0 1 8 2 ++ does 1 6 0 1)
+
+-- a pop at O6 while a push and a close come between, answers Closed; the item is still inside, and the next pop claims it
+abbrev pub closedBefore : List ℕ
+closedBefore = does 1 2 0 2 ++ does 0 0 5 5 ++ does 0 6 0 1
+
+abbrev pub popAfterClosed : Trial
+popAfterClosed = trial closedTooSoon 1 (closedBefore ++ acts 1 1 ++ does 0 2 0 3)
+
 -- ---- what is false
 
 pub record Refuted : Type 0 where
@@ -163,3 +180,6 @@ pub record Refuted : Type 0 where
   pub in-the-way : InTheWay (slipped unstamped) (reached popAfterPush) → ⊥
   pub lets-go : HandLetsGo (slipped neverLetsGo) (reached popInHand) → ⊥
   pub as-run : PassedAsRun deaf (reached (trial none 1 [])) → ⊥
+  -- a close that holds
+  pub once-closed : OnceClosed (slipped forceForgets) (reached closedF) → ⊥
+  pub closed-last : NoneAfterClosed (past popAfterClosed) → ⊥

@@ -4,11 +4,11 @@ use mathlib.Core.Bool.{Bool, cond}
 use mathlib.Core.Path.{_≡_}
 use lib.Dec.{eqb}
 use Rattle.bounded_words.specs.declared.Fixed.{Fixed}
-use Rattle.bounded_words.specs.Words.{plus, minus, nextOf, same, unmarkedOf, lapBehind}
+use Rattle.bounded_words.specs.Words.{plus, minus, nextOf, same, markedOf, unmarkedOf, lapBehind}
 use Rattle.bounded_places.specs.declared.Slot.{Slot}
 use Rattle.bounded_places.specs.declared.Ends.{Ends}
 use Rattle.bounded_places.specs.declared.Kind.the-variants.{Force}
-use Rattle.bounded_places.specs.declared.Answer.the-variants.{Pushed, Full, Closed, Displaced, Popped, Empty, Len}
+use Rattle.bounded_places.specs.declared.Answer.the-variants.{Pushed, Full, Closed, Displaced, Popped, Empty, PopClosed, Len}
 use Rattle.bounded_places.specs.declared.Place.{Place}
 use Rattle.bounded_places.specs.declared.Place.the-variants.{Idle, P1, P2, P3, P4, P5, P6, F6, F7, F8, F9, O1, O2, O3, O4, O5, O6, Len1, Len2, Len3, Empty1, Empty2, Full1, Full2, Close1, IsClosed1}
 use Rattle.bounded_acts.specs.declared.Acted.{Acted}
@@ -18,7 +18,7 @@ use Rattle.bounded_machine.specs.Turn.{turnOf}
 use Rattle.bounded_machine.specs.Run.{ran, runFrom}
 use Rattle.bounded_machine.specs.History.{historyOf}
 use Rattle.bounded_demands.specs.Notions.{Definition, byTable, document01}
-use Rattle.bounded_demands.specs.Demands.{UnderEverySchedule, ActByAct, WholeSchedules, LenTrue, ScheduledAlone}
+use Rattle.bounded_demands.specs.Demands.{UnderEverySchedule, ActByAct, WholeSchedules, LenTrue, ScheduledAlone, CloseHolds, ClosedIsLast}
 
 -- ---- the slips
 
@@ -113,6 +113,14 @@ fullHeadFirst = 21
 abbrev pub pushWritesLate : ℕ
 pushWritesLate = 22
 
+-- F7 clears the mark, also in edition 2
+abbrev pub forceForgets : ℕ
+forceForgets = 23
+
+-- O6 answers Closed as soon as tail is marked
+abbrev pub closedTooSoon : ℕ
+closedTooSoon = 24
+
 -- The row of document 01, but for this slip.
 abbrev but : ℕ → ℕ → Acted → Acted → Acted
 but n slip wrong right = cond (eqb n slip) wrong right
@@ -141,9 +149,10 @@ actWith n f e s (F6 t x) lose =
     (but n lostForceTakesTheHead (cond (same (e .head) (minus t (f .lap))) (actOf f e s (F6 t x) lose) (stay e s (P2 Force (e .head) x)))
     (actOf f e s (F6 t x) lose)))
 actWith n f e s (F7 t x) lose =
-    but n tailBeforeHead
+    but n forceForgets (stay (tailTo e (nextOf f t)) s (F8 t x))
+    (but n tailBeforeHead
     (cond (same (e .head) (minus t (f .lap))) (stay (headTo e (minus (nextOf f t) (f .lap))) s (F8 t x)) (stay e s (P1 Force x)))
-    (actOf f e s (F7 t x) lose)
+    (actOf f e s (F7 t x) lose))
 actWith n f e s (F8 t x) lose = but n stampBeforeValue (stay e (stampTo s (plus t 1)) (F9 t x)) (actOf f e s (F8 t x) lose)
 actWith n f e s (F9 t x) lose = but n stampBeforeValue (stay e (valueTo s x) (Idle (Displaced (s .value))))
     (but n pushWritesLate (stay e (valueTo s x) (Idle Pushed)) (actOf f e s (F9 t x) lose))
@@ -159,7 +168,8 @@ actWith n f e s (O6 h) lose =
     but n emptyUnseen (stay e s (Idle Empty))
     (but n handsOutAgain (cond (same (unmarkedOf f (e .tail)) h) (stay e s (Idle (Popped (s .value)))) (actOf f e s (O6 h) lose))
     (but n popKeepsItsWord (cond (same (unmarkedOf f (e .tail)) h) (actOf f e s (O6 h) lose) (stay e s (O2 h)))
-    (actOf f e s (O6 h) lose)))
+    (but n closedTooSoon (cond (markedOf f (e .tail)) (stay e s (Idle PopClosed)) (actOf f e s (O6 h) lose))
+    (actOf f e s (O6 h) lose))))
 actWith n f e s Len1 lose = actOf f e s Len1 lose
 actWith n f e s (Len2 t) lose = actOf f e s (Len2 t) lose
 actWith n f e s (Len3 t h) lose = but n lenLooksOnce (stay e s (Idle (Len (countOf f t h)))) (actOf f e s (Len3 t h) lose)
@@ -198,4 +208,5 @@ abbrev pub Faithful : Type 0
 Faithful = given ≡ document01
 
 abbrev pub Stands : Type 0
-Stands = UnderEverySchedule given × ActByAct given × WholeSchedules given × LenTrue given × ScheduledAlone given
+Stands =
+    UnderEverySchedule given × ActByAct given × WholeSchedules given × LenTrue given × ScheduledAlone given × CloseHolds given × ClosedIsLast given

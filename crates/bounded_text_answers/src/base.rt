@@ -8,7 +8,7 @@ use bounded_text_machine::build::with_slot;
 
 // Capacity 2, two workers, 5 pushed: document 01's run B.
 pub fn base() -> Machine {
-    let made = bounded::make(2, 2);
+    let made = bounded::make(2, 2, 1);
     let m = made.machine;
     with_slot(with_meter(with_ends(m, 0, 1), 5), 0, 1, 5)
 }

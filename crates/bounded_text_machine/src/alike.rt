@@ -1,9 +1,9 @@
 // Whether two machines are the same in every field: what a refused call must leave.
 use bounded_machine::Machine;
 
-fn all_same(a: [u64; 7], b: [u64; 7]) -> bool {
+fn all_same(a: [u64; 8], b: [u64; 8]) -> bool {
     let mut i = 0;
-    while i < 7 {
+    while i < 8 {
         if a[i] != b[i] {
             return false;
         }

@@ -17,6 +17,7 @@ pub fn zeroed() -> Machine {
                 mark: 0,
                 lap: 0,
                 capacity: 0,
+                edition: 0,
             },
             ends: Ends {
                 head: Stamp(0),
@@ -37,16 +38,40 @@ pub fn zeroed() -> Machine {
 
 pub fn with_fixed(m: Machine, capacity: u64, mark: u64, lap: u64) -> Machine {
     let ring = m.ring;
+    let f = ring.fixed;
+    with_constants(
+        m,
+        Fixed {
+            mark: mark,
+            lap: lap,
+            capacity: capacity,
+            edition: f.edition,
+        },
+    )
+}
+
+pub fn with_edition(m: Machine, edition: u64) -> Machine {
+    let ring = m.ring;
+    let f = ring.fixed;
+    with_constants(
+        m,
+        Fixed {
+            mark: f.mark,
+            lap: f.lap,
+            capacity: f.capacity,
+            edition: edition,
+        },
+    )
+}
+
+fn with_constants(m: Machine, f: Fixed) -> Machine {
+    let ring = m.ring;
     let e = ring.ends;
     let slots = ring.slots;
     let workers = m.workers;
     Machine {
         ring: Ring {
-            fixed: Fixed {
-                mark: mark,
-                lap: lap,
-                capacity: capacity,
-            },
+            fixed: f,
             ends: e,
             slots: slots,
         },

@@ -7,14 +7,23 @@ pub mod alike;
 pub mod build;
 pub mod text;
 
-// Head, tail, meter, capacity, mark, lap and the number of workers.
-pub fn numbers(m: Machine) -> [u64; 7] {
+// Head, tail, meter, capacity, mark, lap, the number of workers and the edition.
+pub fn numbers(m: Machine) -> [u64; 8] {
     let ring = m.ring;
     let f = ring.fixed;
     let e = ring.ends;
     let head = e.head;
     let tail = e.tail;
-    [head.0, tail.0, m.meter, f.capacity, f.mark, f.lap, m.count]
+    [
+        head.0,
+        tail.0,
+        m.meter,
+        f.capacity,
+        f.mark,
+        f.lap,
+        m.count,
+        f.edition,
+    ]
 }
 
 // Where a worker stands; idle without an answer where there is no such record.

@@ -18,7 +18,7 @@ pub fn worker(out: &mut [u8], at: usize, w: u64, m: Machine) -> usize {
 }
 
 // h=H t=T m=M wN=PLACE, of the numbers of a machine and the place of its worker: handing these on is cheaper than the machine
-fn standing_of(out: &mut [u8], at: usize, w: u64, numbers: [u64; 7], s: Place) -> usize {
+fn standing_of(out: &mut [u8], at: usize, w: u64, numbers: [u64; 8], s: Place) -> usize {
     let p = text_output::form(out, at, b"h=# t=# m=# ", &numbers);
     stands(out, p, w, numbers[6], s)
 }
@@ -35,7 +35,7 @@ pub fn entry_of(
     place: u64,
     refusal: u64,
     w: u64,
-    numbers: [u64; 7],
+    numbers: [u64; 8],
     s: Place,
 ) -> usize {
     let p = text_output::form(out, at, b"# # ", &[place, refusal]);

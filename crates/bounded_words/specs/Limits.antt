@@ -5,6 +5,10 @@ use Prim.Native.Nat.{ℕ, _^_}
 abbrev pub slotsMost : ℕ
 slotsMost = 1024
 
+-- refusal 18: the last edition; the first is 1
+abbrev pub editionsMost : ℕ
+editionsMost = 2
+
 -- how many words there are: modulo 2 to the power 64
 abbrev pub wide : ℕ
 wide = 2 ^ 64

@@ -27,8 +27,8 @@ markOf capacity = doubled (capacity + 1) (capacity + 1) 1
 abbrev pub lapOf : ℕ → ℕ
 lapOf capacity = 2 * markOf capacity
 
-abbrev pub fixedOf : ℕ → Fixed
-fixedOf capacity = record { mark = markOf capacity; lap = lapOf capacity; capacity = capacity }
+abbrev pub fixedOf : ℕ → ℕ → Fixed
+fixedOf capacity edition = record { mark = markOf capacity; lap = lapOf capacity; capacity = capacity; edition = edition }
 
 -- Index of a word: its part below mark.
 abbrev pub indexOf : Fixed → Stamp → ℕ

@@ -17,10 +17,14 @@ pub struct Fixed {
     // One lap: 2 * mark.
     pub lap: u64,
     pub capacity: u64,
+    // 1: the source's rules. 2: a close holds (place F7).
+    pub edition: u64,
 }
 
-// The most slots.
+// The most slots, and the last edition.
 pub const SLOTS: usize = 1024;
+
+pub const EDITIONS: u64 = 2;
 
 // "smallest power of two not below capacity + 1"
 pub fn mark_of(capacity: u64) -> u64

@@ -59,8 +59,8 @@ fn made(m: Machine, odd: bool, at: usize) -> Run {
     }
 }
 
-fn make(capacity: u64, workers: u64, odd: bool, out: &mut [u8], at: usize) -> Run {
-    let did = bounded::make(capacity, workers);
+fn make(o: Options, capacity: u64, workers: u64, odd: bool, out: &mut [u8], at: usize) -> Run {
+    let did = bounded::make(capacity, workers, o.edition);
     let end = text_output::form(out, at, b"made #\n", &[did.refusal]);
     made(did.machine, odd, end)
 }
@@ -94,7 +94,7 @@ fn line_unless(
     place: u64,
     refusal: u64,
     w: u64,
-    numbers: [u64; 7],
+    numbers: [u64; 8],
     s: Place,
 ) -> usize {
     if quiet {
@@ -195,7 +195,7 @@ fn first_pairs(r: Run, o: Options, odd: bool, list: &[u64], out: &mut [u8]) -> R
     if list.len() < 2 {
         return r;
     }
-    let made = make(list[0], list[1], odd, out, r.at);
+    let made = make(o, list[0], list[1], odd, out, r.at);
     entries(made, o, list, 2, out)
 }
 

@@ -9,6 +9,12 @@ pub struct Options {
     pub queue: u8,
     // the number of the argument --queue while its value is wanted; 0: it is not
     pub naming: usize,
+    // handed to making as it stands
+    pub edition: u64,
+    // the number of the argument --edition; 0: there is none
+    pub edition_at: usize,
+    // its value is wanted
+    pub numbering: bool,
     pub quiet: bool,
     pub summary: bool,
     pub many: bool,
@@ -39,6 +45,9 @@ fn none() -> Options {
     Options {
         queue: BOUNDED,
         naming: 0,
+        edition: 1,
+        edition_at: 0,
+        numbering: false,
         quiet: false,
         summary: false,
         many: false,
@@ -82,10 +91,37 @@ fn with_queue(before: Options, i: usize, word: &[u8]) -> Options {
     o
 }
 
+// The edition's number after --edition, read as the numbers of a schedule are.
+fn with_edition(before: Options, i: usize, word: &[u8]) -> Options {
+    let mut o = before;
+    o.numbering = false;
+    let mut numbers = [0; 2];
+    let first = text_numbers::start(1);
+    let digits = text_numbers::read_piece(first, false, word, &mut numbers, 0);
+    let end = text_numbers::read_piece(digits.scan, false, b"\n", &mut numbers, digits.count);
+    if digits.event != text_numbers::NOTHING
+        || end.event != text_numbers::NOTHING
+        || end.count != 1
+    {
+        o.wrong = i;
+        return o;
+    }
+    o.edition = numbers[0];
+    o
+}
+
 fn with_word(before: Options, i: usize, word: &[u8]) -> Options {
     let mut o = before;
     if o.naming != 0 {
         return with_queue(o, i, word);
+    }
+    if o.numbering {
+        return with_edition(o, i, word);
+    }
+    if equal(word, b"--edition") {
+        o.edition_at = i;
+        o.numbering = true;
+        return o;
     }
     if equal(word, b"--queue") {
         o.naming = i;
@@ -131,11 +167,14 @@ fn arguments() -> Options {
     o
 }
 
-// An option that is still without its value at the end is of no use.
+// An option that is still without its value at the end is of no use; nor is an edition of a queue that has none.
 pub fn read() -> Options {
     let mut o = arguments();
     if o.naming != 0 {
         o.wrong = o.naming;
+    }
+    if o.numbering || (o.edition_at != 0 && o.queue != BOUNDED) {
+        o.wrong = o.edition_at;
     }
     o
 }
@@ -165,7 +204,7 @@ pub fn tell(o: Options, status: u8) {
 pub fn help() {
     io::write_all(
         libc::STDOUT_FILENO,
-        b"replay [--queue NAME] [--quiet] [--summary] [--many] [FILE]\n\
+        b"replay [--queue NAME] [--edition N] [--quiet] [--summary] [--many] [FILE]\n\
         \n\
         Runs a schedule on the stamped ring, or on another queue. It is read from FILE, or from standard input: unsigned decimal\n\
         numbers separated by white space. The first is the capacity (1 to 1024), the second the number of\n\
@@ -174,7 +213,7 @@ pub fn help() {
         8 is an act, 9 an act whose weak exchange fails. The item is 0 unless the code is 0 or 1.\n\
         # starts a comment to the end of its line.\n\
         \n\
-        \x20 made R                     0, or why there is no machine: 1 capacity, 2 workers\n\
+        \x20 made R                     0, or why there is no machine: 1 capacity, 2 workers, 18 edition\n\
         \x20 PLACE R h=H t=T m=M wN=S   for each entry: its place from 0, refusal or 0, head, tail, meter, its worker\n\
         \x20 slots (stamp,value) ...    the slots below capacity\n\
         \x20 contents x y ...           or: contents refused N\n\
@@ -185,6 +224,7 @@ pub fn help() {
         \n\
         \x20 --queue single   the one-slot queue (bounded unless told): no capacity, the first number is that of the workers;\n\
         \x20             lines are PLACE R s=STATE m=M wN=S, and at the end: value V, contents\n\
+        \x20 --edition 2      the ring whose force_push keeps a close (1 unless told)\n\
         \x20 --quiet     no line for each entry, one for the whole\n\
         \x20 --summary   then counts of acts, answers, claims, refusals and retries\n\
         \x20 --many      several schedules, separated by a line with a single %; a line % follows each output\n",

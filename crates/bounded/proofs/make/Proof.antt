@@ -5,7 +5,7 @@ use Rattle.bounded_machine.proofs.accept.Reads as accept-reads
 use Rattle.bounded_machine.proofs.blank.Reads as blank-reads
 use Rattle.bounded_machine.proofs.fresh.Reads as fresh-reads
 use Rattle.bounded_machine.proofs.refuse.Reads as refuse-reads
-use Rattle.bounded.proofs.Lists.{make-1, make-2, make-0}
+use Rattle.bounded.proofs.Lists.{make-1, make-2, make-18, make-0}
 use Rattle.bounded.proofs.make.Statement.{statement}
 use Rattle.bounded.proofs.make.Tie as tie
 use Rattle.bounded.proofs.make.Reads as reads
@@ -43,6 +43,22 @@ refuse-requires-2 c κs = search needs
 returns-2 : tie.Need-returns-2
 returns-2 c = search (needs, make-2)
 
+-- src/lib.rt:36:8
+in-limits-requires-3 : tie.Need-in-limits-requires-3
+in-limits-requires-3 c κs = search needs
+
+-- src/lib.rt:37:32
+blank-requires-3 : tie.Need-blank-requires-3
+blank-requires-3 c κs = search needs
+
+-- src/lib.rt:37:9
+refuse-requires-3 : tie.Need-refuse-requires-3
+refuse-requires-3 c κs = search needs
+
+-- src/lib.rt:37:9
+returns-3 : tie.Need-returns-3
+returns-3 c = search (needs, make-18)
+
 -- src/lib.rt:36:21
 fresh-requires : tie.Need-fresh-requires
 fresh-requires c κs = search (needs, limit-most)
@@ -52,8 +68,8 @@ accept-requires : tie.Need-accept-requires
 accept-requires c κs = search needs
 
 -- src/lib.rt:27:1
-returns-3 : tie.Need-returns-3
-returns-3 c = search (needs, make-0)
+returns-4 : tie.Need-returns-4
+returns-4 c = search (needs, make-0)
 
 pub make-spec : {M : Type 1} → statement M
 make-spec =
@@ -67,6 +83,10 @@ make-spec =
     blank-requires-2
     refuse-requires-2
     returns-2
+    in-limits-requires-3
+    blank-requires-3
+    refuse-requires-3
+    returns-3
     fresh-requires
     accept-requires
-    returns-3)
+    returns-4)

@@ -6,11 +6,11 @@ use Rattle.bounded_acts.proofs.f7.Tie as tie
 use Rattle.bounded_acts.proofs.f7.Reads as reads
 use Rattle.bounded_acts.proofs.f7.Lts as lts
 use Rattle.bounded_acts.proofs.stay.Reads as stay-reads
-use Rattle.bounded_acts.proofs.tail_to_next.Reads as tail-to-next-reads
+use Rattle.bounded_acts.proofs.tail_to_forced.Reads as tail-to-forced-reads
 
 -- src/lib.rt:188:10
-tail-to-next-requires : tie.Need-tail-to-next-requires
-tail-to-next-requires c κs = search needs
+tail-to-forced-requires : tie.Need-tail-to-forced-requires
+tail-to-forced-requires c κs = search needs
 
 -- src/lib.rt:188:5
 stay-requires : tie.Need-stay-requires
@@ -21,4 +21,4 @@ returns : tie.Need-returns
 returns c = search (needs, picks, parts)
 
 pub f7-spec : {M : Type 1} → statement M
-f7-spec = tie.close (tie.spec tail-to-next-requires stay-requires returns)
+f7-spec = tie.close (tie.spec tail-to-forced-requires stay-requires returns)

@@ -9,7 +9,7 @@ abbrev Inv-loop : tie.InvT-loop
 Inv-loop a b i₀ i = Unit {0}
 
 abbrev μ-loop : tie.MeasureT-loop
-μ-loop a b i₀ i = 7 - i
+μ-loop a b i₀ i = 8 - i
 
 -- src/alike.rt:15:5
 loop-holds : tie.Need-loop-holds Inv-loop μ-loop
