@@ -1,0 +1,3 @@
+// What program tape reads, writes and says.
+pub mod files;
+pub mod say;

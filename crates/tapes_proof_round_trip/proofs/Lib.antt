@@ -1,0 +1,5 @@
+pub mod Numbers
+pub mod Fields
+pub mod Tapes
+pub mod Back
+pub mod Headlines
