@@ -129,3 +129,33 @@ pub fn read() -> Asked {
     }
     whole(a)
 }
+
+pub fn usage() {
+    io::write_all(
+        libc::STDERR_FILENO,
+        b"tape: usage: tape write [--little] SCHEDULE TAPE, or tape read TAPE (see --help)\n",
+    );
+}
+
+pub fn help() {
+    io::write_all(
+        libc::STDOUT_FILENO,
+        b"tape write [--little] SCHEDULE TAPE\n\
+        tape read TAPE\n\
+        \n\
+        Writes a schedule, as replay reads it, to a tape; or reads a tape and prints its schedule, as replay\n\
+        reads it: capacity and workers, then a line for each entry. - is standard input or output.\n\
+        replay --tape TAPE runs a tape as it is.\n\
+        \n\
+        \x20 --little    the second variant of tapes, with little-endian numbers\n\
+        \n\
+        A tape appears whole or not at all. What is refused is told in a line on standard error, and nothing\n\
+        is written: 'refused N at entry E' of a schedule, 'refused N at byte B' of a tape, B being where the\n\
+        field at fault begins. 11 odd number of words, 12 cut short, 13 unknown tag, wrong length or place, or\n\
+        mixed variant, 14 code not allowed under its tag, 15 bytes after the end, 17 an entry that a tape can't\n\
+        carry (code 10 to 15, an item where none may be, worker above 15), or a capacity or worker count above\n\
+        65,535.\n\
+        \n\
+        Status: 0 done, 1 refused, 2 the input or the arguments cannot be read, or nothing can be written.\n",
+    );
+}

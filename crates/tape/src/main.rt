@@ -12,33 +12,47 @@ fn variant_of(a: Asked) -> Variant {
     }
 }
 
-fn write_to(a: Asked, schedule: &[u8]) -> u64 {
+fn write(a: Asked, fd: i32, name: &[u8]) -> u8 {
     let mut tape = io::buffer();
     let n = os::arg(a.to, &mut tape);
-    tape_writes::run(schedule, variant_of(a), &tape[..n])
+    tape_writes::run(fd, name, variant_of(a), &tape[..n])
 }
 
-fn run(a: Asked) -> u64 {
-    let mut name = io::buffer();
-    let n = os::arg(a.from, &mut name);
+fn run_from(a: Asked, fd: i32, name: &[u8]) -> u8 {
     if a.act == asked::WRITE {
-        write_to(a, &name[..n])
+        write(a, fd, name)
     } else {
-        tape_reads::run(&name[..n])
+        tape_reads::run(fd, name)
     }
+}
+
+fn run_file(a: Asked, name: &[u8]) -> u8 {
+    if tape_files::files::is_standard(name) {
+        return run_from(a, libc::STDIN_FILENO, b"standard input");
+    }
+    let fd = os::open_read(name);
+    if fd < 0 {
+        os::fail(name);
+        return 2;
+    }
+    let status = run_from(a, fd, name);
+    libc::close(fd);
+    status
 }
 
 // 0: done. 1: the tape or the schedule is refused. 2: anything else.
-fn status_of(a: Asked) -> u64 {
+fn status_of(a: Asked) -> u8 {
     if a.wrong {
-        tape_files::say::usage();
+        asked::usage();
         return 2;
     }
     if a.act == asked::HELP {
-        tape_files::say::help();
+        asked::help();
         return 0;
     }
-    run(a)
+    let mut name = io::buffer();
+    let n = os::arg(a.from, &mut name);
+    run_file(a, &name[..n])
 }
 
 // A program here has no exit status: who started it hears the status on descriptor 3, if it asks.
@@ -46,6 +60,6 @@ fn main() {
     let a = asked::read();
     let status = status_of(a);
     if a.tell {
-        io::print_decimal(3, status);
+        io::print_decimal(3, status as u64);
     }
 }

@@ -1,47 +1,44 @@
-// Files by name, or standard input and output. A file appears whole or not at all: what is written is kept under another name beside
-// it, or under none, until all of it is there.
-ghost use Prim.Native.Nat.{_≤_};
-ghost use lib.ListN.{length};
+// A file appears whole or not at all: what is written is kept under another name beside it, or for standard output under none, until
+// all of it is there.
+ghost use Rattle.libc.specs.Io.{Ended};
 
-fn is_standard(name: &[u8]) -> bool {
+pub fn is_standard(name: &[u8]) -> bool {
     check::same(name, b"-")
 }
 
-// A descriptor to read from; negative: there is none, and that is said.
-pub fn open(name: &[u8]) -> i32 {
-    if is_standard(name) {
-        return libc::STDIN_FILENO;
-    }
-    let fd = os::open_read(name);
-    if fd < 0 {
-        crate::say::failed(name);
-    }
-    fd
-}
-
-pub fn close(name: &[u8], fd: i32) {
-    if is_standard(name) {
-        return;
-    }
-    libc::close(fd);
-}
-
-// How many bytes were read, and whether it failed.
-pub struct Got {
-    pub n: usize,
-    pub failed: bool,
-}
-
-// Reads once.
-pub fn some(fd: i32, buffer: &mut [u8]) -> Got
-    ensures { λ r. ⌜ r .n ≤ length (now (buffer .entry)) ⌝ }
+// As much of a name as C can be handed.
+fn ended(name: &[u8]) -> [u8; libc::PATH_MAX]
+    ensures { λ r. ⌜ Ended r ⌝ }
 {
-    let got = libc::read(fd, buffer);
-    let n = io::count(got, buffer);
-    Got {
-        n: n,
-        failed: got < 0,
+    let mut path = io::buffer();
+    text_output::text(&mut path, 0, name);
+    path[4095] = 0;
+    path
+}
+
+fn is_link(name: &[u8]) -> bool {
+    let path = ended(name);
+    let mut first = [0u8; 1];
+    0 <= libc::readlink(&path, &mut first)
+}
+
+// Only a plain file can be made to last.
+fn is_device(name: &[u8]) -> bool {
+    let fd = os::open_update(name);
+    if fd < 0 {
+        return false;
     }
+    let lasts = libc::fsync(fd) == 0;
+    libc::close(fd);
+    !lasts
+}
+
+// A device or a link would be replaced by a file.
+fn is_special(name: &[u8]) -> bool {
+    if is_link(name) {
+        return true;
+    }
+    is_device(name)
 }
 
 fn letter(b: u8) -> u8 {
@@ -60,26 +57,18 @@ pub fn beside(name: &[u8], path: &mut [u8]) -> usize {
     text_output::byte(path, t, letter(luck[3]))
 }
 
-// A file that has no name.
-fn nameless() -> i32 {
-    let mut path = *b"/tmp/tape-XXXXXX";
-    let fd = os::create_temp(&mut path);
-    if fd < 0 {
-        crate::say::failed(b"/tmp");
-        return fd;
-    }
-    os::unlink(&path);
-    fd
-}
-
 // A descriptor to write to; negative: there is none, and that is said.
 pub fn sink(name: &[u8], path: &[u8]) -> i32 {
     if is_standard(name) {
-        return nameless();
+        return replay_input::source::nameless();
+    }
+    if is_special(name) {
+        crate::say::special(name);
+        return -1;
     }
     let fd = os::create(path);
     if fd < 0 {
-        crate::say::failed(name);
+        os::fail(name);
     }
     fd
 }
@@ -88,74 +77,45 @@ pub fn put(fd: i32, bytes: &[u8]) -> bool {
     if io::write_all(fd, bytes) {
         return true;
     }
-    crate::say::failed(b"what is written");
+    os::fail(b"keeping what is written");
     false
 }
 
-fn put_some(bytes: &[u8], n: usize) -> bool {
-    if n <= bytes.len() {
-        return io::write_all(libc::STDOUT_FILENO, &bytes[..n]);
-    }
-    false
-}
-
-// Copies once. 1: there may be more; 0: that was all; 2: it failed.
-fn copied(from: i32, bytes: &mut [u8]) -> u64 {
-    let p = some(from, bytes);
-    if p.failed {
-        return 2;
-    }
-    if p.n == 0 {
-        return 0;
-    }
-    if put_some(bytes, p.n) { 1 } else { 2 }
-}
-
-fn copy_in(from: i32, bytes: &mut [u8]) -> bool {
-    let mut more = 1;
-    let mut turns = u64::MAX;
-    while turns > 0 && more == 1 {
-        more = copied(from, bytes);
-        turns -= 1;
-    }
-    more == 0
-}
-
-fn to_output(fd: i32) -> bool {
-    let mut bytes = io::large_buffer();
+// All of a nameless file to standard output.
+pub fn to_output(fd: i32) -> bool {
     libc::lseek(fd, 0, libc::SEEK_SET);
-    if copy_in(fd, &mut bytes) {
-        libc::close(fd);
-        return true;
-    }
-    crate::say::failed(b"standard output");
+    let good = replay_input::source::copy_all(
+        fd,
+        libc::STDOUT_FILENO,
+        b"what is written",
+        b"standard output",
+    );
     libc::close(fd);
-    false
+    good
 }
 
 fn renamed(name: &[u8], path: &[u8], fd: i32) -> bool {
-    let kept = libc::fsync(fd) == 0;
+    let lasts = libc::fsync(fd) == 0;
     libc::close(fd);
-    if kept {
+    if lasts {
         if os::rename(path, name) == 0 {
             return true;
         }
     }
-    crate::say::failed(name);
+    os::fail(name);
     os::unlink(path);
     false
 }
 
 // What was written becomes the file.
-pub fn commit(name: &[u8], path: &[u8], fd: i32) -> bool {
+fn commit(name: &[u8], path: &[u8], fd: i32) -> bool {
     if is_standard(name) {
         return to_output(fd);
     }
     renamed(name, path, fd)
 }
 
-// What was written is gone.
-pub fn discard(name: &[u8], path: &[u8], fd: i32) {
+fn discard(name: &[u8], path: &[u8], fd: i32) {
     libc::close(fd);
     if is_standard(name) {
         return;
@@ -163,8 +123,8 @@ pub fn discard(name: &[u8], path: &[u8], fd: i32) {
     os::unlink(path);
 }
 
-// 0: it is there; otherwise this status, or 2.
-pub fn finish(status: u64, name: &[u8], path: &[u8], fd: i32) -> u64 {
+// Where the status is 0, what was written becomes the file; otherwise it is gone. Answers the status, or 2.
+pub fn finish(status: u8, name: &[u8], path: &[u8], fd: i32) -> u8 {
     if status == 0 {
         if commit(name, path, fd) {
             return 0;

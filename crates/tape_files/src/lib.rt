@@ -1,3 +1,3 @@
-// What program tape reads, writes and says.
+// What programs write of tapes: files, and lines on standard error where a tape or a schedule is refused.
 pub mod files;
 pub mod say;

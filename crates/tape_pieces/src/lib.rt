@@ -115,13 +115,6 @@ fn fill(fd: i32, window: &mut [u8], have: usize) -> Filled
     }
 }
 
-// Whether nothing follows.
-fn at_end(fd: i32) -> bool {
-    let mut byte = [0u8; 1];
-    let f = some(fd, &mut byte);
-    f.have == 0
-}
-
 fn put(to: &mut [u8], i: usize, b: u8) {
     if i < to.len() {
         to[i] = b;
@@ -211,17 +204,26 @@ fn read_some(window: &[u8], have: usize, words: &mut [u64]) -> Reading {
     Reading::Refused(12, 0)
 }
 
+// A tape whose end was met; what follows it is not in a full window.
+fn ended(fd: i32, p: Piece, f: Filled, capacity: u64, workers: u64, count: usize) -> Piece {
+    let mut byte = [0u8; 1];
+    let more = some(fd, &mut byte);
+    if more.failed {
+        return failed(p);
+    }
+    if more.ended {
+        return heard(p, DONE, capacity, workers, count);
+    }
+    refused(p, 15, f.have)
+}
+
 // A full window whose last field is cut has more to come; anything else is what the whole tape has.
 fn piece_of(fd: i32, p: Piece, f: Filled, window: &mut [u8], words: &mut [u64]) -> Piece {
     let have = f.have;
     let r = read_some(window, have, words);
     match r {
         Reading::Schedule(_, capacity, workers, count) => {
-            if f.ended || at_end(fd) {
-                heard(p, DONE, capacity, workers, count)
-            } else {
-                refused(p, 15, have)
-            }
+            ended(fd, p, f, capacity, workers, count)
         }
         Reading::Refused(number, at) => {
             if f.ended || number != 12 {

@@ -1,9 +1,8 @@
-// A tape piece by piece, and the numbers of its schedule.
+// A tape piece by piece, as the text of its schedule that replay reads.
 use tape_pieces::Piece;
 
-fn line(out: &mut [u8], at: usize, a: u64, b: u64) -> usize {
-    text_output::form(out, at, b"# #\n", &[a, b])
-}
+// Beside the states of a piece: its text could not be kept, and that was said.
+const STUCK: u64 = 4;
 
 fn put(to: i32, out: &[u8], n: usize) -> bool {
     if n <= out.len() {
@@ -13,24 +12,24 @@ fn put(to: i32, out: &[u8], n: usize) -> bool {
 }
 
 // How much text is in the buffer, and whether all before it was written.
-struct Text {
+struct Lines {
     at: usize,
     good: bool,
 }
 
-fn with_line(out: &mut [u8], t: Text, a: u64, b: u64) -> Text {
-    Text {
-        at: line(out, t.at, a, b),
+fn with_line(out: &mut [u8], t: Lines, first: u64, item: u64) -> Lines {
+    Lines {
+        at: text_output::form(out, t.at, b"# #\n", &[first, item]),
         good: t.good,
     }
 }
 
 // Writes where little room is left.
-fn eased(to: i32, out: &[u8], t: Text) -> Text {
+fn eased(to: i32, out: &[u8], t: Lines) -> Lines {
     if t.at < 65000 {
         return t;
     }
-    Text {
+    Lines {
         at: 0,
         good: t.good && put(to, out, t.at),
     }
@@ -39,7 +38,7 @@ fn eased(to: i32, out: &[u8], t: Text) -> Text {
 // A line for each entry.
 fn put_entries(to: i32, words: &[u64], out: &mut [u8]) -> bool {
     let n = words.len() / 2;
-    let mut t = Text { at: 0, good: true };
+    let mut t = Lines { at: 0, good: true };
     let mut i = 0;
     while i < n {
         t = with_line(out, t, words[2 * i], words[2 * i + 1]);
@@ -56,65 +55,75 @@ fn put_some(to: i32, words: &[u64], n: usize, out: &mut [u8]) -> bool {
     false
 }
 
-fn put_head(to: i32, p: Piece, out: &mut [u8]) -> bool {
-    let n = line(out, 0, p.capacity, p.workers);
+// The first line. A schedule of the one-slot queue has no capacity.
+fn put_head(to: i32, p: Piece, with_capacity: bool, out: &mut [u8]) -> bool {
+    if with_capacity {
+        let n = text_output::form(out, 0, b"# #\n", &[p.capacity, p.workers]);
+        return put(to, out, n);
+    }
+    let n = text_output::form(out, 0, b"#\n", &[p.workers]);
     put(to, out, n)
 }
 
-// The first line, before the first entries.
-fn put_first(to: i32, p: Piece, first: bool, out: &mut [u8]) -> bool {
-    if first { put_head(to, p, out) } else { true }
-}
-
-fn put_piece(to: i32, p: Piece, first: bool, words: &[u64], out: &mut [u8]) -> bool {
-    if put_first(to, p, first, out) {
-        put_some(to, words, p.count, out)
-    } else {
-        false
-    }
-}
-
-// The next piece, written; a write that failed leaves no more to come.
+// The next piece, and its lines.
 fn turn(
     from: i32,
     before: Piece,
-    first: bool,
     to: i32,
     window: &mut [u8],
     words: &mut [u64],
     out: &mut [u8],
 ) -> Piece {
     let mut p = tape_pieces::next(from, before, window, words);
-    if p.state == tape_pieces::REFUSED {
-        return p;
-    }
-    if p.state == tape_pieces::FAILED {
-        return p;
-    }
-    if put_piece(to, p, first, words, out) {} else {
-        p.state = 4;
+    if put_some(to, words, p.count, out) {} else {
+        p.state = STUCK;
     }
     p
 }
 
-fn all(from: i32, to: i32, window: &mut [u8], words: &mut [u64], out: &mut [u8]) -> Piece {
-    let mut p = turn(from, tape_pieces::start(), true, to, window, words, out);
+fn first_turn(
+    from: i32,
+    to: i32,
+    with_capacity: bool,
+    window: &mut [u8],
+    words: &mut [u64],
+    out: &mut [u8],
+) -> Piece {
+    let mut p = tape_pieces::next(from, tape_pieces::start(), window, words);
+    if put_head(to, p, with_capacity, out) {} else {
+        p.state = STUCK;
+    }
+    if put_some(to, words, p.count, out) {} else {
+        p.state = STUCK;
+    }
+    p
+}
+
+fn all(
+    from: i32,
+    to: i32,
+    with_capacity: bool,
+    window: &mut [u8],
+    words: &mut [u64],
+    out: &mut [u8],
+) -> Piece {
+    let mut p = first_turn(from, to, with_capacity, window, words, out);
     let mut turns = u64::MAX;
     while turns > 0 && p.state == tape_pieces::GOING {
         turns -= 1;
-        p = turn(from, p, false, to, window, words, out);
+        p = turn(from, p, to, window, words, out);
     }
     p
 }
 
-fn read(from: i32, to: i32) -> Piece {
+fn read(from: i32, to: i32, with_capacity: bool) -> Piece {
     let mut window = [0u8; tape_pieces::WINDOW];
     let mut words = [0u64; tape_pieces::WORDS];
     let mut out = io::large_buffer();
-    all(from, to, &mut window, &mut words, &mut out)
+    all(from, to, with_capacity, &mut window, &mut words, &mut out)
 }
 
-fn status_of(p: Piece, name: &[u8]) -> u64 {
+fn status_of(p: Piece, name: &[u8]) -> u8 {
     let state = p.state;
     match state {
         tape_pieces::DONE => 0,
@@ -123,30 +132,44 @@ fn status_of(p: Piece, name: &[u8]) -> u64 {
             1
         }
         tape_pieces::FAILED => {
-            tape_files::say::failed(name);
+            os::fail(name);
             2
         }
         _ => 2,
     }
 }
 
-fn read_from(from: i32, name: &[u8]) -> u64 {
-    let to = tape_files::files::sink(b"-", b"");
-    if to < 0 {
-        return 2;
-    }
-    let p = read(from, to);
-    let status = status_of(p, name);
-    tape_files::files::finish(status, b"-", b"", to)
+// The status; where it is 0, a file without a name that has the text.
+pub struct Text {
+    pub status: u8,
+    pub fd: i32,
 }
 
-// A tape's file; answers the status.
-pub fn run(name: &[u8]) -> u64 {
-    let from = tape_files::files::open(name);
-    if from < 0 {
-        return 2;
+// The text of a tape; what is wrong with the tape is said.
+pub fn text_of(from: i32, name: &[u8], with_capacity: bool) -> Text {
+    let to = replay_input::source::nameless();
+    if to < 0 {
+        return Text { status: 2, fd: to };
     }
-    let status = read_from(from, name);
-    tape_files::files::close(name, from);
-    status
+    let status = status_of(read(from, to, with_capacity), name);
+    if status != 0 {
+        libc::close(to);
+    }
+    Text {
+        status: status,
+        fd: to,
+    }
+}
+
+// The text to standard output; answers the status.
+pub fn run(from: i32, name: &[u8]) -> u8 {
+    let text = text_of(from, name, true);
+    if text.status != 0 {
+        return text.status;
+    }
+    if tape_files::files::to_output(text.fd) {
+        0
+    } else {
+        2
+    }
 }
