@@ -155,12 +155,12 @@ different-tapes v u capacity size workers team words others room space n m p q h
     (variant, cc, cc, cc)
 
 -- ---- what it takes to be read
-record Got (s : List ℕ) (room : ℕ) (v : Variant) (capacity workers n : ℕ) (words : List ℕ) : Type 0 where
+pub record Got (s : List ℕ) (room : ℕ) (v : Variant) (capacity workers n : ℕ) (words : List ℕ) : Type 0 where
   pub makes : headIn s ≡ head.Makes v capacity workers
   pub hears : hearIn v s ≡ heard words
   pub count : n ≡ length words
 
-read-means : (s : List ℕ) (room : ℕ) (v : Variant) (capacity workers n : ℕ) → readOf s room ≡ reading.Schedule v capacity workers n → (words : List ℕ) × Got s room v capacity workers n words
+pub read-means : (s : List ℕ) (room : ℕ) (v : Variant) (capacity workers n : ℕ) → readOf s room ≡ reading.Schedule v capacity workers n → (words : List ℕ) × Got s room v capacity workers n words
 unfolding readOf readAfter readBy countIn
 read-means s room v capacity workers n = first (headIn s) refl
   where
@@ -181,7 +181,7 @@ read-means s room v capacity workers n = first (headIn s) refl
     first (head.Fault number) e h = let z : _≡_ {A = ℕ} 0 1 = cc in absurd (omega arith)
     first (head.Makes u c w) e h = later u c w e (hearIn u s) refl h
 
-words-taken : (s lent : List ℕ) (v : Variant) (capacity workers n : ℕ) (words : List ℕ) → readOf s (length lent) ≡ reading.Schedule v capacity workers n
+pub words-taken : (s lent : List ℕ) (v : Variant) (capacity workers n : ℕ) (words : List ℕ) → readOf s (length lent) ≡ reading.Schedule v capacity workers n
     → Got s (length lent) v capacity workers n words → take n (readInto s lent) ≡ words
 unfolding readInto taken over wordsIn
 words-taken s lent v capacity workers n words h g =
@@ -194,13 +194,16 @@ module _ (s : List ℕ) (room : ℕ) (v : Variant) (capacity workers n : ℕ) (w
   unfolding hearIn
   rest = hear-back (length s) v 7 (drop 7 s) words (below-drop 256 7 s p) (g .hears)
 
-  tape-is : s ≡ tapeOf v capacity workers words
+  pub words-low : Below (2 ^ 64) words
+  words-low = rest .low
+
+  pub tape-is : s ≡ tapeOf v capacity workers words
   unfolding tapeOf
   tape-is =
       head-back s v capacity workers p (head-read s v capacity workers (g .makes)) ∙ ap (λ (l : List ℕ). headOf v capacity workers ++ l) (rest .is)
       ∙ sym (append-assoc (headOf v capacity workers) (entriesOf v words) (endOf v))
 
-  tape-accepted : (space : ℕ) → length s ≤ space → Accepted capacity workers words space (length s)
+  pub tape-accepted : (space : ℕ) → length s ≤ space → Accepted capacity workers words space (length s)
   tape-accepted space h =
       let low = head-narrow s v capacity workers p (head-read s v capacity workers (g .makes)) in
       record {

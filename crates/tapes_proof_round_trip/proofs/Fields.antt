@@ -267,6 +267,14 @@ module _ (s : List ℕ) (v : Variant) (first item : ℕ) (p : Below 256 s) (h : 
       (around s 4 (itemLong (first % 16)) ∙ ap₂ (λ (l m : List ℕ). l ++ m) item-back (ap (λ (k : ℕ). drop k s) (sym (size-of first)))))
       ∙ sym (entry-is v first item (drop (sizeOf first) s))
 
+  pub entry-word : item < 2 ^ 64
+  entry-word =
+      let low : numberOf v (take (itemLong (getD s 3 0 / 16)) (drop 4 s)) < 256 ^ itemLong (getD s 3 0 / 16) = part-below v s 4 (itemLong (getD s 3 0 / 16)) (omega (arith, r .whole)) p in
+      ⊎-elim
+      (λ w. omega (arith, low, r .item-is, ap (λ (k : ℕ). 256 ^ k) (w .1)))
+      (λ w. omega (arith, low, r .item-is, ap (λ (k : ℕ). 256 ^ k) (w .1)))
+      (tag-and-long (getD s 3 0 / 16))
+
   pub entry-carried : Carried first item
   entry-carried = record {
     byte = omega (arith, r .first-is, swapped-fits (getD s 3 0) byte-below);

@@ -21,10 +21,10 @@ use Rattle.tapes.specs.Written.{entriesOf, loadFrom}
 use Rattle.tapes.specs.Heard.{Heard, stopped, heard, joined, longOf, heardBy, hearFrom}
 use Rattle.tapes_demands.specs.Notions.{Below}
 use Rattle.tapes_proof_round_trip.proofs.Numbers.{below-drop}
-use Rattle.tapes_proof_round_trip.proofs.Fields.{end-found, entry-found, end-back, entry-back, entry-carried, carried-back}
+use Rattle.tapes_proof_round_trip.proofs.Fields.{end-found, entry-found, end-back, entry-back, entry-carried, entry-word, carried-back}
 
 -- ---- an accepted load: each entry is carried
-load-first : (place long n first item : ℕ) (rest : List ℕ) → loadFrom place long (first ∷ item ∷ rest) ≡ Bytes n
+pub load-first : (place long n first item : ℕ) (rest : List ℕ) → loadFrom place long (first ∷ item ∷ rest) ≡ Bytes n
     → (carried first item ≡ true) × (loadFrom (place + 1) (long + sizeOf first) rest ≡ Bytes n)
 unfolding loadFrom
 load-first place long n first item rest = go (carried first item)
@@ -63,6 +63,7 @@ hear-written v (first ∷ item ∷ rest) (suc more) at place long n p even load 
 pub record Heard-back (v : Variant) (s words : List ℕ) : Type 0 where
   pub is : s ≡ entriesOf v words ++ endOf v
   pub even : length words % 2 ≡ 0
+  pub low : Below (2 ^ 64) words
   pub load : (place long : ℕ) → loadFrom place long words ≡ Bytes (long + length (entriesOf v words))
 
 back-none : (v : Variant) (s : List ℕ) → Below 256 s → fieldIn v s ≡ field.End → length s ≡ 3 → Heard-back v s []
@@ -70,6 +71,7 @@ unfolding entriesOf loadFrom
 back-none v s p f e = record {
   is = end-back v s p f ∙ ap (λ (l : List ℕ). endOf v ++ l) (drop-of-length-le s {i = 3} (omega arith)) ∙ append-nil (endOf v);
   even = refl;
+  low = tt;
   load = λ place long. let z : long ≡ long + 0 = omega arith in ap Bytes z;
 }
 
@@ -86,6 +88,7 @@ unfolding entriesOf loadFrom
 back-more v s first item ws p f rest = record {
   is = entry-back s v first item p f ∙ ap (λ (l : List ℕ). entryFieldOf v first item ++ l) (rest .is) ∙ sym (append-assoc (entryFieldOf v first item) (entriesOf v ws) (endOf v));
   even = omega (arith, rest .even);
+  low = (omega (arith, entry-carried s v first item p f .byte), (entry-word s v first item p f, rest .low));
   load = λ place long.
       let sum : long + sizeOf first + length (entriesOf v ws) ≡ long + length (entryFieldOf v first item ++ entriesOf v ws) = omega (arith, length-append (entryFieldOf v first item) (entriesOf v ws), length-entry v first item) in
       simp (carried-back first item (entry-carried s v first item p f)) (rest .load (place + 1) (long + sizeOf first) ∙ ap Bytes sum);
