@@ -21,10 +21,12 @@ pub data Heard : Type 0 where
   stopped : ℕ → ℕ → Heard
   heard : List ℕ → Heard
 
+-- An entry's two words, and what is heard after it.
 unfoldable pub joined : ℕ → ℕ → Heard → Heard
 joined first item (stopped number at) = stopped number at
 joined first item (heard words) = heard (first ∷ item ∷ words)
 
+-- How many bytes a field has.
 unfoldable pub longOf : Field → ℕ
 longOf (field.Fault number) = 0
 longOf field.End = 3
@@ -46,6 +48,7 @@ hearFrom (suc more) v at s =
 unfoldable pub hearIn : Variant → List ℕ → Heard
 hearIn v s = hearFrom (length s) v 7 (drop 7 s)
 
+-- What is heard, as the code has it: its count, and the words themselves.
 unfoldable pub countIn : Heard → Scan
 countIn (stopped number at) = scan.Fault number at
 countIn (heard words) = scan.Words (length words)

@@ -24,7 +24,8 @@ opens v tag long s = cond (eqb (getD s 0 0) (tagOf v tag)) (eqb (numberOf v (tak
 unfoldable pub allowed : ℕ → ℕ → Bool
 allowed tag code = cond (ltb code 10) (eqb tag (tagFor code)) false
 
--- In one field "12 precedes 13 only if tag or length bytes are missing, else 13, then 12, then 14".
+-- "In one field, 12 precedes 13 only if tag or length bytes are missing, else 13, then 12, then 14": `headIn` and `fieldIn` have the 12 of
+-- a missing tag or length and the 13; `headBy` and `entryBy`, of a field that is opened well, the 12 of a missing body and the 14.
 unfoldable pub headBy : Variant → List ℕ → Head
 headBy v s = cond (ltb (length s) 7) (head.Fault 12) (head.Makes v (numberOf v (take 2 (drop 3 s))) (numberOf v (take 2 (drop 5 s))))
 

@@ -21,12 +21,6 @@ pub enum Field {
     Entry(u64, u64),
 }
 
-fn wide(b: u8) -> u64
-    ensures { λ r. ⌜ r ≡ b ⌝ }
-{
-    b as u64
-}
-
 fn opens(bytes: &[u8], v: Variant, tag: u8, long: u64) -> bool
     requires { ⌜ (tag < 128) × (3 ≤ length (now bytes)) ⌝ }
     ensures { λ r. ⌜ r ≡ opens v tag long (now (bytes .entry)) ⌝ }
@@ -94,7 +88,7 @@ fn entry_by(bytes: &[u8], v: Variant, tag: u8, long: usize) -> Field
     if bytes.len() < end {
         return Field::Fault(12);
     }
-    let b = wide(bytes[3]);
+    let b = tapes_numbers::wide(bytes[3]);
     if allowed(tag, b / 16) {
         Field::Entry(swapped(b), tapes_numbers::number(&bytes[4..end], v))
     } else {

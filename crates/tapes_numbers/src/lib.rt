@@ -31,7 +31,7 @@ fn spot(v: Variant, count: usize, i: usize) -> usize
     }
 }
 
-fn wide(b: u8) -> u64
+pub fn wide(b: u8) -> u64
     ensures { λ r. ⌜ r ≡ b ⌝ }
 {
     b as u64

@@ -55,16 +55,12 @@ fn with_words(out: &mut [u8], at: usize, words: &[u64]) -> usize {
     text_output::byte(out, p, b'\n')
 }
 
-fn wide(b: u8) -> u64 {
-    b as u64
-}
-
 fn with_bytes(out: &mut [u8], at: usize, bytes: &[u8]) -> usize {
     let mut p = at;
     let mut i = 0;
     while i < bytes.len() {
         p = text_output::byte(out, p, b' ');
-        p = text_output::number(out, p, wide(bytes[i]));
+        p = text_output::number(out, p, tapes_numbers::wide(bytes[i]));
         i += 1;
     }
     text_output::byte(out, p, b'\n')

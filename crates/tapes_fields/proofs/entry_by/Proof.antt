@@ -6,7 +6,7 @@ use Rattle.tapes_fields.proofs.entry_by.Reads as reads
 use Rattle.tapes_fields.proofs.entry_by.Lts as lts
 use Rattle.tapes_fields.proofs.allowed.Reads as allowed-reads
 use Rattle.tapes_fields.proofs.swapped.Reads as swapped-reads
-use Rattle.tapes_fields.proofs.wide.Reads as wide-reads
+use Rattle.tapes_numbers.proofs.wide.Reads as wide-reads
 use Rattle.tapes_numbers.proofs.number.Reads as number-reads
 
 -- src/lib.rt:94:15

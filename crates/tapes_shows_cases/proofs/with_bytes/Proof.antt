@@ -6,7 +6,7 @@ use Rattle.tapes_shows_cases.proofs.with_bytes.Statement.{statement}
 use Rattle.tapes_shows_cases.proofs.with_bytes.Tie as tie
 use Rattle.tapes_shows_cases.proofs.with_bytes.Reads as reads
 use Rattle.tapes_shows_cases.proofs.with_bytes.Lts as lts
-use Rattle.tapes_shows_cases.proofs.wide.Reads as wide-reads
+use Rattle.tapes_numbers.proofs.wide.Reads as wide-reads
 use Rattle.text_output.proofs.byte.Reads as byte-reads
 use Rattle.text_output.proofs.number.Reads as number-reads
 
