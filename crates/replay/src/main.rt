@@ -24,17 +24,27 @@ fn run_file(o: Options) -> u8 {
     status
 }
 
-// What stands at its start can be read twice where it is; anything else is kept first.
+// The schedule that a tape stands for is run as its text is.
+fn run_tape(o: Options, fd: i32, name: &[u8]) -> u8 {
+    let text = tape_reads::text_of(fd, name, queue::before(o) == 0);
+    if text.status != many::RAN {
+        return text.status;
+    }
+    let status = many::run_all(o, text.fd, name);
+    libc::close(text.fd);
+    status
+}
+
 fn run_from(o: Options, fd: i32, name: &[u8]) -> u8 {
-    if libc::lseek(fd, 0, libc::SEEK_CUR) == 0 {
-        return many::run_all(o, fd, name);
+    if o.tape {
+        return run_tape(o, fd, name);
     }
     let kept = replay_input::source::kept(fd, name);
     if kept < 0 {
         return many::UNREADABLE;
     }
     let status = many::run_all(o, kept, name);
-    libc::close(kept);
+    replay_input::source::release(kept, fd);
     status
 }
 

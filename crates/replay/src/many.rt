@@ -52,61 +52,7 @@ fn numbers_of(s: Survey, o: Options) -> u64 {
 
 // Says what is wrong, and answers whether nothing is.
 fn is_sound(s: Survey, o: Options, name: &[u8]) -> bool {
-    let r = s.reading;
-    let scan = r.scan;
-    let event = r.event;
-    match event {
-        replay_input::source::FAILED => {
-            os::fail(name);
-            return false;
-        }
-        text_numbers::NO_NUMBER => {
-            replay_input::say::fault(
-                name,
-                scan.line,
-                scan.start,
-                b"not an unsigned decimal number",
-            );
-            return false;
-        }
-        text_numbers::TOO_LARGE => {
-            replay_input::say::fault(
-                name,
-                scan.line,
-                scan.start,
-                b"a number that does not fit 64 bits",
-            );
-            return false;
-        }
-        _ => {}
-    }
-    let numbers = numbers_of(s, o);
-    if numbers == 0 {
-        replay_input::say::fault(name, scan.line, scan.column, b"the capacity is missing");
-        return false;
-    }
-    if numbers == 1 {
-        replay_input::say::fault(
-            name,
-            scan.line,
-            scan.column,
-            b"the number of workers is missing",
-        );
-        return false;
-    }
-    true
-}
-
-// The number that has no pair yet goes to the list's start, and is the one that the next piece leaves there.
-fn carry(list: &mut [u64], count: usize) -> usize {
-    if count % 2 == 0 {
-        return 0;
-    }
-    if count <= list.len() {
-        list[0] = list[count - 1];
-        return 1;
-    }
-    0
+    replay_input::say::is_sound(b"replay", name, s.reading, numbers_of(s, o))
 }
 
 fn progress(before: u64, after: u64) {
@@ -154,7 +100,7 @@ fn read_and_play(
     let run = p.run;
     let r = replay_input::source::turn(fd, o.many, before, bytes, list, p.left);
     let after = play_some(run, o, odd, list, r.count, out);
-    let left = carry(list, r.count);
+    let left = replay_input::source::carry(list, r.count);
     Playing {
         reading: r,
         run: after,

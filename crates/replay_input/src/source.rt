@@ -94,41 +94,96 @@ pub fn turn(
     after(piece, offset, piece.event)
 }
 
-// Copies once, and answers whether to go on.
-fn copy_some(from: i32, to: i32, name: &[u8]) -> bool {
+// The number that has no pair yet goes to the list's start, and is the one that the next piece leaves there.
+pub fn carry(list: &mut [u64], count: usize) -> usize {
+    if count % 2 == 0 {
+        return 0;
+    }
+    if count <= list.len() {
+        list[0] = list[count - 1];
+        return 1;
+    }
+    0
+}
+
+// How a copy goes on.
+const MORE: u8 = 0;
+
+const WHOLE: u8 = 1;
+
+const BROKEN: u8 = 2;
+
+// Nobody is left to be told of a pipe that was closed.
+fn no_room(to_name: &[u8]) -> u8 {
+    if os::errno() != libc::EPIPE {
+        os::fail(to_name);
+    }
+    BROKEN
+}
+
+fn copy_some(from: i32, to: i32, name: &[u8], to_name: &[u8]) -> u8 {
     let mut bytes = io::large_buffer();
     let got = libc::read(from, &mut bytes);
     if got < 0 {
         os::fail(name);
-        return false;
+        return BROKEN;
     }
     if got == 0 {
-        return false;
+        return WHOLE;
     }
     let n = io::count(got, &bytes);
-    let done = io::write_all(to, &bytes[..n]);
-    if !done {
-        os::fail(b"replay: keeping the input");
+    if io::write_all(to, &bytes[..n]) {
+        return MORE;
     }
-    done
+    no_room(to_name)
 }
 
-fn copy_all(from: i32, to: i32, name: &[u8]) {
+// The rest of a file to another; says what failed, and answers whether nothing did.
+pub fn copy_all(from: i32, to: i32, name: &[u8], to_name: &[u8]) -> bool {
+    let mut state = MORE;
     let mut turns = u64::MAX;
-    while turns > 0 && copy_some(from, to, name) {
+    while turns > 0 && state == MORE {
+        state = copy_some(from, to, name, to_name);
         turns -= 1;
     }
+    state == WHOLE
 }
 
-// A nameless file with the rest of the input, or a negative number.
-pub fn kept(fd: i32, name: &[u8]) -> i32 {
-    let mut path = *b"/tmp/replay-XXXXXX";
-    let to = os::create_temp(&mut path);
-    if to < 0 {
-        os::fail(b"replay: a file to keep the input in");
+// A file that has no name, or a negative number.
+pub fn nameless() -> i32 {
+    let mut path = *b"/tmp/fernmoldew-XXXXXX";
+    let fd = os::create_temp(&mut path);
+    if fd < 0 {
+        os::fail(b"/tmp");
         return -1;
     }
     os::unlink(&path);
-    copy_all(fd, to, name);
-    to
+    fd
+}
+
+// A nameless file with the rest of the input, or a negative number.
+fn copy_of(fd: i32, name: &[u8]) -> i32 {
+    let to = nameless();
+    if to < 0 {
+        return -1;
+    }
+    if copy_all(fd, to, name, b"keeping the input") {
+        return to;
+    }
+    libc::close(to);
+    -1
+}
+
+// A descriptor that can be read twice, or a negative number: of a file that stands at its start, the same.
+pub fn kept(fd: i32, name: &[u8]) -> i32 {
+    if libc::lseek(fd, 0, libc::SEEK_CUR) == 0 {
+        return fd;
+    }
+    copy_of(fd, name)
+}
+
+pub fn release(kept: i32, fd: i32) {
+    if kept != fd {
+        libc::close(kept);
+    }
 }

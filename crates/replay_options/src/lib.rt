@@ -18,6 +18,8 @@ pub struct Options {
     pub quiet: bool,
     pub summary: bool,
     pub many: bool,
+    // the input is a tape, and no text
+    pub tape: bool,
     pub help: bool,
     // the starter asks for the status on a descriptor
     pub tells: bool,
@@ -51,6 +53,7 @@ fn none() -> Options {
         quiet: false,
         summary: false,
         many: false,
+        tape: false,
         help: false,
         tells: false,
         file: 0,
@@ -139,6 +142,10 @@ fn with_word(before: Options, i: usize, word: &[u8]) -> Options {
         o.many = true;
         return o;
     }
+    if equal(word, b"--tape") {
+        o.tape = true;
+        return o;
+    }
     if equal(word, b"--help") {
         o.help = true;
         return o;
@@ -204,7 +211,7 @@ pub fn tell(o: Options, status: u8) {
 pub fn help() {
     io::write_all(
         libc::STDOUT_FILENO,
-        b"replay [--queue NAME] [--edition N] [--quiet] [--summary] [--many] [FILE]\n\
+        b"replay [--queue NAME] [--edition N] [--quiet] [--summary] [--many] [--tape] [FILE]\n\
         \n\
         Runs a schedule on the stamped ring, or on another queue. It is read from FILE, or from standard input: unsigned decimal\n\
         numbers separated by white space. The first is the capacity (1 to 1024), the second the number of\n\
@@ -227,6 +234,7 @@ pub fn help() {
         \x20 --edition 2      the ring whose force_push keeps a close (1 unless told)\n\
         \x20 --quiet     no line for each entry, one for the whole\n\
         \x20 --summary   then counts of acts, answers, claims, refusals and retries\n\
-        \x20 --many      several schedules, separated by a line with a single %; a line % follows each output\n",
+        \x20 --many      several schedules, separated by a line with a single %; a line % follows each output\n\
+        \x20 --tape      FILE is a schedule tape (see tape --help); a tape that is refused is told in one line, and nothing is run\n",
     );
 }

@@ -1,0 +1,161 @@
+// The arguments of tape.
+
+pub const NOTHING: u64 = 0;
+
+pub const HELP: u64 = 1;
+
+pub const WRITE: u64 = 2;
+
+pub const READ: u64 = 3;
+
+pub struct Asked {
+    // the status is to be told on descriptor 3
+    pub tell: bool,
+    pub act: u64,
+    pub little: bool,
+    // the numbers of the arguments that name the files; 0: none yet
+    pub from: usize,
+    pub to: usize,
+    pub wrong: bool,
+}
+
+fn nothing() -> Asked {
+    Asked {
+        tell: false,
+        act: NOTHING,
+        little: false,
+        from: 0,
+        to: 0,
+        wrong: false,
+    }
+}
+
+fn act_of(word: &[u8]) -> u64 {
+    if check::same(word, b"write") {
+        return WRITE;
+    }
+    if check::same(word, b"read") {
+        return READ;
+    }
+    if check::same(word, b"--help") {
+        return HELP;
+    }
+    NOTHING
+}
+
+// `-` is a name, that of standard input or output; any other word that begins so is an option.
+fn is_name(word: &[u8]) -> bool {
+    if word.len() < 2 {
+        return 0 < word.len();
+    }
+    word[0] != b'-'
+}
+
+// A file's name, where one is still asked for.
+fn named(before: Asked, i: usize, word: &[u8]) -> Asked {
+    let mut a = before;
+    if is_name(word) {
+        if a.from == 0 {
+            a.from = i;
+            return a;
+        }
+        if a.to == 0 {
+            a.to = i;
+            return a;
+        }
+    }
+    a.wrong = true;
+    a
+}
+
+fn with_word(before: Asked, i: usize, word: &[u8]) -> Asked {
+    let mut a = before;
+    if a.act == NOTHING {
+        a.act = act_of(word);
+        a.wrong = a.act == NOTHING;
+        return a;
+    }
+    if check::same(word, b"--little") {
+        if a.act == WRITE {
+            a.little = true;
+            return a;
+        }
+    }
+    named(a, i, word)
+}
+
+fn with_argument(before: Asked, i: usize) -> Asked {
+    let mut word = io::buffer();
+    let n = os::arg(i, &mut word);
+    let mut a = before;
+    if i == 1 {
+        if check::same(&word[..n], b"--tell-status") {
+            a.tell = true;
+            return a;
+        }
+    }
+    with_word(a, i, &word[..n])
+}
+
+// write names a schedule and a tape, read a tape alone.
+fn whole(before: Asked) -> Asked {
+    let mut a = before;
+    if a.act == NOTHING {
+        a.wrong = true;
+    }
+    if a.act == WRITE {
+        if a.to == 0 {
+            a.wrong = true;
+        }
+    }
+    if a.act == READ {
+        if a.from == 0 {
+            a.wrong = true;
+        }
+        if a.to != 0 {
+            a.wrong = true;
+        }
+    }
+    a
+}
+
+pub fn read() -> Asked {
+    let mut a = nothing();
+    let n = os::arg_count();
+    let mut i = 1;
+    while i < n {
+        a = with_argument(a, i);
+        i += 1;
+    }
+    whole(a)
+}
+
+pub fn usage() {
+    io::write_all(
+        libc::STDERR_FILENO,
+        b"tape: usage: tape write [--little] SCHEDULE TAPE, or tape read TAPE (see --help)\n",
+    );
+}
+
+pub fn help() {
+    io::write_all(
+        libc::STDOUT_FILENO,
+        b"tape write [--little] SCHEDULE TAPE\n\
+        tape read TAPE\n\
+        \n\
+        Writes a schedule, as replay reads it, to a tape; or reads a tape and prints its schedule, as replay\n\
+        reads it: capacity and workers, then a line for each entry. - is standard input or output.\n\
+        replay --tape TAPE runs a tape as it is.\n\
+        \n\
+        \x20 --little    the second variant of tapes, with little-endian numbers\n\
+        \n\
+        A tape appears whole or not at all. What is refused is told in a line on standard error, and nothing\n\
+        is written: 'refused N at entry E' of a schedule, 'refused N at byte B' of a tape, B being where the\n\
+        field at fault begins. 11 odd number of words, 12 cut short, 13 unknown tag, wrong length or place, or\n\
+        mixed variant, 14 code not allowed under its tag, 15 bytes after the end, 17 an entry that a tape can't\n\
+        carry (code 10 to 15, an item where none may be, worker above 15), or a capacity or worker count above\n\
+        65,535.\n\
+        \n\
+        Status: 0 done, 1 refused, 2 the input or the arguments cannot be read, or nothing can be written.\n",
+    );
+}

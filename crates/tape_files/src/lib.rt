@@ -1,0 +1,3 @@
+// What programs write of tapes: files, and lines on standard error where a tape or a schedule is refused.
+pub mod files;
+pub mod say;

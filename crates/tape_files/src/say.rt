@@ -1,0 +1,67 @@
+// What is refused, a line on standard error.
+
+fn error(text: &[u8], n: usize) {
+    if n <= text.len() {
+        io::write_all(libc::STDERR_FILENO, &text[..n]);
+    }
+}
+
+fn said(text: &[u8]) {
+    io::write_all(libc::STDERR_FILENO, text);
+}
+
+pub fn special(name: &[u8]) {
+    let mut text = [0u8; 4608];
+    let p = text_output::text(&mut text, 0, name);
+    let q = text_output::text(
+        &mut text,
+        p,
+        b": a link or a device; - writes to standard output\n",
+    );
+    error(&text, q);
+}
+
+// refused N at WHERE PLACE: and what it means.
+fn refused(number: u64, form: &[u8], place: u64) {
+    let mut text = [0u8; 512];
+    let p = text_output::form(&mut text, 0, form, &[number, place]);
+    let q = text_output::nth(
+        &mut text,
+        p,
+        b"an odd number of words|cut short|unknown tag, wrong length or place, or mixed variant|\
+        code not allowed under its tag|bytes after the end|output buffer too short|\
+        an entry that a tape can't carry: code above 9, an item where none may be, or a worker above 15|",
+        meaning(number),
+        &[],
+    );
+    let r = text_output::byte(&mut text, q, b'\n');
+    error(&text, r);
+}
+
+// The place of a refusal's meaning in the list, which begins with 11.
+fn meaning(number: u64) -> usize {
+    if number < 11 {
+        return 0;
+    }
+    if 17 < number {
+        return 0;
+    }
+    (number - 11) as usize
+}
+
+pub fn refused_tape(number: u64, byte: u64) {
+    refused(number, b"refused # at byte #: ", byte);
+}
+
+// Of the whole schedule: entry 0.
+pub fn refused_schedule(number: u64, entry: u64, capacity: u64, workers: u64) {
+    if number == 17 {
+        if 65535 < capacity {
+            return said(b"refused 17 at entry 0: a capacity above 65,535\n");
+        }
+        if 65535 < workers {
+            return said(b"refused 17 at entry 0: a worker count above 65,535\n");
+        }
+    }
+    refused(number, b"refused # at entry #: ", entry);
+}

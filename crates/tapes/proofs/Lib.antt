@@ -1,0 +1,5 @@
+pub mod Pairs
+pub mod Loads
+pub mod Fills
+pub mod Answers
+pub mod Hears

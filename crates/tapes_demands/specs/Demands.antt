@@ -1,0 +1,98 @@
+-- What item 5 asks of tapes. Proved in proofs/ here and in crates/tapes_proof_round_trip, whose Headlines.antt has all together.
+-- That anything handed in gets an answer is what `write` and `read` of crate tapes promise: neither has a `requires`, and answer and
+-- buffer are each equal to a definition. What follows speaks of these definitions.
+use Prim.Native.Nat.{ℕ, _+_, _-_, _%_, _<_, _≤_, _^_}
+use mathlib.Core.List.{List, [], _∷_, _++_}
+use mathlib.Core.Path.{_≡_}
+use lib.ListN.{length, take, drop}
+use Rattle.tapes_numbers.specs.declared.Variant.{Variant}
+use Rattle.tapes.specs.declared.Writing.{Writing}
+use Rattle.tapes.specs.declared.Writing.the-variants.{Tape}
+use Rattle.tapes.specs.declared.Reading.{Reading}
+use Rattle.tapes.specs.declared.Reading.the-variants as reading
+use Rattle.tapes_fields.specs.Fields.{headOf, endOf}
+use Rattle.tapes.specs.Written.{entriesOf, tapeOf, writeOf, writtenOf}
+use Rattle.tapes.specs.Written as writing
+use Rattle.tapes.specs.Heard.{readOf, readInto}
+use Rattle.tapes.specs.Heard as heard
+use Rattle.tapes_demands.specs.Notions.{Below, OneOf, entriesLong}
+
+-- "A refusal writes nothing to the output buffer."
+pub record RefusedUnchanged : Type 0 where
+  pub write : (v : Variant) (capacity workers : ℕ) (words buffer : List ℕ)
+      → (writing.numberIn (writeOf capacity workers words (length buffer)) ≡ 0 → ⊥) → writtenOf v capacity workers words buffer ≡ buffer
+  pub read : (s buffer : List ℕ) → (heard.numberIn (readOf s (length buffer)) ≡ 0 → ⊥) → readInto s buffer ≡ buffer
+
+-- The refusals of the writer, and those of the reader.
+pub record Numbered : Type 0 where
+  pub write : (capacity workers : ℕ) (words : List ℕ) (room : ℕ) → OneOf (writing.numberIn (writeOf capacity workers words room)) (0 ∷ 11 ∷ 17 ∷ 16 ∷ [])
+  pub read : (s : List ℕ) (room : ℕ) → OneOf (heard.numberIn (readOf s room)) (0 ∷ 12 ∷ 13 ∷ 14 ∷ 15 ∷ 16 ∷ [])
+
+-- Only one answer and one buffer meet a promise.
+pub record OnlyOne : Type 0 where
+  pub write : (v : Variant) (capacity workers : ℕ) (words before : List ℕ) (x y : Writing) (a b : List ℕ)
+      → (x ≡ writeOf capacity workers words (length before)) × (a ≡ writtenOf v capacity workers words before)
+      → (y ≡ writeOf capacity workers words (length before)) × (b ≡ writtenOf v capacity workers words before) → (x ≡ y) × (a ≡ b)
+  pub read : (s before : List ℕ) (x y : Reading) (a b : List ℕ)
+      → (x ≡ readOf s (length before)) × (a ≡ readInto s before) → (y ≡ readOf s (length before)) × (b ≡ readInto s before) → (x ≡ y) × (a ≡ b)
+
+-- An accepted tape is as long as its answer says and as its entries say, stands at the buffer's start, and past it nothing changes.
+abbrev pub Length : Type 0
+Length =
+    (v : Variant) (capacity workers : ℕ) (words buffer : List ℕ) (n : ℕ) → writeOf capacity workers words (length buffer) ≡ Tape n
+    → (n ≡ length (tapeOf v capacity workers words)) × (n ≡ 10 + entriesLong words) × (n ≤ length buffer)
+    × (take n (writtenOf v capacity workers words buffer) ≡ tapeOf v capacity workers words)
+    × (drop n (writtenOf v capacity workers words buffer) ≡ drop n buffer)
+
+-- "Reading what was written gives the same entries, for both variants": and the same capacity and workers, or refusal 16.
+pub record ReadBack (v : Variant) (capacity workers : ℕ) (words buffer : List ℕ) (n : ℕ) : Type 0 where
+  pub fits : (lent : List ℕ) → length words ≤ length lent
+      → (readOf (take n (writtenOf v capacity workers words buffer)) (length lent) ≡ reading.Schedule v capacity workers (length words))
+      × (take (length words) (readInto (take n (writtenOf v capacity workers words buffer)) lent) ≡ words)
+      × (drop (length words) (readInto (take n (writtenOf v capacity workers words buffer)) lent) ≡ drop (length words) lent)
+  pub short : (room : ℕ) → room < length words
+      → readOf (take n (writtenOf v capacity workers words buffer)) room ≡ reading.Refused 16 (length words)
+
+abbrev pub ReadingWhatWasWritten : Type 0
+ReadingWhatWasWritten =
+    (v : Variant) (capacity workers : ℕ) (words buffer : List ℕ) (n : ℕ) → Below (2 ^ 64) words
+    → writeOf capacity workers words (length buffer) ≡ Tape n → ReadBack v capacity workers words buffer n
+
+-- Writing what was read gives the same bytes: every tape that is read is the one that the writer makes.
+abbrev pub WritingWhatWasRead : Type 0
+WritingWhatWasRead =
+    (s lent : List ℕ) (v : Variant) (capacity workers n : ℕ) → Below 256 s → readOf s (length lent) ≡ reading.Schedule v capacity workers n
+    → (buffer : List ℕ) → length s ≤ length buffer
+    → (writeOf capacity workers (take n (readInto s lent)) (length buffer) ≡ Tape (length s))
+    × (take (length s) (writtenOf v capacity workers (take n (readInto s lent)) buffer) ≡ s)
+
+-- Two different schedules, or variants, have different tapes.
+abbrev pub DifferentTapes : Type 0
+DifferentTapes =
+    (v u : Variant) (capacity size workers team : ℕ) (words others : List ℕ) (room space n m : ℕ) → Below (2 ^ 64) words → Below (2 ^ 64) others
+    → writeOf capacity workers words room ≡ Tape n → writeOf size team others space ≡ Tape m
+    → tapeOf v capacity workers words ≡ tapeOf u size team others
+    → (v ≡ u) × (capacity ≡ size) × (workers ≡ team) × (words ≡ others)
+
+-- ---- Beside what is asked: what programs tape and replay rest on, which go piece by piece in a fixed amount of memory.
+
+-- The tape of a schedule in two pieces has the entries of the one and then those of the other.
+abbrev pub WrittenByPieces : Type 0
+WrittenByPieces =
+    (v : Variant) (capacity workers : ℕ) (words more : List ℕ) → length words % 2 ≡ 0
+    → tapeOf v capacity workers (words ++ more) ≡ headOf v capacity workers ++ entriesOf v words ++ entriesOf v more ++ endOf v
+
+-- Where the bytes before a place are a tape once an end is put behind them, the whole is read as the rest is with the first field
+-- before it: the same refusal, so much further on, or its words after those of the first piece.
+pub record ReadByPieces (s rest : List ℕ) (v : Variant) (capacity workers : ℕ) (lent : List ℕ) (n : ℕ) : Type 0 where
+  pub refused : (room number byte : ℕ) → (number ≡ 16 → ⊥) → readOf (headOf v capacity workers ++ rest) room ≡ reading.Refused number byte
+      → readOf (s ++ rest) room ≡ reading.Refused number (byte + (length s - 7))
+  pub read : (buffer : List ℕ) (m : ℕ) → readOf (headOf v capacity workers ++ rest) (length buffer) ≡ reading.Schedule v capacity workers m
+      → (whole : List ℕ) → n + m ≤ length whole
+      → (readOf (s ++ rest) (length whole) ≡ reading.Schedule v capacity workers (n + m))
+      × (take (n + m) (readInto (s ++ rest) whole) ≡ take n (readInto (s ++ endOf v) lent) ++ take m (readInto (headOf v capacity workers ++ rest) buffer))
+
+abbrev pub ReadingByPieces : Type 0
+ReadingByPieces =
+    (s rest : List ℕ) (v : Variant) (capacity workers : ℕ) (lent : List ℕ) (n : ℕ) → Below 256 s
+    → readOf (s ++ endOf v) (length lent) ≡ reading.Schedule v capacity workers n → ReadByPieces s rest v capacity workers lent n

@@ -1,0 +1,6 @@
+pub mod Numbers
+pub mod Fields
+pub mod Tapes
+pub mod Back
+pub mod Pieces
+pub mod Headlines

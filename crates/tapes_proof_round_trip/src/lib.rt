@@ -1,0 +1,1 @@
+// That a tape and its schedule are one another's: proofs/. No code.
