@@ -47,6 +47,12 @@ class Entries:
     def unreadable(self, codes, code, item):
         return code not in codes or (item != 0 and code not in CODES_WITH_ITEM)
 
+    def first_unreadable(self, words):
+        """The place of the first entry that is refusal 9 whatever the machine, or None: document 02, item 7."""
+        codes = (*BEGIN_CODES, *ACT_CODES)
+        entries = zip(words[::2], words[1::2])
+        return next((place for place, (first, item) in enumerate(entries) if self.unreadable(codes, first % 16, item)), None)
+
     def begin_refusal(self, machine, number, code, item):
         if self.broken(machine):
             return 6
@@ -104,7 +110,8 @@ class Entries:
             return 6, 0
         if len(words) % 2 == 1:
             return 11, 0
-        return 0, 0
+        unreadable = self.first_unreadable(words)
+        return (0, 0) if unreadable is None else (9, unreadable)
 
     def run(self, machine, words):
         """The refusal or 0, the place or the count of the entries, and the machine."""

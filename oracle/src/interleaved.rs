@@ -1,6 +1,7 @@
 //! Random schedules of 1 to 16 workers. What is likely changes from phase to phase, so that queues run full and empty, exchanges
 //! are lost, and workers sleep over whole laps with stale words in hand.
 
+use crate::call::Entry;
 use crate::drive::Run;
 use crate::machine::Machine;
 use crate::queue::{Making, Queue};
@@ -136,10 +137,14 @@ fn busy(machine: &Machine) -> Option<Vec<u64>> {
     (!busy.is_empty()).then_some(busy)
 }
 
-/// An entry that is refused for any reason, and perhaps some more that must not be run.
+/// An entry that is refused for any reason but the reading, and perhaps some more that must not be run. Once in a while one that
+/// can't be read stands anywhere, and nothing is run.
 fn refused_end(random: &mut Random, schedule: &mut Schedule, machine: &mut Machine) {
     loop {
         let (first, second) = any_entry(random, schedule.workers);
+        if Entry::decode(first % 16, second).is_none() {
+            continue;
+        }
         // An entry that happens to be accepted is kept.
         let refusal = machine.enter(first, second);
         schedule.push(first, second);
@@ -149,6 +154,12 @@ fn refused_end(random: &mut Random, schedule: &mut Schedule, machine: &mut Machi
     }
     for _ in 0..random.below(3) {
         schedule.push(8, 0);
+    }
+    if random.once_in(12) {
+        for _ in 0..1 + random.below(2) {
+            let at = 2 * random.below(schedule.words.len() / 2);
+            schedule.words.splice(at..at, random.pick(&[[10, 0], [15, 3], [2, 1], [8, 1], [16 * 99 + 12, 0]]));
+        }
     }
 }
 

@@ -157,7 +157,7 @@ fn one_slot_runs() -> Vec<Schedule> {
 
 /// Each refusal of an entry by itself, the order where two would apply, and an odd number of words.
 fn refusals(making: Making) -> Vec<Schedule> {
-    let refused: [&[(u64, u64)]; 16] = [
+    let refused: [&[(u64, u64)]; 19] = [
         &[(0, 5), (8, 0), (16 + 8, 0)],            // 3: act of no worker
         &[(16 * 16, 5)],                           // 3: begin of no worker
         &[(0, 5), (0, 6)],                         // 4
@@ -173,7 +173,10 @@ fn refusals(making: Making) -> Vec<Schedule> {
         &[(8, 1)],                                 // 9 before 5
         &[(16 * 99 + 12, 0)],                      // 9 before 3
         &[(0, 5), (3, 7)],                         // 9 before 4
-        &[(0, 5), (8, 0), (11, 0), (8, 0)],        // nothing is run after a refusal
+        &[(0, 5), (8, 0), (11, 0), (8, 0)],        // 9 of the whole: nothing is run
+        &[(0, 5), (8, 0), (5, 2), (13, 0)],        // the first of two
+        &[(8, 0), (0, 5), (8, 0), (14, 0)],        // 9 although 5 comes before it
+        &[(0, 5), (8, 0), (0, 6), (8, 0)],         // nothing is run after a refusal
     ];
     let odd = [vec![0], vec![0, 5, 8], vec![10, 0, 8]];
     let words = |entries: &[(u64, u64)]| entries.iter().flat_map(|(first, second)| [*first, *second]).collect();

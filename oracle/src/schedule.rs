@@ -1,5 +1,6 @@
 //! Schedules in `replay`'s input format, and the text that `replay` must print for them.
 
+use crate::call::Entry;
 use crate::machine::{Machine, Refusal};
 use crate::queue::{Making, Queue};
 use crate::tally::Tally;
@@ -131,9 +132,13 @@ fn run_on(mut machine: Machine, schedule: &Schedule, quiet: bool, out: &mut Stri
     contents(out, machine, tally);
 }
 
-/// Place and refusal of a schedule of which nothing is run, on a machine that is not broken.
+/// Place and refusal of a schedule of which nothing is run, on a machine that is not broken: 11, then 9 at its first place.
 fn refused_whole(schedule: &Schedule) -> Option<(usize, Refusal)> {
-    (schedule.words.len() % 2 == 1).then_some((0, 11))
+    if schedule.words.len() % 2 == 1 {
+        return Some((0, 11));
+    }
+    let unreadable = |(first, second): (u64, u64)| Entry::decode(first % 16, second).is_none();
+    schedule.entries().position(unreadable).map(|place| (place, 9))
 }
 
 /// Entry by entry to the first refusal. The report: that entry's place and refusal, or the count of entries and 0.

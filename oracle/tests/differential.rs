@@ -55,6 +55,6 @@ fn the_lists_are_the_judges() {
         (Queue::Single, include_str!("../list/single.in"), include_str!("../list/single.out")),
     ];
     for (queue, input, output) in lists {
-        assert!(list::list(queue, 1) == (input.into(), output.into()), "the list of {queue:?} differs");
+        assert!(list::list(queue, 8) == (input.into(), output.into()), "the list of {queue:?} differs");
     }
 }

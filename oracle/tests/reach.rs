@@ -9,7 +9,7 @@ use oracle::tally::Tally;
 
 fn short_run(queue: Queue) -> Tally {
     let mut run = Run::new(queue, None, 1000, "differences".into());
-    interleaved::drive(&mut run, 1_000_000, 7, false).unwrap();
+    interleaved::drive(&mut run, 1_000_000, 7, true).unwrap();
     run.tally
 }
 

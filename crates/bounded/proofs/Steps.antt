@@ -6,7 +6,8 @@ use mathlib.Core.List.{[], _∷_}
 use native.Mathlib.Nat.{mod-eq-of-lt}
 use lib.Dec.{ltb, eqb}
 use borrow.Author.Tests.{eqb-true}
-use Rattle.queue_entries.specs.Schedules.{runBy, scheduleBy}
+use Rattle.queue_entries.specs.declared.Finding.the-variants.{AllRead}
+use Rattle.queue_entries.specs.Schedules.{runBy, stopsAt, searchBy, searched, scheduleBy}
 use Rattle.queue_entries.proofs.Pick.{along, yes, no, below, above}
 use Rattle.queue_entries.specs.declared.Entry.{Entry}
 use Rattle.queue_entries.specs.declared.Entry.the-variants.{Unreadable, Asks}
@@ -69,12 +70,19 @@ one m d h =
     go false e = ap (λ (x : Machine). record { refusal = d .refusal; machine = x }) (sym (h e))
 
 pub one-entry : (m : Machine) (first second : ℕ) (r : Ran) → r ≡ runOf m (first ∷ second ∷ []) → whole r ≡ stepOf m first second
-unfolding scheduleBy runBy stepOf refused turnOfBy ran
+unfolding scheduleBy searchBy runBy stepOf refused turnOfBy ran
 one-entry m first second r e = ap whole e ∙ go (brokenOf m)
   where
-    go : (b : Bool) → whole (cond b (ran 6 0 m) (cond (eqb (2 % 2) 1) (ran 11 0 m) (runFrom m 0 (first ∷ second ∷ [])))) ≡ cond b (refused 6 m) (turnOf m first second)
+    afterSearch : Entry → Ran
+    afterSearch x = searched (λ (d : Did). d .refusal) (λ (d : Did). d .machine) turnOf ran m (first ∷ second ∷ []) (stopsAt 0 x AllRead)
+
+    read : (x : Entry) → entryOf first second ≡ x → whole (afterSearch x) ≡ turnOf m first second
+    read Unreadable h = sym (ap (turn m) h)
+    read (Asks w o) h = one m (turnOf m first second) (turn-unchanged m (entryOf first second))
+
+    go : (b : Bool) → whole (cond b (ran 6 0 m) (cond (eqb (2 % 2) 1) (ran 11 0 m) (afterSearch (entryOf first second)))) ≡ cond b (refused 6 m) (turnOf m first second)
     go true = refl
-    go false = one m (turnOf m first second) (turn-unchanged m (entryOf first second))
+    go false = read (entryOf first second) refl
 
 -- ---- one that begins, one that acts
 module _ (m : Machine) (first second : ℕ) (r : Did) (b : Bool) (e : b ≡ brokenOf m) where

@@ -1,6 +1,6 @@
 -- Demand 3's numbers, computed from the definitions.
 use mathlib.Core.Path.{refl}
-use Rattle.queue_entries.specs.Schedules.{runBy, scheduleBy}
+use Rattle.queue_entries.specs.Schedules.{runBy, searchBy, scheduleBy}
 use Rattle.queue_entries.specs.Entries.{strayOf, orderOf, entryOf}
 use Rattle.queue_entries.specs.Limits.{all, inLimits}
 use Rattle.bounded_words.specs.Words.{doubled, markOf, markedOf, unmarkedOf, plus, minus, withMark, nextOf, same, onePast, lapBehind, lapBehindOnePast}
@@ -15,5 +15,5 @@ use Rattle.bounded_demands.specs.Attained.{attained, seenIn, sightOf, ne
 use Rattle.bounded_demands.specs.Demands.{Attained}
 
 pub numbers-attained : Attained
-unfolding doubled markOf markedOf unmarkedOf plus minus withMark nextOf same onePast lapBehind lapBehindOnePast inside strayOf orderOf entryOf stay tailTo headTo stampTo valueTo forcedTail countOf emptySlots stamped freshSlots idlers freshOf refused accepted all inLimits byRule endsFit recordFits recordsFit brokenOf begun stored actedBy turnOfBy ran runBy scheduleBy acts attained seenIn sightOf needed othersIdle
+unfolding doubled markOf markedOf unmarkedOf plus minus withMark nextOf same onePast lapBehind lapBehindOnePast inside strayOf orderOf entryOf stay tailTo headTo stampTo valueTo forcedTail countOf emptySlots stamped freshSlots idlers freshOf refused accepted all inLimits byRule endsFit recordFits recordsFit brokenOf begun stored actedBy turnOfBy ran runBy searchBy scheduleBy acts attained seenIn sightOf needed othersIdle
 numbers-attained = refl

@@ -1,6 +1,6 @@
 -- The eight runs, computed from the definitions.
 use mathlib.Core.Path.{refl}
-use Rattle.queue_entries.specs.Schedules.{runBy, scheduleBy, historyBy}
+use Rattle.queue_entries.specs.Schedules.{runBy, searchBy, scheduleBy, historyBy}
 use Rattle.queue_entries.specs.Entries.{strayOf, orderOf, entryOf}
 use Rattle.queue_entries.specs.Limits.{all, inLimits}
 use Rattle.queue_entries.specs.Told.{told}
@@ -18,5 +18,5 @@ use Rattle.bounded_demands.specs.Notions.{acts}
 use Rattle.bounded_demands.specs.Eight.{EightRuns, found, foundIn, table}
 
 pub eight-runs : EightRuns
-unfolding doubled markOf markedOf unmarkedOf plus minus withMark nextOf same onePast lapBehind lapBehindOnePast inside strayOf orderOf entryOf stay tailTo headTo stampTo valueTo forcedTail countOf emptySlots stamped freshSlots idlers freshOf blank refused accepted all inLimits byRule endsFit recordFits recordsFit brokenOf allIdle told countIn wrapped itemAt itemsFrom contentsOf begun stored actedBy turnOfBy ran runBy scheduleBy historyBy tallyOf stockOf makeOf found foundIn acts table
+unfolding doubled markOf markedOf unmarkedOf plus minus withMark nextOf same onePast lapBehind lapBehindOnePast inside strayOf orderOf entryOf stay tailTo headTo stampTo valueTo forcedTail countOf emptySlots stamped freshSlots idlers freshOf blank refused accepted all inLimits byRule endsFit recordFits recordsFit brokenOf allIdle told countIn wrapped itemAt itemsFrom contentsOf begun stored actedBy turnOfBy ran runBy searchBy scheduleBy historyBy tallyOf stockOf makeOf found foundIn acts table
 eight-runs = refl

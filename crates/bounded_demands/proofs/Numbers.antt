@@ -1,13 +1,16 @@
 -- Which refusals each function can give, and no others.
-use Prim.Native.Nat.{ℕ, _+_, _/_, _%_}
-use mathlib.Core.Path.{_≡_, refl, sym, subst}
+use Prim.Native.Nat.{ℕ, _+_, _/_, _%_, _≤_}
+use mathlib.Core.Path.{_≡_, refl, sym, ap, subst}
 use mathlib.Core.Bool.{Bool, true, false, cond, true≢false}
 use mathlib.Core.List.{List, [], _∷_}
+use native.Mathlib.Omega.{arith}
 use lib.Dec.{ltb, eqb}
 use lib.ListN.{length}
 use borrow.Author.Tests.{eqb-true}
 use Rattle.queue_entries.specs.Limits.{workersMost, meterMost, inLimits}
-use Rattle.queue_entries.specs.Schedules.{runBy, scheduleBy}
+use Rattle.queue_entries.specs.declared.Finding.{Finding}
+use Rattle.queue_entries.specs.declared.Finding.the-variants.{AllRead, UnreadableAt}
+use Rattle.queue_entries.specs.Schedules.{runBy, searchBy, searched, scheduleBy}
 use Rattle.queue_entries.specs.declared.Call.{Call}
 use Rattle.queue_entries.specs.declared.Order.{Order}
 use Rattle.queue_entries.specs.declared.Order.the-variants.{Begin, Act}
@@ -17,6 +20,7 @@ use Rattle.queue_entries.specs.declared.Verdict.{Verdict}
 use Rattle.queue_entries.specs.declared.Verdict.the-variants.{Refuse, Start, Move}
 use Rattle.queue_entries.specs.Entries.{callOf, strayOf, orderOf, entryOf}
 use Rattle.queue_entries.proofs.Pick.{both-left, both-right}
+use Rattle.queue_schedules.proofs.Verdicts.{Sense, sense}
 use Rattle.bounded_words.specs.Limits.{slotsMost, editionsMost}
 use Rattle.bounded_places.specs.declared.Place.{Place}
 use Rattle.bounded_places.specs.Places.{viewOf, beginOf}
@@ -158,7 +162,37 @@ run-among : (m : Machine) (s : List ℕ) → has runs (runOf m s .refusal) ≡ t
 unfolding scheduleBy ran has
 run-among m s =
     picked (λ (r : Ran). has runs (r .refusal) ≡ true) (brokenOf m) (ran 6 0 m) _ refl
-    (picked (λ (r : Ran). has runs (r .refusal) ≡ true) (eqb (length s % 2) 1) (ran 11 0 m) (runFrom m 0 s) refl (from-among m 0 s))
+    (picked (λ (r : Ran). has runs (r .refusal) ≡ true) (eqb (length s % 2) 1) (ran 11 0 m) _ refl (found (searchBy entryOf 0 s)))
+  where
+    found : (f : Finding) → has runs (searched (λ (d : Did). d .refusal) (λ (d : Did). d .machine) turnOf ran m s f .refusal) ≡ true
+    found AllRead = from-among m 0 s
+    found (UnreadableAt k) = refl
+
+-- ---- 9 is the refusal of two words that can't be read, and of no others
+pub turn-unread : (m : Machine) (a b : ℕ) → entryOf a b ≡ Unreadable → turnOf m a b .refusal ≡ 9
+unfolding turnOfBy refused
+turn-unread m a b h = ap (λ (x : Entry). turn m x .refusal) h
+
+carried-low : (m : Machine) (w : ℕ) (p : Place) (v : Verdict) → Sense (m .meter) (viewOf p .busy) v → carried m w p v .refusal ≤ 8
+unfolding refused accepted
+carried-low m w p (Refuse k) h = h .1
+carried-low m w p (Start c) h = omega arith
+carried-low m w p (Move lose) h = omega arith
+
+asks-low : (m : Machine) (w : ℕ) (o : Order) → turn m (Asks w o) .refusal ≤ 8
+unfolding refused
+asks-low m w o =
+    let p = placeOf (m .workers) w in
+    picked (λ (d : Did). d .refusal ≤ 8) (ltb w (m .count)) (carried m w p (verdictOf (m .meter) p o)) (refused 3 m)
+    (carried-low m w p (verdictOf (m .meter) p o) (sense (m .meter) (viewOf p .busy) (viewOf p .weak) o)) (omega arith)
+
+pub only-unread : (m : Machine) (a b : ℕ) → turnOf m a b .refusal ≡ 9 → entryOf a b ≡ Unreadable
+unfolding turnOfBy
+only-unread m a b e = go (entryOf a b) e
+  where
+    go : (x : Entry) → turn m x .refusal ≡ 9 → x ≡ Unreadable
+    go Unreadable h = refl
+    go (Asks w o) h = absurd (omega (arith, asks-low m w o))
 
 make-among : (c w e : ℕ) → has (0 ∷ 1 ∷ 2 ∷ 18 ∷ []) (face.makeOf c w e .refusal) ≡ true
 unfolding face.makeOf has refused accepted

@@ -1,15 +1,13 @@
 -- Demand 1: refusals are numbered and change nothing, and only one answer meets a promise.
-use Prim.Native.Nat.{ℕ, zero, suc, _+_, _*_, _%_, _<_, _≤_}
-use mathlib.Core.Path.{_≡_, refl, sym, ap, _∙_}
+use Prim.Native.Nat.{ℕ, _%_, _<_}
+use mathlib.Core.Path.{_≡_, refl, sym, _∙_}
 use mathlib.Core.Bool.{Bool, true, false, cond}
-use mathlib.Core.List.{List, [], _∷_}
+use mathlib.Core.List.{List}
 use native.Mathlib.Omega.{arith}
 use native.Mathlib.Nat.{zero-mod}
-use lib.Dec.{ltb, eqb}
-use native.Mathlib.Decide.{decLt}
-use lib.ListN.{length, take, length-take, getD-replicate}
+use lib.Dec.{ltb}
+use lib.ListN.{length, getD-replicate}
 use borrow.Author.Tests.{ne-eqb, eq-eqb, lt-ltb, ltb-true}
-use Rattle.queue_entries.specs.Schedules.{runBy, scheduleBy}
 use Rattle.queue_entries.specs.Limits.{workersMost, inLimits}
 use Rattle.queue_entries.specs.declared.Order.{Order}
 use Rattle.queue_entries.specs.declared.Entry.{Entry}
@@ -17,6 +15,7 @@ use Rattle.queue_entries.specs.declared.Entry.the-variants.{Unreadable, Asks}
 use Rattle.queue_entries.specs.Entries.{entryOf}
 use Rattle.queue_entries.specs.declared.Verdict.{Verdict}
 use Rattle.queue_entries.specs.declared.Verdict.the-variants.{Refuse, Start, Move}
+use Rattle.queue_schedules.proofs.Schedules.{Queue, schedule-first, schedule-read, schedule-kept, schedule-unread, schedule-keeps}
 use Rattle.bounded_words.specs.Limits.{slotsMost, editionsMost}
 use Rattle.bounded_words.specs.declared.Stamp.{Stamp}
 use Rattle.bounded_words.specs.declared.Fixed.{Fixed}
@@ -30,14 +29,14 @@ use Rattle.bounded_machine.specs.Machine.{starts, idler, idlers, placeOf, fresh
 use Rattle.bounded_machine.specs.Broken.{byRule, endsFit, recordFits, brokenOf}
 use Rattle.bounded_machine.specs.Contents.{contentsRefusal, written}
 use Rattle.bounded_machine.specs.Turn.{verdictOf, carried, turn, turnOf, turnOfBy, begun, acted}
-use Rattle.bounded_machine.specs.Run.{ran, runFrom, runOf}
+use Rattle.bounded_machine.specs.Run.{ran, runOf}
 use Rattle.bounded_machine.proofs.Laws.{ruled-of}
 use Rattle.bounded_machine.proofs.Kept.{ends-of, either, Unbroken, unbroken-of, of-unbroken, begun-unbroken, acted-unbroken}
 use Rattle.bounded_runs.proofs.Turns.{move-busy}
 use Rattle.bounded.proofs.Steps.{turn-unchanged}
 use Rattle.bounded.specs.Bounded as face
-use Rattle.bounded_demands.specs.Demands.{RefusedUnchanged, StaysUnbroken, OnlyOne}
-use Rattle.bounded_demands.proofs.Numbers.{picked}
+use Rattle.bounded_demands.specs.Demands.{RefusedUnchanged, ListFirst, StaysUnbroken, OnlyOne}
+use Rattle.bounded_demands.proofs.Numbers.{picked, turn-unread, only-unread}
 
 -- ---- one answer
 one : {A : Type 0} (d x y : A) → x ≡ d → y ≡ d → x ≡ y
@@ -70,7 +69,7 @@ accepted-kept : (k m : Machine) → Kept k (accepted m)
 unfolding accepted
 accepted-kept k m h = absurd (h refl)
 
-turn-kept : (m : Machine) (a b : ℕ) → Kept m (turnOf m a b)
+pub turn-kept : (m : Machine) (a b : ℕ) → Kept m (turnOf m a b)
 unfolding turnOfBy
 turn-kept m a b h = turn-unchanged m (entryOf a b) (ne-eqb _ _ h)
 
@@ -104,87 +103,47 @@ contents-kept : (m : Machine) (buffer : List ℕ) → (contentsRefusal m (length
 unfolding written
 contents-kept m buffer h = simp (ne-eqb _ _ h)
 
--- a run that is refused leaves what the entries before leave
-places-rise : (m : Machine) (i : ℕ) (s : List ℕ) → i ≤ runFrom m i s .place
-unfolding runBy ran
-places-rise m i [] = omega arith
-places-rise m i (a ∷ []) = omega arith
-places-rise m i (a ∷ b ∷ s) =
-    picked (λ (r : Ran). i ≤ r .place) (eqb (turnOf m a b .refusal) 0) (runFrom (turnOf m a b .machine) (i + 1) s) (ran (turnOf m a b .refusal) i m)
-    (omega (arith, places-rise (turnOf m a b .machine) (i + 1) s)) (omega arith)
+-- ---- the queue of these turns and reports
+pub ran-refusal : (k i : ℕ) (m : Machine) → ran k i m .refusal ≡ k
+unfolding ran
+ran-refusal k i m = refl
 
-module _ (m : Machine) (i a b : ℕ) (s : List ℕ) where
-  went : eqb (turnOf m a b .refusal) 0 ≡ true → runFrom m i (a ∷ b ∷ s) ≡ runFrom (turnOf m a b .machine) (i + 1) s
-  unfolding runBy
-  went e = simp e
+pub ran-place : (k i : ℕ) (m : Machine) → ran k i m .place ≡ i
+unfolding ran
+ran-place k i m = refl
 
-  halted : eqb (turnOf m a b .refusal) 0 ≡ false → runFrom m i (a ∷ b ∷ s) ≡ ran (turnOf m a b .refusal) i m
-  unfolding runBy
-  halted e = simp e
+pub ran-machine : (k i : ℕ) (m : Machine) → ran k i m .machine ≡ m
+unfolding ran
+ran-machine k i m = refl
 
-nothing-run : (m : Machine) (i : ℕ) → runFrom m i [] .machine ≡ m
-unfolding runBy ran
-nothing-run m i = refl
+abbrev pub ring-queue : Queue Machine Did Ran
+ring-queue =
+    record {
+      refusal = λ d. d .refusal;
+      machine = λ d. d .machine;
+      turn = turnOf;
+      ran = ran;
+      refusalIn = λ r. r .refusal;
+      placeIn = λ r. r .place;
+      machineIn = λ r. r .machine;
+      refusal-is = ran-refusal;
+      place-is = ran-place;
+      machine-is = ran-machine;
+      kept = turn-kept;
+      reading = entryOf;
+      unread = turn-unread;
+      only-unread = only-unread;
+    }
 
-stands : (s : List ℕ) (m : Machine) (i j : ℕ) → (runFrom m i s .refusal ≡ 0 → ⊥) → runFrom m i s .place ≡ i + j → runFrom m i s .machine ≡ runFrom m i (take (2 * j) s) .machine
-unfolding runBy ran
-stands [] m i j h p = absurd (h refl)
-stands (a ∷ []) m i j h p = absurd (h refl)
-stands (a ∷ b ∷ s) m i j h p =
-    go (eqb (turnOf m a b .refusal) 0) refl j p
-    (λ (k : ℕ) (q : eqb (turnOf m a b .refusal) 0 ≡ true) (r : runFrom (turnOf m a b .machine) (i + 1) s .place ≡ i + 1 + k).
-    stands s (turnOf m a b .machine) (i + 1) k (λ z. h (ap (λ (x : Ran). x .refusal) (went m i a b s q) ∙ z)) r)
-  where
-    go : (c : Bool) → eqb (turnOf m a b .refusal) 0 ≡ c → (j : ℕ) → runFrom m i (a ∷ b ∷ s) .place ≡ i + j
-        → ((k : ℕ) → eqb (turnOf m a b .refusal) 0 ≡ true → runFrom (turnOf m a b .machine) (i + 1) s .place ≡ i + 1 + k
-        → runFrom (turnOf m a b .machine) (i + 1) s .machine ≡ runFrom (turnOf m a b .machine) (i + 1) (take (2 * k) s) .machine)
-        → runFrom m i (a ∷ b ∷ s) .machine ≡ runFrom m i (take (2 * j) (a ∷ b ∷ s)) .machine
-    go false e j p more =
-        let z : 2 * j ≡ 0 = omega (arith, ap (λ (x : Ran). x .place) (halted m i a b s e)) in
-        ap (λ (x : Ran). x .machine) (halted m i a b s e) ∙ ap (λ (n : ℕ). runFrom m i (take n (a ∷ b ∷ s)) .machine) (sym z)
-    go true e zero p more = absurd (omega (arith, ap (λ (x : Ran). x .place) (went m i a b s e), places-rise (turnOf m a b .machine) (i + 1) s))
-    go true e (suc k) p more =
-        let z : 2 * suc k ≡ suc (suc (2 * k)) = omega arith in
-        ap (λ (x : Ran). x .machine) (went m i a b s e)
-        ∙ more k e (omega (arith, ap (λ (x : Ran). x .place) (went m i a b s e)))
-        ∙ ap (λ (x : Ran). x .machine) (sym (went m i a b (take (2 * k) s) e))
-        ∙ ap (λ (n : ℕ). runFrom m i (take n (a ∷ b ∷ s)) .machine) (sym z)
-
-even-part : (n : ℕ) (s : List ℕ) → (length s % 2 ≡ 1 → ⊥) → length (take (2 * n) s) % 2 ≡ 1 → ⊥
-even-part n s h e = omega (arith, length-take (2 * n) s)
-
-module _ (m : Machine) (s : List ℕ) where
-  run-kept : (runOf m s .refusal ≡ 0 → ⊥) → runOf m s .machine ≡ runOf m (take (2 * runOf m s .place) s) .machine
-  unfolding scheduleBy ran
-  run-kept = go (brokenOf m) refl
-    where
-      whole : Bool → List ℕ → Ran
-      whole b l = cond b (ran 6 0 m) (cond (eqb (length l % 2) 1) (ran 11 0 m) (runFrom m 0 l))
-
-      even : (l : List ℕ) → (length l % 2 ≡ 1 → ⊥) → whole false l ≡ runFrom m 0 l
-      even l h = simp (ne-eqb _ _ h)
-
-      odd : (l : List ℕ) → length l % 2 ≡ 1 → whole false l ≡ ran 11 0 m
-      odd l h = simp (eq-eqb _ _ h)
-
-      by : Dec (0 < length s % 2) → (whole false s .refusal ≡ 0 → ⊥) → whole false s .machine ≡ whole false (take (2 * whole false s .place) s) .machine
-      by (yes l) h =
-          let o : length s % 2 ≡ 1 = omega arith in
-          ap (λ (x : Ran). x .machine) (odd s o) ∙ sym (nothing-run m 0) ∙ ap (λ (k : ℕ). whole false (take (2 * k) s) .machine) (sym (ap (λ (x : Ran). x .place) (odd s o)))
-      by (no l) h =
-          let o : length s % 2 ≡ 1 → ⊥ = (λ e. omega arith) in
-          let p = ap (λ (x : Ran). x .place) (even s o) in
-          ap (λ (x : Ran). x .machine) (even s o)
-          ∙ stands s m 0 (runFrom m 0 s .place) (λ z. h (ap (λ (x : Ran). x .refusal) (even s o) ∙ z)) (omega arith)
-          ∙ ap (λ (x : Ran). x .machine) (sym (even (take (2 * runFrom m 0 s .place) s) (even-part (runFrom m 0 s .place) s o)))
-          ∙ ap (λ (k : ℕ). whole false (take (2 * k) s) .machine) (sym p)
-
-      go : (b : Bool) → brokenOf m ≡ b → (whole b s .refusal ≡ 0 → ⊥) → whole b s .machine ≡ whole b (take (2 * whole b s .place) s) .machine
-      go true e h = refl
-      go false e h = by (decLt 0 (length s % 2)) h
+pub list-first : ListFirst
+list-first =
+    record {
+      stops = schedule-first ring-queue brokenOf;
+      runs = λ m s e even. schedule-read ring-queue brokenOf m s e (λ o. omega arith);
+    }
 
 pub refused-unchanged : RefusedUnchanged
-refused-unchanged = record { make = make-blank; step = step-kept; begin = begin-kept; act = act-kept; run = run-kept; contents = contents-kept }
+refused-unchanged = record { make = make-blank; step = step-kept; begin = begin-kept; act = act-kept; run = schedule-kept ring-queue brokenOf; unread = schedule-unread ring-queue brokenOf; contents = contents-kept }
 
 -- ---- unbroken
 module _ (m : Machine) (u : Unbroken m) where
@@ -205,14 +164,6 @@ module _ (m : Machine) (u : Unbroken m) where
   unfolding turnOfBy
   turn-of-unbroken a b = turn-unbroken (entryOf a b)
 
-from-unbroken : (s : List ℕ) (m : Machine) (i : ℕ) → Unbroken m → Unbroken (runFrom m i s .machine)
-unfolding runBy ran
-from-unbroken [] m i u = u
-from-unbroken (a ∷ []) m i u = u
-from-unbroken (a ∷ b ∷ s) m i u =
-    picked (λ (r : Ran). Unbroken (r .machine)) (eqb (turnOf m a b .refusal) 0) (runFrom (turnOf m a b .machine) (i + 1) s) (ran (turnOf m a b .refusal) i m)
-    (from-unbroken s (turnOf m a b .machine) (i + 1) (turn-of-unbroken m u a b)) u
-
 pub step-unbroken : (m : Machine) (a b : ℕ) → brokenOf m ≡ false → brokenOf (face.stepOf m a b .machine) ≡ false
 unfolding face.stepOf refused
 step-unbroken m a b h =
@@ -220,11 +171,8 @@ step-unbroken m a b h =
     (of-unbroken (turnOf m a b .machine) (turn-of-unbroken m (unbroken-of m h) a b))
 
 pub run-unbroken : (m : Machine) (s : List ℕ) → brokenOf m ≡ false → brokenOf (runOf m s .machine) ≡ false
-unfolding scheduleBy ran
 run-unbroken m s h =
-    picked (λ (r : Ran). brokenOf (r .machine) ≡ false) (brokenOf m) (ran 6 0 m) _ h
-    (picked (λ (r : Ran). brokenOf (r .machine) ≡ false) (eqb (length s % 2) 1) (ran 11 0 m) (runFrom m 0 s) h
-    (of-unbroken (runFrom m 0 s .machine) (from-unbroken s m 0 (unbroken-of m h))))
+    of-unbroken (runOf m s .machine) (schedule-keeps ring-queue brokenOf Unbroken (λ z a b u. turn-of-unbroken z u a b) m s (unbroken-of m h))
 
 fixed-by-rule : (c e : ℕ) → byRule (fixedOf c e) ≡ true
 unfolding byRule

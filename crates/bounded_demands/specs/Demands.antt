@@ -10,7 +10,9 @@ use Rattle.queue_entries.specs.Limits.{meterMost}
 use Rattle.queue_entries.specs.declared.Call.{Call}
 use Rattle.queue_entries.specs.declared.Told.{Told}
 use Rattle.queue_entries.specs.Told.{told}
+use Rattle.queue_entries.specs.declared.Entry.the-variants.{Unreadable}
 use Rattle.queue_entries.specs.Entries.{entryOf}
+use Rattle.queue_schedules.specs.Reading.{Readable}
 use Rattle.bounded_words.specs.declared.Stamp.{Stamp}
 use Rattle.bounded_words.specs.Words.{fixedOf, indexOf, markedOf, unmarkedOf, lapBehind}
 use Rattle.bounded_places.specs.declared.Answer.{Answer}
@@ -27,7 +29,7 @@ use Rattle.bounded_machine.specs.declared.Tally.{Tally}
 use Rattle.bounded_machine.specs.Machine.{blank, freshOf, placeOf}
 use Rattle.bounded_machine.specs.Broken.{brokenOf, allIdle}
 use Rattle.bounded_machine.specs.Contents.{countIn, contentsOf, contentsRefusal, written, capacityRefusal, capacityOf}
-use Rattle.bounded_machine.specs.Run.{runOf}
+use Rattle.bounded_machine.specs.Run.{ran, runFrom, runOf}
 use Rattle.bounded_machine.specs.History.{eventsOf, movedOf, stockOf}
 use Rattle.bounded.specs.Bounded.{makeOf, stepOf, beginOf, actOf, talliedOf}
 use Rattle.bounded_demands.specs.Notions.{Definition, Allowed, machineAfter, actsOf, Acts, acts, InHand, HandsOut, Reads, Truth, itemsOf, takersOf, LatestIn, ItemIn, WrittenIn, CallClaim, tally, waiting, Fifo, Plain, valueAt, queueAnswer, LenAnswers, mostOf, OtherHand, passed, ownActs, LetsGo, has, ClosesYes, NoClaims, ClaimsOn}
@@ -47,7 +49,10 @@ pub record RefusedUnchanged : Type 0 where
   pub begin : (m : Machine) (first second : ℕ) → (beginOf m first second .refusal ≡ 0 → ⊥) → beginOf m first second .machine ≡ m
   pub act : (m : Machine) (first second : ℕ) → (actOf m first second .refusal ≡ 0 → ⊥) → actOf m first second .machine ≡ m
   -- a schedule that is refused at a place leaves what the entries before that place leave: they stand, and no more
-  pub run : (m : Machine) (s : List ℕ) → (runOf m s .refusal ≡ 0 → ⊥) → runOf m s .machine ≡ runOf m (take (2 * runOf m s .place) s) .machine
+  pub run : (m : Machine) (s : List ℕ) → (runOf m s .refusal ≡ 0 → ⊥) → (runOf m s .refusal ≡ 9 → ⊥)
+      → runOf m s .machine ≡ runOf m (take (2 * runOf m s .place) s) .machine
+  -- but one with an entry that can't be read leaves the machine as it was
+  pub unread : (m : Machine) (s : List ℕ) → runOf m s .refusal ≡ 9 → runOf m s .machine ≡ m
   pub contents : (m : Machine) (buffer : List ℕ) → (contentsRefusal m (length buffer) ≡ 0 → ⊥) → written m buffer ≡ buffer
 
 -- Demand 1: the refusals that each function can give; 0 is none.
@@ -59,6 +64,14 @@ pub record Numbered : Type 0 where
   pub run : (m : Machine) (s : List ℕ) → has (0 ∷ 3 ∷ 4 ∷ 5 ∷ 6 ∷ 7 ∷ 8 ∷ 9 ∷ 11 ∷ []) (runOf m s .refusal) ≡ true
   pub contents : (m : Machine) (room : ℕ) → has (0 ∷ 4 ∷ 6 ∷ 10 ∷ []) (contentsRefusal m room) ≡ true
   pub capacity : (m : Machine) → has (0 ∷ 6 ∷ []) (capacityRefusal m) ≡ true
+
+-- The list is checked first (document 02, item 7): of a machine that is not broken and a schedule of whole entries.
+pub record ListFirst : Type 0 where
+  -- the first entry that can't be read is reported, and nothing is run; k entries stand before it, and each of them can be read
+  pub stops : (m : Machine) (before : List ℕ) (k first second : ℕ) (rest : List ℕ) → brokenOf m ≡ false → length (before ++ first ∷ second ∷ rest) % 2 ≡ 0
+      → length before ≡ 2 * k → Readable entryOf before → entryOf first second ≡ Unreadable → runOf m (before ++ first ∷ second ∷ rest) ≡ ran 9 k m
+  -- a schedule that can be read is run, entry by entry
+  pub runs : (m : Machine) (s : List ℕ) → brokenOf m ≡ false → length s % 2 ≡ 0 → Readable entryOf s → runOf m s ≡ runFrom m 0 s
 
 -- No entry and no schedule breaks an unbroken machine, reached or not: so refusal 6 is tested once a schedule.
 pub record StaysUnbroken : Type 0 where
@@ -183,7 +196,7 @@ ActByAct d =
 abbrev pub WholeSchedules : Definition → Type 0
 WholeSchedules d =
     (capacity workers edition : ℕ) → Allowed capacity workers edition → (s : List ℕ)
-    → (length s % 2 ≡ 0 → runOf (freshOf capacity workers edition) s ≡ d .run (freshOf capacity workers edition) 0 s)
+    → (length s % 2 ≡ 0 → Readable entryOf s → runOf (freshOf capacity workers edition) s ≡ d .run (freshOf capacity workers edition) 0 s)
     × (length s % 2 ≡ 1 → runOf (freshOf capacity workers edition) s .machine ≡ freshOf capacity workers edition)
 
 -- Beside the demand: `len`'s count is true at its head load.

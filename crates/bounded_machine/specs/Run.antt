@@ -1,6 +1,7 @@
--- "Schedules" of document 01: entries one after another, stopping at the first refusal.
+-- "Schedules" of document 01: entries one after another, stopping at the first refusal, once all can be read.
 use Prim.Native.Nat.{ℕ}
 use mathlib.Core.List.{List}
+use Rattle.queue_entries.specs.Entries.{entryOf}
 use Rattle.queue_entries.specs.Schedules.{runBy, scheduleBy}
 use Rattle.bounded_machine.specs.declared.Machine.{Machine}
 use Rattle.bounded_machine.specs.declared.Did.{Did}
@@ -19,4 +20,4 @@ abbrev pub runFrom : Machine → ℕ → List ℕ → Ran
 runFrom = runWith turnOf
 
 abbrev pub runOf : Machine → List ℕ → Ran
-runOf = scheduleBy (λ (d : Did). d .refusal) (λ (d : Did). d .machine) turnOf ran brokenOf
+runOf = scheduleBy (λ (d : Did). d .refusal) (λ (d : Did). d .machine) turnOf ran brokenOf entryOf

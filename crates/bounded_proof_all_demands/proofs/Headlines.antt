@@ -1,10 +1,10 @@
 -- The demands of document 01, proved. What they say, in document 01's words, is crates/bounded_demands/specs/Demands.antt; the
 -- runs on paper are Eight.antt beside it.
 use Rattle.bounded_demands.specs.Notions.{document01}
-use Rattle.bounded_demands.specs.Demands.{RefusedUnchanged, Numbered, StaysUnbroken, OnlyOne, UnderEverySchedule, ActByAct, WholeSchedules, LenTrue, ScheduledAlone, Attained, AsForetold, CloseHolds, ClosedIsLast, CaseF}
+use Rattle.bounded_demands.specs.Demands.{RefusedUnchanged, Numbered, ListFirst, StaysUnbroken, OnlyOne, UnderEverySchedule, ActByAct, WholeSchedules, LenTrue, ScheduledAlone, Attained, AsForetold, CloseHolds, ClosedIsLast, CaseF}
 use Rattle.bounded_demands.specs.Eight.{EightRuns}
 use Rattle.bounded_demands.proofs.Numbers.{numbered}
-use Rattle.bounded_demands.proofs.Refusals.{refused-unchanged, stays-unbroken, only-one}
+use Rattle.bounded_demands.proofs.Refusals.{refused-unchanged, list-first, stays-unbroken, only-one}
 use Rattle.bounded_demands.proofs.Attained.{numbers-attained}
 use Rattle.bounded_demands.proofs.Foretold.{as-foretold}
 use Rattle.bounded_demands.proofs.CaseF.{case-f}
@@ -16,8 +16,8 @@ use Rattle.bounded_proof_demand3.proofs.Demand3.{demand3}
 
 -- 1. Any machine, entry or schedule handed in gets an answer or a numbered refusal (the functions of crate bounded have no
 -- `requires`); a refused step changes nothing; only one answer meets a promise.
-pub demand-1 : RefusedUnchanged × Numbered × StaysUnbroken × OnlyOne
-demand-1 = (refused-unchanged, numbered, stays-unbroken, only-one)
+pub demand-1 : RefusedUnchanged × Numbered × ListFirst × StaysUnbroken × OnlyOne
+demand-1 = (refused-unchanged, numbered, list-first, stays-unbroken, only-one)
 
 -- 2. Under every schedule from a fresh machine: each act is the one action of document 01; the claim rule; no slot in two hands;
 -- Empty, Full and Closed true at the act that decided them; stock and contents.

@@ -6,9 +6,10 @@ use Prim.Native.Nat.{ℕ, _%_}
 use native.Mathlib.Omega.{arith}
 use lib.Dec.{eqb}
 use lib.ListN.{length}
-use borrow.Author.Tests.{eq-eqb, ne-eqb}
-use Rattle.queue_entries.specs.Schedules.{runBy, scheduleBy, historyBy}
+use borrow.Author.Tests.{eq-eqb}
+use Rattle.queue_entries.specs.Schedules.{runBy, historyBy}
 use Rattle.queue_entries.specs.Entries.{entryOf}
+use Rattle.queue_schedules.proofs.Schedules.{schedule-odd, schedule-read}
 use Rattle.bounded_words.specs.Words.{fixedOf}
 use Rattle.bounded_machine.specs.declared.Machine.{Machine}
 use Rattle.bounded_machine.specs.declared.Ran.{Ran}
@@ -21,6 +22,7 @@ use Rattle.bounded_machine.specs.History.{eventsOf}
 use Rattle.bounded_machine.proofs.Kept.{of-unbroken}
 use Rattle.bounded_demands.specs.Notions.{document01, Allowed, machineAfter, actsOf}
 use Rattle.bounded_demands.specs.Demands.{Demand2, UnderEverySchedule, ActByAct, WholeSchedules}
+use Rattle.bounded_demands.proofs.Refusals.{ring-queue, ran-machine}
 use Rattle.bounded_proof_demand2.proofs.Turns.{turned-fixed}
 use Rattle.bounded_proof_demand2.proofs.Reached.{Reached, lapsOf, base-of, ring0, fresh-pictured, fresh-logged, fresh-metered, along, entries}
 use Rattle.bounded_proof_demand2.proofs.Pictured.{Base}
@@ -99,9 +101,8 @@ unfolding runBy ran
 made-whole capacity workers edition a = demand2 capacity workers edition a [] .unbroken
 
 pub whole-schedules : WholeSchedules document01
-unfolding scheduleBy ran
 whole-schedules capacity workers edition a s =
     let b = made-whole capacity workers edition a in (
-      λ even. rw (b, ne-eqb (length s % 2) 1 (λ e. omega arith)),
-      λ odd. rw (b, eq-eqb (length s % 2) 1 odd),
+      λ even read. schedule-read ring-queue brokenOf (freshOf capacity workers edition) s b (λ o. omega arith) read,
+      λ odd. ap (λ (r : Ran). r .machine) (schedule-odd ring-queue brokenOf (freshOf capacity workers edition) s b odd) ∙ ran-machine 11 0 (freshOf capacity workers edition),
     )

@@ -1,15 +1,16 @@
 -- One turn of the schedule's loop, from what is left of the run.
-use Prim.Native.Nat.{ℕ, suc, _+_, _*_, _%_, _<_, _≤_}
+use Prim.Native.Nat.{ℕ, _+_, _*_, _%_, _<_, _≤_}
 use mathlib.Core.Path.{_≡_, refl, sym, ap, _∙_, subst}
 use mathlib.Core.Bool.{Bool, true, false}
 use mathlib.Core.List.{List, _∷_}
 use native.Mathlib.Omega.{arith}
-use native.Mathlib.Numerals.{add-one}
 use lib.Dec.{ltb}
 use lib.ListN.{getD, length, drop, drop-of-length-le}
-use lib.Seq.{drop-cons}
 use borrow.Author.Tests.{ne-eqb, eq-eqb, ltb-true}
-use Rattle.queue_entries.specs.Schedules.{runBy, scheduleBy}
+use Rattle.queue_entries.specs.declared.Finding.{Finding}
+use Rattle.queue_entries.specs.declared.Finding.the-variants.{AllRead, UnreadableAt}
+use Rattle.queue_entries.specs.Schedules.{runBy, searchBy, scheduleBy}
+use Rattle.queue_entries.proofs.Searching.{two-words}
 use Rattle.queue_entries.specs.Limits.{workersMost, meterMost}
 use Rattle.queue_entries.proofs.Pick.{below, above, yes, no}
 use Rattle.queue_entries.specs.declared.Call.{Call}
@@ -80,17 +81,8 @@ module _ (m : Machine) (first second : ℕ) (x : Entry) (ex : x ≡ entryOf firs
 
 -- ---- one turn
 module _ (s : List ℕ) (n i : ℕ) (m : Machine) (whole : Ran) (back : runFrom m i (drop (2 * i) s) ≡ whole) (len : length s ≡ 2 * n) (lt : i < n) where
-  -- the two words of the i-th entry come first
-  split : drop (2 * i) s ≡ getD s (2 * i) 0 ∷ getD s (2 * i + 1) 0 ∷ drop (2 * (i + 1)) s
-  split =
-      let a : suc (2 * i) ≡ 2 * i + 1 = sym (add-one (2 * i)) in
-      let b : suc (2 * i + 1) ≡ 2 * (i + 1) = omega arith in
-      drop-cons s (2 * i) 0 (omega arith)
-      ∙ ap (λ (l : List ℕ). getD s (2 * i) 0 ∷ l)
-      (ap (λ (k : ℕ). drop k s) a ∙ drop-cons s (2 * i + 1) 0 (omega arith) ∙ ap (λ (k : ℕ). getD s (2 * i + 1) 0 ∷ drop k s) b)
-
   whole-from : runFrom m i (getD s (2 * i) 0 ∷ getD s (2 * i + 1) 0 ∷ drop (2 * (i + 1)) s) ≡ whole
-  whole-from = sym (ap (runFrom m i) split) ∙ back
+  whole-from = sym (ap (runFrom m i) (two-words s i (omega arith))) ∙ back
 
   stopped : (k : ℕ) → 0 < k → turnOf m (getD s (2 * i) 0) (getD s (2 * i + 1) 0) ≡ refused k m → ran k i m ≡ whole
   unfolding runBy refused
@@ -134,9 +126,14 @@ module _ (m : Machine) (s : List ℕ) (b : Bool) (e : b ≡ brokenOf m) where
     unfolding scheduleBy
     odd-run k = no _ b _ _ _ e h (sym (simp (eq-eqb _ _ k)))
 
-    pub even-run : (length s % 2 ≡ 1 → ⊥) → runFrom m 0 (drop 0 s) ≡ runOf m s
-    unfolding scheduleBy
-    even-run k = no _ b _ _ _ e h (sym (simp (ne-eqb _ _ k)))
+    module _ (k : length s % 2 ≡ 1 → ⊥) (f : Finding) (g : f ≡ searchBy entryOf 0 s) where
+      pub unread-run : (i : ℕ) → f ≡ UnreadableAt i → ran 9 i m ≡ runOf m s
+      unfolding scheduleBy
+      unread-run i z = no _ b _ _ _ e h (sym (simp (ne-eqb _ _ k, sym g ∙ z)))
+
+      pub read-run : f ≡ AllRead → runFrom m 0 (drop 0 s) ≡ runOf m s
+      unfolding scheduleBy
+      read-run z = no _ b _ _ _ e h (sym (simp (ne-eqb _ _ k, sym g ∙ z)))
 
 pub ended : (s : List ℕ) (n i : ℕ) (m : Machine) (whole : Ran) → runFrom m i (drop (2 * i) s) ≡ whole → length s ≡ 2 * n → n ≤ i → ran 0 i m ≡ whole
 unfolding runBy

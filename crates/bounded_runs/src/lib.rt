@@ -10,6 +10,7 @@ use bounded_places::Slot;
 use bounded_places::Worker;
 use bounded_words::Fixed;
 use queue_entries::Entry;
+use queue_entries::Finding;
 use queue_entries::Verdict;
 
 fn ran(
@@ -56,6 +57,12 @@ pub fn run(m: Machine, schedule: &[u64]) -> Ran
     }
     if schedule.len() % 2 == 1 {
         return ran(11, 0, f, ends, slots, workers, count, meter);
+    }
+    match queue_entries::search(schedule) {
+        Finding::UnreadableAt(place) => {
+            return ran(9, place, f, ends, slots, workers, count, meter);
+        }
+        Finding::AllRead => {}
     }
     let n = schedule.len() / 2;
     let mut i = 0;

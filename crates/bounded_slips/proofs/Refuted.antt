@@ -5,7 +5,8 @@ use mathlib.Core.Bool.{true≢false}
 use mathlib.Core.List.{List, [], _∷_, _++_}
 use mathlib.Core.Path.{_≡_, refl, sym, ap}
 use lib.ListN.{getD}
-use Rattle.queue_entries.specs.Schedules.{runBy, scheduleBy, historyBy}
+use Rattle.queue_entries.specs.declared.Entry.the-variants.{Unreadable}
+use Rattle.queue_entries.specs.Schedules.{runBy, searchBy, scheduleBy, historyBy}
 use Rattle.queue_entries.specs.Entries.{strayOf, orderOf, entryOf}
 use Rattle.queue_entries.specs.Limits.{all, inLimits}
 use Rattle.bounded_words.specs.declared.Stamp.{Stamp}
@@ -61,12 +62,16 @@ next t = turnOfBy (actWith (t .slip)) (reached t) 24 0 .machine
 claimed : Head ≡ Neither → ⊥
 claimed e = let q : _≡_ {A = ℕ} 0 1 = cc in omega arith
 
+readable : entryOf 0 5 ≡ Unreadable → ⊥
+unfolding strayOf orderOf entryOf
+readable e = let q : _≡_ {A = ℕ} 0 1 = cc in omega arith
+
 pub refuted : Refuted
-unfolding forcedTail doubled markOf markedOf unmarkedOf plus minus withMark nextOf same onePast lapBehind lapBehindOnePast inside strayOf orderOf entryOf stay tailTo headTo stampTo valueTo countOf emptySlots stamped freshSlots idlers freshOf refused accepted all inLimits byRule endsFit recordFits recordsFit brokenOf allIdle countIn wrapped itemAt itemsFrom contentsOf begun stored actedBy turnOfBy ran runBy scheduleBy historyBy tallyOf stockOf acts itemsOf tailersOf takersOf passed ownActs nowhere stillBusy busyAlong
+unfolding forcedTail doubled markOf markedOf unmarkedOf plus minus withMark nextOf same onePast lapBehind lapBehindOnePast inside strayOf orderOf entryOf stay tailTo headTo stampTo valueTo countOf emptySlots stamped freshSlots idlers freshOf refused accepted all inLimits byRule endsFit recordFits recordsFit brokenOf allIdle countIn wrapped itemAt itemsFrom contentsOf begun stored actedBy turnOfBy ran runBy searchBy scheduleBy historyBy tallyOf stockOf acts itemsOf tailersOf takersOf passed ownActs nowhere stillBusy busyAlong
 refuted =
     record {
       act-by-act = λ a. true≢false (sym (ap (λ (m : Machine). busyAt m 0) (a (freshOf 1 2 1) [] 0 5 refl refl refl .0)));
-      whole-schedules = λ w. true≢false (ap (λ (r : Ran). busyAt (r .machine) 0) (w 1 2 1 one-two (0 ∷ 5 ∷ []) .0 refl));
+      whole-schedules = λ w. true≢false (ap (λ (r : Ran). busyAt (r .machine) 0) (w 1 2 1 one-two (0 ∷ 5 ∷ []) .0 refl (readable, tt)));
       claim-rule = λ r. wrong-item _ 1 6 refl (r (actsOf (slipped readsAfterItsStore) 1 2 1 (does 0 0 5 5 ++ does 1 2 0 4 ++ does 0 0 6 5)) [] (event 1 (O5 (stamp 0) 0) (Idle (Popped 6))) 6 refl popped);
       claim-rule-push = λ r. wrong-item _ 1 0 refl (r (actsOf (slipped pushWritesLate) 1 2 1 (does 0 0 5 4 ++ does 1 2 0 4)) [] (event 1 (O5 (stamp 0) 0) (Idle (Popped 0))) 0 refl popped);
       claim-rule-force = λ r. wrong-item _ 0 5 refl (r (actsOf (slipped stampBeforeValue) 1 2 1 (does 0 0 5 5 ++ does 1 1 6 5 ++ does 0 2 0 4)) [] (event 0 (O5 (stamp 4) 5) (Idle (Popped 5))) 5 refl popped);

@@ -2,3 +2,4 @@ pub mod Pick
 pub mod Reading
 pub mod Limits
 pub mod Verdicts
+pub mod Searching

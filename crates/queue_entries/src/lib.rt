@@ -2,6 +2,7 @@
 ghost use mathlib.Core.Path.{_≡_};
 ghost use Rattle.queue_entries.specs.Limits.{inLimits};
 ghost use Rattle.queue_entries.specs.Entries.{callOf, strayOf, entryOf, verdictFor};
+ghost use Rattle.queue_entries.specs.Schedules.{searchBy};
 
 // The most workers, and the meter's last number.
 pub const WORKERS: usize = 16;
@@ -81,6 +82,27 @@ pub fn entry_of(first: u64, second: u64) -> Entry
         8..=9 => Entry::Asks(worker, Order::Act(code == 9)),
         _ => Entry::Unreadable,
     }
+}
+
+// What the search of a schedule for refusal 9 finds.
+pub enum Finding {
+    AllRead,
+    // the place of the first entry that can't be read
+    UnreadableAt(usize),
+}
+
+pub fn search(schedule: &[u64]) -> Finding
+    ensures { λ r. ⌜ r ≡ searchBy entryOf 0 (now (schedule .entry)) ⌝ }
+{
+    let n = schedule.len() / 2;
+    let mut i = 0;
+    while i < n {
+        let Entry::Asks(worker, order) = entry_of(schedule[2 * i], schedule[2 * i + 1]) else {
+            return Finding::UnreadableAt(i);
+        };
+        i += 1;
+    }
+    Finding::AllRead
 }
 
 // What becomes of an entry's worker: a refusal, a call begun, or an act.

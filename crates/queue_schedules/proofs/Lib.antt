@@ -1,3 +1,4 @@
+pub mod Searching
 pub mod Schedules
 pub mod Records
 pub mod Verdicts

@@ -1,12 +1,11 @@
 -- One turn of a schedule's loop, from what is left of the run; what stands before and after the loop is in Schedules.antt.
-use Prim.Native.Nat.{ℕ, suc, _+_, _*_, _<_, _≤_}
+use Prim.Native.Nat.{ℕ, _+_, _*_, _<_, _≤_}
 use mathlib.Core.Path.{_≡_, sym, ap, _∙_}
 use mathlib.Core.List.{List, [], _∷_}
 use native.Mathlib.Omega.{arith}
-use native.Mathlib.Numerals.{add-one}
 use lib.ListN.{getD, length, drop, drop-of-length-le}
-use lib.Seq.{drop-cons}
 use borrow.Author.Tests.{ne-eqb, eq-eqb}
+use Rattle.queue_entries.proofs.Searching.{two-words}
 use Rattle.queue_schedules.proofs.Schedules.{Queue, runIn, run-none, run-on, run-halt}
 
 module _ {M D R : Type 0} (q : Queue M D R) (s : List ℕ) (n i : ℕ) (m : M) (whole : R) (back : runIn q m i (drop (2 * i) s) ≡ whole) (len : length s ≡ 2 * n) where
@@ -20,17 +19,8 @@ module _ {M D R : Type 0} (q : Queue M D R) (s : List ℕ) (n i : ℕ) (m : M) (
     abbrev second : ℕ
     second = getD s (2 * i + 1) 0
 
-    -- the two words of the i-th entry come first
-    split : drop (2 * i) s ≡ first ∷ second ∷ drop (2 * (i + 1)) s
-    split =
-        let a : suc (2 * i) ≡ 2 * i + 1 = sym (add-one (2 * i)) in
-        let b : suc (2 * i + 1) ≡ 2 * (i + 1) = omega arith in
-        drop-cons s (2 * i) 0 (omega arith)
-        ∙ ap (λ (l : List ℕ). first ∷ l)
-        (ap (λ (k : ℕ). drop k s) a ∙ drop-cons s (2 * i + 1) 0 (omega arith) ∙ ap (λ (k : ℕ). second ∷ drop k s) b)
-
     whole-from : runIn q m i (first ∷ second ∷ drop (2 * (i + 1)) s) ≡ whole
-    whole-from = sym (ap (runIn q m i) split) ∙ back
+    whole-from = sym (ap (runIn q m i) (two-words s i (omega arith))) ∙ back
 
     pub loop-stops : (k : ℕ) → 0 < k → q .refusal (q .turn m first second) ≡ k → q .ran k i m ≡ whole
     loop-stops k some e =

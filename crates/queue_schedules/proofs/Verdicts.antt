@@ -15,7 +15,7 @@ use Rattle.queue_entries.specs.Entries.{verdictFor}
 use Rattle.queue_schedules.proofs.Schedules.{either}
 
 abbrev pub Sense : ℕ → Bool → Verdict → Type 0
-Sense meter busy (Refuse k) = (0 < k) × (k ≤ 11)
+Sense meter busy (Refuse k) = (0 < k) × (k ≤ 8)
 Sense meter busy (Start c) = busy ≡ false
 Sense meter busy (Move lose) = (busy ≡ true) × (meter < meterMost)
 

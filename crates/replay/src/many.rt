@@ -2,6 +2,8 @@
 use crate::queue::Run;
 use replay_input::source::Reading;
 use replay_options::Options;
+use replay_survey::Survey;
+use replay_survey::Whole;
 
 const STRIDE: u64 = 1000000;
 
@@ -11,49 +13,6 @@ pub const RAN: u8 = 0;
 pub const REFUSED: u8 = 1;
 
 pub const UNREADABLE: u8 = 2;
-
-// How many numbers there are, and where and how the reading ended.
-struct Survey {
-    count: u64,
-    reading: Reading,
-}
-
-fn survey_in(fd: i32, many: bool, begin: Reading, bytes: &mut [u8], list: &mut [u64]) -> Survey {
-    let mut r = begin;
-    let mut count = 0;
-    let mut turns = u64::MAX;
-    while turns > 0 && r.event == text_numbers::NOTHING {
-        r = replay_input::source::turn(fd, many, r, bytes, list, 0);
-        count = std::num::wrapping_add_u64(count, r.count as u64);
-        turns -= 1;
-    }
-    Survey {
-        count: count,
-        reading: r,
-    }
-}
-
-fn surveyed(fd: i32, many: bool, offset: u64, line: u64) -> Survey {
-    let mut bytes = [0u8; replay_input::source::BYTES];
-    let mut list = [0u64; replay_input::source::NUMBERS];
-    survey_in(
-        fd,
-        many,
-        replay_input::source::start(offset, line),
-        &mut bytes,
-        &mut list,
-    )
-}
-
-// The numbers, with the one that is put before them.
-fn numbers_of(s: Survey, o: Options) -> u64 {
-    std::num::wrapping_add_u64(s.count, crate::queue::before(o) as u64)
-}
-
-// Says what is wrong, and answers whether nothing is.
-fn is_sound(s: Survey, o: Options, name: &[u8]) -> bool {
-    replay_input::say::is_sound(b"replay", name, s.reading, numbers_of(s, o))
-}
 
 fn progress(before: u64, after: u64) {
     if before / STRIDE != after / STRIDE {
@@ -80,9 +39,9 @@ fn goes_on(p: Playing, o: Options) -> bool {
 }
 
 // One piece of the schedule.
-fn play_some(run: Run, o: Options, odd: bool, list: &[u64], n: usize, out: &mut [u8]) -> Run {
+fn play_some(run: Run, o: Options, whole: Whole, list: &[u64], n: usize, out: &mut [u8]) -> Run {
     let before = crate::queue::place(run, o);
-    let after = crate::queue::pairs(run, o, odd, list, n, out);
+    let after = crate::queue::pairs(run, o, whole, list, n, out);
     progress(before, crate::queue::place(after, o));
     after
 }
@@ -91,7 +50,7 @@ fn read_and_play(
     p: Playing,
     o: Options,
     fd: i32,
-    odd: bool,
+    whole: Whole,
     bytes: &mut [u8],
     list: &mut [u64],
     out: &mut [u8],
@@ -99,7 +58,7 @@ fn read_and_play(
     let before = p.reading;
     let run = p.run;
     let r = replay_input::source::turn(fd, o.many, before, bytes, list, p.left);
-    let after = play_some(run, o, odd, list, r.count, out);
+    let after = play_some(run, o, whole, list, r.count, out);
     let left = replay_input::source::carry(list, r.count);
     Playing {
         reading: r,
@@ -112,7 +71,7 @@ fn play_in(
     begin: Playing,
     o: Options,
     fd: i32,
-    odd: bool,
+    whole: Whole,
     bytes: &mut [u8],
     list: &mut [u64],
     out: &mut [u8],
@@ -121,7 +80,7 @@ fn play_in(
     let mut turns = u64::MAX;
     while turns > 0 && goes_on(p, o) {
         turns -= 1;
-        p = read_and_play(p, o, fd, odd, bytes, list, out);
+        p = read_and_play(p, o, fd, whole, bytes, list, out);
     }
     let run = p.run;
     run
@@ -146,7 +105,7 @@ fn play(
     fd: i32,
     offset: u64,
     line: u64,
-    odd: bool,
+    whole: Whole,
     out: &mut [u8],
     at: usize,
 ) -> Played {
@@ -154,7 +113,7 @@ fn play(
     // the number before the first, where one is put there
     let mut list = [1u64; replay_input::source::NUMBERS];
     let begin = play_begin(o, offset, line, at);
-    let run = play_in(begin, o, fd, odd, &mut bytes, &mut list, out);
+    let run = play_in(begin, o, fd, whole, &mut bytes, &mut list, out);
     Played {
         at: crate::queue::finish(run, o, out),
         refused: crate::queue::refusal(run, o) != 0,
@@ -203,10 +162,14 @@ fn after(s: Survey, at: usize, status: u8) -> Next {
     }
 }
 
+fn surveyed(o: Options, fd: i32, from: Next) -> Survey {
+    replay_survey::surveyed(fd, o.many, crate::queue::before(o), from.offset, from.line)
+}
+
 // Read once, and not run.
 fn look(o: Options, fd: i32, name: &[u8], from: Next) -> Next {
-    let s = surveyed(fd, o.many, from.offset, from.line);
-    if is_sound(s, o, name) {
+    let s = surveyed(o, fd, from);
+    if replay_survey::is_sound(s, name) {
         after(s, 0, from.status)
     } else {
         stop()
@@ -218,8 +181,8 @@ fn worse(status: u8, refused: bool) -> u8 {
 }
 
 fn one(o: Options, fd: i32, name: &[u8], from: Next, out: &mut [u8]) -> Next {
-    let s = surveyed(fd, o.many, from.offset, from.line);
-    if is_sound(s, o, name) {} else {
+    let s = surveyed(o, fd, from);
+    if replay_survey::is_sound(s, name) {} else {
         return stop();
     }
     let p = play(
@@ -227,7 +190,7 @@ fn one(o: Options, fd: i32, name: &[u8], from: Next, out: &mut [u8]) -> Next {
         fd,
         from.offset,
         from.line,
-        numbers_of(s, o) % 2 == 1,
+        replay_survey::refused_whole(s),
         out,
         from.at,
     );

@@ -1,5 +1,6 @@
 // A schedule under way, of the queue that the options name.
 use replay_options::Options;
+use replay_survey::Whole;
 
 pub struct Run {
     pub bounded: replay_bounded::play::Run,
@@ -38,17 +39,17 @@ pub fn refusal(r: Run, o: Options) -> u64 {
 }
 
 // The pairs among the first n numbers of the list.
-pub fn pairs(r: Run, o: Options, odd: bool, list: &[u64], n: usize, out: &mut [u8]) -> Run {
+pub fn pairs(r: Run, o: Options, whole: Whole, list: &[u64], n: usize, out: &mut [u8]) -> Run {
     let b = r.bounded;
     let s = r.single;
     if is_single(o) {
         return Run {
             bounded: b,
-            single: replay_single::play::pairs(s, asked(o), odd, list, n, out),
+            single: replay_single::play::pairs(s, asked(o), whole, list, n, out),
         };
     }
     Run {
-        bounded: replay_bounded::play::pairs(b, o, odd, list, n, out),
+        bounded: replay_bounded::play::pairs(b, o, whole, list, n, out),
         single: s,
     }
 }

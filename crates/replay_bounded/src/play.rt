@@ -3,6 +3,7 @@ use crate::summary::Summary;
 use bounded_machine::Machine;
 use bounded_places::Place;
 use replay_options::Options;
+use replay_survey::Whole;
 
 pub struct Run {
     pub machine: Machine,
@@ -29,12 +30,15 @@ pub fn start(at: usize) -> Run {
     }
 }
 
-// "schedule 6, 11, then entry by entry"
-fn of_the_whole(m: Machine, odd: bool) -> u64 {
+// "Order becomes 6, 11, 9, then entry by entry"
+fn of_the_whole(m: Machine, whole: Whole) -> Whole {
     if bounded::broken(m) {
-        return 6;
+        return Whole {
+            refusal: 6,
+            place: 0,
+        };
     }
-    if odd { 11 } else { 0 }
+    whole
 }
 
 fn refused_of(refusal: u64) -> Summary {
@@ -45,24 +49,24 @@ fn refused_of(refusal: u64) -> Summary {
     crate::summary::refused(none)
 }
 
-fn made(m: Machine, odd: bool, at: usize) -> Run {
-    let refusal = of_the_whole(m, odd);
-    let summary = refused_of(refusal);
+fn made(m: Machine, whole: Whole, at: usize) -> Run {
+    let of_all = of_the_whole(m, whole);
+    let summary = refused_of(of_all.refusal);
     Run {
         machine: m,
         made: true,
-        place: 0,
-        refusal: refusal,
-        whole: refusal != 0,
+        place: of_all.place,
+        refusal: of_all.refusal,
+        whole: of_all.refusal != 0,
         at: at,
         summary: summary,
     }
 }
 
-fn make(o: Options, capacity: u64, workers: u64, odd: bool, out: &mut [u8], at: usize) -> Run {
+fn make(o: Options, capacity: u64, workers: u64, whole: Whole, out: &mut [u8], at: usize) -> Run {
     let did = bounded::make(capacity, workers, o.edition);
     let end = text_output::form(out, at, b"made #\n", &[did.refusal]);
-    made(did.machine, odd, end)
+    made(did.machine, whole, end)
 }
 
 // The summary after an entry of this first word, which led its worker from one place to the other.
@@ -191,16 +195,16 @@ fn entries(r: Run, o: Options, list: &[u64], from: usize, out: &mut [u8]) -> Run
 }
 
 // The first pairs: the machine is made of the first of all.
-fn first_pairs(r: Run, o: Options, odd: bool, list: &[u64], out: &mut [u8]) -> Run {
+fn first_pairs(r: Run, o: Options, whole: Whole, list: &[u64], out: &mut [u8]) -> Run {
     if list.len() < 2 {
         return r;
     }
-    let made = make(o, list[0], list[1], odd, out, r.at);
+    let made = make(o, list[0], list[1], whole, out, r.at);
     entries(made, o, list, 2, out)
 }
 
 // The pairs among the first n numbers of the list.
-pub fn pairs(r: Run, o: Options, odd: bool, list: &[u64], n: usize, out: &mut [u8]) -> Run {
+pub fn pairs(r: Run, o: Options, whole: Whole, list: &[u64], n: usize, out: &mut [u8]) -> Run {
     let even = n - n % 2;
     if list.len() < even {
         return r;
@@ -209,7 +213,7 @@ pub fn pairs(r: Run, o: Options, odd: bool, list: &[u64], n: usize, out: &mut [u
     if r.made {
         return entries(r, o, pairs, 0, out);
     }
-    first_pairs(r, o, odd, pairs, out)
+    first_pairs(r, o, whole, pairs, out)
 }
 
 // The report of the whole, where there was none for each entry.

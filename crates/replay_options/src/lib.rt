@@ -226,7 +226,7 @@ pub fn help() {
         \x20 contents x y ...           or: contents refused N\n\
         \n\
         Refusals: 3 no such worker, 4 busy, 5 idle, 6 no sound machine, 7 meter full, 8 no weak exchange,\n\
-        9 unreadable entry, 11 odd number of words.\n\
+        9 unreadable entry (then nothing is run), 11 odd number of words.\n\
         Status: 0 run to its end, 1 refused, 2 the input or the arguments cannot be read.\n\
         \n\
         \x20 --queue single   the one-slot queue (bounded unless told): no capacity, the first number is that of the workers;\n\

@@ -2,7 +2,7 @@
 use mathlib.Core.Path.{refl, sym, _∙_}
 use mathlib.Core.Bool.{true≢false}
 use native.Mathlib.Omega.{arith}
-use Rattle.queue_entries.specs.Schedules.{runBy, scheduleBy}
+use Rattle.queue_entries.specs.Schedules.{runBy, searchBy, scheduleBy}
 use Rattle.queue_entries.specs.Entries.{strayOf, orderOf, entryOf}
 use Rattle.queue_entries.specs.Limits.{all, inLimits}
 use Rattle.queue_schedules.specs.Alone.{acts}
@@ -17,7 +17,7 @@ use Rattle.single_demands.specs.Attained.{attained, seenIn, sightOf, nee
 use Rattle.single_demands.specs.Demands.{AtMost, Attained}
 
 pub numbers-attained : Attained
-unfolding same pushedIn closedIn unlocked takenOf closedOf strayOf orderOf entryOf stay stateTo valueTo exchanged unlockedIn idlers freshOf refused accepted all inLimits recordFits idleFrom brokenOf begun stored actedBy turnOfBy ran runBy scheduleBy acts attained seenIn sightOf needed othersIdle
+unfolding same pushedIn closedIn unlocked takenOf closedOf strayOf orderOf entryOf stay stateTo valueTo exchanged unlockedIn idlers freshOf refused accepted all inLimits recordFits idleFrom brokenOf begun stored actedBy turnOfBy ran runBy searchBy scheduleBy acts attained seenIn sightOf needed othersIdle
 numbers-attained = refl
 
 pub at-most : AtMost

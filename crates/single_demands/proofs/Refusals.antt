@@ -13,7 +13,7 @@ use Rattle.queue_entries.specs.declared.Entry.the-variants.{Unreadable, Asks}
 use Rattle.queue_entries.specs.Entries.{entryOf}
 use Rattle.queue_entries.specs.declared.Verdict.{Verdict}
 use Rattle.queue_entries.specs.declared.Verdict.the-variants.{Refuse, Start, Move}
-use Rattle.queue_schedules.proofs.Schedules.{either, picked, schedule-low, schedule-keeps, schedule-kept}
+use Rattle.queue_schedules.proofs.Schedules.{either, picked, schedule-first, schedule-read, schedule-low, schedule-keeps, schedule-unread, schedule-kept}
 use Rattle.queue_schedules.proofs.Verdicts.{Sense, sense}
 use Rattle.single_places.specs.declared.Place.{Place}
 use Rattle.single_places.specs.Places.{viewOf, beginOf}
@@ -27,7 +27,7 @@ use Rattle.single_machine.specs.Run.{runOf}
 use Rattle.single_machine.proofs.Kept.{Unbroken, unbroken-of, of-unbroken, begun-unbroken, acted-unbroken}
 use Rattle.single_machine.proofs.Turns.{single-queue, refused-kept, accepted-kept, turn-of-kept}
 use Rattle.single.specs.Single as face
-use Rattle.single_demands.specs.Demands.{RefusedUnchanged, Numbered, StaysUnbroken, OnlyOne}
+use Rattle.single_demands.specs.Demands.{RefusedUnchanged, Numbered, ListFirst, StaysUnbroken, OnlyOne}
 
 -- ---- one answer
 one : {A : Type 0} (d x y : A) → x ≡ d → y ≡ d → x ≡ y
@@ -58,7 +58,7 @@ unfolding accepted
 accepted-low m = omega arith
 
 carried-low : (m : Machine) (w : ℕ) (p : Place) (v : Verdict) → Sense (m .meter) (viewOf p .busy) v → Low (carried m w p v)
-carried-low m w p (Refuse k) h = refused-low k m (h .1)
+carried-low m w p (Refuse k) h = refused-low k m (omega (arith, h .1))
 carried-low m w p (Start c) h = accepted-low (begun m w (beginOf c))
 carried-low m w p (Move lose) h = accepted-low (acted m w p)
 
@@ -134,7 +134,15 @@ refused-unchanged =
       begin = of-begin Kept no turn-of-kept;
       act = of-act Kept no turn-of-kept;
       run = schedule-kept single-queue brokenOf;
+      unread = schedule-unread single-queue brokenOf;
       contents = contents-kept;
+    }
+
+pub list-first : ListFirst
+list-first =
+    record {
+      stops = schedule-first single-queue brokenOf;
+      runs = λ m s e even. schedule-read single-queue brokenOf m s e (λ o. omega arith);
     }
 
 -- ---- unbroken

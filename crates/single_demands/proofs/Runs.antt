@@ -1,6 +1,6 @@
 -- The runs of the table, computed from the definitions.
 use mathlib.Core.Path.{refl}
-use Rattle.queue_entries.specs.Schedules.{runBy, scheduleBy, historyBy}
+use Rattle.queue_entries.specs.Schedules.{runBy, searchBy, scheduleBy, historyBy}
 use Rattle.queue_entries.specs.Entries.{strayOf, orderOf, entryOf}
 use Rattle.queue_entries.specs.Limits.{all, inLimits}
 use Rattle.queue_entries.specs.Told.{told}
@@ -17,5 +17,5 @@ use Rattle.single_demands.specs.Notions.{waitingFrom, closedBy}
 use Rattle.single_demands.specs.Runs.{RunsHold, found, foundIn, table}
 
 pub runs-hold : RunsHold
-unfolding same pushedIn closedIn unlocked takenOf closedOf strayOf orderOf entryOf stay stateTo valueTo exchanged unlockedIn idlers freshOf refused accepted all inLimits recordFits idleFrom brokenOf told contentsOf capacityOf begun stored actedBy turnOfBy ran runBy scheduleBy historyBy makeOf acts waitingFrom closedBy found foundIn table
+unfolding same pushedIn closedIn unlocked takenOf closedOf strayOf orderOf entryOf stay stateTo valueTo exchanged unlockedIn idlers freshOf refused accepted all inLimits recordFits idleFrom brokenOf told contentsOf capacityOf begun stored actedBy turnOfBy ran runBy searchBy scheduleBy historyBy makeOf acts waitingFrom closedBy found foundIn table
 runs-hold = refl

@@ -11,7 +11,9 @@ use Rattle.queue_entries.specs.Limits.{meterMost}
 use Rattle.queue_entries.specs.declared.Call.{Call}
 use Rattle.queue_entries.specs.declared.Told.{Told}
 use Rattle.queue_entries.specs.Told.{told}
+use Rattle.queue_entries.specs.declared.Entry.the-variants.{Unreadable}
 use Rattle.queue_entries.specs.Entries.{entryOf}
+use Rattle.queue_schedules.specs.Reading.{Readable}
 use Rattle.queue_schedules.specs.Alone.{acts}
 use Rattle.single_words.specs.declared.State.{State}
 use Rattle.single_words.specs.Words.{lockedIn, pushedIn, closedIn}
@@ -28,7 +30,7 @@ use Rattle.single_machine.specs.declared.Ran.{Ran}
 use Rattle.single_machine.specs.Machine.{blank, freshOf, placeOf}
 use Rattle.single_machine.specs.Broken.{brokenOf, idleFrom}
 use Rattle.single_machine.specs.Contents.{countIn, contentsOf, contentsRefusal, written, capacityOf}
-use Rattle.single_machine.specs.Run.{runOf}
+use Rattle.single_machine.specs.Run.{ran, runFrom, runOf}
 use Rattle.single_machine.specs.History.{eventsOf}
 use Rattle.single.specs.Single.{makeOf, stepOf, beginOf, actOf}
 use Rattle.single_demands.specs.Notions.{Definition, Allowed, machineAfter, actsOf, Acts, AtEach, InHand, OtherHand, Popping, accessOf, isRead, Holds, HandsOut, Stands, Came, waiting, OneSlot, Took, closedBy, queueAnswer, Looks, FullWord, EmptyWord, PopClosedWord, Truth, mostOf, passed, ownActs, LetsGo}
@@ -47,7 +49,10 @@ pub record RefusedUnchanged : Type 0 where
   pub begin : (m : Machine) (first second : ℕ) → (beginOf m first second .refusal ≡ 0 → ⊥) → beginOf m first second .machine ≡ m
   pub act : (m : Machine) (first second : ℕ) → (actOf m first second .refusal ≡ 0 → ⊥) → actOf m first second .machine ≡ m
   -- a schedule that is refused at a place leaves what the entries before that place leave: they stand, and no more
-  pub run : (m : Machine) (s : List ℕ) → (runOf m s .refusal ≡ 0 → ⊥) → runOf m s .machine ≡ runOf m (take (2 * runOf m s .place) s) .machine
+  pub run : (m : Machine) (s : List ℕ) → (runOf m s .refusal ≡ 0 → ⊥) → (runOf m s .refusal ≡ 9 → ⊥)
+      → runOf m s .machine ≡ runOf m (take (2 * runOf m s .place) s) .machine
+  -- but one with an entry that can't be read leaves the machine as it was
+  pub unread : (m : Machine) (s : List ℕ) → runOf m s .refusal ≡ 9 → runOf m s .machine ≡ m
   pub contents : (m : Machine) (buffer : List ℕ) → (contentsRefusal m (length buffer) ≡ 0 → ⊥) → written m buffer ≡ buffer
 
 -- Demand 1: a refusal is one of the eleven.
@@ -58,6 +63,14 @@ pub record Numbered : Type 0 where
   pub act : (m : Machine) (first second : ℕ) → actOf m first second .refusal ≤ 11
   pub run : (m : Machine) (s : List ℕ) → runOf m s .refusal ≤ 11
   pub contents : (m : Machine) (room : ℕ) → contentsRefusal m room ≤ 11
+
+-- The list is checked first (document 02, item 7): of a machine that is not broken and a schedule of whole entries.
+pub record ListFirst : Type 0 where
+  -- the first entry that can't be read is reported, and nothing is run; k entries stand before it, and each of them can be read
+  pub stops : (m : Machine) (before : List ℕ) (k first second : ℕ) (rest : List ℕ) → brokenOf m ≡ false → length (before ++ first ∷ second ∷ rest) % 2 ≡ 0
+      → length before ≡ 2 * k → Readable entryOf before → entryOf first second ≡ Unreadable → runOf m (before ++ first ∷ second ∷ rest) ≡ ran 9 k m
+  -- a schedule that can be read is run, entry by entry
+  pub runs : (m : Machine) (s : List ℕ) → brokenOf m ≡ false → length s % 2 ≡ 0 → Readable entryOf s → runOf m s ≡ runFrom m 0 s
 
 -- No entry and no schedule breaks an unbroken machine, reached or not: so refusal 6 is tested once a schedule.
 pub record StaysUnbroken : Type 0 where
@@ -205,7 +218,7 @@ ActByAct d =
 abbrev pub WholeSchedules : Definition → Type 0
 WholeSchedules d =
     (workers : ℕ) → Allowed workers → (s : List ℕ)
-    → (length s % 2 ≡ 0 → runOf (freshOf workers) s ≡ d .run (freshOf workers) 0 s)
+    → (length s % 2 ≡ 0 → Readable entryOf s → runOf (freshOf workers) s ≡ d .run (freshOf workers) 0 s)
     × (length s % 2 ≡ 1 → runOf (freshOf workers) s .machine ≡ freshOf workers)
 
 -- ==== 3. Nobody waits without a holder. Said of the same machines and acts.

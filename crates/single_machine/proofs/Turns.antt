@@ -2,6 +2,7 @@
 use Prim.Native.Nat.{ℕ, _<_, _≤_}
 use mathlib.Core.Path.{_≡_, refl, sym, ap, _∙_}
 use mathlib.Core.Bool.{Bool, true, false}
+use native.Mathlib.Omega.{arith}
 use lib.Dec.{ltb}
 use Rattle.queue_entries.proofs.Pick.{below, above}
 use Rattle.queue_entries.specs.declared.Call.{Call}
@@ -11,9 +12,10 @@ use Rattle.queue_entries.specs.declared.Entry.the-variants.{Unreadable, Asks}
 use Rattle.queue_entries.specs.Entries.{entryOf}
 use Rattle.queue_entries.specs.declared.Verdict.{Verdict}
 use Rattle.queue_entries.specs.declared.Verdict.the-variants.{Refuse, Start, Move}
-use Rattle.queue_schedules.proofs.Schedules.{either, Queue}
+use Rattle.queue_schedules.proofs.Schedules.{either, picked, Queue}
+use Rattle.queue_schedules.proofs.Verdicts.{Sense, sense}
 use Rattle.single_places.specs.declared.Place.{Place}
-use Rattle.single_places.specs.Places.{beginOf}
+use Rattle.single_places.specs.Places.{viewOf, beginOf}
 use Rattle.single_machine.specs.declared.Machine.{Machine}
 use Rattle.single_machine.specs.declared.Did.{Did}
 use Rattle.single_machine.specs.declared.Ran.{Ran}
@@ -49,6 +51,32 @@ pub turn-of-kept : (m : Machine) (a b : ℕ) → Kept m (turnOf m a b)
 unfolding turnOfBy
 turn-of-kept m a b = turn-kept m (entryOf a b)
 
+-- 9 is the refusal of two words that can't be read, and of no others
+pub turn-of-unread : (m : Machine) (a b : ℕ) → entryOf a b ≡ Unreadable → turnOf m a b .refusal ≡ 9
+unfolding turnOfBy refused
+turn-of-unread m a b h = ap (λ (x : Entry). turn m x .refusal) h
+
+carried-low : (m : Machine) (w : ℕ) (p : Place) (v : Verdict) → Sense (m .meter) (viewOf p .busy) v → carried m w p v .refusal ≤ 8
+unfolding refused accepted
+carried-low m w p (Refuse k) h = h .1
+carried-low m w p (Start c) h = omega arith
+carried-low m w p (Move lose) h = omega arith
+
+asks-low : (m : Machine) (w : ℕ) (o : Order) → turn m (Asks w o) .refusal ≤ 8
+unfolding refused
+asks-low m w o =
+    let p = placeOf (m .workers) w in
+    picked (λ (d : Did). d .refusal ≤ 8) (ltb w (m .count)) (carried m w p (verdictOf (m .meter) p o)) (refused 3 m)
+    (carried-low m w p (verdictOf (m .meter) p o) (sense (m .meter) (viewOf p .busy) false o)) (omega arith)
+
+pub only-unread : (m : Machine) (a b : ℕ) → turnOf m a b .refusal ≡ 9 → entryOf a b ≡ Unreadable
+unfolding turnOfBy
+only-unread m a b e = go (entryOf a b) e
+  where
+    go : (x : Entry) → turn m x .refusal ≡ 9 → x ≡ Unreadable
+    go Unreadable h = refl
+    go (Asks w o) h = absurd (omega (arith, asks-low m w o))
+
 pub ran-refusal : (k i : ℕ) (m : Machine) → ran k i m .refusal ≡ k
 unfolding ran
 ran-refusal k i m = refl
@@ -75,6 +103,9 @@ single-queue =
       place-is = ran-place;
       machine-is = ran-machine;
       kept = turn-of-kept;
+      reading = entryOf;
+      unread = turn-of-unread;
+      only-unread = only-unread;
     }
 
 -- ---- what an entry does

@@ -5,7 +5,7 @@ use mathlib.Core.Bool.{true, false}
 use mathlib.Core.List.{List, []}
 use native.Mathlib.Omega.{arith}
 use lib.ListN.{length}
-use Rattle.queue_schedules.proofs.Schedules.{schedule-odd, schedule-even}
+use Rattle.queue_schedules.proofs.Schedules.{schedule-odd, schedule-read}
 use Rattle.queue_schedules.proofs.Histories.{one-more}
 use Rattle.single_machine.specs.declared.Machine.{Machine}
 use Rattle.single_machine.specs.declared.Ran.{Ran}
@@ -59,6 +59,6 @@ act-by-act m s first second even e taken = one-more single-queue eventsOf s m fi
 pub whole-schedules : WholeSchedules source
 whole-schedules workers a s =
     let u : brokenOf (freshOf workers) ≡ false = of-unbroken (freshOf workers) (fresh-reached workers a .unbroken) in (
-      λ even. schedule-even single-queue brokenOf (freshOf workers) s u (λ o. omega arith),
+      λ even read. schedule-read single-queue brokenOf (freshOf workers) s u (λ o. omega arith) read,
       λ odd. ap (λ (x : Ran). x .machine) (schedule-odd single-queue brokenOf (freshOf workers) s u odd) ∙ ran-machine 11 0 (freshOf workers),
     )

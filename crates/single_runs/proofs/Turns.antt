@@ -13,7 +13,10 @@ use Rattle.queue_entries.specs.declared.Entry.the-variants.{Unreadable, Asks}
 use Rattle.queue_entries.specs.Entries.{entryOf}
 use Rattle.queue_entries.specs.declared.Verdict.{Verdict}
 use Rattle.queue_entries.specs.declared.Verdict.the-variants.{Refuse, Start, Move}
-use Rattle.queue_schedules.proofs.Schedules.{schedule-broken, schedule-odd, schedule-even}
+use Rattle.queue_entries.specs.declared.Finding.{Finding}
+use Rattle.queue_entries.specs.declared.Finding.the-variants.{AllRead, UnreadableAt}
+use Rattle.queue_entries.specs.Schedules.{searchBy}
+use Rattle.queue_schedules.proofs.Schedules.{schedule-broken, schedule-odd, schedule-found, schedule-none}
 use Rattle.queue_schedules.proofs.Loops.{loop-ended, loop-stops, loop-goes}
 use Rattle.queue_schedules.proofs.Verdicts as verdicts
 use Rattle.single_places.specs.declared.Place.{Place}
@@ -46,13 +49,16 @@ module _ (m : Machine) (s : List ℕ) (b : Bool) (e : b ≡ brokenOf m) where
     pub odd-run : length s % 2 ≡ 1 → ran 11 0 m ≡ runOf m s
     odd-run k = sym (schedule-odd single-queue brokenOf m s (sym e ∙ h) k)
 
-    pub first-stand : (n : ℕ) → length s ≡ 2 * n → Stand s n 0 m (runOf m s)
-    first-stand n k =
+    pub unread-run : (length s % 2 ≡ 1 → ⊥) → (f : Finding) → f ≡ searchBy entryOf 0 s → (i : ℕ) → f ≡ UnreadableAt i → ran 9 i m ≡ runOf m s
+    unread-run o f g i z = sym (schedule-found single-queue brokenOf m s (sym e ∙ h) o i (sym g ∙ z))
+
+    pub first-stand : (length s % 2 ≡ 1 → ⊥) → (n : ℕ) → length s ≡ 2 * n → (f : Finding) → f ≡ searchBy entryOf 0 s → f ≡ AllRead → Stand s n 0 m (runOf m s)
+    first-stand o n k f g z =
         record {
           within = omega arith;
           pairs = k;
           unbroken = unbroken-of m (sym e ∙ h);
-          left = sym (schedule-even single-queue brokenOf m s (sym e ∙ h) (λ o. omega arith));
+          left = sym (schedule-none single-queue brokenOf m s (sym e ∙ h) o (sym g ∙ z));
         }
 
 module _ (s : List ℕ) (n i : ℕ) (m : Machine) (whole : Ran) (at : Stand s n i m whole) where

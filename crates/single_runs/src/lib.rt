@@ -3,6 +3,7 @@ ghost use mathlib.Core.Path.{_≡_};
 ghost use Rattle.single_machine.specs.Machine.{machineOf};
 ghost use Rattle.single_machine.specs.Run.{ran, runOf};
 use queue_entries::Entry;
+use queue_entries::Finding;
 use queue_entries::Verdict;
 use single_machine::Machine;
 use single_machine::Ran;
@@ -44,6 +45,12 @@ pub fn run(m: Machine, schedule: &[u64]) -> Ran
     }
     if schedule.len() % 2 == 1 {
         return ran(11, 0, single, workers, count, meter);
+    }
+    match queue_entries::search(schedule) {
+        Finding::UnreadableAt(place) => {
+            return ran(9, place, single, workers, count, meter);
+        }
+        Finding::AllRead => {}
     }
     let n = schedule.len() / 2;
     let mut i = 0;

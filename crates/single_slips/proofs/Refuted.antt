@@ -6,7 +6,8 @@ use mathlib.Core.List.{List, [], _∷_, _++_}
 use mathlib.Core.Path.{_≡_, refl, sym, ap, _∙_, subst}
 use borrow.Author.Tests.{eqb-true}
 use Rattle.queue_entries.specs.declared.Call.the-variants as call
-use Rattle.queue_entries.specs.Schedules.{runBy, scheduleBy, historyBy}
+use Rattle.queue_entries.specs.declared.Entry.the-variants.{Unreadable}
+use Rattle.queue_entries.specs.Schedules.{runBy, searchBy, scheduleBy, historyBy}
 use Rattle.queue_entries.specs.Entries.{strayOf, orderOf, entryOf}
 use Rattle.queue_entries.specs.Limits.{all, inLimits}
 use Rattle.queue_schedules.specs.Alone.{acts, passedBy, ownActsBy}
@@ -141,12 +142,16 @@ pushing k = no-a1 (A1 6) k refl
     no-a1 p poppingC2 e = true≢false e
     no-a1 p poppingC3 e = true≢false e
 
+readable : entryOf 0 5 ≡ Unreadable → ⊥
+unfolding strayOf orderOf entryOf
+readable e = let q : _≡_ {A = ℕ} 0 1 = cc in omega arith
+
 pub refuted : Refuted
-unfolding same lockedIn pushedIn closedIn unlocked takenOf closedOf strayOf orderOf entryOf stay stateTo valueTo exchanged unlockedIn idlers freshOf refused accepted all inLimits recordFits idleFrom brokenOf contentsOf begun stored actedBy turnOfBy ran runBy scheduleBy historyBy acts passedBy ownActsBy waitingFrom closedBy anyIn heldBy standing runsFrom always busyAlong
+unfolding same lockedIn pushedIn closedIn unlocked takenOf closedOf strayOf orderOf entryOf stay stateTo valueTo exchanged unlockedIn idlers freshOf refused accepted all inLimits recordFits idleFrom brokenOf contentsOf begun stored actedBy turnOfBy ran runBy searchBy scheduleBy historyBy acts passedBy ownActsBy waitingFrom closedBy anyIn heldBy standing runsFrom always busyAlong
 refuted =
     record {
       act-by-act = λ a. true≢false (sym (ap (λ (m : Machine). busyAt m 0) (a (freshOf 2) [] 0 5 refl refl refl .0)));
-      whole-schedules = λ w. true≢false (ap (λ (r : Ran). busyAt (r .machine) 0) (w 2 two (0 ∷ 5 ∷ []) .0 refl));
+      whole-schedules = λ w. true≢false (ap (λ (r : Ran). busyAt (r .machine) 0) (w 2 two (0 ∷ 5 ∷ []) .0 refl (readable, tt)));
       unbroken = true≢false;
       goes-out-unwritten =
           λ g. never-written _ 0 0 refl (g (actsOf (slipped unwritten) 2 (does 0 0 5 3 ++ does 0 2 0 2)) [] (event 0 (C3 0) (Idle (Popped 0))) refl 0 popped);

@@ -8,6 +8,7 @@ use Rattle.queue_entries.specs.Limits.{workersMost, meterMost}
 use Rattle.queue_entries.specs.declared.Entry.the-variants.{Asks}
 use Rattle.queue_entries.specs.declared.Verdict.the-variants.{Move}
 use Rattle.queue_entries.proofs.entry_of.Reads as entry-of-reads
+use Rattle.queue_entries.proofs.search.Reads as search-reads
 use Rattle.bounded_words.specs.Limits.{slotsMost}
 use Rattle.bounded_places.specs.declared.View.{View}
 use Rattle.bounded_places.specs.Places.{viewOf}
@@ -21,7 +22,7 @@ use Rattle.bounded_machine.proofs.Kept.{Unbroken, unbroken-of, fair-in}
 use Rattle.bounded_machine.proofs.broken.Reads as broken-reads
 use Rattle.bounded_machine.proofs.spot.Reads as spot-reads
 use Rattle.bounded_machine.proofs.verdict_of.Reads as verdict-of-reads
-use Rattle.bounded_runs.proofs.Turns.{broken-run, odd-run, even-run, stop-9, stop-3, stop, start, move, ended, worker-below, fits-in, spot-below, started-unbroken, moved-unbroken, move-busy, move-in-time}
+use Rattle.bounded_runs.proofs.Turns.{broken-run, odd-run, unread-run, read-run, stop-9, stop-3, stop, start, move, ended, worker-below, fits-in, spot-below, started-unbroken, moved-unbroken, move-busy, move-in-time}
 use Rattle.bounded_runs.proofs.run.Statement.{statement}
 use Rattle.bounded_runs.proofs.run.Tie as tie
 use Rattle.bounded_runs.proofs.run.Reads as reads
@@ -39,27 +40,27 @@ abbrev μ-loop : tie.MeasureT-loop
 bound : {i n : ℕ} → i < n → i + 1 ≤ n
 bound h = omega arith
 
-asks-at : (c : tie.After-known-told Inv-loop μ-loop) → c .before .before .before .entry-of .result ≡ Asks (c .before .worker .given .0 .0) (c .before .worker .given .0 .1 .0)
+asks-at : (c : tie.After-known-told2 Inv-loop μ-loop) → c .before .before .before .entry-of .result ≡ Asks (c .before .worker .given .0 .0) (c .before .worker .given .0 .1 .0)
 asks-at c = search needs
 
 worker-below-at : (c : tie.Else3 Inv-loop μ-loop) → c .before .before .worker .given .0 .0 < workersMost
 worker-below-at c = worker-below _ (c .before .before .before .before .before .before .before .before .loop .inv .2) (c .before .before .worker .given .0 .0) (c .if3 .left)
 
-moves-at : (c : tie.After-known-told4 Inv-loop μ-loop) → c .before .before .before .verdict-of .result ≡ Move (c .before .verdict3 .given .0 .0)
+moves-at : (c : tie.After-known-told5 Inv-loop μ-loop) → c .before .before .before .verdict-of .result ≡ Move (c .before .verdict3 .given .0 .0)
 moves-at c = search needs
 
-busy-at : (c : tie.After-known-told4 Inv-loop μ-loop) → viewOf (placeOf (c .before .before .before .before .before .before .before .before .before .before .before .before .before .loop .workers) (c .before .before .before .before .before .before .before .worker .given .0 .0)) .busy ≡ true
+busy-at : (c : tie.After-known-told5 Inv-loop μ-loop) → viewOf (placeOf (c .before .before .before .before .before .before .before .before .before .before .before .before .before .loop .workers) (c .before .before .before .before .before .before .before .worker .given .0 .0)) .busy ≡ true
 busy-at c =
     let v = c .before .before .before .verdict-of in
     move-busy (c .before .before .before .before .before .before .before .before .before .before .before .before .before .loop .meter) (placeOf (c .before .before .before .before .before .before .before .before .before .before .before .before .before .loop .workers) (c .before .before .before .before .before .before .before .worker .given .0 .0)) (c .before .before .before .before .before .before .before .worker .given .0 .1 .0) (v .result) (v .ensures) (c .before .verdict3 .given .0 .0) (moves-at c)
 
-in-time-at : (c : tie.After-known-told4 Inv-loop μ-loop) → c .before .before .before .before .before .before .before .before .before .before .before .before .before .loop .meter < meterMost
+in-time-at : (c : tie.After-known-told5 Inv-loop μ-loop) → c .before .before .before .before .before .before .before .before .before .before .before .before .before .loop .meter < meterMost
 in-time-at c =
     let v = c .before .before .before .verdict-of in
     move-in-time (c .before .before .before .before .before .before .before .before .before .before .before .before .before .loop .meter) (placeOf (c .before .before .before .before .before .before .before .before .before .before .before .before .before .loop .workers) (c .before .before .before .before .before .before .before .worker .given .0 .0)) (c .before .before .before .before .before .before .before .worker .given .0 .1 .0) (v .result) (v .ensures) (c .before .verdict3 .given .0 .0) (moves-at c)
 
-spot-at : (c : tie.After-spot Inv-loop μ-loop) → c .spot .result ≡ spotOf (c .before .before .before .before .before .before .before .before .before .before .before .before .before .before .before .before .before .before .before .before .before .before .before .before .before .args .m .ring .fixed) (viewOf (placeOf (c .before .before .before .before .before .before .before .before .before .before .before .before .before .before .before .loop .workers) (c .before .before .before .before .before .before .before .before .before .worker .given .0 .0)) .held)
-spot-at c = c .spot .ensures ∙ ap (λ (v : View). spotOf (c .before .before .before .before .before .before .before .before .before .before .before .before .before .before .before .before .before .before .before .before .before .before .before .before .before .args .m .ring .fixed) (v .held)) (c .before .view-of .ensures)
+spot-at : (c : tie.After-spot Inv-loop μ-loop) → c .spot .result ≡ spotOf (c .before .before .before .before .before .before .before .before .before .before .before .before .before .before .before .before .before .before .before .before .before .before .before .before .before .before .before .before .args .m .ring .fixed) (viewOf (placeOf (c .before .before .before .before .before .before .before .before .before .before .before .before .before .before .before .loop .workers) (c .before .before .before .before .before .before .before .before .before .worker .given .0 .0)) .held)
+spot-at c = c .spot .ensures ∙ ap (λ (v : View). spotOf (c .before .before .before .before .before .before .before .before .before .before .before .before .before .before .before .before .before .before .before .before .before .before .before .before .before .before .before .before .args .m .ring .fixed) (v .held)) (c .before .view-of .ensures)
 
 spot-below-at : (c : tie.After-spot Inv-loop μ-loop) → c .spot .result < slotsMost
 spot-below-at c = spot-below _ (c .before .before .before .before .before .before .before .before .before .before .before .before .before .before .before .loop .inv .2) _ (c .before .before .before .before .before .before .before .if3 .left) (busy-at (c .before .before)) (c .spot .result) (spot-at c)
@@ -84,9 +85,29 @@ ran-requires-2 c κs = search needs
 returns-2 : tie.Need-returns-2 Inv-loop μ-loop
 returns-2 c = c .ran2 .ensures ∙ odd-run _ _ (c .before .before .before .broken .result) (c .before .before .before .broken .ensures) (c .before .before .if1 .left) (c .before .if2 .taken)
 
+-- src/lib.rt:125:11
+search-requires : tie.Need-search-requires Inv-loop μ-loop
+search-requires c κs = search needs
+
+-- src/lib.rt:126:9
+enum-known-place : tie.Need-enum-known-place Inv-loop μ-loop
+enum-known-place c = search needs
+
+-- src/lib.rt:127:13
+ran-requires-3 : tie.Need-ran-requires-3 Inv-loop μ-loop
+ran-requires-3 c κs = search needs
+
+-- src/lib.rt:127:13
+returns-3 : tie.Need-returns-3 Inv-loop μ-loop
+returns-3 c = c .ran3 .ensures ∙ unread-run _ _ (c .before .before .before .before .before .before .before .broken .result) (c .before .before .before .before .before .before .before .broken .ensures) (c .before .before .before .before .before .before .if1 .left) (c .before .before .before .before .before .if2 .left) (c .before .before .before .before .search .result) (c .before .before .before .before .search .ensures) _ (search needs)
+
+-- src/lib.rt:125:5
+enum-told : tie.Need-enum-told Inv-loop μ-loop
+enum-told c = search needs
+
 -- src/lib.rt:127:5
 loop-holds : tie.Need-loop-holds Inv-loop μ-loop
-loop-holds c = (omega arith, omega arith, unbroken-of _ (sym (c .before .before .broken .ensures) ∙ c .before .if1 .left), even-run _ _ (c .before .before .broken .result) (c .before .before .broken .ensures) (c .before .if1 .left) (c .if2 .left))
+loop-holds c = (omega arith, omega arith, unbroken-of _ (sym (c .before .before .before .before .before .broken .ensures) ∙ c .before .before .before .before .if1 .left), read-run _ _ (c .before .before .before .before .before .broken .result) (c .before .before .before .before .before .broken .ensures) (c .before .before .before .before .if1 .left) (c .before .before .before .if2 .left) (c .before .before .search .result) (c .before .before .search .ensures) (search needs))
 
 -- src/lib.rt:128:68
 mul-entry-of : tie.Need-mul-entry-of Inv-loop μ-loop
@@ -125,29 +146,29 @@ enum-known-worker : tie.Need-enum-known-worker Inv-loop μ-loop
 enum-known-worker c = search needs
 
 -- src/lib.rt:129:39
-enum-told : tie.Need-enum-told Inv-loop μ-loop
-enum-told c = search needs
+enum-told-2 : tie.Need-enum-told-2 Inv-loop μ-loop
+enum-told-2 c = search needs
 
 -- src/lib.rt:129:13
-ran-requires-3 : tie.Need-ran-requires-3 Inv-loop μ-loop
-ran-requires-3 c κs = search needs
-
--- src/lib.rt:129:13
-returns-3 : tie.Need-returns-3 Inv-loop μ-loop
-returns-3 c = let l = c .before .before .before .before .before .before .before .loop in
-    let e = c .before .before .before .entry-of in
-    c .ran3 .ensures ∙ stop-9 _ _ _ _ _ (l .inv .3) (l .inv .1) (c .before .before .before .before .before .before .loop-test .taken) (e .result) (e .ensures) (search needs)
-
--- src/lib.rt:132:13
 ran-requires-4 : tie.Need-ran-requires-4 Inv-loop μ-loop
 ran-requires-4 c κs = search needs
 
--- src/lib.rt:132:13
+-- src/lib.rt:129:13
 returns-4 : tie.Need-returns-4 Inv-loop μ-loop
-returns-4 c = let l = c .before .before .before .before .before .before .before .before .before .loop in
+returns-4 c = let l = c .before .before .before .before .before .before .before .loop in
+    let e = c .before .before .before .entry-of in
+    c .ran4 .ensures ∙ stop-9 _ _ _ _ _ (l .inv .3) (l .inv .1) (c .before .before .before .before .before .before .loop-test .taken) (e .result) (e .ensures) (search needs)
+
+-- src/lib.rt:132:13
+ran-requires-5 : tie.Need-ran-requires-5 Inv-loop μ-loop
+ran-requires-5 c κs = search needs
+
+-- src/lib.rt:132:13
+returns-5 : tie.Need-returns-5 Inv-loop μ-loop
+returns-5 c = let l = c .before .before .before .before .before .before .before .before .before .loop in
     let e = c .before .before .before .before .before .entry-of in
     let a = c .before .before .before .worker .given .0 in
-    c .ran4 .ensures ∙ stop-3 _ _ _ _ _ (l .inv .3) (l .inv .1) (c .before .before .before .before .before .before .before .before .loop-test .taken) (e .result) (e .ensures) (a .0) (a .1 .0) (asks-at (c .before .before)) (c .before .if3 .taken)
+    c .ran5 .ensures ∙ stop-3 _ _ _ _ _ (l .inv .3) (l .inv .1) (c .before .before .before .before .before .before .before .before .loop-test .taken) (e .result) (e .ensures) (a .0) (a .1 .0) (asks-at (c .before .before)) (c .before .if3 .taken)
 
 -- src/lib.rt:135:22
 mul-record : tie.Need-mul-record Inv-loop μ-loop
@@ -166,16 +187,16 @@ enum-known-verdict : tie.Need-enum-known-verdict Inv-loop μ-loop
 enum-known-verdict c = search needs
 
 -- src/lib.rt:140:17
-ran-requires-5 : tie.Need-ran-requires-5 Inv-loop μ-loop
-ran-requires-5 c κs = search needs
+ran-requires-6 : tie.Need-ran-requires-6 Inv-loop μ-loop
+ran-requires-6 c κs = search needs
 
 -- src/lib.rt:140:17
-returns-5 : tie.Need-returns-5 Inv-loop μ-loop
-returns-5 c = let l = c .before .before .before .before .before .before .before .before .before .before .before .before .before .before .loop in
+returns-6 : tie.Need-returns-6 Inv-loop μ-loop
+returns-6 c = let l = c .before .before .before .before .before .before .before .before .before .before .before .before .before .before .loop in
     let e = c .before .before .before .before .before .before .before .before .before .before .entry-of in
     let a = c .before .before .before .before .before .before .before .before .worker .given .0 in
     let v = c .before .before .before .before .verdict-of in
-    c .ran5 .ensures ∙ stop _ _ _ _ _ (l .inv .3) (l .inv .1) (c .before .before .before .before .before .before .before .before .before .before .before .before .before .loop-test .taken) (e .result) (e .ensures) (a .0) (a .1 .0) (asks-at (c .before .before .before .before .before .before .before)) (v .result) (c .before .before .before .before .before .before .if3 .left) (v .ensures) (c .before .before .verdict .given .0 .0) (search needs)
+    c .ran6 .ensures ∙ stop _ _ _ _ _ (l .inv .3) (l .inv .1) (c .before .before .before .before .before .before .before .before .before .before .before .before .before .loop-test .taken) (e .result) (e .ensures) (a .0) (a .1 .0) (asks-at (c .before .before .before .before .before .before .before)) (v .result) (c .before .before .before .before .before .before .if3 .left) (v .ensures) (c .before .before .verdict .given .0 .0) (search needs)
 
 -- src/lib.rt:142:28
 enum-known-verdict-2 : tie.Need-enum-known-verdict-2 Inv-loop μ-loop
@@ -257,7 +278,7 @@ add-meter c = let h = in-time-at (c .before .before .before .before .before .bef
 
 -- src/lib.rt:158:17
 add-i-2 : tie.Need-add-i-2 Inv-loop μ-loop
-add-i-2 c = let h = c .before .before .before .before .before .before .before .before .before .before .before .before .before .before .before .before .before .before .loop-test .taken in let l = c .before .before .before .before .before .before .before .before .before .before .before .before .before .before .before .before .before .before .before .loop .inv .1 in omega (arith, c .before .before .before .before .before .before .before .before .before .before .before .before .before .before .before .before .before .before .before .before .before .before .before .before .before .before .before .before .before .good)
+add-i-2 c = let h = c .before .before .before .before .before .before .before .before .before .before .before .before .before .before .before .before .before .before .loop-test .taken in let l = c .before .before .before .before .before .before .before .before .before .before .before .before .before .before .before .before .before .before .before .loop .inv .1 in omega (arith, c .before .before .before .before .before .before .before .before .before .before .before .before .before .before .before .before .before .before .before .before .before .before .before .before .before .before .before .before .before .before .before .before .good)
 
 -- src/lib.rt:127:5
 loop-less-2 : tie.Need-loop-less-2 Inv-loop μ-loop
@@ -275,12 +296,12 @@ loop-again-2 c = let l = c .before .before .before .before .before .before .befo
     (bound (c .before .before .before .before .before .before .before .before .before .before .before .before .before .before .before .before .before .before .loop-test .taken), l .inv .1, moved-unbroken _ (l .inv .2) (a .0) g _ (h .result) _ _ (busy-at (c .before .before .before .before .before .before)) (h .ensures), move _ _ _ _ _ (l .inv .3) (l .inv .1) (c .before .before .before .before .before .before .before .before .before .before .before .before .before .before .before .before .before .before .loop-test .taken) (e .result) (e .ensures) (a .0) (a .1 .0) (asks-at (c .before .before .before .before .before .before .before .before .before .before .before .before)) (v .result) g (v .ensures) (c .before .before .before .before .before .before .before .verdict3 .given .0 .0) (c .before .before .before .before .spot .result) (h .result) (moves-at (c .before .before .before .before .before .before)) (spot-at (c .before .before .before .before)) (h .ensures))
 
 -- src/lib.rt:162:5
-ran-requires-6 : tie.Need-ran-requires-6 Inv-loop μ-loop
-ran-requires-6 c κs = search needs
+ran-requires-7 : tie.Need-ran-requires-7 Inv-loop μ-loop
+ran-requires-7 c κs = search needs
 
 -- src/lib.rt:109:1
-returns-6 : tie.Need-returns-6 Inv-loop μ-loop
-returns-6 c = c .ran6 .ensures ∙ ended _ _ _ _ _ (c .before .before .loop .inv .3) (c .before .before .loop .inv .1) (c .before .loop-test .left)
+returns-7 : tie.Need-returns-7 Inv-loop μ-loop
+returns-7 c = c .ran7 .ensures ∙ ended _ _ _ _ _ (c .before .before .loop .inv .3) (c .before .before .loop .inv .1) (c .before .loop-test .left)
 
 pub run-spec : {M : Type 1} → statement M
 run-spec =
@@ -293,6 +314,11 @@ run-spec =
     returns
     ran-requires-2
     returns-2
+    search-requires
+    enum-known-place
+    ran-requires-3
+    returns-3
+    enum-told
     loop-holds
     mul-entry-of
     mul-entry-of-2
@@ -303,17 +329,17 @@ run-spec =
     shared-slice-read-entry-of-2
     entry-of-requires
     enum-known-worker
-    enum-told
-    ran-requires-3
-    returns-3
+    enum-told-2
     ran-requires-4
     returns-4
+    ran-requires-5
+    returns-5
     mul-record
     array-copy-out-record
     verdict-of-requires
     enum-known-verdict
-    ran-requires-5
-    returns-5
+    ran-requires-6
+    returns-6
     enum-known-verdict-2
     first-place-requires
     mul-workers
@@ -335,5 +361,5 @@ run-spec =
     add-i-2
     loop-less-2
     loop-again-2
-    ran-requires-6
-    returns-6)
+    ran-requires-7
+    returns-7)

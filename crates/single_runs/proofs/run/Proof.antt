@@ -7,12 +7,13 @@ use Rattle.queue_entries.specs.declared.Entry.the-variants.{Asks}
 use Rattle.single_machine.specs.Machine.{machineOf}
 use Rattle.single_machine.specs.Turn.{begun, stored}
 use Rattle.single_machine.specs.Run.{runOf}
-use Rattle.single_runs.proofs.Turns.{Stand, broken-run, odd-run, first-stand, ended, stop-9, stop-3, stop, start, move, in-time, worker-below}
+use Rattle.single_runs.proofs.Turns.{Stand, broken-run, odd-run, unread-run, first-stand, ended, stop-9, stop-3, stop, start, move, in-time, worker-below}
 use Rattle.single_runs.proofs.run.Statement.{statement}
 use Rattle.single_runs.proofs.run.Tie as tie
 use Rattle.single_runs.proofs.run.Reads as reads
 use Rattle.single_runs.proofs.run.Lts as lts
 use Rattle.queue_entries.proofs.entry_of.Reads as entry-of-reads
+use Rattle.queue_entries.proofs.search.Reads as search-reads
 use Rattle.single_acts.proofs.act_at.Reads as act-at-reads
 use Rattle.single_machine.proofs.broken.Reads as broken-reads
 use Rattle.single_machine.proofs.verdict_of.Reads as verdict-of-reads
@@ -26,7 +27,7 @@ Inv-loop schedule single₀ workers₀ count meter₀ n i₀ single workers mete
 abbrev μ-loop : tie.MeasureT-loop
 μ-loop schedule single₀ workers₀ count meter₀ n i₀ single workers meter i = n - i
 
-asks-at : (c : tie.After-known-told Inv-loop μ-loop) → c .before .before .before .entry-of .result ≡ Asks (c .before .worker .given .0 .0) (c .before .worker .given .0 .1 .0)
+asks-at : (c : tie.After-known-told2 Inv-loop μ-loop) → c .before .before .before .entry-of .result ≡ Asks (c .before .worker .given .0 .0) (c .before .worker .given .0 .1 .0)
 asks-at c = search needs
 
 worker-at : (c : tie.Else3 Inv-loop μ-loop) → c .before .before .worker .given .0 .0 < workersMost
@@ -52,9 +53,29 @@ ran-requires-2 c κs = search needs
 returns-2 : tie.Need-returns-2 Inv-loop μ-loop
 returns-2 c = c .ran2 .ensures ∙ odd-run _ _ (c .before .before .before .broken .result) (c .before .before .before .broken .ensures) (c .before .before .if1 .left) (c .before .if2 .taken)
 
+-- src/lib.rt:58:11
+search-requires : tie.Need-search-requires Inv-loop μ-loop
+search-requires c κs = search needs
+
+-- src/lib.rt:59:9
+enum-known-place : tie.Need-enum-known-place Inv-loop μ-loop
+enum-known-place c = search needs
+
+-- src/lib.rt:60:13
+ran-requires-3 : tie.Need-ran-requires-3 Inv-loop μ-loop
+ran-requires-3 c κs = search needs
+
+-- src/lib.rt:60:13
+returns-3 : tie.Need-returns-3 Inv-loop μ-loop
+returns-3 c = c .ran3 .ensures ∙ unread-run _ _ (c .before .before .before .before .before .before .before .broken .result) (c .before .before .before .before .before .before .before .broken .ensures) (c .before .before .before .before .before .before .if1 .left) (c .before .before .before .before .before .if2 .left) (c .before .before .before .before .search .result) (c .before .before .before .before .search .ensures) _ (search needs)
+
+-- src/lib.rt:58:5
+enum-told : tie.Need-enum-told Inv-loop μ-loop
+enum-told c = search needs
+
 -- src/lib.rt:50:5
 loop-holds : tie.Need-loop-holds Inv-loop μ-loop
-loop-holds c = first-stand _ _ (c .before .before .broken .result) (c .before .before .broken .ensures) (c .before .if1 .left) _ (omega arith)
+loop-holds c = first-stand _ _ (c .before .before .before .before .before .broken .result) (c .before .before .before .before .before .broken .ensures) (c .before .before .before .before .if1 .left) (c .before .before .before .if2 .left) _ (omega arith) (c .before .before .search .result) (c .before .before .search .ensures) (search needs)
 
 -- src/lib.rt:52:22
 mul-entry-of : tie.Need-mul-entry-of Inv-loop μ-loop
@@ -93,24 +114,24 @@ enum-known-worker : tie.Need-enum-known-worker Inv-loop μ-loop
 enum-known-worker c = search needs
 
 -- src/lib.rt:55:38
-enum-told : tie.Need-enum-told Inv-loop μ-loop
-enum-told c = search needs
+enum-told-2 : tie.Need-enum-told-2 Inv-loop μ-loop
+enum-told-2 c = search needs
 
 -- src/lib.rt:55:13
-ran-requires-3 : tie.Need-ran-requires-3 Inv-loop μ-loop
-ran-requires-3 c κs = search needs
-
--- src/lib.rt:55:13
-returns-3 : tie.Need-returns-3 Inv-loop μ-loop
-returns-3 c = c .ran3 .ensures ∙ stop-9 _ _ _ _ _ (c .before .before .before .before .before .before .before .loop .inv) (c .before .before .before .before .before .before .loop-test .taken) (c .before .before .before .entry-of .result) (c .before .before .before .entry-of .ensures) (search needs)
-
--- src/lib.rt:58:13
 ran-requires-4 : tie.Need-ran-requires-4 Inv-loop μ-loop
 ran-requires-4 c κs = search needs
 
--- src/lib.rt:58:13
+-- src/lib.rt:55:13
 returns-4 : tie.Need-returns-4 Inv-loop μ-loop
-returns-4 c = c .ran4 .ensures ∙ stop-3 _ _ _ _ _ (c .before .before .before .before .before .before .before .before .before .loop .inv) (c .before .before .before .before .before .before .before .before .loop-test .taken) (c .before .before .before .before .before .entry-of .result) (c .before .before .before .before .before .entry-of .ensures) (c .before .before .before .worker .given .0 .0) (c .before .before .before .worker .given .0 .1 .0) (asks-at (c .before .before)) (c .before .if3 .taken)
+returns-4 c = c .ran4 .ensures ∙ stop-9 _ _ _ _ _ (c .before .before .before .before .before .before .before .loop .inv) (c .before .before .before .before .before .before .loop-test .taken) (c .before .before .before .entry-of .result) (c .before .before .before .entry-of .ensures) (search needs)
+
+-- src/lib.rt:58:13
+ran-requires-5 : tie.Need-ran-requires-5 Inv-loop μ-loop
+ran-requires-5 c κs = search needs
+
+-- src/lib.rt:58:13
+returns-5 : tie.Need-returns-5 Inv-loop μ-loop
+returns-5 c = c .ran5 .ensures ∙ stop-3 _ _ _ _ _ (c .before .before .before .before .before .before .before .before .before .loop .inv) (c .before .before .before .before .before .before .before .before .loop-test .taken) (c .before .before .before .before .before .entry-of .result) (c .before .before .before .before .before .entry-of .ensures) (c .before .before .before .worker .given .0 .0) (c .before .before .before .worker .given .0 .1 .0) (asks-at (c .before .before)) (c .before .if3 .taken)
 
 -- src/lib.rt:61:22
 mul-record : tie.Need-mul-record Inv-loop μ-loop
@@ -129,12 +150,12 @@ enum-known-verdict : tie.Need-enum-known-verdict Inv-loop μ-loop
 enum-known-verdict c = search needs
 
 -- src/lib.rt:66:17
-ran-requires-5 : tie.Need-ran-requires-5 Inv-loop μ-loop
-ran-requires-5 c κs = search needs
+ran-requires-6 : tie.Need-ran-requires-6 Inv-loop μ-loop
+ran-requires-6 c κs = search needs
 
 -- src/lib.rt:66:17
-returns-5 : tie.Need-returns-5 Inv-loop μ-loop
-returns-5 c = c .ran5 .ensures ∙ stop _ _ _ _ _ (c .before .before .before .before .before .before .before .before .before .before .before .before .before .before .loop .inv) (c .before .before .before .before .before .before .before .before .before .before .before .before .before .loop-test .taken) (c .before .before .before .before .before .before .before .before .before .before .entry-of .result) (c .before .before .before .before .before .before .before .before .before .before .entry-of .ensures) (c .before .before .before .before .before .before .before .before .worker .given .0 .0) (c .before .before .before .before .before .before .before .before .worker .given .0 .1 .0) (asks-at (c .before .before .before .before .before .before .before)) (c .before .before .before .before .before .before .if3 .left) (c .before .before .before .before .verdict-of .result) (c .before .before .before .before .verdict-of .ensures) (c .before .before .verdict .given .0 .0) (search needs)
+returns-6 : tie.Need-returns-6 Inv-loop μ-loop
+returns-6 c = c .ran6 .ensures ∙ stop _ _ _ _ _ (c .before .before .before .before .before .before .before .before .before .before .before .before .before .before .loop .inv) (c .before .before .before .before .before .before .before .before .before .before .before .before .before .loop-test .taken) (c .before .before .before .before .before .before .before .before .before .before .entry-of .result) (c .before .before .before .before .before .before .before .before .before .before .entry-of .ensures) (c .before .before .before .before .before .before .before .before .worker .given .0 .0) (c .before .before .before .before .before .before .before .before .worker .given .0 .1 .0) (asks-at (c .before .before .before .before .before .before .before)) (c .before .before .before .before .before .before .if3 .left) (c .before .before .before .before .verdict-of .result) (c .before .before .before .before .verdict-of .ensures) (c .before .before .verdict .given .0 .0) (search needs)
 
 -- src/lib.rt:68:28
 enum-known-verdict-2 : tie.Need-enum-known-verdict-2 Inv-loop μ-loop
@@ -166,8 +187,8 @@ unfolding begun
 loop-again c = start _ _ _ _ _ (c .before .before .before .before .before .before .before .before .before .before .before .before .before .before .loop .inv) (c .before .before .before .before .before .before .before .before .before .before .before .before .before .loop-test .taken) (c .before .before .before .before .before .before .before .before .before .before .entry-of .result) (c .before .before .before .before .before .before .before .before .before .before .entry-of .ensures) (c .before .before .before .before .before .before .before .before .worker .given .0 .0) (c .before .before .before .before .before .before .before .before .worker .given .0 .1 .0) (asks-at (c .before .before .before .before .before .before .before)) (c .before .before .before .before .before .before .if3 .left) (c .before .before .before .before .verdict-of .result) (c .before .before .before .before .verdict-of .ensures) (c .before .before .verdict2 .given .0 .0) _ (search needs) (c .first-place .ensures)
 
 -- src/lib.rt:75:21
-enum-told-2 : tie.Need-enum-told-2 Inv-loop μ-loop
-enum-told-2 c = search needs
+enum-told-3 : tie.Need-enum-told-3 Inv-loop μ-loop
+enum-told-3 c = search needs
 
 -- src/lib.rt:75:21
 act-at-requires : tie.Need-act-at-requires Inv-loop μ-loop
@@ -183,7 +204,7 @@ array-set-from-workers-2 c = worker-at (c .before .before .before .before .befor
 
 -- src/lib.rt:79:17
 add-meter : tie.Need-add-meter Inv-loop μ-loop
-add-meter c = let h = in-time _ _ _ _ _ (c .before .before .before .before .before .before .before .before .before .before .before .before .before .before .loop .inv) (c .before .before .before .before .before .before .before .before .before .before .before .before .before .loop-test .taken) (c .before .before .before .before .before .before .before .before .before .before .entry-of .result) (c .before .before .before .before .before .before .before .before .before .before .entry-of .ensures) (c .before .before .before .before .before .before .before .before .worker .given .0 .0) (c .before .before .before .before .before .before .before .before .worker .given .0 .1 .0) (asks-at (c .before .before .before .before .before .before .before)) (c .before .before .before .before .before .before .if3 .left) (c .before .before .before .before .verdict-of .result) (c .before .before .before .before .verdict-of .ensures) (c .before .before .enum-told2 .given .0 .0) (c .before .before .enum-told2 .given .1) in omega arith
+add-meter c = let h = in-time _ _ _ _ _ (c .before .before .before .before .before .before .before .before .before .before .before .before .before .before .loop .inv) (c .before .before .before .before .before .before .before .before .before .before .before .before .before .loop-test .taken) (c .before .before .before .before .before .before .before .before .before .before .entry-of .result) (c .before .before .before .before .before .before .before .before .before .before .entry-of .ensures) (c .before .before .before .before .before .before .before .before .worker .given .0 .0) (c .before .before .before .before .before .before .before .before .worker .given .0 .1 .0) (asks-at (c .before .before .before .before .before .before .before)) (c .before .before .before .before .before .before .if3 .left) (c .before .before .before .before .verdict-of .result) (c .before .before .before .before .verdict-of .ensures) (c .before .before .enum-told3 .given .0 .0) (c .before .before .enum-told3 .given .1) in omega arith
 
 -- src/lib.rt:80:17
 add-i-2 : tie.Need-add-i-2 Inv-loop μ-loop
@@ -196,15 +217,15 @@ loop-less-2 c = search needs
 -- src/lib.rt:50:5
 loop-again-2 : tie.Need-loop-again-2 Inv-loop μ-loop
 unfolding stored
-loop-again-2 c = move _ _ _ _ _ (c .before .before .before .before .before .before .before .before .before .before .before .before .before .before .loop .inv) (c .before .before .before .before .before .before .before .before .before .before .before .before .before .loop-test .taken) (c .before .before .before .before .before .before .before .before .before .before .entry-of .result) (c .before .before .before .before .before .before .before .before .before .before .entry-of .ensures) (c .before .before .before .before .before .before .before .before .worker .given .0 .0) (c .before .before .before .before .before .before .before .before .worker .given .0 .1 .0) (asks-at (c .before .before .before .before .before .before .before)) (c .before .before .before .before .before .before .if3 .left) (c .before .before .before .before .verdict-of .result) (c .before .before .before .before .verdict-of .ensures) (c .before .before .enum-told2 .given .0 .0) (c .before .act-at .result) (c .before .before .enum-told2 .given .1) (c .before .act-at .ensures)
+loop-again-2 c = move _ _ _ _ _ (c .before .before .before .before .before .before .before .before .before .before .before .before .before .before .loop .inv) (c .before .before .before .before .before .before .before .before .before .before .before .before .before .loop-test .taken) (c .before .before .before .before .before .before .before .before .before .before .entry-of .result) (c .before .before .before .before .before .before .before .before .before .before .entry-of .ensures) (c .before .before .before .before .before .before .before .before .worker .given .0 .0) (c .before .before .before .before .before .before .before .before .worker .given .0 .1 .0) (asks-at (c .before .before .before .before .before .before .before)) (c .before .before .before .before .before .before .if3 .left) (c .before .before .before .before .verdict-of .result) (c .before .before .before .before .verdict-of .ensures) (c .before .before .enum-told3 .given .0 .0) (c .before .act-at .result) (c .before .before .enum-told3 .given .1) (c .before .act-at .ensures)
 
 -- src/lib.rt:84:5
-ran-requires-6 : tie.Need-ran-requires-6 Inv-loop μ-loop
-ran-requires-6 c κs = search needs
+ran-requires-7 : tie.Need-ran-requires-7 Inv-loop μ-loop
+ran-requires-7 c κs = search needs
 
 -- src/lib.rt:35:1
-returns-6 : tie.Need-returns-6 Inv-loop μ-loop
-returns-6 c = c .ran6 .ensures ∙ ended _ _ _ _ _ (c .before .before .loop .inv) (c .before .loop-test .left)
+returns-7 : tie.Need-returns-7 Inv-loop μ-loop
+returns-7 c = c .ran7 .ensures ∙ ended _ _ _ _ _ (c .before .before .loop .inv) (c .before .loop-test .left)
 
 pub run-spec : {M : Type 1} → statement M
 run-spec =
@@ -217,6 +238,11 @@ run-spec =
     returns
     ran-requires-2
     returns-2
+    search-requires
+    enum-known-place
+    ran-requires-3
+    returns-3
+    enum-told
     loop-holds
     mul-entry-of
     mul-entry-of-2
@@ -227,17 +253,17 @@ run-spec =
     shared-slice-read-entry-of-2
     entry-of-requires
     enum-known-worker
-    enum-told
-    ran-requires-3
-    returns-3
+    enum-told-2
     ran-requires-4
     returns-4
+    ran-requires-5
+    returns-5
     mul-record
     array-copy-out-record
     verdict-of-requires
     enum-known-verdict
-    ran-requires-5
-    returns-5
+    ran-requires-6
+    returns-6
     enum-known-verdict-2
     first-place-requires
     mul-workers
@@ -245,7 +271,7 @@ run-spec =
     add-i
     loop-less
     loop-again
-    enum-told-2
+    enum-told-3
     act-at-requires
     mul-workers-2
     array-set-from-workers-2
@@ -253,5 +279,5 @@ run-spec =
     add-i-2
     loop-less-2
     loop-again-2
-    ran-requires-6
-    returns-6)
+    ran-requires-7
+    returns-7)

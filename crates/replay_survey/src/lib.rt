@@ -1,0 +1,127 @@
+// A schedule read once before it is run: whether every number is one, how many there are, and the first entry that can't be read.
+use queue_entries::Finding;
+use replay_input::source::Reading;
+
+pub struct Survey {
+    pub reading: Reading,
+    // the pairs so far, of which the first makes the machine, and whether a number is left over: 1 or 0
+    pub pairs: u64,
+    pub left: usize,
+    // the place of the first entry that can't be read, once there is one
+    pub unread: bool,
+    pub place: u64,
+}
+
+// What is refused of the whole schedule on a machine that is not broken: 11, or 9 with its place; 0 is nothing.
+pub struct Whole {
+    pub refusal: u64,
+    pub place: u64,
+}
+
+// The k-th entry among those after so many pairs.
+fn place_of(pairs: u64, k: u64) -> u64 {
+    if pairs == 0 {
+        return k;
+    }
+    std::num::wrapping_add_u64(pairs - 1, k)
+}
+
+// Of a list of pairs that follow so many.
+fn entries_of(pairs: u64, list: &[u64]) -> &[u64] {
+    if pairs == 0 {
+        if 2 <= list.len() {
+            return &list[2..];
+        }
+    }
+    list
+}
+
+fn searched(s: Survey, list: &[u64]) -> Survey {
+    let mut after = s;
+    after.pairs = std::num::wrapping_add_u64(s.pairs, (list.len() / 2) as u64);
+    if s.unread {
+        return after;
+    }
+    match queue_entries::search(entries_of(s.pairs, list)) {
+        Finding::UnreadableAt(k) => {
+            after.unread = true;
+            after.place = place_of(s.pairs, k as u64);
+        }
+        Finding::AllRead => {}
+    }
+    after
+}
+
+// The pairs among the first n numbers of the list.
+fn with_pairs(s: Survey, list: &[u64], n: usize) -> Survey {
+    let even = n - n % 2;
+    if list.len() < even {
+        return s;
+    }
+    let pairs = &list[..even];
+    searched(s, pairs)
+}
+
+fn turn(fd: i32, many: bool, s: Survey, bytes: &mut [u8], list: &mut [u64]) -> Survey {
+    let r = replay_input::source::turn(fd, many, s.reading, bytes, list, s.left);
+    let mut after = with_pairs(s, list, r.count);
+    after.reading = r;
+    after.left = replay_input::source::carry(list, r.count);
+    after
+}
+
+fn survey_in(fd: i32, many: bool, begin: Survey, bytes: &mut [u8], list: &mut [u64]) -> Survey {
+    let mut s = begin;
+    let mut event = text_numbers::NOTHING;
+    let mut turns = u64::MAX;
+    while turns > 0 && event == text_numbers::NOTHING {
+        s = turn(fd, many, s, bytes, list);
+        let r = s.reading;
+        event = r.event;
+        turns -= 1;
+    }
+    s
+}
+
+// Of the schedule that begins at this offset and line; so many numbers, each 1, are put before it: none or one.
+pub fn surveyed(fd: i32, many: bool, before: usize, offset: u64, line: u64) -> Survey {
+    let mut bytes = [0u8; replay_input::source::BYTES];
+    let mut list = [1u64; replay_input::source::NUMBERS];
+    let begin = Survey {
+        reading: replay_input::source::start(offset, line),
+        pairs: 0,
+        left: before,
+        unread: false,
+        place: 0,
+    };
+    survey_in(fd, many, begin, &mut bytes, &mut list)
+}
+
+fn numbers(s: Survey) -> u64 {
+    if s.pairs == 0 { s.left as u64 } else { 2 }
+}
+
+// Says what is wrong, and answers whether nothing is.
+pub fn is_sound(s: Survey, name: &[u8]) -> bool {
+    replay_input::say::is_sound(b"replay", name, s.reading, numbers(s))
+}
+
+// "11, 9, then entry by entry"
+pub fn refused_whole(s: Survey) -> Whole {
+    if s.left == 1 {
+        return Whole {
+            refusal: 11,
+            place: 0,
+        };
+    }
+    if s.unread {
+        return Whole {
+            refusal: 9,
+            place: s.place,
+        };
+    }
+    Whole {
+        refusal: 0,
+        place: 0,
+    }
+}
