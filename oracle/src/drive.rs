@@ -76,7 +76,17 @@ pub struct Run {
 impl Run {
     pub fn new(queue: Queue, module: Option<Module>, batch: usize, save: PathBuf) -> Run {
         let tally = Tally::new(queue);
-        Run { queue, module, batch, save, show: Show::default(), tally, waiting: Vec::new(), expected: Vec::new(), entries: 0 }
+        Run {
+            queue,
+            module,
+            batch,
+            save,
+            show: Show::default(),
+            tally,
+            waiting: Vec::new(),
+            expected: Vec::new(),
+            entries: 0,
+        }
     }
 
     /// Whether several schedules go to one process, so that short ones cost little.

@@ -184,18 +184,18 @@ part-read (x ∷ ws) (suc w) = omega (arith, part-read ws w)
 none-read : (ws : List Worker) → ((w : ℕ) → unread (placeOf ws w) ≡ false) → unreadBy ws ≡ 0
 unfolding unreadBy
 none-read [] none = refl
-none-read (x ∷ ws) none = rw (none 0) (none-read ws (λ w. none (suc w)))
+none-read (x ∷ ws) none = omega (arith, ap one (none 0), none-read ws (λ w. none (suc w)))
 
 idlers-read : (n : ℕ) → unreadBy (replicate n idler) ≡ 0
 unfolding unreadBy
 idlers-read zero = refl
-idlers-read (suc n) = idlers-read n
+idlers-read (suc n) = omega (arith, idlers-read n)
 
 -- one of them made idle
 less-one : (ws : List Worker) (v : ℕ) → unreadBy ws ≤ unreadBy (set ws v idler) + 1
 unfolding unreadBy
 less-one [] v = omega arith
-less-one (x ∷ ws) zero = either (λ (k : ℕ). k + unreadBy ws ≤ unreadBy ws + 1) (unread (x .place)) 1 0 (λ z. omega arith) (λ z. omega arith)
+less-one (x ∷ ws) zero = either (λ (k : ℕ). k + unreadBy ws ≤ 0 + unreadBy ws + 1) (unread (x .place)) 1 0 (λ z. omega arith) (λ z. omega arith)
 less-one (x ∷ ws) (suc v) = omega (arith, less-one ws v)
 
 others-read : (ws : List Worker) (v w : ℕ) → unread (placeOf (set ws v idler) w) ≡ true → (w ≢ v) × (unread (placeOf ws w) ≡ true)
@@ -296,12 +296,12 @@ module _ (c n workers : ℕ) (base : Base c n workers) where
     kept : Kept (stood m w) (stood next w)
     kept = subst (Kept (stood m w)) (sym went) (act-kept (m .ring .fixed) (m .ring .ends) _ (stood m w) lose)
 
+    set-there : unreadBy (next .workers) + one (unread (stood m w)) ≡ unreadBy (m .workers) + one (unread (result c n workers base (o .behind .ring) m pic w l lose busy .place))
+    unfolding actedBy stored
+    set-there = set-read (m .workers) w (result c n workers base (o .behind .ring) m pic w l lose busy .place) seat
+
     moved-read : unreadBy (next .workers) + one (unread (stood m w)) ≡ unreadBy (m .workers) + one (unread (stood next w))
-    moved-read = subst (λ (q : Place). unreadBy (next .workers) + one (unread (stood m w)) ≡ unreadBy (m .workers) + one (unread q)) (sym went) there
-      where
-        there : unreadBy (next .workers) + one (unread (stood m w)) ≡ unreadBy (m .workers) + one (unread (result c n workers base (o .behind .ring) m pic w l lose busy .place))
-        unfolding actedBy stored
-        there = set-read (m .workers) w (result c n workers base (o .behind .ring) m pic w l lose busy .place) seat
+    moved-read = subst (λ (q : Place). unreadBy (next .workers) + one (unread (stood m w)) ≡ unreadBy (m .workers) + one (unread q)) (sym went) set-there
 
     -- the tally with one act more
     abbrev t : Tally
@@ -444,7 +444,7 @@ stock-stands capacity workers edition a s =
     (along (Shelved capacity n workers base) (shelved-kept capacity n workers base) s (freshOf capacity workers edition) [] 0
     (record {
       behind = fresh-reached capacity workers edition a;
-      balance = sym (fresh-read capacity workers edition);
+      balance = omega (arith, fresh-read capacity workers edition);
       rises = λ earlier later act e. absurd (nil-split earlier act later e);
       falls = λ earlier later act t e. absurd (nil-split earlier act later e);
       stays = λ earlier later act e. absurd (nil-split earlier act later e);
