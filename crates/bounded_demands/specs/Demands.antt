@@ -287,7 +287,7 @@ StockByHands count m h = count h ≡ untakenOf (tally h) + unreadBy (m .workers)
 abbrev pub StockIsNumber : (List Event → ℕ) → Machine → List Event → Type 0
 StockIsNumber count m h = allIdle (m .workers) ≡ true → (count h ≡ length (contentsOf m)) × (count h ≡ untakenOf (tally h))
 
--- It is never above capacity plus the number of workers, and no more of them count than there are slots. `MostStock` shows that no lower bound holds.
+-- It is never above capacity plus the number of workers, and no more of them count than there are slots. `MostStock` has rings that reach it.
 abbrev pub StockMost : (List Event → ℕ) → ℕ → ℕ → List Event → Type 0
 StockMost count capacity workers h = count h ≤ capacity + lesser capacity workers
 
