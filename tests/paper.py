@@ -299,6 +299,19 @@ FIRST_PLACES = {
 }
 
 
+# Stock (document 02, item 4), of a machine that a schedule reached: not counted act by act, but from what the acts leave. The claims between the words
+# of head and tail, and the workers that have claimed at head and not yet read.
+
+def claims(ring, word):
+    return word // ring.lap * ring.capacity + index(ring, word)
+
+
+def stock(machine):
+    ring = machine.ring
+    unread = sum(worker.place in ('O4', 'F7', 'F8') for worker in machine.workers)
+    return claims(ring, unmarked(ring, ring.tail)) - claims(ring, ring.head) + unread
+
+
 # "Broken", under Eleven ways to be turned away
 
 def index_amiss(ring, word):

@@ -1,7 +1,7 @@
 //! Runs schedules through the module under test and compares its output with the judge's.
 
 use crate::queue::Queue;
-use crate::schedule::{self, run, Schedule};
+use crate::schedule::{self, run, Schedule, Show};
 use crate::tally::Tally;
 use std::fs;
 use std::io::{Read, Write};
@@ -66,6 +66,7 @@ pub struct Run {
     pub batch: usize,
     /// Where a difference is kept.
     pub save: PathBuf,
+    pub show: Show,
     pub tally: Tally,
     waiting: Vec<Schedule>,
     expected: Vec<String>,
@@ -75,7 +76,17 @@ pub struct Run {
 impl Run {
     pub fn new(queue: Queue, module: Option<Module>, batch: usize, save: PathBuf) -> Run {
         let tally = Tally::new(queue);
-        Run { queue, module, batch, save, tally, waiting: Vec::new(), expected: Vec::new(), entries: 0 }
+        Run {
+            queue,
+            module,
+            batch,
+            save,
+            show: Show::default(),
+            tally,
+            waiting: Vec::new(),
+            expected: Vec::new(),
+            entries: 0,
+        }
     }
 
     /// Whether several schedules go to one process, so that short ones cost little.
@@ -84,7 +95,7 @@ impl Run {
     }
 
     pub fn add(&mut self, schedule: Schedule) -> Result<(), String> {
-        let expected = run(&schedule, false, &mut self.tally);
+        let expected = run(&schedule, self.show, &mut self.tally);
         if self.module.is_none() {
             return Ok(());
         }
@@ -117,11 +128,11 @@ impl Run {
 
     /// Keeps the smallest prefix that shows the difference, and says where.
     fn difference(&self, module: &Module, schedule: &Schedule, batch: &[Schedule]) -> Result<String, String> {
-        let Some(smallest) = smallest(module, schedule)? else {
+        let Some(smallest) = smallest(module, schedule, self.show)? else {
             self.keep("batch.in", &schedule::join(batch))?;
             return Ok("the module differs, but only after the schedules before it: batch.in is the whole batch".into());
         };
-        let expected = expected(&smallest);
+        let expected = expected(&smallest, self.show);
         let printed = module.output(&smallest)?;
         self.keep("difference.in", &smallest.text())?;
         self.keep("difference.expected", &expected)?;
@@ -139,14 +150,15 @@ impl Run {
     }
 }
 
-fn expected(schedule: &Schedule) -> String {
-    run(schedule, false, &mut Tally::new(schedule.making.queue()))
+fn expected(schedule: &Schedule, show: Show) -> String {
+    run(schedule, show, &mut Tally::new(schedule.making.queue()))
 }
 
 /// The smallest prefix after which the module differs, by halving: it differs, and one entry less does not. None if the module
 /// does not differ on the schedule alone.
-fn smallest(module: &Module, schedule: &Schedule) -> Result<Option<Schedule>, String> {
-    let differs = |schedule: &Schedule| -> Result<bool, String> { Ok(module.output(schedule)? != expected(schedule)) };
+fn smallest(module: &Module, schedule: &Schedule, show: Show) -> Result<Option<Schedule>, String> {
+    let differs =
+        |schedule: &Schedule| -> Result<bool, String> { Ok(module.output(schedule)? != expected(schedule, show)) };
     if !differs(schedule)? {
         return Ok(None);
     }

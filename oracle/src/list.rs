@@ -4,7 +4,7 @@ use crate::interleaved::{self, refused_whole};
 use crate::machine::Machine;
 use crate::queue::{Facts, Making, Queue};
 use crate::random::Random;
-use crate::schedule::{join, run, Schedule, SEPARATOR};
+use crate::schedule::{join, run, Schedule, Show, SEPARATOR};
 use crate::sequential::{self, whole_call};
 use crate::tally::Tally;
 
@@ -65,7 +65,7 @@ fn any(random: &mut Random, making: Making) -> Vec<Schedule> {
 }
 
 fn judged(schedules: &[Schedule], tally: &mut Tally) -> String {
-    schedules.iter().map(|schedule| run(schedule, false, tally) + SEPARATOR + "\n").collect()
+    schedules.iter().map(|schedule| run(schedule, Show::default(), tally) + SEPARATOR + "\n").collect()
 }
 
 fn header(queue: Queue, seed: u64) -> String {

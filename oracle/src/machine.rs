@@ -40,6 +40,7 @@ pub struct Machine {
     queue: *mut dyn Source,
     workers: Vec<Worker>,
     meter: u64,
+    stock: u64,
     pub tally: Tally,
 }
 
@@ -50,6 +51,7 @@ impl Machine {
             queue: Box::into_raw(source),
             workers: (0..workers).map(|_| Worker::new()).collect(),
             meter: 0,
+            stock: 0,
             tally: Tally::new(making.queue()),
         })
     }
@@ -69,6 +71,11 @@ impl Machine {
 
     pub fn meter(&self) -> u64 {
         self.meter
+    }
+
+    /// The items claimed at tail whose value is not yet read out.
+    pub fn stock(&self) -> u64 {
+        self.stock
     }
 
     pub fn workers(&self) -> usize {
@@ -134,6 +141,7 @@ impl Machine {
         stage::let_lose(lose);
         self.workers[worker].coroutine.resume();
         self.count_act(place, pending.action, lose, &seen);
+        self.count_stock(pending.action, &seen);
         seen.note(pending, stage::met());
         self.settle(worker, call, seen);
         Ok(())
@@ -171,6 +179,16 @@ impl Machine {
             Action::Store(Word::Tail, _) | Action::FetchAdd(Word::Tail, _) if seen.tail != Some(met.found as u64) => {
                 self.tally.closes_met += 1;
             }
+            _ => {}
+        }
+    }
+
+    /// Tail is claimed by a won exchange and by the store of F7; a value is read by the call that won head.
+    fn count_stock(&mut self, action: Action, seen: &Seen) {
+        match action {
+            Action::WeakExchange(Word::Tail, ..) if stage::met().won => self.stock += 1,
+            Action::Store(Word::Tail, _) | Action::FetchAdd(Word::Tail, _) => self.stock += 1,
+            Action::Value(_) if seen.won == Some(Word::Head) => self.stock -= 1,
             _ => {}
         }
     }

@@ -3,7 +3,7 @@
 use oracle::drive::{first_difference, Module, Run};
 use oracle::exhaustive::Extent;
 use oracle::queue::Queue;
-use oracle::schedule::{run, split, Schedule, SEPARATOR};
+use oracle::schedule::{run, split, Schedule, Show, SEPARATOR};
 use oracle::tally::Tally;
 use oracle::{exhaustive, interleaved, list, sequential};
 use std::io::Read;
@@ -13,7 +13,7 @@ use std::time::Instant;
 use std::{env, fs};
 
 const USAGE: &str =
-    "Each command takes --queue bounded|single, bounded unless told, and for that one --edition N, 1 unless told.
+    "Each command takes --queue bounded|single, bounded unless told, and for that one --edition N, 1 unless told, and, but for list, --stock.
 judge expect FILE|- [--quiet] [--many]
 judge sequential --calls N --seed S [--module CMD [--many]] [--batch ENTRIES] [--save DIR]
 judge interleaved --acts N --seed S [--closing] [--module CMD [--many]] [--batch ENTRIES] [--save DIR]
@@ -66,7 +66,7 @@ impl Options {
         while let Some(argument) = arguments.next() {
             match argument.strip_prefix("--") {
                 None => options.plain.push(argument),
-                Some(flag @ ("quiet" | "many" | "compact" | "closing")) => options.flags.push(flag.into()),
+                Some(flag @ ("quiet" | "many" | "compact" | "closing" | "stock")) => options.flags.push(flag.into()),
                 Some(
                     name @ ("calls" | "acts" | "seed" | "module" | "batch" | "save" | "to" | "depth" | "queue"
                     | "edition"),
@@ -102,6 +102,14 @@ impl Options {
         }
     }
 
+    fn show(&self) -> Result<Show, String> {
+        let stock = self.flag("stock");
+        match self.queue()? {
+            Queue::Single if stock => Err(format!("--stock: the one-slot queue has none\n{USAGE}")),
+            _ => Ok(Show { quiet: self.flag("quiet"), stock }),
+        }
+    }
+
     fn number_or(&self, name: &str, default: u64) -> Result<u64, String> {
         self.value(name).map_or(Ok(default), |_| self.number(name))
     }
@@ -123,14 +131,14 @@ fn expect(options: &Options) -> Result<(), String> {
     };
     let text = read(path)?;
     let queue = options.queue()?;
-    let quiet = options.flag("quiet");
+    let show = options.show()?;
     let mut tally = Tally::new(queue);
     if !options.flag("many") {
-        print!("{}", run(&Schedule::parse(queue, &text)?, quiet, &mut tally));
+        print!("{}", run(&Schedule::parse(queue, &text)?, show, &mut tally));
         return Ok(());
     }
     for schedule in Schedule::parse_many(queue, &text)? {
-        println!("{}{SEPARATOR}", run(&schedule, quiet, &mut tally));
+        println!("{}{SEPARATOR}", run(&schedule, show, &mut tally));
     }
     Ok(())
 }
@@ -143,6 +151,7 @@ fn driven(options: &Options, drive: impl FnOnce(&mut Run) -> Result<(), String>)
     let batch = options.number_or("batch", 50_000)? as usize;
     let save = options.value("save").unwrap_or("differences").into();
     let mut run = Run::new(options.queue()?, module, batch.max(10), save);
+    run.show = Show { quiet: false, ..options.show()? };
     let start = Instant::now();
     let result = drive(&mut run);
     let seconds = start.elapsed().as_secs_f64();
@@ -183,10 +192,11 @@ fn check_against(options: &Options) -> Result<(), String> {
     if outputs.len() != schedules.len() {
         return Err(format!("{} outputs for {} schedules", outputs.len(), schedules.len()));
     }
+    let show = Show { quiet: false, ..options.show()? };
     let mut tally = Tally::new(queue);
     let mut different = 0;
     for (number, (schedule, output)) in schedules.iter().zip(&outputs).enumerate() {
-        if let Some(lines) = first_difference(&run(schedule, false, &mut tally), output) {
+        if let Some(lines) = first_difference(&run(schedule, show, &mut tally), output) {
             println!("schedule {number}, {lines}");
             different += 1;
         }

@@ -94,13 +94,22 @@ pub fn join<'a>(schedules: impl IntoIterator<Item = &'a Schedule>) -> String {
     texts.join(&format!("{SEPARATOR}\n"))
 }
 
-/// What `replay` must print, with a line for each entry or (quiet) only the report of the whole.
-pub fn run(schedule: &Schedule, quiet: bool, tally: &mut Tally) -> String {
+/// What is printed of the entries.
+#[derive(Clone, Copy, Default)]
+pub struct Show {
+    /// No line for each, one for the whole.
+    pub quiet: bool,
+    /// The stock after each.
+    pub stock: bool,
+}
+
+/// What `replay` must print.
+pub fn run(schedule: &Schedule, show: Show, tally: &mut Tally) -> String {
     tally.schedules += 1;
     let mut out = String::new();
     match Machine::make(schedule.making, schedule.workers) {
         Err(refusal) => refused_making(&mut out, schedule.making.queue(), refusal, tally),
-        Ok(machine) => run_on(machine, schedule, quiet, &mut out, tally),
+        Ok(machine) => run_on(machine, schedule, show, &mut out, tally),
     }
     out
 }
@@ -114,15 +123,15 @@ fn refused_making(out: &mut String, queue: Queue, refusal: Refusal, tally: &mut 
     *out = format!("made {refusal}\n0 6 {words} m=0\n{slots}contents refused 6\n");
 }
 
-fn run_on(mut machine: Machine, schedule: &Schedule, quiet: bool, out: &mut String, tally: &mut Tally) {
+fn run_on(mut machine: Machine, schedule: &Schedule, show: Show, out: &mut String, tally: &mut Tally) {
     out.push_str("made 0\n");
     if let Some((place, refusal)) = refused_whole(schedule) {
         machine.tally.refusal(refusal);
         report(out, place, refusal, &machine);
         out.push('\n');
     } else {
-        let (place, refusal) = run_entries(&mut machine, schedule, quiet, out);
-        if quiet {
+        let (place, refusal) = run_entries(&mut machine, schedule, show, out);
+        if show.quiet {
             report(out, place, refusal, &machine);
             out.push('\n');
         }
@@ -142,12 +151,16 @@ fn refused_whole(schedule: &Schedule) -> Option<(usize, Refusal)> {
 }
 
 /// Entry by entry to the first refusal. The report: that entry's place and refusal, or the count of entries and 0.
-fn run_entries(machine: &mut Machine, schedule: &Schedule, quiet: bool, out: &mut String) -> (usize, Refusal) {
+fn run_entries(machine: &mut Machine, schedule: &Schedule, show: Show, out: &mut String) -> (usize, Refusal) {
     for (place, (first, second)) in schedule.entries().enumerate() {
         let refusal = machine.enter(first, second);
-        if !quiet {
+        if !show.quiet {
             report(out, place, refusal, machine);
             worker(out, machine, first / 16);
+            if show.stock {
+                let _ = write!(out, " stock={}", machine.stock());
+            }
+            out.push('\n');
         }
         if refusal != 0 {
             return (place, refusal);
@@ -166,8 +179,8 @@ fn report(out: &mut String, place: usize, refusal: Refusal, machine: &Machine) {
 
 fn worker(out: &mut String, machine: &Machine, worker: u64) {
     let _ = match machine.state(worker) {
-        Some(state) => writeln!(out, " w{worker}={state}"),
-        None => writeln!(out, " w{worker}=-"),
+        Some(state) => write!(out, " w{worker}={state}"),
+        None => write!(out, " w{worker}=-"),
     };
 }
 

@@ -81,12 +81,12 @@ impl Bench {
         self.0.contents().unwrap_or_else(|refusal| panic!("refused {refusal}"))
     }
 
-    /// Tail claims less head claims: won P3 and done F7, won O3 and F6.
-    fn stock(&self) -> u64 {
-        let tally = &self.0.tally;
-        let won = |kind| tally.times_won(kind);
-        let tail_claims = won(Kind::P3Push) + won(Kind::P3Force) + tally.times_at(Kind::F8);
-        tail_claims - won(Kind::O3) - won(Kind::F6)
+    /// The stock after each of the worker's next acts.
+    fn stocks<const ACTS: usize>(&mut self, worker: u64) -> [u64; ACTS] {
+        std::array::from_fn(|_| {
+            self.act(worker);
+            self.0.stock()
+        })
     }
 }
 
@@ -207,11 +207,25 @@ fn g_before_f7() {
     assert_eq!(bench.ends(), (4, 4));
     assert_eq!(bench.call(1, LEN, 0), "idle:len(0)");
     assert_eq!(bench.call(1, IS_EMPTY, 0), "idle:yes");
-    assert_eq!(bench.stock(), 0);
+    // by request 4
+    assert_eq!(bench.0.stock(), 1);
     bench.begin(1, POP, 0);
     assert_eq!(bench.0.state(1).unwrap().kind, Kind::O1);
     assert_eq!(bench.act(1), "O2(4)");
     assert_eq!(bench.act(1), "O1");
+}
+
+/// Request 4: a tail claim is the act at P3 that wins, and F7; a value is read at O4 and F8.
+#[test]
+fn stock_until_the_read() {
+    let mut bench = Bench::new(1, 2);
+    bench.begin(0, PUSH, 7);
+    assert_eq!(bench.stocks(0), [0, 0, 1, 1, 1], "P1 to P5");
+    bench.begin(0, FORCE_PUSH, 8);
+    assert_eq!(bench.stocks(0), [1, 1, 1, 2, 1, 1], "P1, P2, F6 to F9");
+    bench.begin(1, POP, 0);
+    assert_eq!(bench.stocks(1), [1, 1, 1, 0, 0], "O1 to O5");
+    assert_eq!(bench.contents(), []);
 }
 
 #[test]

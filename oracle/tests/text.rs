@@ -1,11 +1,15 @@
 //! The text that `replay` must print, in the cases that are not entries of an accepted schedule.
 
 use oracle::queue::Queue;
-use oracle::schedule::{run, split, Schedule};
+use oracle::schedule::{run, split, Schedule, Show};
 use oracle::tally::Tally;
 
 fn text(queue: Queue, input: &str, quiet: bool) -> String {
-    run(&Schedule::parse(queue, input).unwrap(), quiet, &mut Tally::new(queue))
+    shown(queue, input, Show { quiet, stock: false })
+}
+
+fn shown(queue: Queue, input: &str, show: Show) -> String {
+    run(&Schedule::parse(queue, input).unwrap(), show, &mut Tally::new(queue))
 }
 
 fn printed(input: &str) -> String {
@@ -84,6 +88,24 @@ fn code_9() {
     let raced = "2 2 0 5 8 0 8 0 16 6 24 0 24 0 24 0 9 0";
     assert_eq!(printed(raced).lines().nth(8), Some("7 0 h=0 t=1 m=6 w0=P2:push(1,5)"));
     assert_eq!(printed(raced), printed(&raced.replace(" 9 0", " 8 0")));
+}
+
+/// Request 4: at the end of each entry's line, refused or not, and of no other line.
+#[test]
+fn stock() {
+    let stock = |input, quiet| shown(Queue::RING, input, Show { quiet, stock: true });
+    let input = "1 1 0 5 8 0 8 0 8 0 9 0";
+    let lines = [
+        "0 0 h=0 t=0 m=0 w0=P1:push(5) stock=0",
+        "1 0 h=0 t=0 m=1 w0=P2:push(0,5) stock=0",
+        "2 0 h=0 t=0 m=2 w0=P3:push(0,5) stock=0",
+        "3 0 h=0 t=4 m=3 w0=P4(0,5) stock=1",
+        "4 8 h=0 t=4 m=3 w0=P4(0,5) stock=1",
+    ];
+    assert_eq!(stock(input, false), format!("made 0\n{}\nslots (0,0)\ncontents refused 4\n", lines.join("\n")));
+    for input in [input, "0 1 0 5", "1 1 0 5 8"] {
+        assert_eq!(stock(input, true), quiet(input));
+    }
 }
 
 #[test]

@@ -1,4 +1,4 @@
--- One entry by itself, and the counts of claims.
+-- One entry by itself, and the counts of claims and of values read.
 use Prim.Native.Nat.{ℕ, _+_, _%_, _<_, _≤_}
 use mathlib.Core.Path.{_≡_, refl, sym, ap, _∙_}
 use mathlib.Core.Bool.{Bool, true, false, cond, true≢false}
@@ -29,9 +29,9 @@ use Rattle.bounded_machine.specs.Machine.{placeOf, refused, accepted}
 use Rattle.bounded_machine.specs.Broken.{brokenOf}
 use Rattle.bounded_machine.specs.Turn.{verdictOf, carried, turn, turnOf, turnOfBy, begun, acted}
 use Rattle.bounded_machine.specs.Run.{ran, runFrom, runOf}
-use Rattle.bounded_machine.specs.History.{movedOf, counted}
+use Rattle.bounded_machine.specs.History.{movedOf, readsAt, counted, readOn}
 use Rattle.bounded_machine.proofs.Kept.{either}
-use Rattle.bounded.specs.Bounded.{stepOf, beginOf, actOf, nextClaim, talliedOf}
+use Rattle.bounded.specs.Bounded.{stepOf, beginOf, actOf, oneMore, nextClaim, withClaim, withRead, talliedOf}
 
 -- ---- a refused entry changes nothing
 abbrev Unchanged : Machine → Did → Type 0
@@ -115,23 +115,40 @@ module _ (m : Machine) (first second : ℕ) (r : Did) (b : Bool) (e : b ≡ brok
     unfolding actOf
     act-step g q = no _ b _ _ _ e h (above (first % 16) 8 _ _ _ g (steps q))
 
--- ---- claims
+-- ---- claims and values read
 pub along-moved : (p q : Place) (r : Moved) → p ≡ q → r ≡ movedOf q → r ≡ movedOf p
 along-moved = along movedOf
 
+pub along-reads : (p q : Place) (r : Bool) → p ≡ q → r ≡ readsAt q → r ≡ readsAt p
+along-reads = along readsAt
+
 module _ (t : Tally) (n q : Moved) (e : n ≡ q) where
-  pub tally-none : n ≡ Neither → t ≡ talliedOf t q
-  tally-none h = rw (sym e ∙ h)
+  pub claim-none : n ≡ Neither → t ≡ withClaim t q
+  claim-none h = rw (sym e ∙ h)
 
-  pub tally-tail : (k : Claim) → n ≡ Tail → k ≡ nextClaim (t .tail) → record { tail = k; head = t .head } ≡ talliedOf t q
-  tally-tail k h g = rw (sym e ∙ h, g)
+  pub claim-tail : (k : Claim) → n ≡ Tail → k ≡ nextClaim (t .tail) → record { tail = k; head = t .head; reads = t .reads } ≡ withClaim t q
+  claim-tail k h g = rw (sym e ∙ h, g)
 
-  pub tally-head : (k : Claim) → n ≡ Head → k ≡ nextClaim (t .head) → record { tail = t .tail; head = k } ≡ talliedOf t q
-  tally-head k h g = rw (sym e ∙ h, g)
+  pub claim-head : (k : Claim) → n ≡ Head → k ≡ nextClaim (t .head) → record { tail = t .tail; head = k; reads = t .reads } ≡ withClaim t q
+  claim-head k h g = rw (sym e ∙ h, g)
+
+module _ (t : Tally) (n q : Bool) (e : n ≡ q) where
+  pub read-none : n ≡ false → t ≡ withRead t q
+  read-none h = rw (sym e ∙ h)
+
+  pub read-one : (k : ℕ) → n ≡ true → k ≡ oneMore (t .reads) → record { tail = t .tail; head = t .head; reads = k } ≡ withRead t q
+  read-one k h g = rw (sym e ∙ h, g)
+
+pub tally-both : (t u r : Tally) (p q : Place) → u ≡ withClaim t (movedOf q) → r ≡ withRead u (readsAt p) → r ≡ talliedOf t p q
+tally-both t u r p q e h = h ∙ ap (λ (z : Tally). withRead z (readsAt p)) e
 
 -- the counts in machine words are the history's, below the width
-pub tally-counts : (t : Tally) (q : Moved) → t .tail .0 + 1 < wide → t .head .0 + 1 < wide → talliedOf t q ≡ counted q t
-unfolding nextClaim
-tally-counts t Neither l g = refl
-tally-counts t Tail l g = ap (λ (k : ℕ). record { tail = claim k; head = t .head }) (mod-eq-of-lt l)
-tally-counts t Head l g = ap (λ (k : ℕ). record { tail = t .tail; head = claim k }) (mod-eq-of-lt g)
+pub tally-counts : (t : Tally) (q : Moved) (b : Bool) → t .tail .0 + 1 < wide → t .head .0 + 1 < wide → t .reads + 1 < wide
+    → withRead (withClaim t q) b ≡ readOn b (counted q t)
+unfolding nextClaim oneMore
+tally-counts t Neither false l g r = refl
+tally-counts t Tail false l g r = rw (mod-eq-of-lt l)
+tally-counts t Head false l g r = rw (mod-eq-of-lt g)
+tally-counts t Neither true l g r = rw (mod-eq-of-lt r)
+tally-counts t Tail true l g r = rw (mod-eq-of-lt l, mod-eq-of-lt r)
+tally-counts t Head true l g r = rw (mod-eq-of-lt g, mod-eq-of-lt r)

@@ -4,3 +4,4 @@ pub mod Refusals
 pub mod Attained
 pub mod Foretold
 pub mod CaseF
+pub mod Shelves

@@ -53,7 +53,8 @@ only-one = record {
   capacity = (λ m. one _);
   broken = (λ m. one _);
   moved = (λ p. one _);
-  tally = (λ t p. one _);
+  reads = (λ p. one _);
+  tally = (λ t p q. one _);
   stock = (λ t. one _);
 }
 

@@ -25,17 +25,19 @@ use Rattle.bounded_machine.specs.declared.Event.{Event}
 use Rattle.bounded_machine.specs.declared.Did.{Did}
 use Rattle.bounded_machine.specs.declared.Ran.{Ran}
 use Rattle.bounded_machine.specs.declared.Moved.{Moved}
+use Rattle.bounded_machine.specs.declared.Moved.the-variants.{Tail}
 use Rattle.bounded_machine.specs.declared.Tally.{Tally}
 use Rattle.bounded_machine.specs.Machine.{blank, freshOf, placeOf}
 use Rattle.bounded_machine.specs.Broken.{brokenOf, allIdle}
 use Rattle.bounded_machine.specs.Contents.{countIn, contentsOf, contentsRefusal, written, capacityRefusal, capacityOf}
 use Rattle.bounded_machine.specs.Run.{ran, runFrom, runOf}
-use Rattle.bounded_machine.specs.History.{eventsOf, movedOf, stockOf}
+use Rattle.bounded_machine.specs.History.{eventsOf, movedOf, readsAt, stockOf, untakenOf}
 use Rattle.bounded.specs.Bounded.{makeOf, stepOf, beginOf, actOf, talliedOf}
-use Rattle.bounded_demands.specs.Notions.{Definition, Allowed, machineAfter, actsOf, Acts, acts, InHand, HandsOut, Reads, Truth, itemsOf, takersOf, LatestIn, ItemIn, WrittenIn, CallClaim, tally, waiting, Fifo, Plain, valueAt, queueAnswer, LenAnswers, mostOf, OtherHand, passed, ownActs, LetsGo, has, ClosesYes, NoClaims, ClaimsOn}
+use Rattle.bounded_demands.specs.Notions.{Definition, Allowed, machineAfter, actsOf, Acts, acts, InHand, HandsOut, Reads, Truth, itemsOf, takersOf, LatestIn, ItemIn, WrittenIn, CallClaim, tally, waiting, unreadBy, lesser, Fifo, Plain, valueAt, queueAnswer, LenAnswers, mostOf, OtherHand, passed, ownActs, LetsGo, has, ClosesYes, NoClaims, ClaimsOn}
 use Rattle.bounded_demands.specs.Foretold.{foretold, Telling, toldIn, tellings, asForetold}
 use Rattle.bounded_demands.specs.Eight.{closedF, caseF}
 use Rattle.bounded_demands.specs.Attained.{Case, seenIn, attained, exactly}
+use Rattle.bounded_demands.specs.Shelves.{Shelf, stockAtMost, fullest}
 
 -- ==== 1. Any machine, entry or schedule handed in gets an answer or a numbered refusal; a refused step changes nothing.
 -- That each gets an answer is what the functions of crate bounded promise: none has a `requires`, and each answer is equal to a
@@ -93,7 +95,8 @@ pub record OnlyOne : Type 0 where
   pub capacity : (m : Machine) (x y : Told) → x ≡ capacityOf m → y ≡ capacityOf m → x ≡ y
   pub broken : (m : Machine) (x y : Bool) → x ≡ brokenOf m → y ≡ brokenOf m → x ≡ y
   pub moved : (p : Place) (x y : Moved) → x ≡ movedOf p → y ≡ movedOf p → x ≡ y
-  pub tally : (t : Tally) (p : Place) (x y : Tally) → x ≡ talliedOf t (movedOf p) → y ≡ talliedOf t (movedOf p) → x ≡ y
+  pub reads : (p : Place) (x y : Bool) → x ≡ readsAt p → y ≡ readsAt p → x ≡ y
+  pub tally : (t : Tally) (p q : Place) (x y : Tally) → x ≡ talliedOf t p q → y ≡ talliedOf t p q → x ≡ y
   pub stock : (t : Tally) (x y : ℕ) → x ≡ stockOf t → y ≡ stockOf t → x ≡ y
 
 -- ==== 2. Under every schedule from a fresh machine. Said of the machine m that entries reach, and of the acts h behind it.
@@ -129,13 +132,9 @@ AnswersTrue d m =
     (w : ℕ) (next : Machine) (a : Answer) → Acts d m w next → placeOf (next .workers) w ≡ Idle a
     → Truth (m .ring .fixed) (m .ring .ends) a
 
--- Stock is `len`'s count of the words at every moment. With all workers idle it equals the number of contents, and contents
--- are, in order, the items of the claims not yet taken.
-abbrev pub StockCounts : Machine → List Event → Type 0
-StockCounts m h = stockOf (tally h) ≡ countIn m
-
-abbrev pub StockIsNumber : Machine → List Event → Type 0
-StockIsNumber m h = allIdle (m .workers) ≡ true → stockOf (tally h) ≡ length (contentsOf m)
+-- The claims not yet taken are `len`'s count of the words at every moment. With all workers idle the contents are, in order, their items.
+abbrev pub UntakenCounts : Machine → List Event → Type 0
+UntakenCounts m h = untakenOf (tally h) ≡ countIn m
 
 abbrev pub ContentsWait : Machine → List Event → Type 0
 ContentsWait m h = allIdle (m .workers) ≡ true → contentsOf m ≡ waiting h
@@ -170,8 +169,7 @@ pub record Demand2 (d : Definition) (capacity workers edition : ℕ) (m : Machin
   pub one-hand : OneHand m
   pub reads : ReadsWritten m h
   pub answers : AnswersTrue d m
-  pub stock : StockCounts m h
-  pub number : StockIsNumber m h
+  pub untaken : UntakenCounts m h
   pub contents : ContentsWait m h
   pub fifo : PlainQueue h
   pub empty : EmptyTrue d m
@@ -203,7 +201,7 @@ WholeSchedules d =
 abbrev pub LenTrue : Definition → Type 0
 LenTrue d =
     (capacity workers edition : ℕ) → Allowed capacity workers edition → (s : List ℕ) (w n : ℕ) → LenAnswers d capacity workers edition s w n
-    → n ≡ stockOf (tally (actsOf d capacity workers edition s))
+    → n ≡ untakenOf (tally (actsOf d capacity workers edition s))
 
 -- ==== 3. Nobody waits without a holder. Said of the same machines and acts.
 
@@ -272,6 +270,56 @@ Attained = map seenIn attained ≡ map (λ (c : Case). exactly (c .place) (c .nu
 -- Each schedule of the table leads to the answer that is foretold there.
 abbrev pub AsForetold : Type 0
 AsForetold = map toldIn tellings ≡ map (λ (r : Telling). asForetold (r .answer)) tellings
+
+-- ==== Stock (document 02, item 4). Said of the same machines and acts, and of any way to count stock from a history, so that crate bounded_slips can
+-- say it of wrong ones; it is met by `stock`.
+
+-- Stock rises by one at each tail claim,
+abbrev pub StockRises : (List Event → ℕ) → List Event → Type 0
+StockRises count h =
+    (earlier later : List Event) (act : Event) → h ≡ earlier ++ act ∷ later → movedOf (act .after) ≡ Tail
+    → count (earlier ++ act ∷ []) ≡ count earlier + 1
+
+-- falls by one at each read,
+abbrev pub StockFalls : (List Event → ℕ) → List Event → Type 0
+StockFalls count h =
+    (earlier later : List Event) (act : Event) (t : Stamp) → h ≡ earlier ++ act ∷ later → Reads (act .before) t
+    → count earlier ≡ count (earlier ++ act ∷ []) + 1
+
+-- and changes at no other act.
+abbrev pub StockStays : (List Event → ℕ) → List Event → Type 0
+StockStays count h =
+    (earlier later : List Event) (act : Event) → h ≡ earlier ++ act ∷ later → (movedOf (act .after) ≡ Tail → ⊥) → ((t : Stamp) → Reads (act .before) t → ⊥)
+    → count (earlier ++ act ∷ []) ≡ count earlier
+
+-- It is the old difference plus the workers standing at O4, F7 or F8.
+abbrev pub StockByHands : (List Event → ℕ) → Machine → List Event → Type 0
+StockByHands count m h = count h ≡ untakenOf (tally h) + unreadBy (m .workers)
+
+-- With all workers idle it is the number of contents, and both rules agree.
+abbrev pub StockIsNumber : (List Event → ℕ) → Machine → List Event → Type 0
+StockIsNumber count m h = allIdle (m .workers) ≡ true → (count h ≡ length (contentsOf m)) × (count h ≡ untakenOf (tally h))
+
+-- It is never above capacity plus the number of workers, and no more of them count than there are slots. `MostStock` has rings that reach it.
+abbrev pub StockMost : (List Event → ℕ) → ℕ → ℕ → List Event → Type 0
+StockMost count capacity workers h = count h ≤ capacity + lesser capacity workers
+
+pub record Stocked (count : List Event → ℕ) (capacity workers : ℕ) (m : Machine) (h : List Event) : Type 0 where
+  pub rises : StockRises count h
+  pub falls : StockFalls count h
+  pub stays : StockStays count h
+  pub hands : StockByHands count m h
+  pub number : StockIsNumber count m h
+  pub most : StockMost count capacity workers h
+
+abbrev pub StockUnderEverySchedule : Definition → (List Event → ℕ) → Type 0
+StockUnderEverySchedule d count =
+    (capacity workers edition : ℕ) → Allowed capacity workers edition → (s : List ℕ)
+    → Stocked count capacity workers (machineAfter d capacity workers edition s) (actsOf d capacity workers edition s)
+
+-- The bound is attained, in both editions: each ring of the table, full and with a force_push of as many workers as can claim in it, each before its read.
+abbrev pub MostStock : Type 0
+MostStock = map stockAtMost fullest ≡ map (λ (r : Shelf). r .capacity + lesser (r .capacity) (r .workers)) fullest
 
 -- ==== A close that holds (document 02, item 6). Said of the same machines and acts.
 

@@ -3,7 +3,7 @@ use Prim.Native.Nat.{ℕ, _+_, _*_}
 use mathlib.Core.Path.{_≡_}
 use mathlib.Core.List.{List, [], _∷_, _++_, map}
 use lib.ListN.{getD}
-use Rattle.bounded_words.specs.Words.{stamp, claim, markOf, lapOf}
+use Rattle.bounded_words.specs.Words.{stamp, markOf, lapOf}
 use Rattle.bounded_places.specs.declared.Place.{Place}
 use Rattle.bounded_places.specs.declared.Place.the-variants.{Idle, O1, O2}
 use Rattle.bounded_places.specs.declared.Answer.the-variants.{Pushed, Full, Closed, Displaced, Popped, PopClosed, Len, Yes, No}
@@ -12,7 +12,7 @@ use Rattle.bounded_machine.specs.declared.Event.{Event}
 use Rattle.bounded_machine.specs.Machine.{slot, freshOf, placeOf}
 use Rattle.bounded_machine.specs.Contents.{contentsOf}
 use Rattle.bounded_machine.specs.Run.{runOf}
-use Rattle.bounded_machine.specs.History.{historyOf, tallyOf, stockOf}
+use Rattle.bounded_machine.specs.History.{historyOf, untallied, tallyOf, stockOf}
 use Rattle.bounded.specs.Bounded.{makeOf}
 use Rattle.bounded_demands.specs.Notions.{acts}
 
@@ -48,7 +48,7 @@ found r h (stamped i n) = stamped i (getD (r .machine .ring .slots) i (slot 0 0)
 found r h (valued i n) = valued i (getD (r .machine .ring .slots) i (slot 0 0) .value)
 found r h (stands w p) = stands w (placeOf (r .machine .workers) w)
 found r h (contents l) = contents (contentsOf (r .machine))
-found r h (stock n) = stock (stockOf (tallyOf h (record { tail = claim 0; head = claim 0 })))
+found r h (stock n) = stock (stockOf (tallyOf h untallied))
 
 -- A run: edition, capacity, workers, the schedule from the fresh machine, and what the text says of it.
 pub record Row : Type 0 where
@@ -131,7 +131,7 @@ caseF = closedF ++ acts 0 4
 abbrev runF : List ℕ
 runF = caseF ++ (entry 1 7 0 ++ acts 1 1)
 
--- G: as F without close, stopped before F7.
+-- G: as F without close, stopped before F7. (Stock by document 02, item 4.)
 abbrev runG : List ℕ
 runG = pastLoad ++ acts 0 1
 
@@ -157,7 +157,7 @@ table =
     ∷ rowIn 2 1 2 closedF (stands 1 (Idle Yes) ∷ tail 6 ∷ [])
     ∷ rowIn 2 1 2 caseF (stands 0 (Idle (Displaced 7)) ∷ head 4 ∷ tail 10 ∷ stamped 0 5 ∷ contents (8 ∷ []) ∷ [])
     ∷ rowIn 2 1 2 runF (stands 1 (Idle Yes) ∷ [])
-    ∷ row 1 2 runG (head 4 ∷ tail 4 ∷ stock 0 ∷ [])
+    ∷ row 1 2 runG (head 4 ∷ tail 4 ∷ stock 1 ∷ [])
     ∷ row 1 2 (runG ++ (entry 1 3 0 ++ acts 1 3)) (stands 1 (Idle (Len 0)) ∷ [])
     ∷ row 1 2 (runG ++ (entry 1 4 0 ++ acts 1 2)) (stands 1 (Idle Yes) ∷ [])
     ∷ row 1 2 (runG ++ entry 1 2 0) (stands 1 O1 ∷ [])

@@ -3,3 +3,4 @@ pub mod Demands
 pub mod Eight
 pub mod Foretold
 pub mod Attained
+pub mod Shelves

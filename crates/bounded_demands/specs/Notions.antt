@@ -5,7 +5,7 @@ use mathlib.Core.Bool.{Bool, true, false, cond}
 use mathlib.Core.List.{List, [], _∷_, _++_}
 use mathlib.Core.Path.{_≡_}
 use mathlib.Core.Logic.{_≢_}
-use lib.Dec.{eqb}
+use lib.Dec.{eqb, leb}
 use lib.ListN.{length, getD, drop}
 use Rattle.queue_entries.specs.Limits.{workersMost}
 use Rattle.queue_entries.specs.declared.Call.{Call}
@@ -17,7 +17,7 @@ use Rattle.queue_entries.specs.Entries.{entryOf}
 use Rattle.bounded_words.specs.declared.Stamp.{Stamp}
 use Rattle.bounded_words.specs.declared.Fixed.{Fixed}
 use Rattle.bounded_words.specs.Limits.{slotsMost, editionsMost, wide}
-use Rattle.bounded_words.specs.Words.{claim, indexOf, markedOf, unmarkedOf, lapBehind}
+use Rattle.bounded_words.specs.Words.{indexOf, markedOf, unmarkedOf, lapBehind}
 use Rattle.bounded_places.specs.declared.Ends.{Ends}
 use Rattle.bounded_places.specs.declared.Kind.{Kind}
 use Rattle.bounded_places.specs.declared.Kind.the-variants.{Push, Force}
@@ -25,6 +25,7 @@ use Rattle.bounded_places.specs.declared.Answer.{Answer}
 use Rattle.bounded_places.specs.declared.Answer.the-variants.{Nothing, Pushed, Full, Closed, Displaced, Popped, Empty, PopClosed, Len, Yes, No}
 use Rattle.bounded_places.specs.declared.Place.{Place}
 use Rattle.bounded_places.specs.declared.Place.the-variants.{Idle, P1, P2, P3, P4, P5, P6, F6, F7, F8, F9, O1, O2, O3, O4, O5, O6, Len1, Len2, Len3, Empty1, Empty2, Full1, Full2, Close1, IsClosed1}
+use Rattle.bounded_places.specs.declared.Worker.{Worker}
 use Rattle.bounded_places.specs.Places.{viewOf}
 use Rattle.bounded_acts.specs.Acts.{yesNo, actOf}
 use Rattle.bounded_machine.specs.declared.Machine.{Machine}
@@ -37,7 +38,7 @@ use Rattle.bounded_machine.specs.declared.Tally.{Tally}
 use Rattle.bounded_machine.specs.Machine.{slot, freshOf, placeOf, accepted}
 use Rattle.bounded_machine.specs.Turn.{Table, turnOfBy}
 use Rattle.bounded_machine.specs.Run.{runWith}
-use Rattle.bounded_machine.specs.History.{historyWith, movedOf, tallyOf}
+use Rattle.bounded_machine.specs.History.{historyWith, movedOf, untallied, tallyOf, stockOf}
 
 -- ---- definitions and schedules
 
@@ -196,9 +197,9 @@ pub record ItemIn (h : List Event) (k v : ℕ) : Type 0 where
   pub made : k < length (itemsOf h)
   pub is : getD (itemsOf h) k 0 ≡ v
 
--- Tail and head claims, none before the first act.
+-- Tail claims, head claims and values read, none before the first act.
 abbrev pub tally : List Event → Tally
-tally h = tallyOf h (record { tail = claim 0; head = claim 0 })
+tally h = tallyOf h untallied
 
 -- The item v of tail claim number k was written: at P4 or F8, by the worker whose latest tail claim that was.
 pub record WrittenIn (h : List Event) (k v : ℕ) : Type 0 where
@@ -228,6 +229,50 @@ pub record CallClaim (h : List Event) (w k : ℕ) : Type 0 where
 -- The items of the claims not yet taken.
 abbrev pub waiting : List Event → List ℕ
 waiting h = drop (tally h .head .0) (itemsOf h)
+
+-- ---- stock
+
+abbrev pub stock : List Event → ℕ
+stock h = stockOf (tally h)
+
+-- A head claim is made whose value is still to be read out: at O4, F7 and F8.
+abbrev pub unread : Place → Bool
+unread (Idle a) = false
+unread (P1 k x) = false
+unread (P2 k t x) = false
+unread (P3 k t x) = false
+unread (P4 t x) = false
+unread (P5 t) = false
+unread (P6 t x) = false
+unread (F6 t x) = false
+unread (F7 t x) = true
+unread (F8 t x) = true
+unread (F9 t old) = false
+unread O1 = false
+unread (O2 h) = false
+unread (O3 h) = false
+unread (O4 h) = true
+unread (O5 h v) = false
+unread (O6 h) = false
+unread Len1 = false
+unread (Len2 t) = false
+unread (Len3 t h) = false
+unread Empty1 = false
+unread (Empty2 h) = false
+unread Full1 = false
+unread (Full2 t) = false
+unread Close1 = false
+unread IsClosed1 = false
+
+-- How many of these workers stand there.
+unfoldable pub unreadBy : List Worker → ℕ
+unreadBy [] = 0
+unreadBy (w ∷ others) = cond (unread (w .place)) 1 0 + unreadBy others
+
+abbrev pub lesser : ℕ → ℕ → ℕ
+lesser a b = cond (leb a b) a b
+
+-- ---- a plain queue
 
 -- A run of a plain queue: a tail claim puts its item at the end, a head claim takes the front, no other act changes it.
 pub data Fifo : List Event → List ℕ → Type 0 where

@@ -1,5 +1,6 @@
 -- The history of a run: its acts, oldest first, and what is counted from it.
 use Prim.Native.Nat.{ℕ, _+_, _-_}
+use mathlib.Core.Bool.{Bool, true, false, cond}
 use mathlib.Core.List.{List, [], _∷_}
 use Rattle.queue_entries.specs.declared.Order.the-variants.{Begin, Act}
 use Rattle.queue_entries.specs.declared.Entry.{Entry}
@@ -63,16 +64,55 @@ movedOf (Full2 t) = Neither
 movedOf Close1 = Neither
 movedOf IsClosed1 = Neither
 
+-- A value is read out at O4 and at F8.
+abbrev pub readsAt : Place → Bool
+readsAt (Idle a) = false
+readsAt (P1 k x) = false
+readsAt (P2 k t x) = false
+readsAt (P3 k t x) = false
+readsAt (P4 t x) = false
+readsAt (P5 t) = false
+readsAt (P6 t x) = false
+readsAt (F6 t x) = false
+readsAt (F7 t x) = false
+readsAt (F8 t x) = true
+readsAt (F9 t old) = false
+readsAt O1 = false
+readsAt (O2 h) = false
+readsAt (O3 h) = false
+readsAt (O4 h) = true
+readsAt (O5 h v) = false
+readsAt (O6 h) = false
+readsAt Len1 = false
+readsAt (Len2 t) = false
+readsAt (Len3 t h) = false
+readsAt Empty1 = false
+readsAt (Empty2 h) = false
+readsAt Full1 = false
+readsAt (Full2 t) = false
+readsAt Close1 = false
+readsAt IsClosed1 = false
+
 -- Claim number k is the k-th move of tail (or head) since the machine was made.
 abbrev pub counted : Moved → Tally → Tally
 counted Neither t = t
-counted Tail t = record { tail = claim (t .tail .0 + 1); head = t .head }
-counted Head t = record { tail = t .tail; head = claim (t .head .0 + 1) }
+counted Tail t = record { tail = claim (t .tail .0 + 1); head = t .head; reads = t .reads }
+counted Head t = record { tail = t .tail; head = claim (t .head .0 + 1); reads = t .reads }
+
+abbrev pub readOn : Bool → Tally → Tally
+readOn reads t = cond reads (record { tail = t .tail; head = t .head; reads = t .reads + 1 }) t
+
+abbrev pub untallied : Tally
+untallied = record { tail = claim 0; head = claim 0; reads = 0 }
 
 unfoldable pub tallyOf : List Event → Tally → Tally
 tallyOf [] t = t
-tallyOf (e ∷ rest) t = tallyOf rest (counted (movedOf (e .after)) t)
+tallyOf (e ∷ rest) t = tallyOf rest (readOn (readsAt (e .before)) (counted (movedOf (e .after)) t))
 
--- Stock is tail claims less head claims, counted from the history.
+-- An item is in stock from its tail claim until its value is read out (document 02, item 4).
 unfoldable pub stockOf : Tally → ℕ
-stockOf t = t .tail .0 - t .head .0
+stockOf t = t .tail .0 - t .reads
+
+-- Tail claims less head claims: the claims that are not yet taken, which is what `len` counts. Document 01 took these for the stock.
+unfoldable pub untakenOf : Tally → ℕ
+untakenOf t = t .tail .0 - t .head .0

@@ -66,10 +66,11 @@ pub enum Moved {
     Head,
 }
 
-// How many claims there were at each end.
+// How many claims there were at each end, and how many values were read out.
 pub struct Tally {
     pub tail: Claim,
     pub head: Claim,
+    pub reads: u64,
 }
 
 pub fn refuse(m: Machine, number: u64) -> Did

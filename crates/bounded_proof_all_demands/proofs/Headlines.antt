@@ -1,16 +1,18 @@
 -- The demands of document 01, proved. What they say, in document 01's words, is crates/bounded_demands/specs/Demands.antt; the
 -- runs on paper are Eight.antt beside it.
-use Rattle.bounded_demands.specs.Notions.{document01}
-use Rattle.bounded_demands.specs.Demands.{RefusedUnchanged, Numbered, ListFirst, StaysUnbroken, OnlyOne, UnderEverySchedule, ActByAct, WholeSchedules, LenTrue, ScheduledAlone, Attained, AsForetold, CloseHolds, ClosedIsLast, CaseF}
+use Rattle.bounded_demands.specs.Notions.{document01, stock}
+use Rattle.bounded_demands.specs.Demands.{RefusedUnchanged, Numbered, ListFirst, StaysUnbroken, OnlyOne, UnderEverySchedule, ActByAct, WholeSchedules, LenTrue, ScheduledAlone, Attained, AsForetold, StockUnderEverySchedule, MostStock, CloseHolds, ClosedIsLast, CaseF}
 use Rattle.bounded_demands.specs.Eight.{EightRuns}
 use Rattle.bounded_demands.proofs.Numbers.{numbered}
 use Rattle.bounded_demands.proofs.Refusals.{refused-unchanged, list-first, stays-unbroken, only-one}
 use Rattle.bounded_demands.proofs.Attained.{numbers-attained}
 use Rattle.bounded_demands.proofs.Foretold.{as-foretold}
+use Rattle.bounded_demands.proofs.Shelves.{most-stock}
 use Rattle.bounded_demands.proofs.CaseF.{case-f}
 use Rattle.bounded_demands.proofs.Eight.{eight-runs}
 use Rattle.bounded_proof_demand2.proofs.Demand2.{demand2, act-by-act, whole-schedules}
 use Rattle.bounded_proof_demand2.proofs.Lens.{len-true}
+use Rattle.bounded_proof_demand2.proofs.Stock.{stock-stands}
 use Rattle.bounded_proof_demand2.proofs.Closing.{close-holds, closed-is-last}
 use Rattle.bounded_proof_demand3.proofs.Demand3.{demand3}
 
@@ -20,7 +22,7 @@ pub demand-1 : RefusedUnchanged × Numbered × ListFirst × StaysUnbroken × Onl
 demand-1 = (refused-unchanged, numbered, list-first, stays-unbroken, only-one)
 
 -- 2. Under every schedule from a fresh machine: each act is the one action of document 01; the claim rule; no slot in two hands;
--- Empty, Full and Closed true at the act that decided them; stock and contents.
+-- Empty, Full and Closed true at the act that decided them; claims not taken and contents.
 pub demand-2 : UnderEverySchedule document01 × ActByAct document01 × WholeSchedules document01 × LenTrue document01
 demand-2 = (demand2, act-by-act, whole-schedules, len-true)
 
@@ -32,6 +34,10 @@ demand-3 = (demand3, numbers-attained, as-foretold)
 -- The eight runs on paper.
 pub on-paper : EightRuns
 on-paper = eight-runs
+
+-- Stock: from the tail claim until the value is read out, both editions; its bound is attained.
+pub stock-counted : StockUnderEverySchedule document01 stock × MostStock
+stock-counted = (stock-stands, most-stock)
 
 -- A close that holds: edition 2; what follows a pop's Closed, in both editions; case F.
 pub close-that-holds : CloseHolds document01 × ClosedIsLast document01 × CaseF document01

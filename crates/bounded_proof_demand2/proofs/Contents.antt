@@ -22,7 +22,7 @@ use Rattle.bounded_machine.specs.declared.Event.{Event}
 use Rattle.bounded_machine.specs.Machine.{slot, placeOf, idler}
 use Rattle.bounded_machine.specs.Broken.{allIdle}
 use Rattle.bounded_machine.specs.Contents.{countIn, wrapped, itemAt, itemsFrom, contentsOf}
-use Rattle.bounded_machine.specs.History.{stockOf}
+use Rattle.bounded_machine.specs.History.{untakenOf}
 use Rattle.bounded_machine.proofs.Kept.{every}
 use Rattle.bounded_demands.specs.Notions.{itemsOf, tally, waiting}
 use Rattle.bounded_proof_invariant.proofs.Width.{index-word, near-one}
@@ -33,7 +33,7 @@ use Rattle.bounded_proof_demand2.proofs.Counts.{tally-tail, tally-head,
 use Rattle.bounded_proof_demand2.proofs.Pictured.{Base, idle-hand}
 use Rattle.bounded_proof_demand2.proofs.Reached.{Reached}
 
-idle-at : (ws : List Worker) → length ws ≡ workersMost → allIdle ws ≡ true → (w : ℕ) → viewOf (placeOf ws w) .busy ≡ false
+pub idle-at : (ws : List Worker) → length ws ≡ workersMost → allIdle ws ≡ true → (w : ℕ) → viewOf (placeOf ws w) .busy ≡ false
 unfolding allIdle
 idle-at ws long e w = go (decLt w workersMost)
   where
@@ -53,9 +53,9 @@ module _ (c n workers : ℕ) (base : Base c n workers) (m : Machine) (h : List E
       ∙ ap (λ (e : Ends). countOf (fixed c (markOf c) (m .ring .fixed .edition)) (e .tail) (e .head)) (pic .ends)
       ∙ count-is c (markOf c) n (m .ring .fixed .edition) (base .ground) (r .ring .head) (r .ring .tail) (pic .shut) (pic .inv .low) (pic .inv .high)
 
-  pub stock-is : stockOf (tally h) ≡ r .ring .tail - r .ring .head
-  unfolding stockOf
-  stock-is = omega (arith, tally-tail h, tally-head h, r .logged .lists .tailers-are .long, r .logged .lists .takers-are .long)
+  pub untaken-is : untakenOf (tally h) ≡ r .ring .tail - r .ring .head
+  unfolding untakenOf
+  untaken-is = omega (arith, tally-tail h, tally-head h, r .logged .lists .tailers-are .long, r .logged .lists .takers-are .long)
 
   module _ (idle : allIdle (m .workers) ≡ true) where
     -- no slot is in hand
@@ -127,8 +127,8 @@ module _ (c n workers : ℕ) (base : Base c n workers) (m : Machine) (h : List E
         let z : r .ring .head + 0 ≡ tally h .head .0 = omega (arith, tally-head h, r .logged .lists .takers-are .long) in
         ap (λ (k : ℕ). itemsFrom m k 0) count-in ∙ items-from (r .ring .tail - r .ring .head) 0 (omega arith) ∙ ap (λ (k : ℕ). drop k (itemsOf h)) z
 
-    pub contents-number : stockOf (tally h) ≡ length (contentsOf m)
+    pub contents-number : untakenOf (tally h) ≡ length (contentsOf m)
     contents-number =
         let l : length (waiting h) ≡ length (itemsOf h) - tally h .head .0 = length-drop (tally h .head .0) (itemsOf h) in
-        stock-is
+        untaken-is
         ∙ omega (arith, l, ap length contents-are, tally-head h, r .logged .lists .takers-are .long, r .logged .lists .items-are .long)

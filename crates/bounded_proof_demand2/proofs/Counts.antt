@@ -1,8 +1,8 @@
 -- Counts of claims: from the history, and from the words of the ends.
-use mathlib.Core.Path.{_≡_, sym, ap, _∙_}
+use mathlib.Core.Path.{_≡_, refl, sym, ap, _∙_}
 use mathlib.Core.Logic.{_≢_}
-use mathlib.Core.Bool.{Bool, cond}
-use mathlib.Core.List.{List, [], _∷_}
+use mathlib.Core.Bool.{Bool, true, false, cond}
+use mathlib.Core.List.{List, [], _∷_, _++_}
 use Prim.Native.Nat.{ℕ, _+_, _*_, _-_, _/_, _%_, _≤_, _<_}
 use native.Mathlib.Omega.{arith}
 use native.Mathlib.Nat.{mod-lt, div-add-mod'}
@@ -11,26 +11,32 @@ use lib.Arith.{digits-mod}
 use lib.Dec.{ltb, eqb}
 use lib.ListN.{length, length-append}
 use borrow.Author.Tests.{ltb-true, ltb-false, eqb-true, eqb-false}
-use Rattle.bounded_words.specs.Words.{claim}
 use Rattle.bounded_acts.specs.Acts.{countOf}
 use Rattle.bounded_machine.specs.declared.Event.{Event}
 use Rattle.bounded_machine.specs.declared.Moved.{Moved}
 use Rattle.bounded_machine.specs.declared.Moved.the-variants.{Neither, Tail, Head}
 use Rattle.bounded_machine.specs.declared.Tally.{Tally}
 use Rattle.bounded_machine.specs.Contents.{wrapped}
-use Rattle.bounded_machine.specs.History.{movedOf, tallyOf}
+use Rattle.bounded_machine.specs.History.{movedOf, readsAt, readOn, untallied, tallyOf}
 use Rattle.bounded_machine.specs.History as history
 use Rattle.bounded_machine.proofs.Kept.{either}
 use Rattle.bounded_demands.specs.Notions.{tailBy, headBy, tailersOf, takersOf, tally}
 use Rattle.bounded_proof_invariant.proofs.Width.{Near, index-word, turn-long}
 use Rattle.bounded_proof_each_act.proofs.Stamps.{Ground, fixed, W, tailWord, index-tail, unmarked-tail, same-is}
 
--- the tally counts the claims
+-- the tally counts the claims and the values read
 by-moved : (x : Moved) (t : Tally) (w : ℕ)
     → (history.counted x t .tail .0 ≡ t .tail .0 + length (tailBy x w)) × (history.counted x t .head .0 ≡ t .head .0 + length (headBy x w))
+    × (history.counted x t .reads ≡ t .reads)
 by-moved Neither t w = omega arith
 by-moved Tail t w = omega arith
 by-moved Head t w = omega arith
+
+pub by-act : (b : Bool) (x : Moved) (t : Tally) (w : ℕ)
+    → (readOn b (history.counted x t) .tail .0 ≡ t .tail .0 + length (tailBy x w)) × (readOn b (history.counted x t) .head .0 ≡ t .head .0 + length (headBy x w))
+    × (readOn b (history.counted x t) .reads ≡ t .reads + cond b 1 0)
+by-act true x t w = omega (arith, by-moved x t w)
+by-act false x t w = omega (arith, by-moved x t w)
 
 tally-from : (h : List Event) (t : Tally)
     → (tallyOf h t .tail .0 ≡ t .tail .0 + length (tailersOf h)) × (tallyOf h t .head .0 ≡ t .head .0 + length (takersOf h))
@@ -38,17 +44,25 @@ unfolding tallyOf tailersOf takersOf
 tally-from [] t = omega arith
 tally-from (e ∷ h) t =
     let x = movedOf (e .after) in
-    let a = tally-from h (history.counted x t) in
-    let b = by-moved x t (e .worker) in (
+    let reads = readsAt (e .before) in
+    let a = tally-from h (readOn reads (history.counted x t)) in
+    let b = by-act reads x t (e .worker) in (
       omega (arith, a .0, b .0, length-append (tailBy x (e .worker)) (tailersOf h)),
       omega (arith, a .1, b .1, length-append (headBy x (e .worker)) (takersOf h)),
     )
 
+-- one act more
+pub tally-end : (h : List Event) (e : Event) (t : Tally)
+    → tallyOf (h ++ e ∷ []) t ≡ readOn (readsAt (e .before)) (history.counted (movedOf (e .after)) (tallyOf h t))
+unfolding tallyOf
+tally-end [] e t = refl
+tally-end (a ∷ h) e t = tally-end h e (readOn (readsAt (a .before)) (history.counted (movedOf (a .after)) t))
+
 pub tally-tail : (h : List Event) → tally h .tail .0 ≡ length (tailersOf h)
-tally-tail h = tally-from h (record { tail = claim 0; head = claim 0 }) .0 ∙ omega arith
+tally-tail h = tally-from h untallied .0 ∙ omega arith
 
 pub tally-head : (h : List Event) → tally h .head .0 ≡ length (takersOf h)
-tally-head h = tally-from h (record { tail = claim 0; head = claim 0 }) .1 ∙ omega arith
+tally-head h = tally-from h untallied .1 ∙ omega arith
 
 -- the index of a claim so many on, within the lap or over its end
 pub mod-within : (c k d : ℕ) → 0 < c → k % c + d < c → (k + d) % c ≡ k % c + d

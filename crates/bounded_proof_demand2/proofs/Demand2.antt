@@ -30,7 +30,7 @@ use Rattle.bounded_proof_demand2.proofs.Counts.{tally-tail, tally-head}
 use Rattle.bounded_proof_demand2.proofs.Hands.{one-hand, reads-written}
 use Rattle.bounded_proof_demand2.proofs.Answers.{true-answers, true-empty, true-full}
 use Rattle.bounded_proof_demand2.proofs.Runs.{onward}
-use Rattle.bounded_proof_demand2.proofs.Contents.{count-in, stock-is, contents-are, contents-number}
+use Rattle.bounded_proof_demand2.proofs.Contents.{count-in, untaken-is, contents-are}
 use Rattle.bounded_proof_demand2.proofs.Plain.{plainly}
 
 -- every schedule
@@ -69,8 +69,7 @@ module _ (c n workers : ℕ) (base : Base c n workers) (m : Machine) (h : List E
         one-hand = one-hand c n workers base m h r;
         reads = reads-written c n workers base m h r;
         answers = true-answers c n workers base m h r;
-        stock = stock-is c n workers base m h r ∙ sym (count-in c n workers base m h r);
-        number = contents-number c n workers base m h r;
+        untaken = untaken-is c n workers base m h r ∙ sym (count-in c n workers base m h r);
         contents = contents-are c n workers base m h r;
         fifo = r .logged .fifo;
         empty = true-empty c n workers base m h r;

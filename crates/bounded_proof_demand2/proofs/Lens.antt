@@ -40,7 +40,7 @@ use Rattle.bounded_proof_demand2.proofs.Counts.{count-is}
 use Rattle.bounded_proof_demand2.proofs.Pictured.{Base, first-turn}
 use Rattle.bounded_proof_demand2.proofs.Reached.{Reached, entered, entries, lapsOf, base-of}
 use Rattle.bounded_proof_demand2.proofs.Answers.{Done, acts-done, leads}
-use Rattle.bounded_proof_demand2.proofs.Contents.{stock-is}
+use Rattle.bounded_proof_demand2.proofs.Contents.{untaken-is}
 use Rattle.bounded_proof_demand2.proofs.Demand2.{reached}
 
 unmoved-split : (w : ℕ) (a b : List Event) → Unmoved w (a ++ b) → Unmoved w a × Unmoved w b
@@ -157,4 +157,4 @@ len-true capacity workers edition a s w k o =
       tailers-append h (e ∷ []),
     ) in
     counted capacity n workers base m h r w (o .tail) (o .loads) (o .loaded) (o .load) _ _ r₂ up stays (o .answered) (o .answer) k (o .is)
-    ∙ sym (stock-is capacity n workers base m h r)
+    ∙ sym (untaken-is capacity n workers base m h r)

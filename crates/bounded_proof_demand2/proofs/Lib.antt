@@ -12,3 +12,4 @@ pub mod Plain
 pub mod Demand2
 pub mod Lens
 pub mod Closing
+pub mod Stock

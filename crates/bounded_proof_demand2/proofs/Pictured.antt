@@ -6,8 +6,10 @@ use mathlib.Core.List.{List}
 use Prim.Native.Nat.{ℕ, _+_, _*_, _≤_, _<_}
 use native.Mathlib.Omega.{arith}
 use native.Mathlib.Nat.{mul-le-mul-right}
-use native.Mathlib.Decide.{ℕ-discrete}
-use lib.ListN.{length, getD, set, length-set}
+use native.Mathlib.Decide.{decLt, ℕ-discrete}
+use lib.Dec.{ltb}
+use lib.ListN.{length, getD, set, length-set, List·getD-eq-default}
+use borrow.Author.Tests.{ltb-true}
 use lib.Seq.{getD-set-same, getD-set-other}
 use Rattle.queue_entries.specs.Limits.{workersMost, meterMost}
 use Rattle.queue_entries.specs.declared.Call.{Call}
@@ -29,6 +31,7 @@ use Rattle.bounded_acts.specs.declared.Acted.{Acted}
 use Rattle.bounded_acts.specs.Acts.{actOf}
 use Rattle.bounded_machine.specs.declared.Machine.{Machine}
 use Rattle.bounded_machine.specs.Machine.{slot, placeOf, idler}
+use Rattle.bounded_machine.specs.Broken.{recordFits}
 use Rattle.bounded_machine.specs.Turn.{spotOf, begun, stored, acted, actedBy}
 use Rattle.bounded_machine.proofs.Kept.{Unbroken, begun-unbroken, acted-unbroken, word-fits-in, fits-plain}
 use Rattle.bounded_proof_invariant.proofs.Ring.{Mine, Shared, Inv}
@@ -60,6 +63,21 @@ pub record Pictured (c n workers : ℕ) (s : Shared) (m : Machine) : Type 0 wher
   pub back : (i : ℕ) → i < c → (w : ℕ) → Mine w (s .cell i) → HandAt (markOf c) (look c (stood m w)) i
   pub claims-few : s .tail ≤ m .meter
   pub meter-few : m .meter ≤ meterMost
+
+fits-counted : (f : Fixed) (p : Place) (b : Bool) → viewOf p .busy ≡ true → recordFits f p b ≡ true → b ≡ true
+unfolding recordFits
+fits-counted f p true busy h = refl
+fits-counted f p false busy h = absurd (true≢false (sym (rw busy at h)))
+
+-- a busy worker is one of the count
+pub busy-counted : (c n workers : ℕ) (s : Shared) (m : Machine) → Pictured c n workers s m → (w : ℕ) → viewOf (stood m w) .busy ≡ true → w < m .count
+busy-counted c n workers s m pic w busy = go (decLt w workersMost)
+  where
+    go : Dec (w < workersMost) → w < m .count
+    go (yes l) = ltb-true w (m .count) (fits-counted (m .ring .fixed) (stood m w) (ltb w (m .count)) busy (pic .unbroken .records w l))
+    go (no z) =
+        let over : length (m .workers) ≤ w = omega (arith, pic .workers-long) in
+        absurd (true≢false (sym (rw (ap (λ (y : Worker). y .place) (List·getD-eq-default (m .workers) idler over)) at busy)))
 
 -- what holds of the place that changed and of every other holds of all
 set-places : (ws : List Worker) (w : ℕ) (q : Place) (P : ℕ → Place → Type 0) → w < length ws → P w q → ((j : ℕ) → j ≢ w → P j (placeOf ws j))

@@ -1,17 +1,17 @@
 -- A call that alone is scheduled: each act is accepted, lowers the rank and leaves the answer foretold; so it ends.
 use mathlib.Core.Path.{_≡_, refl, sym, ap, _∙_, subst}
 use mathlib.Core.Logic.{_≢_}
-use mathlib.Core.Bool.{Bool, true, false, cond, true≢false}
+use mathlib.Core.Bool.{Bool, true, false, cond}
 use mathlib.Core.List.{List, [], _∷_, _++_, append-assoc, append-nil}
 use Prim.Native.Nat.{ℕ, zero, suc, _+_, _*_, _/_, _%_, _≤_, _<_}
 use native.Mathlib.Omega.{arith}
-use native.Mathlib.Decide.{ℕ-discrete, decLt}
+use native.Mathlib.Decide.{ℕ-discrete}
 use lib.Dec.{ltb, eqb}
-use lib.ListN.{length, getD, set, List·getD-eq-default}
+use lib.ListN.{length, getD, set}
 use lib.Seq.{getD-set-same, getD-set-other}
-use borrow.Author.Tests.{lt-ltb, ltb-true}
+use borrow.Author.Tests.{lt-ltb}
 use Rattle.queue_entries.specs.Schedules.{runBy, historyBy}
-use Rattle.queue_entries.specs.Limits.{workersMost, meterMost}
+use Rattle.queue_entries.specs.Limits.{meterMost}
 use Rattle.queue_entries.specs.declared.Order.the-variants.{Act}
 use Rattle.queue_entries.specs.declared.Entry.the-variants.{Asks}
 use Rattle.queue_entries.specs.Entries.{strayOf, orderOf, entryOf}
@@ -30,7 +30,6 @@ use Rattle.bounded_machine.specs.declared.Machine.{Machine}
 use Rattle.bounded_machine.specs.declared.Event.{Event}
 use Rattle.bounded_machine.specs.declared.Ran.{Ran}
 use Rattle.bounded_machine.specs.Machine.{slot, placeOf, idler, refused, accepted}
-use Rattle.bounded_machine.specs.Broken.{recordFits}
 use Rattle.bounded_machine.specs.Turn.{verdictOf, carried, turnOf, turnOfBy, spotOf, stored, acted, actedBy}
 use Rattle.bounded_machine.specs.Run.{ran, runFrom}
 use Rattle.bounded_machine.specs.History.{event, historyOf}
@@ -41,7 +40,7 @@ use Rattle.bounded_proof_invariant.proofs.Effects.{Loose}
 use Rattle.bounded_proof_each_act.proofs.Stamps.{fixed}
 use Rattle.bounded_proof_each_act.proofs.Sight.{look, HandAt, endsOf, slotOf}
 use Rattle.bounded_proof_demand2.proofs.Turns.{did, stood}
-use Rattle.bounded_proof_demand2.proofs.Pictured.{Base, Pictured, first-turn, spot-small, acted-stood, idle-is}
+use Rattle.bounded_proof_demand2.proofs.Pictured.{Base, Pictured, busy-counted, first-turn, spot-small, acted-stood, idle-is}
 use Rattle.bounded_proof_demand2.proofs.Reached.{Reached, entered}
 use Rattle.bounded_proof_demand2.proofs.Answers.{true-answers}
 use Rattle.bounded_proof_demand3.specs.Rank.{rankOf}
@@ -56,11 +55,6 @@ act-entry w =
     let low : (16 * w + 8) % 16 ≡ 8 = omega arith in
     let top : (16 * w + 8) / 16 ≡ w = omega arith in
     rw (low, top)
-
-counted : (f : Fixed) (p : Place) (b : Bool) → viewOf p .busy ≡ true → recordFits f p b ≡ true → b ≡ true
-unfolding recordFits
-counted f p true busy h = refl
-counted f p false busy h = absurd (true≢false (sym (rw busy at h)))
 
 abbrev pub ownSlot : Machine → Place → Slot
 ownSlot m p = getD (m .ring .slots) (spotOf (m .ring .fixed) (viewOf p .held)) (slot 0 0)
@@ -82,15 +76,8 @@ unfolding actedBy stored
 acted-fixed m w p lose = refl
 
 module _ (c n workers : ℕ) (base : Base c n workers) (s : Shared) (m : Machine) (pic : Pictured c n workers s m) (w : ℕ) (busy : viewOf (stood m w) .busy ≡ true) where
-  -- a busy worker is one of the count
   pub team : w < m .count
-  team = go (decLt w workersMost)
-    where
-      go : Dec (w < workersMost) → w < m .count
-      go (yes l) = ltb-true w (m .count) (counted (m .ring .fixed) (stood m w) (ltb w (m .count)) busy (pic .unbroken .records w l))
-      go (no z) =
-          let over : length (m .workers) ≤ w = omega (arith, pic .workers-long) in
-          absurd (true≢false (sym (rw (ap (λ (y : Worker). y .place) (List·getD-eq-default (m .workers) idler over)) at busy)))
+  team = busy-counted c n workers s m pic w busy
 
   pub act-turn : m .meter < meterMost → turnOf m (16 * w + 8) 0 ≡ accepted (acted m w (stood m w) false)
   unfolding turnOfBy

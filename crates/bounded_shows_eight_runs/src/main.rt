@@ -2,9 +2,10 @@
 use bounded_machine::Machine;
 use bounded_machine::Ran;
 use bounded_machine::Tally;
+use bounded_places::Place;
 use bounded_words::Claim;
 
-// A machine under way, with the claims counted from its history and the acts of the last call.
+// A machine under way, with what is counted from its history and the acts of the last call.
 struct Scene {
     machine: Machine,
     tally: Tally,
@@ -20,27 +21,29 @@ fn opened(capacity: u64, workers: u64, edition: u64) -> Scene {
         tally: Tally {
             tail: Claim(0),
             head: Claim(0),
+            reads: 0,
         },
         acts: 0,
         refusal: made.refusal,
     }
 }
 
-// The claims after an entry: counted on where it was an act.
-fn claims(before: Tally, m: Machine, first: u64) -> Tally {
+// The tally after an entry, whose worker stood at this place: counted on where it was an act.
+fn counted(before: Tally, stood: Place, m: Machine, first: u64) -> Tally {
     if first % 16 < 8 {
         return before;
     }
-    bounded::tally(before, bounded_text_machine::place_of(m, first / 16))
+    bounded::tally(before, stood, bounded_text_machine::place_of(m, first / 16))
 }
 
 fn entry(s: Scene, first: u64, second: u64, acts: u64) -> Scene {
+    let stood = bounded_text_machine::place_of(s.machine, first / 16);
     let did = bounded::step(s.machine, first, second);
-    let counted = claims(s.tally, did.machine, first);
+    let tally = counted(s.tally, stood, did.machine, first);
     let after = did.machine;
     Scene {
         machine: after,
-        tally: counted,
+        tally: tally,
         acts: acts,
         refusal: did.refusal,
     }

@@ -13,20 +13,22 @@ use Rattle.bounded_words.specs.declared.Stamp.{Stamp}
 use Rattle.bounded_words.specs.Words.{doubled, markOf, markedOf, unmarkedOf, plus, minus, withMark, nextOf, same, onePast, lapBehind, lapBehindOnePast, stamp}
 use Rattle.bounded_places.specs.declared.Answer.{Answer}
 use Rattle.bounded_places.specs.declared.Answer.the-variants.{Nothing, Pushed, Full, Closed, Displaced, Popped, Empty, PopClosed, Len, Yes, No}
-use Rattle.bounded_places.specs.declared.Place.the-variants.{Idle, O1, O2, O3, O4, O5, O6}
+use Rattle.bounded_places.specs.declared.Kind.the-variants.{Push}
+use Rattle.bounded_places.specs.declared.Place.the-variants.{Idle, P3, P4, F8, F9, O1, O2, O3, O4, O5, O6}
 use Rattle.bounded_places.specs.Places.{inside}
 use Rattle.bounded_acts.specs.Acts.{forcedTail, stay, tailTo, headTo, stampTo, valueTo, countOf}
 use Rattle.bounded_machine.specs.declared.Machine.{Machine}
-use Rattle.bounded_machine.specs.declared.Moved.the-variants.{Head, Neither}
+use Rattle.bounded_machine.specs.declared.Moved.the-variants.{Neither, Tail, Head}
 use Rattle.bounded_machine.specs.declared.Ran.{Ran}
 use Rattle.bounded_machine.specs.Machine.{emptySlots, stamped, freshSlots, idlers, freshOf, refused, accepted}
 use Rattle.bounded_machine.specs.Broken.{byRule, endsFit, recordFits, recordsFit, brokenOf, allIdle}
 use Rattle.bounded_machine.specs.Contents.{countIn, wrapped, itemAt, itemsFrom, contentsOf}
 use Rattle.bounded_machine.specs.Turn.{begun, stored, actedBy, turnOfBy}
 use Rattle.bounded_machine.specs.Run.{ran}
-use Rattle.bounded_machine.specs.History.{event, tallyOf, stockOf}
-use Rattle.bounded_demands.specs.Notions.{acts, itemsOf, tailersOf, takersOf, handP4, handO4, readO4, popped, passed, ownActs, actsOf, Allowed}
-use Rattle.bounded_slips.specs.Slips.{actWith, slipped, emptyUnseen, fullUnseen, closedUnseen, emptyTailFirst, fullHeadFirst, lenLooksOnce, popKeepsItsWord, lostForceKeepsItsWord, lostForceTakesTheHead, unstamped, releasesWithNext, neverLetsGo, handsOutAgain, readsAfterItsStore, stampBeforeValue, pushWritesLate, closedTooSoon}
+use Rattle.bounded_machine.specs.History.{event, tallyOf, stockOf, untakenOf}
+use Rattle.bounded_demands.specs.Notions.{acts, itemsOf, tailersOf, takersOf, handP4, handO4, Reads, readO4, readF8, unreadBy, popped, passed, ownActs, actsOf, Allowed}
+use Rattle.bounded_proof_demand2.proofs.Stock.{reading}
+use Rattle.bounded_slips.specs.Slips.{none, actWith, slipped, howMany, emptyUnseen, fullUnseen, closedUnseen, emptyTailFirst, fullHeadFirst, lenLooksOnce, popKeepsItsWord, lostForceKeepsItsWord, lostForceTakesTheHead, unstamped, releasesWithNext, neverLetsGo, handsOutAgain, readsAfterItsStore, stampBeforeValue, pushWritesLate, closedTooSoon}
 use Rattle.bounded_slips.specs.Refuted.{Trial, reached, past, does, Refuted, popOfNothing, popLooksLate, pushLooksLate, pushLoses, emptyLooks, fullLooks, popAfterPush, secondLap, popOutOfDate, forceOutOfDate, popInHand, lenLooks, lenOutOfDate, closedBefore}
 use Rattle.bounded_slips.proofs.Ways.{busyAt, nowhere, wrong-item, unclaimed, sole, acting, said, no-cons, untouched, quiet, no-hand, stillBusy, late, rests, at-once, busyAlong, holds-on}
 
@@ -66,8 +68,15 @@ readable : entryOf 0 5 ≡ Unreadable → ⊥
 unfolding strayOf orderOf entryOf
 readable e = let q : _≡_ {A = ℕ} 0 1 = cc in omega arith
 
+head-tail : Head ≡ Tail → ⊥
+head-tail e = let q : _≡_ {A = ℕ} 0 1 = cc in omega arith
+
+-- O3 reads no value
+loses-nothing : (t : Stamp) → Reads (O3 (stamp 0)) t → ⊥
+loses-nothing t r = true≢false (sym (reading (O3 (stamp 0)) t r .0))
+
 pub refuted : Refuted
-unfolding forcedTail doubled markOf markedOf unmarkedOf plus minus withMark nextOf same onePast lapBehind lapBehindOnePast inside strayOf orderOf entryOf stay tailTo headTo stampTo valueTo countOf emptySlots stamped freshSlots idlers freshOf refused accepted all inLimits byRule endsFit recordFits recordsFit brokenOf allIdle countIn wrapped itemAt itemsFrom contentsOf begun stored actedBy turnOfBy ran runBy searchBy scheduleBy historyBy tallyOf stockOf acts itemsOf tailersOf takersOf passed ownActs nowhere stillBusy busyAlong
+unfolding forcedTail doubled markOf markedOf unmarkedOf plus minus withMark nextOf same onePast lapBehind lapBehindOnePast inside strayOf orderOf entryOf stay tailTo headTo stampTo valueTo countOf emptySlots stamped freshSlots idlers freshOf refused accepted all inLimits byRule endsFit recordFits recordsFit brokenOf allIdle countIn wrapped itemAt itemsFrom contentsOf begun stored actedBy turnOfBy ran runBy searchBy scheduleBy historyBy tallyOf stockOf untakenOf howMany unreadBy acts itemsOf tailersOf takersOf passed ownActs nowhere stillBusy busyAlong
 refuted =
     record {
       act-by-act = λ a. true≢false (sym (ap (λ (m : Machine). busyAt m 0) (a (freshOf 1 2 1) [] 0 5 refl refl refl .0)));
@@ -86,8 +95,7 @@ refuted =
       reads = λ r. unclaimed (past popOfNothing) 0 0 refl (r 0 (stamp 0) readO4);
       unbroken = true≢false;
       plain = λ p. let q = p .head in omega arith;
-      stock = λ s. let q : _≡_ {A = ℕ} 1 0 = s in omega arith;
-      number = λ s. let q : _≡_ {A = ℕ} 1 0 = s refl in omega arith;
+      untaken = λ s. let q : _≡_ {A = ℕ} 1 0 = s in omega arith;
       contents = λ c. let q : _≡_ {A = ℕ} 0 5 = ap (λ (l : List ℕ). getD l 0 0) (c refl) in omega arith;
       fifo = λ f. no-cons (untouched (past popOfNothing) [] f refl .0);
       empty =
@@ -133,6 +141,21 @@ refuted =
       in-the-way = λ i. no-hand (reached popAfterPush) 0 refl refl quiet (i 0 (omega arith) refl);
       lets-go = λ l. holds-on (slipped neverLetsGo) (reached popInHand) 0 2 (acts 0 2) refl (l 0 (stamp 0) (acts 0 2) handO4 (let q : 2 ≤ 2 = omega arith in q));
       as-run = λ p. true≢false (ap (λ (m : Machine). busyAt m 0) (p (0 ∷ 5 ∷ []) refl));
+      rises = λ s. let q : _≡_ {A = ℕ} 0 1 = s (actsOf (slipped none) 1 2 1 (does 0 0 5 2)) [] (event 0 (P3 Push (stamp 0) 5) (P4 (stamp 0) 5)) refl refl in omega arith;
+      falls =
+          λ s.
+          let q : _≡_ {A = ℕ} 2 3 =
+          s (actsOf (slipped none) 1 2 1 (does 0 0 5 5 ++ does 0 1 6 4)) (event 0 (F9 (stamp 4) 5) (Idle (Displaced 5)) ∷ []) (event 0 (F8 (stamp 4) 6) (F9 (stamp 4) 5)) (stamp 4) refl readF8 in
+          omega arith;
+      stays =
+          λ s.
+          let q : _≡_ {A = ℕ} 0 1 =
+          s (actsOf (slipped none) 1 2 1 (does 0 0 5 5 ++ does 0 2 0 2)) [] (event 0 (O3 (stamp 0)) (O4 (stamp 0))) refl (λ e. head-tail e) (λ t r. loses-nothing t r) in
+          omega arith;
+      hands = λ s. let q : _≡_ {A = ℕ} 0 1 = s in omega arith;
+      number = λ s. let q : _≡_ {A = ℕ} 2 1 = s refl .0 in omega arith;
+      number-push = λ s. let q : _≡_ {A = ℕ} 1 0 = s refl .0 in omega arith;
+      most = λ s. let q : 3 ≤ 2 = s in omega arith;
       once-closed = λ o. true≢false (sym (o refl (acts 0 2)));
       closed-last =
           λ o.

@@ -7,9 +7,9 @@ use mathlib.Core.Path.{_≡_}
 use Rattle.bounded_machine.specs.declared.Machine.{Machine}
 use Rattle.bounded_machine.specs.declared.Event.{Event}
 use Rattle.bounded_machine.specs.Broken.{brokenOf}
-use Rattle.bounded_demands.specs.Notions.{Plain, machineAfter, actsOf, acts}
-use Rattle.bounded_demands.specs.Demands.{ClaimRule, OnceOut, OneHand, ReadsWritten, AnswersTrue, StockCounts, StockIsNumber, ContentsWait, PlainQueue, EmptyTrue, FullTrue, ActByAct, WholeSchedules, LenTrue, NeverRefused, AloneEnds, InTheWay, HandLetsGo, PassedAsRun, OnceClosed, NoneAfterClosed}
-use Rattle.bounded_slips.specs.Slips.{none, lostPushGoesOn, closedUnseen, unwrapped, tailUnmoved, unwritten, unstamped, fullUnseen, tailBeforeHead, lostForceKeepsItsWord, lostForceTakesTheHead, stampBeforeValue, stampUntested, readsAfterItsStore, releasesWithNext, neverLetsGo, emptyUnseen, handsOutAgain, popKeepsItsWord, lenLooksOnce, emptyTailFirst, fullHeadFirst, pushWritesLate, forceForgets, closedTooSoon, slipped, deaf, refusing}
+use Rattle.bounded_demands.specs.Notions.{Plain, machineAfter, actsOf, acts, stock}
+use Rattle.bounded_demands.specs.Demands.{ClaimRule, OnceOut, OneHand, ReadsWritten, AnswersTrue, UntakenCounts, ContentsWait, PlainQueue, EmptyTrue, FullTrue, ActByAct, WholeSchedules, LenTrue, NeverRefused, AloneEnds, InTheWay, HandLetsGo, PassedAsRun, StockRises, StockFalls, StockStays, StockByHands, StockIsNumber, StockMost, OnceClosed, NoneAfterClosed}
+use Rattle.bounded_slips.specs.Slips.{none, lostPushGoesOn, closedUnseen, unwrapped, tailUnmoved, unwritten, unstamped, fullUnseen, tailBeforeHead, lostForceKeepsItsWord, lostForceTakesTheHead, stampBeforeValue, stampUntested, readsAfterItsStore, releasesWithNext, neverLetsGo, emptyUnseen, handsOutAgain, popKeepsItsWord, lenLooksOnce, emptyTailFirst, fullHeadFirst, pushWritesLate, forceForgets, closedTooSoon, fallsWhenTaken, risesWhenWritten, forceUnread, popUncounted, slipped, stockWith, deaf, refusing}
 
 -- A schedule for a machine of this capacity and edition with two workers, with this slip.
 pub record Trial : Type 0 where
@@ -122,6 +122,15 @@ lenOutOfDate = trial lenLooksOnce 1 (does 1 3 0 2 ++ does 0 0 5 5)
 abbrev pub popInHand : Trial
 popInHand = trial neverLetsGo 1 (does 0 0 5 5 ++ does 0 2 0 3)
 
+-- ---- stock
+
+-- a force_push that displaces an item, and one more
+abbrev pub oneForce : List ℕ
+oneForce = does 0 0 5 5 ++ does 0 1 6 6
+
+abbrev pub twoForces : Trial
+twoForces = trial none 1 (oneForce ++ does 0 1 7 6)
+
 -- ---- a close that holds
 
 -- case F in edition 2, up to the close: a force_push past its load, and then a close
@@ -157,9 +166,8 @@ pub record Refuted : Type 0 where
   -- 6. unbroken, no stamp wraps
   pub unbroken : brokenOf (reached pushClaims) ≡ false → ⊥
   pub plain : Plain (reached forceClaims) (past forceClaims) → ⊥
-  -- 7. stock and contents
-  pub stock : StockCounts (reached (onePush tailUnmoved)) (past (onePush tailUnmoved)) → ⊥
-  pub number : StockIsNumber (reached (onePush tailUnmoved)) (past (onePush tailUnmoved)) → ⊥
+  -- 7. claims not taken, and contents
+  pub untaken : UntakenCounts (reached (onePush tailUnmoved)) (past (onePush tailUnmoved)) → ⊥
   pub contents : ContentsWait (reached (onePush unwritten)) (past (onePush unwritten)) → ⊥
   -- 8. beside the demand
   pub fifo : PlainQueue (past popOfNothing) → ⊥
@@ -180,6 +188,14 @@ pub record Refuted : Type 0 where
   pub in-the-way : InTheWay (slipped unstamped) (reached popAfterPush) → ⊥
   pub lets-go : HandLetsGo (slipped neverLetsGo) (reached popInHand) → ⊥
   pub as-run : PassedAsRun deaf (reached (trial none 1 [])) → ⊥
+  -- stock
+  pub rises : StockRises (stockWith risesWhenWritten) (past (trial none 1 (does 0 0 5 3))) → ⊥
+  pub falls : StockFalls (stockWith forceUnread) (past (trial none 1 oneForce)) → ⊥
+  pub stays : StockStays (stockWith fallsWhenTaken) (past (trial none 1 (does 0 0 5 5 ++ does 0 2 0 3))) → ⊥
+  pub hands : StockByHands (stockWith popUncounted) (reached (trial none 1 (does 0 0 5 5 ++ does 0 2 0 3))) (past (trial none 1 (does 0 0 5 5 ++ does 0 2 0 3))) → ⊥
+  pub number : StockIsNumber (stockWith forceUnread) (reached (trial none 1 oneForce)) (past (trial none 1 oneForce)) → ⊥
+  pub number-push : StockIsNumber stock (reached (onePush tailUnmoved)) (past (onePush tailUnmoved)) → ⊥
+  pub most : StockMost (stockWith forceUnread) 1 2 (past twoForces) → ⊥
   -- a close that holds
   pub once-closed : OnceClosed (slipped forceForgets) (reached closedF) → ⊥
   pub closed-last : NoneAfterClosed (past popAfterClosed) → ⊥

@@ -1,8 +1,10 @@
--- Document 01's tables with a slip in one row, all else as it is; and definitions of the machine made of them.
-use Prim.Native.Nat.{ℕ}
-use mathlib.Core.Bool.{Bool, cond}
+-- Document 01's tables with a slip in one row, all else as it is; definitions of the machine made of them; and ways to count stock with a slip.
+use Prim.Native.Nat.{ℕ, _+_, _-_}
+use mathlib.Core.Bool.{Bool, true, false, cond, not}
+use mathlib.Core.List.{List, [], _∷_}
 use mathlib.Core.Path.{_≡_}
 use lib.Dec.{eqb}
+use lib.ListN.{length}
 use Rattle.bounded_words.specs.declared.Fixed.{Fixed}
 use Rattle.bounded_words.specs.Words.{plus, minus, nextOf, same, markedOf, unmarkedOf, lapBehind}
 use Rattle.bounded_places.specs.declared.Slot.{Slot}
@@ -13,12 +15,15 @@ use Rattle.bounded_places.specs.declared.Place.{Place}
 use Rattle.bounded_places.specs.declared.Place.the-variants.{Idle, P1, P2, P3, P4, P5, P6, F6, F7, F8, F9, O1, O2, O3, O4, O5, O6, Len1, Len2, Len3, Empty1, Empty2, Full1, Full2, Close1, IsClosed1}
 use Rattle.bounded_acts.specs.declared.Acted.{Acted}
 use Rattle.bounded_acts.specs.Acts.{stay, tailTo, headTo, stampTo, valueTo, countOf, yesNo, actOf}
+use Rattle.bounded_machine.specs.declared.Event.{Event}
+use Rattle.bounded_machine.specs.declared.Moved.{Moved}
+use Rattle.bounded_machine.specs.declared.Moved.the-variants.{Neither, Tail, Head}
 use Rattle.bounded_machine.specs.Machine.{refused}
 use Rattle.bounded_machine.specs.Turn.{turnOf}
 use Rattle.bounded_machine.specs.Run.{ran, runFrom}
-use Rattle.bounded_machine.specs.History.{historyOf}
-use Rattle.bounded_demands.specs.Notions.{Definition, byTable, document01}
-use Rattle.bounded_demands.specs.Demands.{UnderEverySchedule, ActByAct, WholeSchedules, LenTrue, ScheduledAlone, CloseHolds, ClosedIsLast}
+use Rattle.bounded_machine.specs.History.{historyOf, movedOf, readsAt, untakenOf}
+use Rattle.bounded_demands.specs.Notions.{Definition, byTable, document01, itemIn, tally, stock}
+use Rattle.bounded_demands.specs.Demands.{UnderEverySchedule, ActByAct, WholeSchedules, LenTrue, ScheduledAlone, StockUnderEverySchedule, CloseHolds, ClosedIsLast}
 
 -- ---- the slips
 
@@ -121,6 +126,22 @@ forceForgets = 23
 abbrev pub closedTooSoon : ℕ
 closedTooSoon = 24
 
+-- stock falls at the head claim, as document 01 had it
+abbrev pub fallsWhenTaken : ℕ
+fallsWhenTaken = 25
+
+-- stock rises when the item is written, at P4 and F8
+abbrev pub risesWhenWritten : ℕ
+risesWhenWritten = 26
+
+-- F8 is no read
+abbrev pub forceUnread : ℕ
+forceUnread = 27
+
+-- a pop in hand is not counted: stock falls at its head claim
+abbrev pub popUncounted : ℕ
+popUncounted = 28
+
 -- The row of document 01, but for this slip.
 abbrev but : ℕ → ℕ → Acted → Acted → Acted
 but n slip wrong right = cond (eqb n slip) wrong right
@@ -187,6 +208,36 @@ actWith n f e s IsClosed1 lose = actOf f e s IsClosed1 lose
 abbrev pub slipped : ℕ → Definition
 slipped n = byTable (actWith n)
 
+-- ---- stock with a slip
+
+-- How many of these acts are such.
+unfoldable pub howMany : (Event → Bool) → List Event → ℕ
+howMany such [] = 0
+howMany such (e ∷ h) = cond (such e) 1 0 + howMany such h
+
+abbrev claimsHead : Moved → Bool
+claimsHead Neither = false
+claimsHead Tail = false
+claimsHead Head = true
+
+-- The act writes an item, at P4 or F8; reads at F8; makes a pop's head claim, after which it stands at O4.
+abbrev pub writes : Event → Bool
+writes e = not (eqb (length (itemIn (e .before))) 0)
+
+abbrev pub displaces : Event → Bool
+displaces e = cond (readsAt (e .before)) (writes e) false
+
+abbrev pub takes : Event → Bool
+takes e = cond (claimsHead (movedOf (e .after))) (readsAt (e .after)) false
+
+-- Stock, but for slip number n.
+abbrev pub stockWith : ℕ → List Event → ℕ
+stockWith n h =
+    cond (eqb n fallsWhenTaken) (untakenOf (tally h))
+    (cond (eqb n risesWhenWritten) (howMany writes h - tally h .reads)
+    (cond (eqb n forceUnread) (tally h .tail .0 - (tally h .reads - howMany displaces h))
+    (cond (eqb n popUncounted) (tally h .tail .0 - (howMany takes h + howMany displaces h)) (stock h))))
+
 -- Two definitions that are wrong beside the tables: one runs no entry of a schedule, one refuses every entry.
 abbrev pub deaf : Definition
 deaf = record { turn = turnOf; run = λ m place s. ran 0 place m; history = historyOf }
@@ -203,10 +254,13 @@ planted = none
 abbrev pub given : Definition
 given = slipped planted
 
--- It is document 01's, and so the demands stand.
+abbrev pub givenStock : List Event → ℕ
+givenStock = stockWith planted
+
+-- It is document 01's, with document 02's stock, and so the demands stand.
 abbrev pub Faithful : Type 0
-Faithful = given ≡ document01
+Faithful = (given ≡ document01) × (givenStock ≡ stock)
 
 abbrev pub Stands : Type 0
 Stands =
-    UnderEverySchedule given × ActByAct given × WholeSchedules given × LenTrue given × ScheduledAlone given × CloseHolds given × ClosedIsLast given
+    UnderEverySchedule given × ActByAct given × WholeSchedules given × LenTrue given × ScheduledAlone given × StockUnderEverySchedule given givenStock × CloseHolds given × ClosedIsLast given

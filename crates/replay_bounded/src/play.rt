@@ -71,14 +71,14 @@ fn make(o: Options, capacity: u64, workers: u64, whole: Whole, out: &mut [u8], a
 
 // The summary after an entry of this first word, which led its worker from one place to the other.
 fn counted(
-    asked: bool,
+    o: Options,
     s: Summary,
     refusal: u64,
     first: u64,
     before: Place,
     after: Place,
 ) -> Summary {
-    if !asked {
+    if !o.summary && !o.stock {
         return s;
     }
     if refusal != 0 {
@@ -90,23 +90,32 @@ fn counted(
     crate::summary::acted(s, before, after)
 }
 
-// PLACE R h=H t=T m=M wN=S
+fn stock_if(asked: bool, out: &mut [u8], at: usize, s: Summary) -> usize {
+    if asked {
+        return crate::summary::tell_stock(out, at, s);
+    }
+    at
+}
+
+// PLACE R h=H t=T m=M wN=S, and what is asked beside it
 fn line_unless(
-    quiet: bool,
+    o: Options,
     out: &mut [u8],
     at: usize,
     place: u64,
     refusal: u64,
     w: u64,
     numbers: [u64; 8],
-    s: Place,
+    after: Place,
+    s: Summary,
 ) -> usize {
-    if quiet {
+    if o.quiet {
         return at;
     }
-    let p = bounded_text_machine::text::entry_of(out, at, place, refusal, w, numbers, s);
-    let q = text_output::byte(out, p, b'\n');
-    text_output::settle(out, q)
+    let p = bounded_text_machine::text::entry_of(out, at, place, refusal, w, numbers, after);
+    let q = stock_if(o.stock, out, p, s);
+    let r = text_output::byte(out, q, b'\n');
+    text_output::settle(out, r)
 }
 
 fn next_place(place: u64, refusal: u64) -> u64 {
@@ -139,9 +148,9 @@ fn steps(r: Run, o: Options, list: &[u64], from: usize, out: &mut [u8]) -> Run {
         m = ran.machine;
         refusal = ran.refusal;
         let after = bounded_text_machine::place_of(m, w);
-        s = counted(o.summary, s, refusal, first, before, after);
+        s = counted(o, s, refusal, first, before, after);
         at = line_unless(
-            o.quiet,
+            o,
             out,
             at,
             place,
@@ -149,6 +158,7 @@ fn steps(r: Run, o: Options, list: &[u64], from: usize, out: &mut [u8]) -> Run {
             w,
             bounded_text_machine::numbers(m),
             after,
+            s,
         );
         place = next_place(place, refusal);
     }

@@ -23,6 +23,7 @@ pub fn none() -> Summary {
         tally: Tally {
             tail: Claim(0),
             head: Claim(0),
+            reads: 0,
         },
         answers: [0u64; 11],
     }
@@ -60,7 +61,7 @@ fn is_retry(before: Coded, after: Coded) -> bool {
 pub fn acted(s: Summary, before: Place, after: Place) -> Summary {
     let tally = s.tally;
     let answers = s.answers;
-    let tallied = bounded::tally(tally, after);
+    let tallied = bounded::tally(tally, before, after);
     let code = bounded_text_places::code::of(after);
     let counted = answered(answers, code);
     Summary {
@@ -105,6 +106,12 @@ fn tell_claims(out: &mut [u8], at: usize, t: Tally) -> usize {
     let head = t.head;
     let claims = [tail.0, head.0, bounded::stock(t)];
     text_output::form(out, at, b"claims tail=# head=# stock=#\n", &claims)
+}
+
+// What follows an entry's line where it is asked.
+pub fn tell_stock(out: &mut [u8], at: usize, s: Summary) -> usize {
+    let stock = [bounded::stock(s.tally)];
+    text_output::form(out, at, b" stock=#", &stock)
 }
 
 pub fn tell(out: &mut [u8], at: usize, s: Summary) -> usize {

@@ -1,58 +1,23 @@
-use Rattle.bounded.proofs.Steps.{tally-none, tally-tail, tally-head}
+use Rattle.bounded.proofs.Steps.{tally-both}
 use borrow.Author.Needs.{needs}
 use Rattle.bounded.proofs.tally.Statement.{statement}
 use Rattle.bounded.proofs.tally.Tie as tie
 use Rattle.bounded.proofs.tally.Reads as reads
 use Rattle.bounded.proofs.tally.Lts as lts
-use Rattle.bounded.proofs.moved_by.Reads as moved-by-reads
-use Rattle.bounded.proofs.next_claim.Reads as next-claim-reads
+use Rattle.bounded.proofs.with_claim.Reads as with-claim-reads
+use Rattle.bounded.proofs.with_read.Reads as with-read-reads
 
--- src/lib.rt:229:9
-moved-by-requires : tie.Need-moved-by-requires
-moved-by-requires c κs = search needs
+-- src/lib.rt:244:15
+with-claim-requires : tie.Need-with-claim-requires
+with-claim-requires c κs = search needs
 
--- src/lib.rt:231:27
-enum-told : tie.Need-enum-told
-enum-told c = search needs
+-- src/lib.rt:244:5
+with-read-requires : tie.Need-with-read-requires
+with-read-requires c κs = search needs
 
--- src/lib.rt:233:19
-enum-told-2 : tie.Need-enum-told-2
-enum-told-2 c = search needs
-
--- src/lib.rt:233:19
-next-claim-requires : tie.Need-next-claim-requires
-next-claim-requires c κs = search needs
-
--- src/lib.rt:238:19
-enum-told-3 : tie.Need-enum-told-3
-enum-told-3 c = search needs
-
--- src/lib.rt:238:19
-next-claim-requires-2 : tie.Need-next-claim-requires-2
-next-claim-requires-2 c κs = search needs
-
--- src/lib.rt:224:1
+-- src/lib.rt:241:1
 returns : tie.Need-returns
-returns c = search (needs, tally-none, tally-tail, tally-head)
-
--- src/lib.rt:224:1
-returns-2 : tie.Need-returns-2
-returns-2 c = search (needs, tally-none, tally-tail, tally-head)
-
--- src/lib.rt:224:1
-returns-3 : tie.Need-returns-3
-returns-3 c = search (needs, tally-none, tally-tail, tally-head)
+returns c = search (needs, tally-both)
 
 pub tally-spec : {M : Type 1} → statement M
-tally-spec =
-    tie.close
-    (tie.spec
-    moved-by-requires
-    enum-told
-    enum-told-2
-    next-claim-requires
-    enum-told-3
-    next-claim-requires-2
-    returns
-    returns-2
-    returns-3)
+tally-spec = tie.close (tie.spec with-claim-requires with-read-requires returns)
