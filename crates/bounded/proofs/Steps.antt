@@ -3,35 +3,27 @@ use Prim.Native.Nat.{ℕ, _+_, _%_, _<_, _≤_}
 use mathlib.Core.Path.{_≡_, refl, sym, ap, _∙_}
 use mathlib.Core.Bool.{Bool, true, false, cond, true≢false}
 use mathlib.Core.List.{[], _∷_}
-use native.Mathlib.Nat.{mod-eq-of-lt}
 use lib.Dec.{ltb, eqb}
 use borrow.Author.Tests.{eqb-true}
 use Rattle.queue_entries.specs.declared.Finding.the-variants.{AllRead}
 use Rattle.queue_entries.specs.Schedules.{runBy, stopsAt, searchBy, searched, scheduleBy}
-use Rattle.queue_entries.proofs.Pick.{along, yes, no, below, above}
+use Rattle.queue_entries.proofs.Pick.{yes, no, below, above}
 use Rattle.queue_entries.specs.declared.Entry.{Entry}
 use Rattle.queue_entries.specs.declared.Entry.the-variants.{Unreadable, Asks}
 use Rattle.queue_entries.specs.Entries.{entryOf}
 use Rattle.queue_entries.specs.declared.Verdict.{Verdict}
 use Rattle.queue_entries.specs.declared.Verdict.the-variants.{Refuse, Start, Move}
-use Rattle.bounded_words.specs.declared.Claim.{Claim}
-use Rattle.bounded_words.specs.Limits.{wide}
-use Rattle.bounded_words.specs.Words.{claim}
 use Rattle.bounded_places.specs.declared.Place.{Place}
 use Rattle.bounded_places.specs.Places as places
 use Rattle.bounded_machine.specs.declared.Machine.{Machine}
 use Rattle.bounded_machine.specs.declared.Did.{Did}
 use Rattle.bounded_machine.specs.declared.Ran.{Ran}
-use Rattle.bounded_machine.specs.declared.Moved.{Moved}
-use Rattle.bounded_machine.specs.declared.Moved.the-variants.{Neither, Tail, Head}
-use Rattle.bounded_machine.specs.declared.Tally.{Tally}
 use Rattle.bounded_machine.specs.Machine.{placeOf, refused, accepted}
 use Rattle.bounded_machine.specs.Broken.{brokenOf}
 use Rattle.bounded_machine.specs.Turn.{verdictOf, carried, turn, turnOf, turnOfBy, begun, acted}
 use Rattle.bounded_machine.specs.Run.{ran, runFrom, runOf}
-use Rattle.bounded_machine.specs.History.{movedOf, readsAt, counted, readOn}
 use Rattle.bounded_machine.proofs.Kept.{either}
-use Rattle.bounded.specs.Bounded.{stepOf, beginOf, actOf, oneMore, nextClaim, withClaim, withRead, talliedOf}
+use Rattle.bounded.specs.Bounded.{stepOf, beginOf, actOf}
 
 -- ---- a refused entry changes nothing
 abbrev Unchanged : Machine → Did → Type 0
@@ -114,41 +106,3 @@ module _ (m : Machine) (first second : ℕ) (r : Did) (b : Bool) (e : b ≡ brok
     pub act-step : 8 ≤ first % 16 → r ≡ stepOf m first second → r ≡ actOf m first second
     unfolding actOf
     act-step g q = no _ b _ _ _ e h (above (first % 16) 8 _ _ _ g (steps q))
-
--- ---- claims and values read
-pub along-moved : (p q : Place) (r : Moved) → p ≡ q → r ≡ movedOf q → r ≡ movedOf p
-along-moved = along movedOf
-
-pub along-reads : (p q : Place) (r : Bool) → p ≡ q → r ≡ readsAt q → r ≡ readsAt p
-along-reads = along readsAt
-
-module _ (t : Tally) (n q : Moved) (e : n ≡ q) where
-  pub claim-none : n ≡ Neither → t ≡ withClaim t q
-  claim-none h = rw (sym e ∙ h)
-
-  pub claim-tail : (k : Claim) → n ≡ Tail → k ≡ nextClaim (t .tail) → record { tail = k; head = t .head; reads = t .reads } ≡ withClaim t q
-  claim-tail k h g = rw (sym e ∙ h, g)
-
-  pub claim-head : (k : Claim) → n ≡ Head → k ≡ nextClaim (t .head) → record { tail = t .tail; head = k; reads = t .reads } ≡ withClaim t q
-  claim-head k h g = rw (sym e ∙ h, g)
-
-module _ (t : Tally) (n q : Bool) (e : n ≡ q) where
-  pub read-none : n ≡ false → t ≡ withRead t q
-  read-none h = rw (sym e ∙ h)
-
-  pub read-one : (k : ℕ) → n ≡ true → k ≡ oneMore (t .reads) → record { tail = t .tail; head = t .head; reads = k } ≡ withRead t q
-  read-one k h g = rw (sym e ∙ h, g)
-
-pub tally-both : (t u r : Tally) (p q : Place) → u ≡ withClaim t (movedOf q) → r ≡ withRead u (readsAt p) → r ≡ talliedOf t p q
-tally-both t u r p q e h = h ∙ ap (λ (z : Tally). withRead z (readsAt p)) e
-
--- the counts in machine words are the history's, below the width
-pub tally-counts : (t : Tally) (q : Moved) (b : Bool) → t .tail .0 + 1 < wide → t .head .0 + 1 < wide → t .reads + 1 < wide
-    → withRead (withClaim t q) b ≡ readOn b (counted q t)
-unfolding nextClaim oneMore
-tally-counts t Neither false l g r = refl
-tally-counts t Tail false l g r = rw (mod-eq-of-lt l)
-tally-counts t Head false l g r = rw (mod-eq-of-lt g)
-tally-counts t Neither true l g r = rw (mod-eq-of-lt r)
-tally-counts t Tail true l g r = rw (mod-eq-of-lt l, mod-eq-of-lt r)
-tally-counts t Head true l g r = rw (mod-eq-of-lt g, mod-eq-of-lt r)

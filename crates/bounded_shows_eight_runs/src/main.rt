@@ -33,7 +33,7 @@ fn counted(before: Tally, stood: Place, m: Machine, first: u64) -> Tally {
     if first % 16 < 8 {
         return before;
     }
-    bounded::tally(before, stood, bounded_text_machine::place_of(m, first / 16))
+    bounded_stock::tally(before, stood, bounded_text_machine::place_of(m, first / 16))
 }
 
 fn entry(s: Scene, first: u64, second: u64, acts: u64) -> Scene {
@@ -110,7 +110,7 @@ fn say(n: usize, s: Scene, worker: u64) {
 fn say_claims(t: Tally) {
     let tail = t.tail;
     let head = t.head;
-    let claims = [tail.0, head.0, bounded::stock(t)];
+    let claims = [tail.0, head.0, bounded_stock::stock(t)];
     text_output::say(b"tail claims=# head claims=# stock=#\n", &claims);
 }
 

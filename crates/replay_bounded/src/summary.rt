@@ -61,7 +61,7 @@ fn is_retry(before: Coded, after: Coded) -> bool {
 pub fn acted(s: Summary, before: Place, after: Place) -> Summary {
     let tally = s.tally;
     let answers = s.answers;
-    let tallied = bounded::tally(tally, before, after);
+    let tallied = bounded_stock::tally(tally, before, after);
     let code = bounded_text_places::code::of(after);
     let counted = answered(answers, code);
     Summary {
@@ -104,13 +104,13 @@ fn tell_answers(out: &mut [u8], at: usize, answers: [u64; 11]) -> usize {
 fn tell_claims(out: &mut [u8], at: usize, t: Tally) -> usize {
     let tail = t.tail;
     let head = t.head;
-    let claims = [tail.0, head.0, bounded::stock(t)];
+    let claims = [tail.0, head.0, bounded_stock::stock(t)];
     text_output::form(out, at, b"claims tail=# head=# stock=#\n", &claims)
 }
 
 // What follows an entry's line where it is asked.
 pub fn tell_stock(out: &mut [u8], at: usize, s: Summary) -> usize {
-    let stock = [bounded::stock(s.tally)];
+    let stock = [bounded_stock::stock(s.tally)];
     text_output::form(out, at, b" stock=#", &stock)
 }
 

@@ -2,7 +2,7 @@
 // One function for each place, and which is taken where: specs/Acts.antt has them beside the source's lines.
 ghost use mathlib.Core.Path.{_≡_};
 ghost use Rattle.single_words.specs.Words.{takenOf, closedOf};
-ghost use Rattle.single_acts.specs.Acts.{stay, stateTo, valueTo, exchanged, unlockedIn, lenOf, actA1, actA2, actA3, actB1, actB2, actB3, actB4, actB5, actC1, actC2, actC3, actLen1, actEmpty1, actFull1, actClose1, actIsClosed1, actOf};
+ghost use Rattle.single_acts.specs.Acts.{stay, stateTo, valueTo, exchanged, unlockedIn, lenOf, actA1, actA2, actA3, actB1, actB2, actB3, actB4, actB5, actC1, actC2, actC3, actLen1, actEmpty1, actFull1, actClose1, actIsClosed1};
 use single_places::Answer;
 use single_places::Place;
 use single_places::Single;
@@ -14,7 +14,7 @@ pub struct Acted {
     pub place: Place,
 }
 
-fn stay(s: Single, p: Place) -> Acted
+pub fn stay(s: Single, p: Place) -> Acted
     ensures { λ r. ⌜ r ≡ stay s p ⌝ }
 {
     Acted {
@@ -76,7 +76,7 @@ fn shut(s: Single) -> Single
 
 // push
 
-fn a1(s: Single, item: u64) -> Acted
+pub fn a1(s: Single, item: u64) -> Acted
     ensures { λ r. ⌜ r ≡ actA1 s item ⌝ }
 {
     let found = s.state;
@@ -95,13 +95,13 @@ fn a1(s: Single, item: u64) -> Acted
     }
 }
 
-fn a2(s: Single, item: u64) -> Acted
+pub fn a2(s: Single, item: u64) -> Acted
     ensures { λ r. ⌜ r ≡ actA2 s item ⌝ }
 {
     stay(value_to(s, item), Place::A3)
 }
 
-fn a3(s: Single) -> Acted
+pub fn a3(s: Single) -> Acted
     ensures { λ r. ⌜ r ≡ actA3 s ⌝ }
 {
     stay(unlock(s), Place::Idle(Answer::Pushed))
@@ -109,7 +109,7 @@ fn a3(s: Single) -> Acted
 
 // force_push
 
-fn b1(s: Single, e: State, item: u64) -> Acted
+pub fn b1(s: Single, e: State, item: u64) -> Acted
     ensures { λ r. ⌜ r ≡ actB1 s e item ⌝ }
 {
     let found = s.state;
@@ -129,34 +129,32 @@ fn b1(s: Single, e: State, item: u64) -> Acted
     }
 }
 
-fn b2(s: Single, item: u64) -> Acted
+pub fn b2(s: Single, item: u64) -> Acted
     ensures { λ r. ⌜ r ≡ actB2 s item ⌝ }
 {
     stay(value_to(s, item), Place::B3)
 }
 
-fn b3(s: Single) -> Acted
+pub fn b3(s: Single) -> Acted
     ensures { λ r. ⌜ r ≡ actB3 s ⌝ }
 {
     stay(unlock(s), Place::Idle(Answer::Pushed))
 }
 
-fn b4(s: Single, item: u64) -> Acted
+pub fn b4(s: Single, item: u64) -> Acted
     ensures { λ r. ⌜ r ≡ actB4 s item ⌝ }
 {
     let old = s.value;
     stay(value_to(s, item), Place::B5(old))
 }
 
-fn b5(s: Single, old: u64) -> Acted
+pub fn b5(s: Single, old: u64) -> Acted
     ensures { λ r. ⌜ r ≡ actB5 s old ⌝ }
 {
     stay(unlock(s), Place::Idle(Answer::Displaced(old)))
 }
 
-// pop
-
-fn c1(s: Single, e: State) -> Acted
+pub fn c1(s: Single, e: State) -> Acted
     ensures { λ r. ⌜ r ≡ actC1 s e ⌝ }
 {
     let found = s.state;
@@ -175,14 +173,14 @@ fn c1(s: Single, e: State) -> Acted
     }
 }
 
-fn c2(s: Single) -> Acted
+pub fn c2(s: Single) -> Acted
     ensures { λ r. ⌜ r ≡ actC2 s ⌝ }
 {
     let value = s.value;
     stay(s, Place::C3(value))
 }
 
-fn c3(s: Single, value: u64) -> Acted
+pub fn c3(s: Single, value: u64) -> Acted
     ensures { λ r. ⌜ r ≡ actC3 s value ⌝ }
 {
     stay(unlock(s), Place::Idle(Answer::Popped(value)))
@@ -196,14 +194,14 @@ fn len_of(w: State) -> u64
     if single_words::pushed(w) { 1 } else { 0 }
 }
 
-fn len1(s: Single) -> Acted
+pub fn len1(s: Single) -> Acted
     ensures { λ r. ⌜ r ≡ actLen1 s ⌝ }
 {
     let found = s.state;
     stay(s, Place::Idle(Answer::Len(len_of(found))))
 }
 
-fn empty1(s: Single) -> Acted
+pub fn empty1(s: Single) -> Acted
     ensures { λ r. ⌜ r ≡ actEmpty1 s ⌝ }
 {
     let found = s.state;
@@ -214,7 +212,7 @@ fn empty1(s: Single) -> Acted
     }
 }
 
-fn full1(s: Single) -> Acted
+pub fn full1(s: Single) -> Acted
     ensures { λ r. ⌜ r ≡ actFull1 s ⌝ }
 {
     let found = s.state;
@@ -225,7 +223,7 @@ fn full1(s: Single) -> Acted
     }
 }
 
-fn close1(s: Single) -> Acted
+pub fn close1(s: Single) -> Acted
     ensures { λ r. ⌜ r ≡ actClose1 s ⌝ }
 {
     let found = s.state;
@@ -237,7 +235,7 @@ fn close1(s: Single) -> Acted
     }
 }
 
-fn is_closed1(s: Single) -> Acted
+pub fn is_closed1(s: Single) -> Acted
     ensures { λ r. ⌜ r ≡ actIsClosed1 s ⌝ }
 {
     let found = s.state;
@@ -245,30 +243,5 @@ fn is_closed1(s: Single) -> Acted
         stay(s, Place::Idle(Answer::Yes))
     } else {
         stay(s, Place::Idle(Answer::No))
-    }
-}
-
-// One act of a worker that stands at p.
-pub fn act_at(s: Single, p: Place) -> Acted
-    ensures { λ r. ⌜ r ≡ actOf s p ⌝ }
-{
-    match p {
-        Place::Idle(a) => stay(s, Place::Idle(a)),
-        Place::A1(item) => a1(s, item),
-        Place::A2(item) => a2(s, item),
-        Place::A3 => a3(s),
-        Place::B1(e, item) => b1(s, e, item),
-        Place::B2(item) => b2(s, item),
-        Place::B3 => b3(s),
-        Place::B4(item) => b4(s, item),
-        Place::B5(old) => b5(s, old),
-        Place::C1(e) => c1(s, e),
-        Place::C2 => c2(s),
-        Place::C3(value) => c3(s, value),
-        Place::Len1 => len1(s),
-        Place::Empty1 => empty1(s),
-        Place::Full1 => full1(s),
-        Place::Close1 => close1(s),
-        Place::IsClosed1 => is_closed1(s),
     }
 }

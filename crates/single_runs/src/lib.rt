@@ -79,7 +79,7 @@ pub fn run(m: Machine, schedule: &[u64]) -> Ran
                 i += 1;
             }
             Verdict::Move(_) => {
-                let a = single_acts::act_at(single, p);
+                let a = single_table::act_at(single, p);
                 let after = a.place;
                 single = a.single;
                 workers[w] = Worker { place: after };

@@ -5,7 +5,7 @@ use Rattle.bounded_acts.proofs.stay.Tie as tie
 use Rattle.bounded_acts.proofs.stay.Reads as reads
 use Rattle.bounded_acts.proofs.stay.Lts as lts
 
--- src/lib.rt:21:1
+-- src/lib.rt:17:1
 returns : tie.Need-returns
 unfolding stay
 returns c = search needs

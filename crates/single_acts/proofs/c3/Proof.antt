@@ -8,15 +8,15 @@ use Rattle.single_acts.proofs.c3.Lts as lts
 use Rattle.single_acts.proofs.stay.Reads as stay-reads
 use Rattle.single_acts.proofs.unlock.Reads as unlock-reads
 
--- src/lib.rt:167:10
+-- src/lib.rt:165:10
 unlock-requires : tie.Need-unlock-requires
 unlock-requires c κs = search needs
 
--- src/lib.rt:167:5
+-- src/lib.rt:165:5
 stay-requires : tie.Need-stay-requires
 stay-requires c κs = search needs
 
--- src/lib.rt:164:1
+-- src/lib.rt:162:1
 returns : tie.Need-returns
 returns c = search (needs, picks, parts)
 

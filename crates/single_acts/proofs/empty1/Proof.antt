@@ -8,23 +8,23 @@ use Rattle.single_acts.proofs.empty1.Lts as lts
 use Rattle.single_acts.proofs.stay.Reads as stay-reads
 use Rattle.single_words.proofs.pushed.Reads as pushed-reads
 
--- src/lib.rt:189:8
+-- src/lib.rt:187:8
 pushed-requires : tie.Need-pushed-requires
 pushed-requires c κs = search needs
 
--- src/lib.rt:190:9
+-- src/lib.rt:188:9
 stay-requires : tie.Need-stay-requires
 stay-requires c κs = search needs
 
--- src/lib.rt:192:9
+-- src/lib.rt:190:9
 stay-requires-2 : tie.Need-stay-requires-2
 stay-requires-2 c κs = search needs
 
--- src/lib.rt:185:1
+-- src/lib.rt:183:1
 returns : tie.Need-returns
 returns c = search (needs, picks, parts)
 
--- src/lib.rt:185:1
+-- src/lib.rt:183:1
 returns-2 : tie.Need-returns-2
 returns-2 c = search (needs, picks, parts)
 

@@ -8,15 +8,15 @@ use Rattle.single_acts.proofs.len1.Lts as lts
 use Rattle.single_acts.proofs.len_of.Reads as len-of-reads
 use Rattle.single_acts.proofs.stay.Reads as stay-reads
 
--- src/lib.rt:182:37
+-- src/lib.rt:180:37
 len-of-requires : tie.Need-len-of-requires
 len-of-requires c κs = search needs
 
--- src/lib.rt:182:5
+-- src/lib.rt:180:5
 stay-requires : tie.Need-stay-requires
 stay-requires c κs = search needs
 
--- src/lib.rt:178:1
+-- src/lib.rt:176:1
 returns : tie.Need-returns
 returns c = search (needs, picks, parts)
 

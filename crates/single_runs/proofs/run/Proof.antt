@@ -14,7 +14,7 @@ use Rattle.single_runs.proofs.run.Reads as reads
 use Rattle.single_runs.proofs.run.Lts as lts
 use Rattle.queue_entries.proofs.entry_of.Reads as entry-of-reads
 use Rattle.queue_entries.proofs.search.Reads as search-reads
-use Rattle.single_acts.proofs.act_at.Reads as act-at-reads
+use Rattle.single_table.proofs.act_at.Reads as act-at-reads
 use Rattle.single_machine.proofs.broken.Reads as broken-reads
 use Rattle.single_machine.proofs.verdict_of.Reads as verdict-of-reads
 use Rattle.single_places.proofs.first_place.Reads as first-place-reads

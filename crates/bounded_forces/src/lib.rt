@@ -1,0 +1,91 @@
+// The rows of force_push alone. The definitions: crate bounded_acts.
+ghost use mathlib.Core.Path.{_≡_};
+ghost use Rattle.bounded_words.specs.Words.{Fair, minus, nextOf};
+ghost use Rattle.bounded_acts.specs.Acts.{tailTo, headTo, forcedTail, actF6, actF7, actF8, actF9};
+use bounded_acts::Acted;
+use bounded_places::Answer;
+use bounded_places::Ends;
+use bounded_places::Kind;
+use bounded_places::Place;
+use bounded_places::Slot;
+use bounded_words::Fixed;
+use bounded_words::Stamp;
+
+// The word that F7 stores: "in edition 2 .. next(t) but keeps tail's mark, in one action".
+fn forced_tail(f: Fixed, tail: Stamp, t: Stamp) -> Stamp
+    requires { ⌜ Fair f ⌝ }
+    ensures { λ r. ⌜ r ≡ forcedTail f tail t ⌝ }
+{
+    let w = bounded_words::next(f, t);
+    if f.edition == 2 {
+        if bounded_words::marked(f, tail) {
+            bounded_words::with_mark(f, w)
+        } else {
+            w
+        }
+    } else {
+        w
+    }
+}
+
+fn tail_to_forced(f: Fixed, e: Ends, t: Stamp) -> Ends
+    requires { ⌜ Fair f ⌝ }
+    ensures { λ r. ⌜ r ≡ tailTo e (forcedTail f (e .tail) t) ⌝ }
+{
+    let h = e.head;
+    let w = forced_tail(f, e.tail, t);
+    Ends { head: h, tail: w }
+}
+
+fn head_to_lap_before_next(f: Fixed, e: Ends, t: Stamp) -> Ends
+    requires { ⌜ Fair f ⌝ }
+    ensures { λ r. ⌜ r ≡ headTo e (minus (nextOf f t) (f .lap)) ⌝ }
+{
+    let tail = e.tail;
+    let w = bounded_words::earlier(bounded_words::next(f, t), f.lap);
+    Ends {
+        head: w,
+        tail: tail,
+    }
+}
+
+pub fn f6(f: Fixed, e: Ends, s: Slot, t: Stamp, item: u64, lose: bool) -> Acted
+    requires { ⌜ Fair f ⌝ }
+    ensures { λ r. ⌜ r ≡ actF6 f e s t item lose ⌝ }
+{
+    let found = e.head;
+    let lost = Place::P1(Kind::Force, item);
+    if bounded_words::is_lap_before(f, found, t) {
+        if lose {
+            bounded_acts::stay(e, s, lost)
+        } else {
+            bounded_acts::stay(head_to_lap_before_next(f, e, t), s, Place::F7(t, item))
+        }
+    } else {
+        bounded_acts::stay(e, s, lost)
+    }
+}
+
+pub fn f7(f: Fixed, e: Ends, s: Slot, t: Stamp, item: u64) -> Acted
+    requires { ⌜ Fair f ⌝ }
+    ensures { λ r. ⌜ r ≡ actF7 f e s t item ⌝ }
+{
+    bounded_acts::stay(tail_to_forced(f, e, t), s, Place::F8(t, item))
+}
+
+pub fn f8(e: Ends, s: Slot, t: Stamp, item: u64) -> Acted
+    ensures { λ r. ⌜ r ≡ actF8 e s t item ⌝ }
+{
+    let old = s.value;
+    bounded_acts::stay(e, bounded_acts::value_to(s, item), Place::F9(t, old))
+}
+
+pub fn f9(e: Ends, s: Slot, t: Stamp, old: u64) -> Acted
+    ensures { λ r. ⌜ r ≡ actF9 e s t old ⌝ }
+{
+    bounded_acts::stay(
+        e,
+        bounded_acts::stamp_to(s, t, 1),
+        Place::Idle(Answer::Displaced(old)),
+    )
+}

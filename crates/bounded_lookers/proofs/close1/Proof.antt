@@ -1,0 +1,45 @@
+use borrow.Author.Needs.{needs}
+use Rattle.queue_entries.proofs.Pick.{picks}
+use Rattle.bounded_words.proofs.marked.Reads as marked-reads
+use Rattle.bounded_acts.proofs.Arms.{parts}
+use Rattle.bounded_lookers.proofs.close1.Statement.{statement}
+use Rattle.bounded_lookers.proofs.close1.Tie as tie
+use Rattle.bounded_lookers.proofs.close1.Reads as reads
+use Rattle.bounded_lookers.proofs.close1.Lts as lts
+use Rattle.bounded_acts.proofs.stay.Reads as stay-reads
+use Rattle.bounded_lookers.proofs.tail_to_marked.Reads as tail-to-marked-reads
+
+-- src/lib.rt:56:8
+marked-requires : tie.Need-marked-requires
+marked-requires c κs = search needs
+
+-- src/lib.rt:57:9
+stay-requires : tie.Need-stay-requires
+stay-requires c κs = search needs
+
+-- src/lib.rt:59:14
+tail-to-marked-requires : tie.Need-tail-to-marked-requires
+tail-to-marked-requires c κs = search needs
+
+-- src/lib.rt:59:9
+stay-requires-2 : tie.Need-stay-requires-2
+stay-requires-2 c κs = search needs
+
+-- src/lib.rt:51:1
+returns : tie.Need-returns
+returns c = search (needs, picks, parts)
+
+-- src/lib.rt:51:1
+returns-2 : tie.Need-returns-2
+returns-2 c = search (needs, picks, parts)
+
+pub close1-spec : {M : Type 1} → statement M
+close1-spec =
+    tie.close
+    (tie.spec
+    marked-requires
+    stay-requires
+    tail-to-marked-requires
+    stay-requires-2
+    returns
+    returns-2)

@@ -1,0 +1,39 @@
+use borrow.Author.Needs.{needs}
+use Rattle.queue_entries.proofs.Pick.{picks}
+use Rattle.bounded_words.proofs.same_word.Reads as same-word-reads
+use Rattle.bounded_acts.proofs.Arms.{len-is}
+use Rattle.bounded_lookers.proofs.len3.Statement.{statement}
+use Rattle.bounded_lookers.proofs.len3.Tie as tie
+use Rattle.bounded_lookers.proofs.len3.Reads as reads
+use Rattle.bounded_lookers.proofs.len3.Lts as lts
+use Rattle.bounded_lookers.proofs.count.Reads as count-reads
+use Rattle.bounded_acts.proofs.stay.Reads as stay-reads
+
+-- src/lib.rt:28:8
+same-word-requires : tie.Need-same-word-requires
+same-word-requires c κs = search needs
+
+-- src/lib.rt:29:44
+count-requires : tie.Need-count-requires
+count-requires c κs = search needs
+
+-- src/lib.rt:29:9
+stay-requires : tie.Need-stay-requires
+stay-requires c κs = search needs
+
+-- src/lib.rt:31:9
+stay-requires-2 : tie.Need-stay-requires-2
+stay-requires-2 c κs = search needs
+
+-- src/lib.rt:23:1
+returns : tie.Need-returns
+returns c = search (needs, picks, len-is)
+
+-- src/lib.rt:23:1
+returns-2 : tie.Need-returns-2
+returns-2 c = search (needs, picks, len-is)
+
+pub len3-spec : {M : Type 1} → statement M
+len3-spec =
+    tie.close
+    (tie.spec same-word-requires count-requires stay-requires stay-requires-2 returns returns-2)

@@ -1,0 +1,100 @@
+// len, is_empty, is_full, close and is_closed. The definitions: crate bounded_acts.
+ghost use mathlib.Core.Path.{_≡_};
+ghost use Rattle.bounded_words.specs.Words.{Fair, withMark};
+ghost use Rattle.bounded_places.specs.declared.Place.the-variants.{Idle};
+ghost use Rattle.bounded_acts.specs.Acts.{stay, tailTo, countOf, yesNo, actLen3, actEmpty2, actFull2, actClose1, actIsClosed1, Within};
+use bounded_acts::Acted;
+use bounded_places::Answer;
+use bounded_places::Ends;
+use bounded_places::Place;
+use bounded_places::Slot;
+use bounded_words::Fixed;
+use bounded_words::Stamp;
+
+// A looker's answer.
+fn told(e: Ends, s: Slot, yes: bool) -> Acted
+    ensures { λ r. ⌜ r ≡ stay e s (Idle (yesNo yes)) ⌝ }
+{
+    if yes {
+        bounded_acts::stay(e, s, Place::Idle(Answer::Yes))
+    } else {
+        bounded_acts::stay(e, s, Place::Idle(Answer::No))
+    }
+}
+
+fn tail_to_marked(f: Fixed, e: Ends) -> Ends
+    requires { ⌜ Fair f ⌝ }
+    ensures { λ r. ⌜ r ≡ tailTo e (withMark f (e .tail)) ⌝ }
+{
+    let h = e.head;
+    let w = bounded_words::with_mark(f, e.tail);
+    Ends { head: h, tail: w }
+}
+
+// How many items lie between the two words.
+pub fn count(f: Fixed, tail: Stamp, head: Stamp) -> u64
+    requires { ⌜ Within f tail head ⌝ }
+    ensures { λ r. ⌜ r ≡ countOf f tail head ⌝ }
+{
+    let hix = bounded_words::index(f, head);
+    let tix = bounded_words::index(f, tail);
+    if hix < tix {
+        return tix - hix;
+    }
+    if tix < hix {
+        return f.capacity - hix + tix;
+    }
+    if bounded_words::unmarked_is(f, tail, head) {
+        0
+    } else {
+        f.capacity
+    }
+}
+
+pub fn len3(f: Fixed, e: Ends, s: Slot, t: Stamp, h: Stamp) -> Acted
+    requires { ⌜ Within f t h ⌝ }
+    ensures { λ r. ⌜ r ≡ actLen3 f e s t h ⌝ }
+{
+    let again = e.tail;
+    if bounded_words::same_word(again, t) {
+        bounded_acts::stay(e, s, Place::Idle(Answer::Len(count(f, t, h))))
+    } else {
+        bounded_acts::stay(e, s, Place::Len1)
+    }
+}
+
+pub fn empty2(f: Fixed, e: Ends, s: Slot, h: Stamp) -> Acted
+    requires { ⌜ Fair f ⌝ }
+    ensures { λ r. ⌜ r ≡ actEmpty2 f e s h ⌝ }
+{
+    let t = e.tail;
+    told(e, s, bounded_words::unmarked_is(f, t, h))
+}
+
+pub fn full2(f: Fixed, e: Ends, s: Slot, t: Stamp) -> Acted
+    requires { ⌜ Fair f ⌝ }
+    ensures { λ r. ⌜ r ≡ actFull2 f e s t ⌝ }
+{
+    let h = e.head;
+    told(e, s, bounded_words::lap_behind_unmarked(f, h, t))
+}
+
+pub fn close1(f: Fixed, e: Ends, s: Slot) -> Acted
+    requires { ⌜ Fair f ⌝ }
+    ensures { λ r. ⌜ r ≡ actClose1 f e s ⌝ }
+{
+    let t = e.tail;
+    if bounded_words::marked(f, t) {
+        bounded_acts::stay(e, s, Place::Idle(Answer::No))
+    } else {
+        bounded_acts::stay(tail_to_marked(f, e), s, Place::Idle(Answer::Yes))
+    }
+}
+
+pub fn is_closed1(f: Fixed, e: Ends, s: Slot) -> Acted
+    requires { ⌜ Fair f ⌝ }
+    ensures { λ r. ⌜ r ≡ actIsClosed1 f e s ⌝ }
+{
+    let t = e.tail;
+    told(e, s, bounded_words::marked(f, t))
+}

@@ -1,0 +1,55 @@
+use borrow.Author.Needs.{needs}
+use Rattle.queue_entries.proofs.Pick.{picks}
+use Rattle.bounded_words.proofs.one_past.Reads as one-past-reads
+use Rattle.bounded_words.proofs.same_word.Reads as same-word-reads
+use Rattle.bounded_acts.proofs.Arms.{parts}
+use Rattle.bounded_pops.proofs.o2.Statement.{statement}
+use Rattle.bounded_pops.proofs.o2.Tie as tie
+use Rattle.bounded_pops.proofs.o2.Reads as reads
+use Rattle.bounded_pops.proofs.o2.Lts as lts
+use Rattle.bounded_acts.proofs.stay.Reads as stay-reads
+
+-- src/lib.rt:-38:8
+one-past-requires : tie.Need-one-past-requires
+one-past-requires c κs = search needs
+
+-- src/lib.rt:-37:9
+stay-requires : tie.Need-stay-requires
+stay-requires c κs = search needs
+
+-- src/lib.rt:-37:9
+returns : tie.Need-returns
+returns c = search (needs, picks, parts)
+
+-- src/lib.rt:-35:8
+same-word-requires : tie.Need-same-word-requires
+same-word-requires c κs = search needs
+
+-- src/lib.rt:-34:9
+stay-requires-2 : tie.Need-stay-requires-2
+stay-requires-2 c κs = search needs
+
+-- src/lib.rt:-32:9
+stay-requires-3 : tie.Need-stay-requires-3
+stay-requires-3 c κs = search needs
+
+-- src/lib.rt:-42:1
+returns-2 : tie.Need-returns-2
+returns-2 c = search (needs, picks, parts)
+
+-- src/lib.rt:-42:1
+returns-3 : tie.Need-returns-3
+returns-3 c = search (needs, picks, parts)
+
+pub o2-spec : {M : Type 1} → statement M
+o2-spec =
+    tie.close
+    (tie.spec
+    one-past-requires
+    stay-requires
+    returns
+    same-word-requires
+    stay-requires-2
+    stay-requires-3
+    returns-2
+    returns-3)

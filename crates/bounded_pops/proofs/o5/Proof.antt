@@ -1,0 +1,24 @@
+use borrow.Author.Needs.{needs}
+use Rattle.queue_entries.proofs.Pick.{picks}
+use Rattle.bounded_acts.proofs.Arms.{parts}
+use Rattle.bounded_pops.proofs.o5.Statement.{statement}
+use Rattle.bounded_pops.proofs.o5.Tie as tie
+use Rattle.bounded_pops.proofs.o5.Reads as reads
+use Rattle.bounded_pops.proofs.o5.Lts as lts
+use Rattle.bounded_acts.proofs.stamp_to.Reads as stamp-to-reads
+use Rattle.bounded_acts.proofs.stay.Reads as stay-reads
+
+-- src/lib.rt:57:9
+stamp-to-requires : tie.Need-stamp-to-requires
+stamp-to-requires c κs = search needs
+
+-- src/lib.rt:55:5
+stay-requires : tie.Need-stay-requires
+stay-requires c κs = search needs
+
+-- src/lib.rt:22:1
+returns : tie.Need-returns
+returns c = search (needs, picks, parts)
+
+pub o5-spec : {M : Type 1} → statement M
+o5-spec = tie.close (tie.spec stamp-to-requires stay-requires returns)

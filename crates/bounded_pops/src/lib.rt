@@ -1,0 +1,77 @@
+// The rows of pop. The definitions: crate bounded_acts.
+ghost use mathlib.Core.Path.{_≡_};
+ghost use Rattle.bounded_words.specs.Words.{Fair, nextOf};
+ghost use Rattle.bounded_acts.specs.Acts.{headTo, actO2, actO3, actO5, actO6};
+use bounded_acts::Acted;
+use bounded_places::Answer;
+use bounded_places::Ends;
+use bounded_places::Place;
+use bounded_places::Slot;
+use bounded_words::Fixed;
+use bounded_words::Stamp;
+
+fn head_to_next(f: Fixed, e: Ends, h: Stamp) -> Ends
+    requires { ⌜ Fair f ⌝ }
+    ensures { λ r. ⌜ r ≡ headTo e (nextOf f h) ⌝ }
+{
+    let t = e.tail;
+    let w = bounded_words::next(f, h);
+    Ends { head: w, tail: t }
+}
+
+pub fn o2(e: Ends, s: Slot, h: Stamp) -> Acted
+    ensures { λ r. ⌜ r ≡ actO2 e s h ⌝ }
+{
+    let seen = s.stamp;
+    if bounded_words::one_past(seen, h) {
+        return bounded_acts::stay(e, s, Place::O3(h));
+    }
+    if bounded_words::same_word(seen, h) {
+        bounded_acts::stay(e, s, Place::O6(h))
+    } else {
+        bounded_acts::stay(e, s, Place::O1)
+    }
+}
+
+pub fn o3(f: Fixed, e: Ends, s: Slot, h: Stamp, lose: bool) -> Acted
+    requires { ⌜ Fair f ⌝ }
+    ensures { λ r. ⌜ r ≡ actO3 f e s h lose ⌝ }
+{
+    let found = e.head;
+    if bounded_words::same_word(found, h) {
+        if lose {
+            bounded_acts::stay(e, s, Place::O2(h))
+        } else {
+            bounded_acts::stay(head_to_next(f, e, h), s, Place::O4(h))
+        }
+    } else {
+        bounded_acts::stay(e, s, Place::O2(found))
+    }
+}
+
+pub fn o5(f: Fixed, e: Ends, s: Slot, h: Stamp, value: u64) -> Acted
+    ensures { λ r. ⌜ r ≡ actO5 f e s h value ⌝ }
+{
+    bounded_acts::stay(
+        e,
+        bounded_acts::stamp_to(s, h, f.lap),
+        Place::Idle(Answer::Popped(value)),
+    )
+}
+
+pub fn o6(f: Fixed, e: Ends, s: Slot, h: Stamp) -> Acted
+    requires { ⌜ Fair f ⌝ }
+    ensures { λ r. ⌜ r ≡ actO6 f e s h ⌝ }
+{
+    let t = e.tail;
+    let again = Place::O1;
+    if bounded_words::unmarked_is(f, t, h) {
+        if bounded_words::marked(f, t) {
+            bounded_acts::stay(e, s, Place::Idle(Answer::PopClosed))
+        } else {
+            bounded_acts::stay(e, s, Place::Idle(Answer::Empty))
+        }
+    } else {
+        bounded_acts::stay(e, s, again)
+    }
+}

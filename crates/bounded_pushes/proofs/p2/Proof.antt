@@ -1,0 +1,61 @@
+use borrow.Author.Needs.{needs}
+use Rattle.queue_entries.proofs.Pick.{picks}
+use Rattle.bounded_words.proofs.lap_behind_one_past.Reads as lap-behind-one-past-reads
+use Rattle.bounded_words.proofs.same_word.Reads as same-word-reads
+use Rattle.bounded_acts.proofs.Arms.{parts}
+use Rattle.bounded_pushes.proofs.p2.Statement.{statement}
+use Rattle.bounded_pushes.proofs.p2.Tie as tie
+use Rattle.bounded_pushes.proofs.p2.Reads as reads
+use Rattle.bounded_pushes.proofs.p2.Lts as lts
+use Rattle.bounded_pushes.proofs.full_at.Reads as full-at-reads
+use Rattle.bounded_acts.proofs.stay.Reads as stay-reads
+
+-- src/lib.rt:-16:8
+same-word-requires : tie.Need-same-word-requires
+same-word-requires c κs = search needs
+
+-- src/lib.rt:-15:9
+stay-requires : tie.Need-stay-requires
+stay-requires c κs = search needs
+
+-- src/lib.rt:-15:9
+returns : tie.Need-returns
+returns c = search (needs, picks, parts)
+
+-- src/lib.rt:-13:8
+lap-behind-one-past-requires : tie.Need-lap-behind-one-past-requires
+lap-behind-one-past-requires c κs = search needs
+
+-- src/lib.rt:-12:20
+full-at-requires : tie.Need-full-at-requires
+full-at-requires c κs = search needs
+
+-- src/lib.rt:-12:9
+stay-requires-2 : tie.Need-stay-requires-2
+stay-requires-2 c κs = search needs
+
+-- src/lib.rt:-10:9
+stay-requires-3 : tie.Need-stay-requires-3
+stay-requires-3 c κs = search needs
+
+-- src/lib.rt:-20:1
+returns-2 : tie.Need-returns-2
+returns-2 c = search (needs, picks, parts)
+
+-- src/lib.rt:-20:1
+returns-3 : tie.Need-returns-3
+returns-3 c = search (needs, picks, parts)
+
+pub p2-spec : {M : Type 1} → statement M
+p2-spec =
+    tie.close
+    (tie.spec
+    same-word-requires
+    stay-requires
+    returns
+    lap-behind-one-past-requires
+    full-at-requires
+    stay-requires-2
+    stay-requires-3
+    returns-2
+    returns-3)

@@ -1,0 +1,32 @@
+use borrow.Author.Needs.{needs}
+use Rattle.queue_entries.proofs.Pick.{picks}
+use Rattle.bounded_words.proofs.lap_behind.Reads as lap-behind-reads
+use Rattle.bounded_acts.proofs.Arms.{parts}
+use Rattle.bounded_pushes.proofs.p6.Statement.{statement}
+use Rattle.bounded_pushes.proofs.p6.Tie as tie
+use Rattle.bounded_pushes.proofs.p6.Reads as reads
+use Rattle.bounded_pushes.proofs.p6.Lts as lts
+use Rattle.bounded_acts.proofs.stay.Reads as stay-reads
+
+-- src/lib.rt:24:8
+lap-behind-requires : tie.Need-lap-behind-requires
+lap-behind-requires c κs = search needs
+
+-- src/lib.rt:25:9
+stay-requires : tie.Need-stay-requires
+stay-requires c κs = search needs
+
+-- src/lib.rt:27:9
+stay-requires-2 : tie.Need-stay-requires-2
+stay-requires-2 c κs = search needs
+
+-- src/lib.rt:20:1
+returns : tie.Need-returns
+returns c = search (needs, picks, parts)
+
+-- src/lib.rt:20:1
+returns-2 : tie.Need-returns-2
+returns-2 c = search (needs, picks, parts)
+
+pub p6-spec : {M : Type 1} → statement M
+p6-spec = tie.close (tie.spec lap-behind-requires stay-requires stay-requires-2 returns returns-2)

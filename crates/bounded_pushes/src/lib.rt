@@ -1,0 +1,93 @@
+// The rows of push, of which force_push takes the first three. The definitions: crate bounded_acts.
+ghost use mathlib.Core.Path.{_≡_};
+ghost use Rattle.bounded_words.specs.Words.{Fair, nextOf};
+ghost use Rattle.bounded_acts.specs.Acts.{tailTo, fullAt, actP1, actP2, actP3, actP5, actP6};
+use bounded_acts::Acted;
+use bounded_places::Answer;
+use bounded_places::Ends;
+use bounded_places::Kind;
+use bounded_places::Place;
+use bounded_places::Slot;
+use bounded_words::Fixed;
+use bounded_words::Stamp;
+
+fn tail_to_next(f: Fixed, e: Ends, t: Stamp) -> Ends
+    requires { ⌜ Fair f ⌝ }
+    ensures { λ r. ⌜ r ≡ tailTo e (nextOf f t) ⌝ }
+{
+    let h = e.head;
+    let w = bounded_words::next(f, t);
+    Ends { head: h, tail: w }
+}
+
+pub fn p1(f: Fixed, e: Ends, s: Slot, k: Kind, item: u64) -> Acted
+    requires { ⌜ Fair f ⌝ }
+    ensures { λ r. ⌜ r ≡ actP1 f e s k item ⌝ }
+{
+    let t = e.tail;
+    if bounded_words::marked(f, t) {
+        bounded_acts::stay(e, s, Place::Idle(Answer::Closed(item)))
+    } else {
+        bounded_acts::stay(e, s, Place::P2(k, t, item))
+    }
+}
+
+fn full_at(k: Kind, t: Stamp, item: u64) -> Place
+    ensures { λ r. ⌜ r ≡ fullAt k t item ⌝ }
+{
+    match k {
+        Kind::Push => Place::P6(t, item),
+        Kind::Force => Place::F6(t, item),
+    }
+}
+
+pub fn p2(f: Fixed, e: Ends, s: Slot, k: Kind, t: Stamp, item: u64) -> Acted
+    ensures { λ r. ⌜ r ≡ actP2 f e s k t item ⌝ }
+{
+    let seen = s.stamp;
+    if bounded_words::same_word(seen, t) {
+        return bounded_acts::stay(e, s, Place::P3(k, t, item));
+    }
+    if bounded_words::lap_behind_one_past(f, seen, t) {
+        bounded_acts::stay(e, s, full_at(k, t, item))
+    } else {
+        bounded_acts::stay(e, s, Place::P1(k, item))
+    }
+}
+
+pub fn p3(f: Fixed, e: Ends, s: Slot, k: Kind, t: Stamp, item: u64, lose: bool) -> Acted
+    requires { ⌜ Fair f ⌝ }
+    ensures { λ r. ⌜ r ≡ actP3 f e s k t item lose ⌝ }
+{
+    let found = e.tail;
+    if bounded_words::same_word(found, t) {
+        if lose {
+            bounded_acts::stay(e, s, Place::P2(k, t, item))
+        } else {
+            bounded_acts::stay(tail_to_next(f, e, t), s, Place::P4(t, item))
+        }
+    } else {
+        p1(f, e, s, k, item)
+    }
+}
+
+pub fn p5(e: Ends, s: Slot, t: Stamp) -> Acted
+    ensures { λ r. ⌜ r ≡ actP5 e s t ⌝ }
+{
+    bounded_acts::stay(
+        e,
+        bounded_acts::stamp_to(s, t, 1),
+        Place::Idle(Answer::Pushed),
+    )
+}
+
+pub fn p6(f: Fixed, e: Ends, s: Slot, t: Stamp, item: u64) -> Acted
+    ensures { λ r. ⌜ r ≡ actP6 f e s t item ⌝ }
+{
+    let h = e.head;
+    if bounded_words::lap_behind(f, h, t) {
+        bounded_acts::stay(e, s, Place::Idle(Answer::Full(item)))
+    } else {
+        bounded_acts::stay(e, s, Place::P1(Kind::Push, item))
+    }
+}
