@@ -30,6 +30,8 @@ pub fn zeroed() -> Machine {
         },
         workers: [Worker {
             place: Place::Idle(Answer::Nothing),
+            differed: 0,
+            failed: 0,
         }; queue_entries::WORKERS],
         count: 0,
         meter: 0,
