@@ -225,13 +225,14 @@ fn record_fits(f: Fixed, meter: u64, r: Worker, counted: bool) -> bool
     requires { ⌜ Fair f ⌝ }
     ensures { λ b. ⌜ b ≡ recordFits f meter r counted ⌝ }
 {
+    let p = r.place;
     if meter < r.differed {
         return false;
     }
     if meter < r.failed {
         return false;
     }
-    place_fits(f, r.place, counted)
+    place_fits(f, p, counted)
 }
 
 fn records_fit(f: Fixed, count: u64, meter: u64, workers: [Worker; queue_entries::WORKERS]) -> bool

@@ -100,9 +100,10 @@ pub fn run(m: Machine, schedule: &[u64]) -> Ran
                 let a = bounded_table::act_at(f, ends, slot, p, lose);
                 let slot_after = a.slot;
                 let place_after = a.place;
+                let loss = a.loss;
                 ends = a.ends;
                 slots[k] = slot_after;
-                workers[w] = bounded_machine::record_after(record, place_after, a.loss);
+                workers[w] = bounded_machine::record_after(record, place_after, loss);
                 meter += 1;
                 i += 1;
             }
