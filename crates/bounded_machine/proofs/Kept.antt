@@ -314,16 +314,19 @@ module _ (f : Fixed) (n : ℕ) (r : Worker) (b : Bool) (h : recordFits f n r b �
   few-failed : r .failed ≤ n
   few-failed = ltb-false n (r .failed) (first-clear (ltb n (r .failed)) _ past-words)
 
+  pub place-of : placeFits f (r .place) b ≡ true
+  place-of = then (ltb n (r .failed)) _ past-words
+
   of-record : viewOf (r .place) .busy ≡ true → fitsOf f (viewOf (r .place) .held) ≡ true
   unfolding placeFits
-  of-record q = both-right b (fitsOf f (viewOf (r .place) .held)) (sym (simp q) ∙ then (ltb n (r .failed)) _ past-words)
+  of-record q = both-right b (fitsOf f (viewOf (r .place) .held)) (sym (simp q) ∙ place-of)
 
   -- the meter rises
   record-later : recordFits f (n + 1) r b ≡ true
   unfolding recordFits
   record-later =
       clear-then (ltb (n + 1) (r .differed)) _ (le-ltb (n + 1) (r .differed) (omega (arith, few-differed)))
-      (clear-then (ltb (n + 1) (r .failed)) _ (le-ltb (n + 1) (r .failed) (omega (arith, few-failed))) (then (ltb n (r .failed)) _ past-words))
+      (clear-then (ltb (n + 1) (r .failed)) _ (le-ltb (n + 1) (r .failed) (omega (arith, few-failed))) place-of)
 
 -- an act loses one exchange at most
 one-lost : (l : Loss) → (byWords l ≤ 1) × (bySchedule l ≤ 1)
