@@ -17,16 +17,16 @@ use Rattle.bounded_machine.specs.declared.Event.{Event}
 use Rattle.bounded_machine.specs.declared.Moved.{Moved}
 use Rattle.bounded_machine.specs.declared.Moved.the-variants.{Neither, Tail, Head}
 use Rattle.bounded_machine.specs.declared.Tally.{Tally}
-use Rattle.bounded_machine.specs.Machine.{slot, placeOf}
-use Rattle.bounded_machine.specs.Turn.{turnOf}
+use Rattle.bounded_machine.specs.Machine.{placeOf}
+use Rattle.bounded_machine.specs.Turn.{actAt, turnOf}
 
 -- An act: who acted, from which place, to which, and what it lost. Beginning a call is no act.
 abbrev pub event : ℕ → Place → Place → Loss → Event
 event w before after l = record { worker = w; before = before; after = after; loss = l }
 
--- How the exchange of w's next act ends, by the source's step (any slot: an exchange looks at the ends alone).
+-- What w's next act loses, by document 01's tables.
 abbrev pub lossAt : Machine → ℕ → Bool → Loss
-lossAt m w lose = actOf (m .ring .fixed) (m .ring .ends) (slot 0 0) (placeOf (m .workers) w) lose .loss
+lossAt m w lose = actAt actOf m (placeOf (m .workers) w) lose .loss
 
 abbrev pub eventsOf : Machine → Entry → Machine → List Event
 eventsOf m Unreadable next = []

@@ -69,10 +69,11 @@ stored m w i a =
 abbrev pub Table : Type 0
 Table = Fixed → Ends → Slot → Place → Bool → Acted
 
+abbrev pub actAt : Table → Machine → Place → Bool → Acted
+actAt table m p lose = table (m .ring .fixed) (m .ring .ends) (getD (m .ring .slots) (spotOf (m .ring .fixed) (viewOf p .held)) (slot 0 0)) p lose
+
 unfoldable pub actedBy : Table → Machine → ℕ → Place → Bool → Machine
-actedBy table m w p lose =
-    stored m w (spotOf (m .ring .fixed) (viewOf p .held))
-    (table (m .ring .fixed) (m .ring .ends) (getD (m .ring .slots) (spotOf (m .ring .fixed) (viewOf p .held)) (slot 0 0)) p lose)
+actedBy table m w p lose = stored m w (spotOf (m .ring .fixed) (viewOf p .held)) (actAt table m p lose)
 
 abbrev pub carriedBy : Table → Machine → ℕ → Place → Verdict → Did
 carriedBy table m w p (Refuse number) = refused number m

@@ -13,3 +13,4 @@ pub mod Demand2
 pub mod Lens
 pub mod Closing
 pub mod Stock
+pub mod Losses

@@ -94,6 +94,10 @@ idlers-long : length idlers ≡ workersMost
 unfolding idlers
 idlers-long = length-replicate workersMost idler
 
+pub fresh-seats : (c workers ed : ℕ) → workers ≤ workersMost → (w : ℕ) → w < freshOf c workers ed .count → w < length (freshOf c workers ed .workers)
+unfolding freshOf
+fresh-seats c workers ed few w l = omega (arith, idlers-long)
+
 stamped-long : (k : ℕ) (l : List Slot) → length (stamped k l) ≡ length l
 unfolding stamped
 stamped-long zero l = refl

@@ -15,7 +15,7 @@ use Rattle.queue_entries.specs.declared.Call.the-variants as call
 use Rattle.queue_entries.specs.declared.Entry.{Entry}
 use Rattle.bounded_words.specs.declared.Stamp.{Stamp}
 use Rattle.bounded_words.specs.declared.Fixed.{Fixed}
-use Rattle.bounded_words.specs.Words.{markOf, markedOf, unmarkedOf, minus, nextOf, same, onePast, lapBehind, lapBehindOnePast, withMark}
+use Rattle.bounded_words.specs.Words.{markOf, markedOf, unmarkedOf, minus, same, onePast, lapBehind, lapBehindOnePast, withMark}
 use Rattle.bounded_places.specs.declared.Slot.{Slot}
 use Rattle.bounded_places.specs.declared.Ends.{Ends}
 use Rattle.bounded_places.specs.declared.Kind.{Kind}
