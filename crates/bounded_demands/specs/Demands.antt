@@ -38,7 +38,7 @@ use Rattle.bounded_machine.specs.Run.{ran, runFrom, runOf}
 use Rattle.bounded_machine.specs.History.{eventsOf, movedOf, readsAt, stockOf, untakenOf}
 use Rattle.bounded.specs.Bounded.{makeOf, stepOf, beginOf, actOf}
 use Rattle.bounded_stock.specs.Stock.{talliedOf}
-use Rattle.bounded_demands.specs.Notions.{Definition, Allowed, machineAfter, actsOf, Acts, acts, InHand, HandsOut, Reads, Truth, itemsOf, takersOf, LatestIn, ItemIn, WrittenIn, CallClaim, tally, waiting, unreadBy, lesser, Exchanges, lostIn, Fifo, Plain, valueAt, queueAnswer, LenAnswers, mostOf, OtherHand, passed, ownActs, LetsGo, has, ClosesYes, NoClaims, ClaimsOn}
+use Rattle.bounded_demands.specs.Notions.{Definition, Allowed, machineAfter, actsOf, Acts, acts, InHand, HandsOut, Reads, Truth, itemsOf, takersOf, LatestIn, ItemIn, WrittenIn, CallClaim, tally, waiting, unreadBy, lesser, Exchanges, lostIn, struck, Fifo, Plain, valueAt, queueAnswer, LenAnswers, mostOf, OtherHand, passed, ownActs, LetsGo, has, ClosesYes, NoClaims, ClaimsOn}
 use Rattle.bounded_demands.specs.Foretold.{foretold, Telling, toldIn, tellings, asForetold}
 use Rattle.bounded_demands.specs.Eight.{closedF, caseF}
 use Rattle.bounded_demands.specs.Attained.{Case, seenIn, attained, exactly}
@@ -351,6 +351,13 @@ abbrev pub LossesUnderEverySchedule : Definition → Type 0
 LossesUnderEverySchedule d =
     (capacity workers edition : ℕ) → Allowed capacity workers edition → (s : List ℕ)
     → LossesCounted (machineAfter d capacity workers edition s) (actsOf d capacity workers edition s)
+
+-- No answer of a call changes: an entry is refused as if the counts were struck out, and what it leaves is the same but for them.
+abbrev pub CountsAside : Definition → Type 0
+CountsAside d =
+    (m : Machine) (first second : ℕ)
+    → (d .turn m first second .refusal ≡ d .turn (struck m) first second .refusal)
+    × (struck (d .turn m first second .machine) ≡ struck (d .turn (struck m) first second .machine))
 
 -- ==== A close that holds (document 02, item 6). Said of the same machines and acts.
 

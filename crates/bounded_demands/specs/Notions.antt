@@ -2,7 +2,7 @@
 -- of the history of its acts (history, tally of claims and stock: crates/bounded_machine/specs/History.antt). The demands are Demands.antt.
 use Prim.Native.Nat.{ℕ, zero, suc, _+_, _*_, _/_, _%_, _≤_, _<_}
 use mathlib.Core.Bool.{Bool, true, false, cond}
-use mathlib.Core.List.{List, [], _∷_, _++_}
+use mathlib.Core.List.{List, [], _∷_, _++_, map}
 use mathlib.Core.Path.{_≡_}
 use mathlib.Core.Logic.{_≢_}
 use lib.Dec.{eqb, leb}
@@ -36,8 +36,8 @@ use Rattle.bounded_machine.specs.declared.Event.{Event}
 use Rattle.bounded_machine.specs.declared.Moved.{Moved}
 use Rattle.bounded_machine.specs.declared.Moved.the-variants.{Neither, Tail, Head}
 use Rattle.bounded_machine.specs.declared.Tally.{Tally}
-use Rattle.bounded_machine.specs.Machine.{slot, freshOf, placeOf, accepted}
-use Rattle.bounded_machine.specs.Turn.{Table, turnOfBy}
+use Rattle.bounded_machine.specs.Machine.{slot, machineOf, freshOf, placeOf, accepted}
+use Rattle.bounded_machine.specs.Turn.{Table, beginner, turnOfBy}
 use Rattle.bounded_machine.specs.Run.{runWith}
 use Rattle.bounded_machine.specs.History.{historyWith, movedOf, untallied, tallyOf, stockOf}
 
@@ -305,6 +305,11 @@ lostBy kind w h = lostFrom kind w (record { present = 0; last = 0 }) h
 -- Worker w's lost exchanges of one kind in its present call, or its last if it is idle.
 abbrev pub lostIn : (Loss → ℕ) → Machine → ℕ → List Event → ℕ
 lostIn kind m w h = cond (viewOf (placeOf (m .workers) w) .busy) (lostBy kind w h .present) (lostBy kind w h .last)
+
+-- The machine with all counts of losses struck out.
+unfoldable pub struck : Machine → Machine
+struck m =
+    machineOf (m .ring .fixed) (m .ring .ends) (m .ring .slots) (map (λ (r : Worker). beginner (r .place)) (m .workers)) (m .count) (m .meter)
 
 -- ---- a plain queue
 

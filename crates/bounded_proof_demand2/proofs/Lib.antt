@@ -14,3 +14,4 @@ pub mod Lens
 pub mod Closing
 pub mod Stock
 pub mod Losses
+pub mod Aside
