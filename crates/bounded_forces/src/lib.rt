@@ -55,25 +55,17 @@ pub fn f6(f: Fixed, e: Ends, s: Slot, t: Stamp, item: u64, lose: bool) -> Acted
     requires { ⌜ Fair f ⌝ }
     ensures { λ r. ⌜ r ≡ actF6 f e s t item lose ⌝ }
 {
+    let found = e.head;
     let expected = bounded_words::earlier(t, f.lap);
-    match bounded_acts::exchange(e.head, expected, lose) {
+    let again = Place::P1(Kind::Force, item);
+    match bounded_acts::exchange(found, expected, lose) {
         Exchange::Won => bounded_acts::stay(
             head_to_lap_before_next(f, e, t),
             s,
             Place::F7(t, item),
         ),
-        Exchange::Differed(_) => bounded_acts::losing(
-            e,
-            s,
-            Place::P1(Kind::Force, item),
-            Loss::ByWords,
-        ),
-        Exchange::Failed => bounded_acts::losing(
-            e,
-            s,
-            Place::P1(Kind::Force, item),
-            Loss::BySchedule,
-        ),
+        Exchange::Differed(_) => bounded_acts::losing(e, s, again, Loss::ByWords),
+        Exchange::Failed => bounded_acts::losing(e, s, again, Loss::BySchedule),
     }
 }
 
