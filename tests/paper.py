@@ -1,4 +1,4 @@
-"""A second reading of document 01, the scope paper, with item 6 of document 02: its machine, row by row. tests/tables holds the programs' tables against it.
+"""A second reading of document 01, the scope paper, with items 6 and 8 of document 02: its machine, row by row. tests/tables holds the programs' tables against it.
 
 It is written from the document and from none of the crates, so that a row misread there is not misread alike here. Places, calls,
 answers and refusals have the document's names and numbers; where it names no places, a call's loads are numbered. What the ring shares
@@ -72,7 +72,8 @@ class Ring:
 
 @dataclass(frozen=True)
 class Worker:
-    """A record: idle with its last answer, or in a call. A word that it does not hold is None; len's tail and head are t and h."""
+    """A record: idle with its last answer, or in a call. A word that it does not hold is None; len's tail and head are t and h. The
+    exchanges that the present call, or the last one, lost: because the words differed, and by the schedule."""
     call: Optional[str] = None
     place: str = 'idle'
     item: int = 0
@@ -80,6 +81,8 @@ class Worker:
     h: Optional[int] = None
     value: Optional[int] = None
     answer: tuple = ('None',)
+    differed: int = 0
+    failed: int = 0
 
 
 @dataclass
@@ -108,8 +111,17 @@ def copy_of(machine):
 # Acts. Each may change the ring and returns the worker's record after it; `fails` is code 9. In an unbroken machine t and h have an
 # index below capacity, which is below mark, so t + 1 and h + 1 never wrap.
 
-def answers(*answer):
-    return Worker(answer=answer)
+def answers(worker, *answer):
+    return Worker(answer=answer, differed=worker.differed, failed=worker.failed)
+
+
+def exchange(worker, found, expected, fails):
+    """Whether a weak exchange is won, and the record with its loss: by the words where they differ, whatever the schedule says."""
+    if found != expected:
+        return False, replace(worker, differed=worker.differed + 1)
+    if fails:
+        return False, replace(worker, failed=worker.failed + 1)
+    return True, worker
 
 
 def back_to(place, worker):
@@ -130,7 +142,7 @@ def stamp(ring, word, becomes):
 
 def closed_or_p2(ring, worker, t):
     if marked(ring, t):
-        return answers('Closed', worker.item)
+        return answers(worker, 'Closed', worker.item)
     return replace(worker, place='P2', t=t)
 
 
@@ -149,7 +161,8 @@ def p2(ring, worker, fails):
 
 
 def p3(ring, worker, fails):
-    if fails or ring.tail != worker.t:
+    won, worker = exchange(worker, ring.tail, worker.t, fails)
+    if not won:
         return closed_or_p2(ring, worker, ring.tail)
     ring.tail = next_of(ring, worker.t)
     return replace(worker, place='P4')
@@ -162,17 +175,18 @@ def p4(ring, worker, fails):
 
 def p5(ring, worker, fails):
     stamp(ring, worker.t, worker.t + 1)
-    return answers('Pushed')
+    return answers(worker, 'Pushed')
 
 
 def p6(ring, worker, fails):
     if plus_lap(ring, ring.head) == worker.t:
-        return answers('Full', worker.item)
+        return answers(worker, 'Full', worker.item)
     return back_to('P1', worker)
 
 
 def f6(ring, worker, fails):
-    if fails or ring.head != minus_lap(ring, worker.t):
+    won, worker = exchange(worker, ring.head, minus_lap(ring, worker.t), fails)
+    if not won:
         return back_to('P1', worker)
     ring.head = minus_lap(ring, next_of(ring, worker.t))
     return replace(worker, place='F7')
@@ -192,7 +206,7 @@ def f8(ring, worker, fails):
 
 def f9(ring, worker, fails):
     stamp(ring, worker.t, worker.t + 1)
-    return answers('Displaced', worker.value)
+    return answers(worker, 'Displaced', worker.value)
 
 
 def o1(ring, worker, fails):
@@ -210,7 +224,8 @@ def o2(ring, worker, fails):
 
 
 def o3(ring, worker, fails):
-    if fails or ring.head != worker.h:
+    won, worker = exchange(worker, ring.head, worker.h, fails)
+    if not won:
         return replace(worker, place='O2', h=ring.head)
     ring.head = next_of(ring, worker.h)
     return replace(worker, place='O4')
@@ -222,13 +237,13 @@ def o4(ring, worker, fails):
 
 def o5(ring, worker, fails):
     stamp(ring, worker.h, plus_lap(ring, worker.h))
-    return answers('Popped', worker.value)
+    return answers(worker, 'Popped', worker.value)
 
 
 def o6(ring, worker, fails):
     if unmarked(ring, ring.tail) != worker.h:
         return back_to('O1', worker)
-    return answers('Closed') if marked(ring, ring.tail) else answers('Empty')
+    return answers(worker, 'Closed') if marked(ring, ring.tail) else answers(worker, 'Empty')
 
 
 def count_of(ring, head, tail):
@@ -251,11 +266,11 @@ def len2(ring, worker, fails):
 def len3(ring, worker, fails):
     if ring.tail != worker.t:
         return back_to('len1', worker)
-    return answers('Len', count_of(ring, worker.h, worker.t))
+    return answers(worker, 'Len', count_of(ring, worker.h, worker.t))
 
 
-def yes_if(true):
-    return answers('Yes' if true else 'No')
+def yes_if(worker, true):
+    return answers(worker, 'Yes' if true else 'No')
 
 
 def is_empty1(ring, worker, fails):
@@ -263,7 +278,7 @@ def is_empty1(ring, worker, fails):
 
 
 def is_empty2(ring, worker, fails):
-    return yes_if(unmarked(ring, ring.tail) == worker.h)
+    return yes_if(worker, unmarked(ring, ring.tail) == worker.h)
 
 
 def is_full1(ring, worker, fails):
@@ -271,17 +286,17 @@ def is_full1(ring, worker, fails):
 
 
 def is_full2(ring, worker, fails):
-    return yes_if(plus_lap(ring, ring.head) == unmarked(ring, worker.t))
+    return yes_if(worker, plus_lap(ring, ring.head) == unmarked(ring, worker.t))
 
 
 def close1(ring, worker, fails):
     found = ring.tail
     ring.tail = found | ring.mark
-    return yes_if(not marked(ring, found))
+    return yes_if(worker, not marked(ring, found))
 
 
 def is_closed1(ring, worker, fails):
-    return yes_if(marked(ring, ring.tail))
+    return yes_if(worker, marked(ring, ring.tail))
 
 
 ACTS = {
@@ -326,6 +341,10 @@ def record_amiss(ring, worker):
     return worker.call == 'len' and any(index_amiss(ring, word) for word in held)
 
 
+def losses_amiss(machine):
+    return any(count > machine.meter for worker in machine.workers for count in (worker.differed, worker.failed))
+
+
 def broken(machine):
     ring = machine.ring
     if out_of_limits(ring.capacity, MOST_SLOTS) or out_of_limits(machine.count, MOST_WORKERS):
@@ -338,7 +357,7 @@ def broken(machine):
         return True
     if any(record_amiss(ring, worker) for worker in machine.workers[:machine.count]):
         return True
-    return busy_past_the_count(machine)
+    return losses_amiss(machine) or busy_past_the_count(machine)
 
 
 def make(capacity, count, edition):

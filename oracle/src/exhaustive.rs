@@ -150,7 +150,7 @@ fn options(machine: &Machine) -> Vec<u64> {
     options
 }
 
-/// All but the meter, which no act looks at below its limit.
+/// All but the meter, which no act looks at below its limit, and what workers have lost, which none looks at.
 fn snapshot(machine: &Machine) -> String {
     let states: Vec<_> = (0..machine.workers() as u64).filter_map(|worker| machine.state(worker)).collect();
     let mut shown = String::new();

@@ -34,6 +34,16 @@ struct Worker {
     busy: Option<Busy>,
     /// The place of the call, or the last answer.
     state: State,
+    losses: Losses,
+}
+
+/// The exchanges that a worker's present call, or its last one, lost.
+#[derive(Clone, Copy, Debug, Default, PartialEq, Eq)]
+pub struct Losses {
+    /// Because the words differed.
+    pub differed: u64,
+    /// By the schedule.
+    pub failed: u64,
 }
 
 pub struct Machine {
@@ -87,6 +97,11 @@ impl Machine {
         self.worker(worker).map(|worker| worker.state)
     }
 
+    /// What a worker lost, or none if there is no such worker.
+    pub fn losses(&self, worker: u64) -> Option<Losses> {
+        self.worker(worker).map(|worker| worker.losses)
+    }
+
     pub fn busy(&self, worker: u64) -> bool {
         self.pending(worker).is_some()
     }
@@ -120,6 +135,7 @@ impl Machine {
         if self.workers[worker].busy.is_some() {
             return Err(4);
         }
+        self.workers[worker].losses = Losses::default();
         CALL.set(Some((call, self.queue)));
         self.workers[worker].coroutine.resume();
         self.settle(worker, call, Seen::default());
@@ -140,7 +156,7 @@ impl Machine {
         self.meter += 1;
         stage::let_lose(lose);
         self.workers[worker].coroutine.resume();
-        self.count_act(place, pending.action, lose, &seen);
+        self.count_act(worker, place, pending.action, lose, &seen);
         self.count_stock(pending.action, &seen);
         seen.note(pending, stage::met());
         self.settle(worker, call, seen);
@@ -162,7 +178,7 @@ impl Machine {
         worker.state = state;
     }
 
-    fn count_act(&mut self, place: Kind, action: Action, lose: bool, seen: &Seen) {
+    fn count_act(&mut self, worker: usize, place: Kind, action: Action, lose: bool, seen: &Seen) {
         let met = stage::met();
         self.tally.acts += 1;
         match action {
@@ -174,6 +190,7 @@ impl Machine {
                     (false, false) => Ending::LostByWords,
                 };
                 self.tally.exchange(place, ending);
+                self.workers[worker].losses.count(ending);
             }
             // Nothing but a close changes tail under a worker at F7.
             Action::Store(Word::Tail, _) | Action::FetchAdd(Word::Tail, _) if seen.tail != Some(met.found as u64) => {
@@ -212,7 +229,18 @@ impl Drop for Machine {
 
 impl Worker {
     fn new() -> Worker {
-        Worker { coroutine: Coroutine::new(serve), busy: None, state: Kind::None.alone() }
+        Worker { coroutine: Coroutine::new(serve), busy: None, state: Kind::None.alone(), losses: Losses::default() }
+    }
+}
+
+impl Losses {
+    /// Where both kinds apply it is the words'.
+    fn count(&mut self, ending: Ending) {
+        match ending {
+            Ending::Won => {}
+            Ending::LostByWords | Ending::LostByBoth => self.differed += 1,
+            Ending::LostBySchedule => self.failed += 1,
+        }
     }
 }
 

@@ -13,7 +13,7 @@ use std::time::Instant;
 use std::{env, fs};
 
 const USAGE: &str =
-    "Each command takes --queue bounded|single, bounded unless told, and for that one --edition N, 1 unless told, and, but for list, --stock.
+    "Each command takes --queue bounded|single, bounded unless told, and for that one --edition N, 1 unless told, and, but for list, --losses and --stock.
 judge expect FILE|- [--quiet] [--many]
 judge sequential --calls N --seed S [--module CMD [--many]] [--batch ENTRIES] [--save DIR]
 judge interleaved --acts N --seed S [--closing] [--module CMD [--many]] [--batch ENTRIES] [--save DIR]
@@ -66,7 +66,9 @@ impl Options {
         while let Some(argument) = arguments.next() {
             match argument.strip_prefix("--") {
                 None => options.plain.push(argument),
-                Some(flag @ ("quiet" | "many" | "compact" | "closing" | "stock")) => options.flags.push(flag.into()),
+                Some(flag @ ("quiet" | "many" | "compact" | "closing" | "losses" | "stock")) => {
+                    options.flags.push(flag.into());
+                }
                 Some(
                     name @ ("calls" | "acts" | "seed" | "module" | "batch" | "save" | "to" | "depth" | "queue"
                     | "edition"),
@@ -103,10 +105,10 @@ impl Options {
     }
 
     fn show(&self) -> Result<Show, String> {
-        let stock = self.flag("stock");
-        match self.queue()? {
-            Queue::Single if stock => Err(format!("--stock: the one-slot queue has none\n{USAGE}")),
-            _ => Ok(Show { quiet: self.flag("quiet"), stock }),
+        let asked = ["losses", "stock"].into_iter().find(|name| self.flag(name));
+        match (self.queue()?, asked) {
+            (Queue::Single, Some(name)) => Err(format!("--{name} is of the ring alone\n{USAGE}")),
+            _ => Ok(Show { quiet: self.flag("quiet"), losses: self.flag("losses"), stock: self.flag("stock") }),
         }
     }
 

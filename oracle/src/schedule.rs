@@ -1,7 +1,7 @@
 //! Schedules in `replay`'s input format, and the text that `replay` must print for them.
 
 use crate::call::Entry;
-use crate::machine::{Machine, Refusal};
+use crate::machine::{Losses, Machine, Refusal};
 use crate::queue::{Making, Queue};
 use crate::tally::Tally;
 use std::fmt::Write;
@@ -99,6 +99,8 @@ pub fn join<'a>(schedules: impl IntoIterator<Item = &'a Schedule>) -> String {
 pub struct Show {
     /// No line for each, one for the whole.
     pub quiet: bool,
+    /// The worker's losses after each.
+    pub losses: bool,
     /// The stock after each.
     pub stock: bool,
 }
@@ -157,6 +159,9 @@ fn run_entries(machine: &mut Machine, schedule: &Schedule, show: Show, out: &mut
         if !show.quiet {
             report(out, place, refusal, machine);
             worker(out, machine, first / 16);
+            if show.losses {
+                losses(out, machine, first / 16);
+            }
             if show.stock {
                 let _ = write!(out, " stock={}", machine.stock());
             }
@@ -181,6 +186,13 @@ fn worker(out: &mut String, machine: &Machine, worker: u64) {
     let _ = match machine.state(worker) {
         Some(state) => write!(out, " w{worker}={state}"),
         None => write!(out, " w{worker}=-"),
+    };
+}
+
+fn losses(out: &mut String, machine: &Machine, worker: u64) {
+    let _ = match machine.losses(worker) {
+        Some(Losses { differed, failed }) => write!(out, " lost={differed},{failed}"),
+        None => write!(out, " lost=-"),
     };
 }
 

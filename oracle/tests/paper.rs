@@ -1,6 +1,6 @@
-//! Document 01's eight runs on paper, and case F in edition 2 as request 6 has it. All numbers are the documents'.
+//! Document 01's eight runs on paper, and what requests 4, 6 and 8 have of them. All numbers are the documents'.
 
-use oracle::machine::Machine;
+use oracle::machine::{Losses, Machine};
 use oracle::queue::Making;
 use oracle::stage::{Action, Word};
 use oracle::state::Kind;
@@ -13,6 +13,7 @@ const IS_EMPTY: u64 = 4;
 const CLOSE: u64 = 6;
 const IS_CLOSED: u64 = 7;
 const ACT: u64 = 8;
+const FAIL: u64 = 9;
 
 struct Bench(Machine);
 
@@ -53,6 +54,17 @@ impl Bench {
     fn act(&mut self, worker: u64) -> String {
         assert_eq!(self.0.enter(16 * worker + ACT, 0), 0);
         self.0.state(worker).unwrap().to_string()
+    }
+
+    /// One act whose weak exchange fails; the state after it.
+    fn fail(&mut self, worker: u64) -> String {
+        assert_eq!(self.0.enter(16 * worker + FAIL, 0), 0);
+        self.0.state(worker).unwrap().to_string()
+    }
+
+    fn lost(&self, worker: u64) -> (u64, u64) {
+        let Losses { differed, failed } = self.0.losses(worker).unwrap();
+        (differed, failed)
     }
 
     /// Acts to the answer, and how many.
@@ -152,6 +164,8 @@ fn b_push() {
     assert_eq!([0, 1].map(|slot| (bench.stamp(slot), bench.0.value(slot))), [(1, 5), (1, 0)]);
     assert_eq!(bench.0.meter(), 5);
     assert_eq!(bench.0.state(0).unwrap().to_string(), "idle:pushed");
+    // by request 8
+    assert_eq!(bench.lost(0), (0, 0));
     assert_eq!(bench.contents(), [5]);
 }
 
@@ -226,6 +240,46 @@ fn stock_until_the_read() {
     bench.begin(1, POP, 0);
     assert_eq!(bench.stocks(1), [1, 1, 1, 0, 0], "O1 to O5");
     assert_eq!(bench.contents(), []);
+}
+
+/// Request 8: both kinds at P3, at F6 and at O3, and code 9 where the words differ; kept by other acts, by a won exchange and after
+/// the answer; from 0 at the next begin; the other worker's are its own.
+#[test]
+fn losses_by_kind() {
+    let mut bench = Bench::new(1, 2);
+    (0..2).for_each(|worker| bench.begin(worker, PUSH, 7));
+    (0..2).for_each(|worker| assert_eq!([bench.act(worker), bench.act(worker)], ["P2:push(0,7)", "P3:push(0,7)"]));
+    assert_eq!(bench.fail(0), "P2:push(0,7)");
+    assert_eq!([bench.lost(0), bench.lost(1)], [(0, 1), (0, 0)]);
+    bench.act(0);
+    assert_eq!(bench.fail(0), "P2:push(0,7)");
+    assert_eq!(bench.lost(0), (0, 2));
+    assert_eq!(bench.end(0), ("idle:pushed".into(), 4));
+    assert_eq!(bench.lost(0), (0, 2));
+    assert_eq!(bench.fail(1), "P2:push(4,7)");
+    assert_eq!(bench.lost(1), (1, 0), "both apply: by the words");
+    assert_eq!(bench.end(1).0, "idle:full(7)");
+    assert_eq!(bench.lost(1), (1, 0));
+
+    (0..2).for_each(|worker| bench.begin(worker, FORCE_PUSH, 8));
+    assert_eq!([bench.lost(0), bench.lost(1)], [(0, 0), (0, 0)]);
+    (0..2).for_each(|worker| assert_eq!([bench.act(worker), bench.act(worker)], ["P2:force(4,8)", "F6(4,8)"]));
+    assert_eq!(bench.fail(0), "P1:force(8)");
+    assert_eq!(bench.lost(0), (0, 1));
+    assert_eq!(bench.end(0), ("idle:displaced(7)".into(), 6));
+    assert_eq!(bench.lost(0), (0, 1));
+    assert_eq!(bench.act(1), "P1:force(8)");
+    assert_eq!(bench.lost(1), (1, 0));
+    assert_eq!(bench.end(1).0, "idle:displaced(8)");
+
+    (0..2).for_each(|worker| bench.begin(worker, POP, 0));
+    (0..2).for_each(|worker| assert_eq!([bench.act(worker), bench.act(worker)], ["O2(8)", "O3(8)"]));
+    assert_eq!(bench.fail(0), "O2(8)");
+    assert_eq!(bench.end(0), ("idle:popped(8)".into(), 4));
+    assert_eq!(bench.act(1), "O2(12)");
+    assert_eq!([bench.lost(0), bench.lost(1)], [(0, 1), (1, 0)]);
+    assert_eq!(bench.end(1).0, "idle:empty");
+    assert_eq!(bench.lost(1), (1, 0));
 }
 
 #[test]

@@ -5,7 +5,7 @@ use oracle::schedule::{run, split, Schedule, Show};
 use oracle::tally::Tally;
 
 fn text(queue: Queue, input: &str, quiet: bool) -> String {
-    shown(queue, input, Show { quiet, stock: false })
+    shown(queue, input, Show { quiet, ..Show::default() })
 }
 
 fn shown(queue: Queue, input: &str, show: Show) -> String {
@@ -93,7 +93,7 @@ fn code_9() {
 /// Request 4: at the end of each entry's line, refused or not, and of no other line.
 #[test]
 fn stock() {
-    let stock = |input, quiet| shown(Queue::RING, input, Show { quiet, stock: true });
+    let stock = |input, quiet| shown(Queue::RING, input, Show { quiet, stock: true, ..Show::default() });
     let input = "1 1 0 5 8 0 8 0 8 0 9 0";
     let lines = [
         "0 0 h=0 t=0 m=0 w0=P1:push(5) stock=0",
@@ -105,6 +105,26 @@ fn stock() {
     assert_eq!(stock(input, false), format!("made 0\n{}\nslots (0,0)\ncontents refused 4\n", lines.join("\n")));
     for input in [input, "0 1 0 5", "1 1 0 5 8"] {
         assert_eq!(stock(input, true), quiet(input));
+    }
+}
+
+/// Request 8: after the worker and before the stock, refused or not, of no other line, and of no worker that there is not.
+#[test]
+fn losses() {
+    let lost = |input, quiet, stock| shown(Queue::RING, input, Show { quiet, losses: true, stock });
+    let input = "2 2 16 6 24 0 24 0 25 0 176 0";
+    let lines = [
+        "0 0 h=0 t=0 m=0 w1=P1:push(6) lost=0,0 stock=0",
+        "1 0 h=0 t=0 m=1 w1=P2:push(0,6) lost=0,0 stock=0",
+        "2 0 h=0 t=0 m=2 w1=P3:push(0,6) lost=0,0 stock=0",
+        "3 0 h=0 t=0 m=3 w1=P2:push(0,6) lost=0,1 stock=0",
+        "4 3 h=0 t=0 m=3 w11=- lost=- stock=0",
+    ];
+    let all = format!("made 0\n{}\nslots (0,0) (1,0)\ncontents refused 4\n", lines.join("\n"));
+    assert_eq!(lost(input, false, true), all);
+    assert_eq!(lost(input, false, false), all.replace(" stock=0", ""));
+    for input in [input, "0 1 0 5", "1 1 0 5 8"] {
+        assert_eq!(lost(input, true, false), quiet(input));
     }
 }
 

@@ -10,6 +10,11 @@ use Rattle.bounded_places.specs.declared.Slot.{Slot}
 use Rattle.bounded_places.specs.declared.Ends.{Ends}
 use Rattle.bounded_places.specs.declared.Kind.{Kind}
 use Rattle.bounded_places.specs.declared.Kind.the-variants.{Push, Force}
+use Rattle.bounded_places.specs.declared.Exchange.{Exchange}
+use Rattle.bounded_places.specs.declared.Exchange.the-variants.{Won, Differed, Failed}
+use Rattle.bounded_places.specs.declared.Loss.{Loss}
+use Rattle.bounded_places.specs.declared.Loss.the-variants as loss
+use Rattle.bounded_places.specs.declared.Loss.the-variants.{ByWords, BySchedule}
 use Rattle.bounded_places.specs.declared.Answer.{Answer}
 use Rattle.bounded_places.specs.declared.Answer.the-variants.{Nothing, Pushed, Full, Closed, Displaced, Popped, Empty, PopClosed, Len, Yes, No}
 use Rattle.bounded_places.specs.declared.Place.{Place}
@@ -17,9 +22,17 @@ use Rattle.bounded_places.specs.declared.Place.the-variants.{Idle, P1, P2, P3, 
 use Rattle.bounded_places.specs.Places.{viewOf, fitsOf}
 use Rattle.bounded_acts.specs.declared.Acted.{Acted}
 
--- The worker goes to p, and the ends and its slot are these.
+-- The worker goes to p, the ends and its slot are these, and what it lost is that.
+unfoldable pub losing : Ends → Slot → Place → Loss → Acted
+losing e s p l = record { ends = e; slot = s; place = p; loss = l }
+
 unfoldable pub stay : Ends → Slot → Place → Acted
-stay e s p = record { ends = e; slot = s; place = p }
+stay e s p = record { ends = e; slot = s; place = p; loss = loss.Nothing }
+
+-- The exchange step (document 02, item 8): won, lost because the words differed, or lost by the schedule; where both apply it is the first
+-- kind of loss.
+unfoldable pub exchangeOf : Stamp → Stamp → Bool → Exchange
+exchangeOf found expected lose = cond (same found expected) (cond lose Failed Won) (Differed found)
 
 -- The kinds of effect: a word of an end, a stamp, a value.
 unfoldable pub tailTo : Ends → Stamp → Ends
@@ -34,9 +47,13 @@ stampTo s w = record { stamp = w; value = s .value }
 unfoldable pub valueTo : Slot → ℕ → Slot
 valueTo s v = record { stamp = s .stamp; value = v }
 
+-- With a tail t loaded or found: marked: Closed, else P2
+unfoldable pub afterTail : Fixed → Kind → Stamp → ℕ → Place
+afterTail f k t x = cond (markedOf f t) (Idle (Closed x)) (P2 k t x)
+
 -- P1 | load tail | marked: Closed, else P2
 abbrev pub actP1 : Fixed → Ends → Slot → Kind → ℕ → Acted
-actP1 f e s k x = cond (markedOf f (e .tail)) (stay e s (Idle (Closed x))) (stay e s (P2 k (e .tail) x))
+actP1 f e s k x = stay e s (afterTail f k (e .tail) x)
 
 -- P6 (push) or F6 (force)
 abbrev pub fullAt : Kind → Stamp → ℕ → Place
@@ -50,11 +67,13 @@ actP2 f e s k t x =
     (cond (lapBehindOnePast f (s .stamp) t) (stay e s (fullAt k t x)) (stay e s (P1 k x)))
 
 -- P3 | weak exchange tail t to next(t) | won: P4; lost: t is the word found; marked: Closed, else P2
+abbrev pub endP3 : Fixed → Ends → Slot → Kind → Stamp → ℕ → Exchange → Acted
+endP3 f e s k t x Won = stay (tailTo e (nextOf f t)) s (P4 t x)
+endP3 f e s k t x (Differed found) = losing e s (afterTail f k found x) ByWords
+endP3 f e s k t x Failed = losing e s (P2 k t x) BySchedule
+
 abbrev pub actP3 : Fixed → Ends → Slot → Kind → Stamp → ℕ → Bool → Acted
-actP3 f e s k t x lose =
-    cond (same (e .tail) t)
-    (cond lose (stay e s (P2 k t x)) (stay (tailTo e (nextOf f t)) s (P4 t x)))
-    (actP1 f e s k x)
+actP3 f e s k t x lose = endP3 f e s k t x (exchangeOf (e .tail) t lose)
 
 -- P5 | stamp becomes t + 1 | Pushed
 abbrev pub actP5 : Ends → Slot → Stamp → Acted
@@ -65,11 +84,13 @@ abbrev pub actP6 : Fixed → Ends → Slot → Stamp → ℕ → Acted
 actP6 f e s t x = cond (lapBehind f (e .head) t) (stay e s (Idle (Full x))) (stay e s (P1 Push x))
 
 -- F6 | weak exchange head t - lap to next(t) - lap | won: F7, lost: P1
+abbrev pub endF6 : Fixed → Ends → Slot → Stamp → ℕ → Exchange → Acted
+endF6 f e s t x Won = stay (headTo e (minus (nextOf f t) (f .lap))) s (F7 t x)
+endF6 f e s t x (Differed found) = losing e s (P1 Force x) ByWords
+endF6 f e s t x Failed = losing e s (P1 Force x) BySchedule
+
 abbrev pub actF6 : Fixed → Ends → Slot → Stamp → ℕ → Bool → Acted
-actF6 f e s t x lose =
-    cond (same (e .head) (minus t (f .lap)))
-    (cond lose (stay e s (P1 Force x)) (stay (headTo e (minus (nextOf f t) (f .lap))) s (F7 t x)))
-    (stay e s (P1 Force x))
+actF6 f e s t x lose = endF6 f e s t x (exchangeOf (e .head) (minus t (f .lap)) lose)
 
 -- F7 makes tail next(t); in edition 2 it keeps tail's mark.
 unfoldable pub forcedTail : Fixed → Stamp → Stamp → Stamp
@@ -93,11 +114,13 @@ abbrev pub actO2 : Ends → Slot → Stamp → Acted
 actO2 e s h = cond (onePast (s .stamp) h) (stay e s (O3 h)) (cond (same (s .stamp) h) (stay e s (O6 h)) (stay e s O1))
 
 -- O3 | weak exchange head h to next(h) | won: O4; lost: h is the word found, O2
+abbrev pub endO3 : Fixed → Ends → Slot → Stamp → Exchange → Acted
+endO3 f e s h Won = stay (headTo e (nextOf f h)) s (O4 h)
+endO3 f e s h (Differed found) = losing e s (O2 found) ByWords
+endO3 f e s h Failed = losing e s (O2 h) BySchedule
+
 abbrev pub actO3 : Fixed → Ends → Slot → Stamp → Bool → Acted
-actO3 f e s h lose =
-    cond (same (e .head) h)
-    (cond lose (stay e s (O2 h)) (stay (headTo e (nextOf f h)) s (O4 h)))
-    (stay e s (O2 (e .head)))
+actO3 f e s h lose = endO3 f e s h (exchangeOf (e .head) h lose)
 
 -- O5 | stamp becomes h + lap | Popped(value)
 abbrev pub actO5 : Fixed → Ends → Slot → Stamp → ℕ → Acted

@@ -2,17 +2,20 @@
 // One function for each place of document 01's tables that decides something; crate bounded_table has which is taken where.
 ghost use mathlib.Core.Path.{_≡_};
 ghost use Rattle.bounded_words.specs.Words.{plus};
-ghost use Rattle.bounded_acts.specs.Acts.{stay, stampTo, valueTo};
+ghost use Rattle.bounded_acts.specs.Acts.{stay, losing, exchangeOf, stampTo, valueTo};
 use bounded_places::Ends;
+use bounded_places::Exchange;
+use bounded_places::Loss;
 use bounded_places::Place;
 use bounded_places::Slot;
 use bounded_words::Stamp;
 
-// What an act leaves: the two ends, the slot at its worker's word, and the place its worker goes to.
+// What an act leaves: the two ends, the slot at its worker's word, the place its worker goes to, and what it lost.
 pub struct Acted {
     pub ends: Ends,
     pub slot: Slot,
     pub place: Place,
+    pub loss: Loss,
 }
 
 pub fn stay(e: Ends, s: Slot, p: Place) -> Acted
@@ -22,6 +25,33 @@ pub fn stay(e: Ends, s: Slot, p: Place) -> Acted
         ends: e,
         slot: s,
         place: p,
+        loss: Loss::Nothing,
+    }
+}
+
+pub fn losing(e: Ends, s: Slot, p: Place, l: Loss) -> Acted
+    ensures { λ r. ⌜ r ≡ losing e s p l ⌝ }
+{
+    Acted {
+        ends: e,
+        slot: s,
+        place: p,
+        loss: l,
+    }
+}
+
+// The exchange step of P3, F6 and O3.
+pub fn exchange(found: Stamp, expected: Stamp, lose: bool) -> Exchange
+    ensures { λ r. ⌜ r ≡ exchangeOf found expected lose ⌝ }
+{
+    if bounded_words::same_word(found, expected) {
+        if lose {
+            Exchange::Failed
+        } else {
+            Exchange::Won
+        }
+    } else {
+        Exchange::Differed(found)
     }
 }
 

@@ -25,8 +25,8 @@ use Rattle.bounded_places.specs.Places.{inside, beginOf}
 use Rattle.bounded_machine.specs.declared.Machine.{Machine}
 use Rattle.bounded_machine.specs.declared.Did.{Did}
 use Rattle.bounded_machine.specs.declared.Ran.{Ran}
-use Rattle.bounded_machine.specs.Machine.{starts, idler, idlers, placeOf, freshOf, blank, refused, accepted}
-use Rattle.bounded_machine.specs.Broken.{byRule, endsFit, recordFits, brokenOf}
+use Rattle.bounded_machine.specs.Machine.{starts, idler, idlers, recordOf, placeOf, freshOf, blank, refused, accepted}
+use Rattle.bounded_machine.specs.Broken.{byRule, endsFit, placeFits, recordFits, brokenOf}
 use Rattle.bounded_machine.specs.Contents.{contentsRefusal, written}
 use Rattle.bounded_machine.specs.Turn.{verdictOf, carried, turn, turnOf, turnOfBy, begun, acted}
 use Rattle.bounded_machine.specs.Run.{ran, runOf}
@@ -189,8 +189,8 @@ starts-fit c e h =
     let p : Plain (fixedOf c e) (stamp 0) = plain (fixedOf c e) r (stamp 0) (rw (zero-mod (lapOf c)) (r .some)) in
     ends-of (fixedOf c e) starts p (inside-of-plain (fixedOf c e) (stamp 0) p)
 
-idlers-fit : (f : Fixed) (w i : ℕ) → i < workersMost → recordFits f (placeOf idlers i) (ltb i w) ≡ true
-unfolding recordFits idlers
+idlers-fit : (f : Fixed) (w i : ℕ) → i < workersMost → recordFits f 0 (recordOf idlers i) (ltb i w) ≡ true
+unfolding recordFits placeFits idlers
 idlers-fit f w i l = rw (getD-replicate workersMost i idler idler l) refl
 
 pub fresh-unbroken : (c w e : ℕ) → inLimits c slotsMost ≡ true → inLimits w workersMost ≡ true → inLimits e editionsMost ≡ true → Unbroken (freshOf c w e)

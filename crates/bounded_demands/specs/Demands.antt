@@ -17,6 +17,9 @@ use Rattle.bounded_words.specs.declared.Stamp.{Stamp}
 use Rattle.bounded_words.specs.Words.{fixedOf, indexOf, markedOf, unmarkedOf, lapBehind}
 use Rattle.bounded_places.specs.declared.Answer.{Answer}
 use Rattle.bounded_places.specs.declared.Answer.the-variants.{Yes, PopClosed}
+use Rattle.bounded_places.specs.declared.Loss.{Loss}
+use Rattle.bounded_places.specs.declared.Loss.the-variants as loss
+use Rattle.bounded_places.specs.declared.Loss.the-variants.{ByWords, BySchedule}
 use Rattle.bounded_places.specs.declared.Place.{Place}
 use Rattle.bounded_places.specs.declared.Place.the-variants.{Idle, Empty2, Full2}
 use Rattle.bounded_places.specs.Places as places
@@ -27,14 +30,15 @@ use Rattle.bounded_machine.specs.declared.Ran.{Ran}
 use Rattle.bounded_machine.specs.declared.Moved.{Moved}
 use Rattle.bounded_machine.specs.declared.Moved.the-variants.{Tail}
 use Rattle.bounded_machine.specs.declared.Tally.{Tally}
-use Rattle.bounded_machine.specs.Machine.{blank, freshOf, placeOf}
+use Rattle.bounded_machine.specs.Machine.{blank, freshOf, recordOf, placeOf}
 use Rattle.bounded_machine.specs.Broken.{brokenOf, allIdle}
 use Rattle.bounded_machine.specs.Contents.{countIn, contentsOf, contentsRefusal, written, capacityRefusal, capacityOf}
+use Rattle.bounded_machine.specs.Turn.{byWords, bySchedule}
 use Rattle.bounded_machine.specs.Run.{ran, runFrom, runOf}
 use Rattle.bounded_machine.specs.History.{eventsOf, movedOf, readsAt, stockOf, untakenOf}
 use Rattle.bounded.specs.Bounded.{makeOf, stepOf, beginOf, actOf}
 use Rattle.bounded_stock.specs.Stock.{talliedOf}
-use Rattle.bounded_demands.specs.Notions.{Definition, Allowed, machineAfter, actsOf, Acts, acts, InHand, HandsOut, Reads, Truth, itemsOf, takersOf, LatestIn, ItemIn, WrittenIn, CallClaim, tally, waiting, unreadBy, lesser, Fifo, Plain, valueAt, queueAnswer, LenAnswers, mostOf, OtherHand, passed, ownActs, LetsGo, has, ClosesYes, NoClaims, ClaimsOn}
+use Rattle.bounded_demands.specs.Notions.{Definition, Allowed, machineAfter, actsOf, Acts, acts, InHand, HandsOut, Reads, Truth, itemsOf, takersOf, LatestIn, ItemIn, WrittenIn, CallClaim, tally, waiting, unreadBy, lesser, Exchanges, lostIn, struck, Fifo, Plain, valueAt, queueAnswer, LenAnswers, mostOf, OtherHand, passed, ownActs, LetsGo, has, ClosesYes, NoClaims, ClaimsOn}
 use Rattle.bounded_demands.specs.Foretold.{foretold, Telling, toldIn, tellings, asForetold}
 use Rattle.bounded_demands.specs.Eight.{closedF, caseF}
 use Rattle.bounded_demands.specs.Attained.{Case, seenIn, attained, exactly}
@@ -321,6 +325,39 @@ StockUnderEverySchedule d count =
 -- The bound is attained, in both editions: each ring of the table, full and with a force_push of as many workers as can claim in it, each before its read.
 abbrev pub MostStock : Type 0
 MostStock = map stockAtMost fullest ≡ map (λ (r : Shelf). r .capacity + lesser (r .capacity) (r .workers)) fullest
+
+-- ==== How an exchange ended (document 02, item 8). Of any way to tell it, so that crate bounded_slips can say it of wrong ones; it is met by `lossAt`, which
+-- the events of a history have.
+
+-- Lost because the words differed, also where the schedule makes it fail; lost by the schedule; won; or no exchange.
+pub record EndTold (tell : Machine → ℕ → Bool → Loss) (m : Machine) (w : ℕ) : Type 0 where
+  pub differed : (found expected : Stamp) (lose : Bool) → Exchanges (m .ring .fixed) (m .ring .ends) (placeOf (m .workers) w) found expected
+      → (found ≡ expected → ⊥) → tell m w lose ≡ ByWords
+  pub failed : (found expected : Stamp) → Exchanges (m .ring .fixed) (m .ring .ends) (placeOf (m .workers) w) found expected
+      → found ≡ expected → tell m w true ≡ BySchedule
+  pub won : (found expected : Stamp) → Exchanges (m .ring .fixed) (m .ring .ends) (placeOf (m .workers) w) found expected
+      → found ≡ expected → tell m w false ≡ loss.Nothing
+  pub none : (lose : Bool) → places.viewOf (placeOf (m .workers) w) .weak ≡ false → tell m w lose ≡ loss.Nothing
+
+abbrev pub EndsTold : (Machine → ℕ → Bool → Loss) → Type 0
+EndsTold tell = (m : Machine) (w : ℕ) → EndTold tell m w
+
+-- The counts of a worker are the numbers of its lost exchanges of each kind in its present call, or its last if it is idle.
+abbrev pub LossesCounted : Machine → List Event → Type 0
+LossesCounted m h =
+    (w : ℕ) → (recordOf (m .workers) w .differed ≡ lostIn byWords m w h) × (recordOf (m .workers) w .failed ≡ lostIn bySchedule m w h)
+
+abbrev pub LossesUnderEverySchedule : Definition → Type 0
+LossesUnderEverySchedule d =
+    (capacity workers edition : ℕ) → Allowed capacity workers edition → (s : List ℕ)
+    → LossesCounted (machineAfter d capacity workers edition s) (actsOf d capacity workers edition s)
+
+-- No answer of a call changes: an entry is refused as if the counts were struck out, and what it leaves is the same but for them.
+abbrev pub CountsAside : Definition → Type 0
+CountsAside d =
+    (m : Machine) (first second : ℕ)
+    → (d .turn m first second .refusal ≡ d .turn (struck m) first second .refusal)
+    × (struck (d .turn m first second .machine) ≡ struck (d .turn (struck m) first second .machine))
 
 -- ==== A close that holds (document 02, item 6). Said of the same machines and acts.
 

@@ -9,7 +9,7 @@ use Rattle.bounded_places.specs.declared.Place.the-variants.{Idle, O1, O2}
 use Rattle.bounded_places.specs.declared.Answer.the-variants.{Pushed, Full, Closed, Displaced, Popped, PopClosed, Len, Yes, No}
 use Rattle.bounded_machine.specs.declared.Ran.{Ran}
 use Rattle.bounded_machine.specs.declared.Event.{Event}
-use Rattle.bounded_machine.specs.Machine.{slot, freshOf, placeOf}
+use Rattle.bounded_machine.specs.Machine.{slot, freshOf, recordOf, placeOf}
 use Rattle.bounded_machine.specs.Contents.{contentsOf}
 use Rattle.bounded_machine.specs.Run.{runOf}
 use Rattle.bounded_machine.specs.History.{historyOf, untallied, tallyOf, stockOf}
@@ -33,6 +33,8 @@ pub data Fact : Type 0 where
   valued : ℕ → ℕ → Fact
   -- worker, where it stands
   stands : ℕ → Place → Fact
+  -- worker, its exchanges lost because the words differed and by the schedule
+  lost : ℕ → ℕ → ℕ → Fact
   contents : List ℕ → Fact
   stock : ℕ → Fact
 
@@ -47,6 +49,7 @@ found r h (meter n) = meter (r .machine .meter)
 found r h (stamped i n) = stamped i (getD (r .machine .ring .slots) i (slot 0 0) .stamp .0)
 found r h (valued i n) = valued i (getD (r .machine .ring .slots) i (slot 0 0) .value)
 found r h (stands w p) = stands w (placeOf (r .machine .workers) w)
+found r h (lost w d f) = lost w (recordOf (r .machine .workers) w .differed) (recordOf (r .machine .workers) w .failed)
 found r h (contents l) = contents (contentsOf (r .machine))
 found r h (stock n) = stock (stockOf (tallyOf h untallied))
 
@@ -139,7 +142,7 @@ runG = pastLoad ++ acts 0 1
 unfoldable pub table : List Row
 table =
     row 1 1 [] (constants 1 2 4 ∷ constants 2 4 8 ∷ constants 3 4 8 ∷ constants 4 8 16 ∷ constants 255 256 512 ∷ constants 256 512 1024 ∷ constants 1024 2048 4096 ∷ [])
-    ∷ row 2 1 runB (ended 0 6 ∷ head 0 ∷ tail 1 ∷ stamped 0 1 ∷ valued 0 5 ∷ stamped 1 1 ∷ valued 1 0 ∷ meter 5 ∷ stands 0 (Idle Pushed) ∷ contents (5 ∷ []) ∷ [])
+    ∷ row 2 1 runB (ended 0 6 ∷ head 0 ∷ tail 1 ∷ stamped 0 1 ∷ valued 0 5 ∷ stamped 1 1 ∷ valued 1 0 ∷ meter 5 ∷ stands 0 (Idle Pushed) ∷ lost 0 0 0 ∷ contents (5 ∷ []) ∷ [])
     ∷ row 2 1 runC₁ (tail 8 ∷ stamped 1 2 ∷ [])
     ∷ row 2 1 runC₂ (stands 0 (Idle (Popped 5)) ∷ head 1 ∷ stamped 0 8 ∷ [])
     ∷ row 2 1 runC₃ (tail 9 ∷ stamped 0 9 ∷ [])

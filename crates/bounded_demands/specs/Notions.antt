@@ -2,7 +2,7 @@
 -- of the history of its acts (history, tally of claims and stock: crates/bounded_machine/specs/History.antt). The demands are Demands.antt.
 use Prim.Native.Nat.{ℕ, zero, suc, _+_, _*_, _/_, _%_, _≤_, _<_}
 use mathlib.Core.Bool.{Bool, true, false, cond}
-use mathlib.Core.List.{List, [], _∷_, _++_}
+use mathlib.Core.List.{List, [], _∷_, _++_, map}
 use mathlib.Core.Path.{_≡_}
 use mathlib.Core.Logic.{_≢_}
 use lib.Dec.{eqb, leb}
@@ -17,12 +17,13 @@ use Rattle.queue_entries.specs.Entries.{entryOf}
 use Rattle.bounded_words.specs.declared.Stamp.{Stamp}
 use Rattle.bounded_words.specs.declared.Fixed.{Fixed}
 use Rattle.bounded_words.specs.Limits.{slotsMost, editionsMost, wide}
-use Rattle.bounded_words.specs.Words.{indexOf, markedOf, unmarkedOf, lapBehind}
+use Rattle.bounded_words.specs.Words.{indexOf, markedOf, unmarkedOf, minus, lapBehind}
 use Rattle.bounded_places.specs.declared.Ends.{Ends}
 use Rattle.bounded_places.specs.declared.Kind.{Kind}
 use Rattle.bounded_places.specs.declared.Kind.the-variants.{Push, Force}
 use Rattle.bounded_places.specs.declared.Answer.{Answer}
 use Rattle.bounded_places.specs.declared.Answer.the-variants.{Nothing, Pushed, Full, Closed, Displaced, Popped, Empty, PopClosed, Len, Yes, No}
+use Rattle.bounded_places.specs.declared.Loss.{Loss}
 use Rattle.bounded_places.specs.declared.Place.{Place}
 use Rattle.bounded_places.specs.declared.Place.the-variants.{Idle, P1, P2, P3, P4, P5, P6, F6, F7, F8, F9, O1, O2, O3, O4, O5, O6, Len1, Len2, Len3, Empty1, Empty2, Full1, Full2, Close1, IsClosed1}
 use Rattle.bounded_places.specs.declared.Worker.{Worker}
@@ -35,8 +36,8 @@ use Rattle.bounded_machine.specs.declared.Event.{Event}
 use Rattle.bounded_machine.specs.declared.Moved.{Moved}
 use Rattle.bounded_machine.specs.declared.Moved.the-variants.{Neither, Tail, Head}
 use Rattle.bounded_machine.specs.declared.Tally.{Tally}
-use Rattle.bounded_machine.specs.Machine.{slot, freshOf, placeOf, accepted}
-use Rattle.bounded_machine.specs.Turn.{Table, turnOfBy}
+use Rattle.bounded_machine.specs.Machine.{slot, machineOf, freshOf, placeOf, accepted}
+use Rattle.bounded_machine.specs.Turn.{Table, beginner, turnOfBy}
 use Rattle.bounded_machine.specs.Run.{runWith}
 use Rattle.bounded_machine.specs.History.{historyWith, movedOf, untallied, tallyOf, stockOf}
 
@@ -271,6 +272,44 @@ unreadBy (w ∷ others) = cond (unread (w .place)) 1 0 + unreadBy others
 
 abbrev pub lesser : ℕ → ℕ → ℕ
 lesser a b = cond (leb a b) a b
+
+-- ---- lost exchanges
+
+-- The act at this place is an exchange: the word of the end that it finds, and the word that it expects there.
+pub data Exchanges (f : Fixed) (e : Ends) : Place → Stamp → Stamp → Type 0 where
+  exchangeP3 : {k : Kind} {t : Stamp} {x : ℕ} → Exchanges f e (P3 k t x) (e .tail) t
+  exchangeF6 : {t : Stamp} {x : ℕ} → Exchanges f e (F6 t x) (e .head) (minus t (f .lap))
+  exchangeO3 : {h : Stamp} → Exchanges f e (O3 h) (e .head) h
+
+-- Of one kind, a worker's lost exchanges: in its call under way, and in its last that has ended.
+pub record Lost : Type 0 where
+  pub present : ℕ
+  pub last : ℕ
+
+-- With one act more: what it lost is of the call under way, and an act that answers ends that call.
+abbrev pub lostWith : (Loss → ℕ) → ℕ → Lost → Event → Lost
+lostWith kind w n e =
+    cond (eqb (e .worker) w)
+    (cond (viewOf (e .after) .busy)
+    (record { present = n .present + kind (e .loss); last = n .last })
+    (record { present = 0; last = n .present + kind (e .loss) }))
+    n
+
+unfoldable pub lostFrom : (Loss → ℕ) → ℕ → Lost → List Event → Lost
+lostFrom kind w n [] = n
+lostFrom kind w n (e ∷ h) = lostFrom kind w (lostWith kind w n e) h
+
+abbrev pub lostBy : (Loss → ℕ) → ℕ → List Event → Lost
+lostBy kind w h = lostFrom kind w (record { present = 0; last = 0 }) h
+
+-- Worker w's lost exchanges of one kind in its present call, or its last if it is idle.
+abbrev pub lostIn : (Loss → ℕ) → Machine → ℕ → List Event → ℕ
+lostIn kind m w h = cond (viewOf (placeOf (m .workers) w) .busy) (lostBy kind w h .present) (lostBy kind w h .last)
+
+-- The machine with all counts of losses struck out.
+unfoldable pub struck : Machine → Machine
+struck m =
+    machineOf (m .ring .fixed) (m .ring .ends) (m .ring .slots) (map (λ (r : Worker). beginner (r .place)) (m .workers)) (m .count) (m .meter)
 
 -- ---- a plain queue
 

@@ -5,7 +5,9 @@ ghost use Rattle.bounded_acts.specs.Acts.{tailTo, headTo, forcedTail, actF6, ac
 use bounded_acts::Acted;
 use bounded_places::Answer;
 use bounded_places::Ends;
+use bounded_places::Exchange;
 use bounded_places::Kind;
+use bounded_places::Loss;
 use bounded_places::Place;
 use bounded_places::Slot;
 use bounded_words::Fixed;
@@ -54,15 +56,16 @@ pub fn f6(f: Fixed, e: Ends, s: Slot, t: Stamp, item: u64, lose: bool) -> Acted
     ensures { λ r. ⌜ r ≡ actF6 f e s t item lose ⌝ }
 {
     let found = e.head;
-    let lost = Place::P1(Kind::Force, item);
-    if bounded_words::is_lap_before(f, found, t) {
-        if lose {
-            bounded_acts::stay(e, s, lost)
-        } else {
-            bounded_acts::stay(head_to_lap_before_next(f, e, t), s, Place::F7(t, item))
-        }
-    } else {
-        bounded_acts::stay(e, s, lost)
+    let expected = bounded_words::earlier(t, f.lap);
+    let again = Place::P1(Kind::Force, item);
+    match bounded_acts::exchange(found, expected, lose) {
+        Exchange::Won => bounded_acts::stay(
+            head_to_lap_before_next(f, e, t),
+            s,
+            Place::F7(t, item),
+        ),
+        Exchange::Differed(_) => bounded_acts::losing(e, s, again, Loss::ByWords),
+        Exchange::Failed => bounded_acts::losing(e, s, again, Loss::BySchedule),
     }
 }
 

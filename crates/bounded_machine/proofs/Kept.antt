@@ -7,7 +7,7 @@ use native.Mathlib.Omega.{arith}
 use native.Mathlib.Decide.{decLt}
 use lib.Dec.{ltb, eqb}
 use lib.ListN.{getD, set}
-use borrow.Author.Tests.{lt-ltb, ltb-true, not-false}
+use borrow.Author.Tests.{lt-ltb, le-ltb, ltb-true, ltb-false, not-false}
 use Rattle.queue_entries.specs.Limits.{workersMost, all, inLimits}
 use Rattle.queue_entries.proofs.Pick.{both-left, both-right}
 use Rattle.queue_entries.specs.declared.Call.{Call}
@@ -24,17 +24,21 @@ use Rattle.bounded_places.specs.declared.Ends.{Ends}
 use Rattle.bounded_places.specs.declared.Kind.{Kind}
 use Rattle.bounded_places.specs.declared.Kind.the-variants.{Push, Force}
 use Rattle.bounded_places.specs.declared.Answer.the-variants.{Closed, Pushed, Full, Displaced, Popped, Empty, PopClosed, Len, Yes, No}
+use Rattle.bounded_places.specs.declared.Exchange.{Exchange}
+use Rattle.bounded_places.specs.declared.Exchange.the-variants.{Won, Differed, Failed}
+use Rattle.bounded_places.specs.declared.Loss.{Loss}
+use Rattle.bounded_places.specs.declared.Loss.the-variants as loss
 use Rattle.bounded_places.specs.declared.Place.{Place}
 use Rattle.bounded_places.specs.declared.Place.the-variants.{Idle, P1, P2, P3, P4, P5, P6, F6, F7, F8, F9, O1, O2, O3, O4, O5, O6, Len1, Len2, Len3, Empty1, Empty2, Full1, Full2, Close1, IsClosed1}
 use Rattle.bounded_places.specs.declared.Held.the-variants as held
 use Rattle.bounded_places.specs.declared.Worker.{Worker}
 use Rattle.bounded_places.specs.Places.{viewOf, inside, fitsOf, beginOf}
 use Rattle.bounded_acts.specs.declared.Acted.{Acted}
-use Rattle.bounded_acts.specs.Acts.{stay, tailTo, headTo, stampTo, valueTo, forcedTail, actOf, actP1, fullAt, yesNo, countOf}
+use Rattle.bounded_acts.specs.Acts.{stay, losing, exchangeOf, afterTail, endP3, endF6, endO3, tailTo, headTo, stampTo, valueTo, forcedTail, actOf, fullAt, yesNo, countOf}
 use Rattle.bounded_machine.specs.declared.Machine.{Machine}
-use Rattle.bounded_machine.specs.Machine.{placeOf, idler}
-use Rattle.bounded_machine.specs.Broken.{byRule, endsFit, recordFits, recordsFit, brokenOf}
-use Rattle.bounded_machine.specs.Turn.{begun, stored, acted, actedBy}
+use Rattle.bounded_machine.specs.Machine.{recordOf, placeOf, idler}
+use Rattle.bounded_machine.specs.Broken.{byRule, endsFit, placeFits, recordFits, recordsFit, brokenOf}
+use Rattle.bounded_machine.specs.Turn.{beginner, byWords, bySchedule, recordAfter, begun, stored, acted, actedBy}
 use Rattle.bounded_machine.proofs.Laws.{ruled-of}
 
 -- ---- tests and facts
@@ -42,6 +46,14 @@ use Rattle.bounded_machine.proofs.Laws.{ruled-of}
 pub either : {A : Type 0} (P : A → Type 0) (b : Bool) (x y : A) → (b ≡ true → P x) → (b ≡ false → P y) → P (cond b x y)
 either P true x y p q = p refl
 either P false x y p q = q refl
+
+-- an exchange, by how it ended
+pub exchanged : (P : Exchange → Type 0) (found expected : Stamp) (lose : Bool)
+    → (same found expected ≡ true → lose ≡ true → P Failed) → (same found expected ≡ true → lose ≡ false → P Won) → (same found expected ≡ false → P (Differed found))
+    → P (exchangeOf found expected lose)
+unfolding exchangeOf
+exchanged P found expected lose failed won differed =
+    either P (same found expected) (cond lose Failed Won) (Differed found) (λ h. either P lose Failed Won (failed h) (won h)) differed
 
 both : (a b : Bool) → a ≡ true → b ≡ true → cond a b false ≡ true
 both a b p q = either (λ (x : Bool). x ≡ true) a b false (λ h. q) (λ h. absurd (true≢false (sym p ∙ h)))
@@ -89,7 +101,7 @@ pub record Unbroken (m : Machine) : Type 0 where
   pub edition : inLimits (m .ring .fixed .edition) editionsMost ≡ true
   pub rule : byRule (m .ring .fixed) ≡ true
   pub ends : endsFit (m .ring .fixed) (m .ring .ends) ≡ true
-  pub records : (i : ℕ) → i < workersMost → recordFits (m .ring .fixed) (placeOf (m .workers) i) (ltb i (m .count)) ≡ true
+  pub records : (i : ℕ) → i < workersMost → recordFits (m .ring .fixed) (m .meter) (recordOf (m .workers) i) (ltb i (m .count)) ≡ true
 
 -- each test of a row of them that must pass
 passes : (a b : Bool) → cond a b true ≡ false → (a ≡ true) × (b ≡ false)
@@ -113,14 +125,14 @@ unbroken-of m h =
       edition = x .0;
       rule = c .0;
       ends = d .0;
-      records = (λ i l. every workersMost 0 (λ (k : ℕ). recordFits (m .ring .fixed) (placeOf (m .workers) k) (ltb k (m .count))) (not-false _ (d .1)) i (omega arith) (omega arith));
+      records = (λ i l. every workersMost 0 (λ (k : ℕ). recordFits (m .ring .fixed) (m .meter) (recordOf (m .workers) k) (ltb k (m .count))) (not-false _ (d .1)) i (omega arith) (omega arith));
     }
 
 pub of-unbroken : (m : Machine) → Unbroken m → brokenOf m ≡ false
 unfolding brokenOf recordsFit
 of-unbroken m u =
     pass _ _ (u .edition) (pass _ _ (u .capacity) (pass _ _ (u .count) (pass _ _ (u .rule) (pass _ _ (u .ends)
-    (ap not (all-of workersMost 0 (λ (k : ℕ). recordFits (m .ring .fixed) (placeOf (m .workers) k) (ltb k (m .count))) (λ k l g. u .records k (omega arith))))))))
+    (ap not (all-of workersMost 0 (λ (k : ℕ). recordFits (m .ring .fixed) (m .meter) (recordOf (m .workers) k) (ltb k (m .count))) (λ k l g. u .records k (omega arith))))))))
 
 module _ (m : Machine) (u : Unbroken m) where
   pub ruled-in : Ruled (m .ring .fixed)
@@ -173,15 +185,20 @@ module _ (f : Fixed) (r : Ruled f) where
   unfolding stay
   stays e s p h k = record { ends = h; held = k }
 
+  loses : (e : Ends) (s : Slot) (p : Place) (l : Loss) → endsFit f e ≡ true → fitsOf f (viewOf p .held) ≡ true → Ok (losing e s p l)
+  unfolding losing
+  loses e s p l h k = record { ends = h; held = k }
+
   module _ (e : Ends) (s : Slot) (h : endsFit f e ≡ true) where
     plain-tail : markedOf f (e .tail) ≡ false → Plain f (e .tail)
     unfolding inside
     plain-tail k = record { unmarked = k; low = ltb-true _ _ (tail-inside f e h) }
 
-    loads-tail : (k : Kind) (x : ℕ) → Ok (actP1 f e s k x)
-    loads-tail k x =
-        either Ok (markedOf f (e .tail)) _ _ (λ q. stays e s (Idle (Closed x)) h refl)
-        (λ q. stays e s (P2 k (e .tail) x) h (plain-fits f (e .tail) (plain-tail q)))
+    tail-fits : (k : Kind) (x : ℕ) → fitsOf f (viewOf (afterTail f k (e .tail) x) .held) ≡ true
+    unfolding afterTail
+    tail-fits k x =
+        either (λ (p : Place). fitsOf f (viewOf p .held) ≡ true) (markedOf f (e .tail)) (Idle (Closed x)) (P2 k (e .tail) x) (λ q. refl)
+        (λ q. plain-fits f (e .tail) (plain-tail q))
 
     -- tail to a word whose index is below capacity
     tail-goes : (w : Stamp) (p : Place) → inside f w ≡ true → fitsOf f (viewOf p .held) ≡ true → Ok (stay (tailTo e w) s p)
@@ -217,27 +234,24 @@ module _ (f : Fixed) (r : Ruled f) where
     -- act by act: the new place holds t or h as before, or a word just loaded; an end moves to next
     pub keeps : (p : Place) (lose : Bool) → fitsOf f (viewOf p .held) ≡ true → Ok (actOf f e s p lose)
     keeps (Idle a) lose q = stays e s (Idle a) h refl
-    keeps (P1 k x) lose q = loads-tail k x
+    keeps (P1 k x) lose q = stays e s (afterTail f k (e .tail) x) h (tail-fits k x)
     keeps (P2 k t x) lose q =
         either Ok (same (s .stamp) t) (stay e s (P3 k t x)) _ (λ b. stays e s (P3 k t x) h q)
         (λ b. either Ok (lapBehindOnePast f (s .stamp) t) (stay e s (fullAt k t x)) (stay e s (P1 k x))
         (λ d. stays e s (fullAt k t x) h (full-fits k t x q)) (λ d. stays e s (P1 k x) h refl))
     keeps (P3 k t x) lose q =
-        either Ok (same (e .tail) t) _ (actP1 f e s k x)
-        (λ b. either Ok lose (stay e s (P2 k t x)) (stay (tailTo e (nextOf f t)) s (P4 t x))
-        (λ d. stays e s (P2 k t x) h q) (λ d. tail-goes (nextOf f t) (P4 t x) (next-inside t (fits-plain f t q)) q))
-        (λ b. loads-tail k x)
+        exchanged (λ (y : Exchange). Ok (endP3 f e s k t x y)) (e .tail) t lose (λ b d. loses e s (P2 k t x) loss.BySchedule h q)
+        (λ b d. tail-goes (nextOf f t) (P4 t x) (next-inside t (fits-plain f t q)) q)
+        (λ b. loses e s (afterTail f k (e .tail) x) loss.ByWords h (tail-fits k x))
     keeps (P4 t x) lose q = stays e (valueTo s x) (P5 t) h q
     keeps (P5 t) lose q = stays e (stampTo s (plus t 1)) (Idle Pushed) h refl
     keeps (P6 t x) lose q =
         either Ok (lapBehind f (e .head) t) (stay e s (Idle (Full x))) (stay e s (P1 Push x))
         (λ b. stays e s (Idle (Full x)) h refl) (λ b. stays e s (P1 Push x) h refl)
     keeps (F6 t x) lose q =
-        either Ok (same (e .head) (minus t (f .lap))) _ (stay e s (P1 Force x))
-        (λ b. either Ok lose (stay e s (P1 Force x)) (stay (headTo e (minus (nextOf f t) (f .lap))) s (F7 t x))
-        (λ d. stays e s (P1 Force x) h refl)
-        (λ d. head-moves (minus (nextOf f t) (f .lap)) (F7 t x) (minus-plain f r (nextOf f t) (next-plain f r t (fits-plain f t q))) q))
-        (λ b. stays e s (P1 Force x) h refl)
+        exchanged (λ (y : Exchange). Ok (endF6 f e s t x y)) (e .head) (minus t (f .lap)) lose (λ b d. loses e s (P1 Force x) loss.BySchedule h refl)
+        (λ b d. head-moves (minus (nextOf f t) (f .lap)) (F7 t x) (minus-plain f r (nextOf f t) (next-plain f r t (fits-plain f t q))) q)
+        (λ b. loses e s (P1 Force x) loss.ByWords h refl)
     keeps (F7 t x) lose q = tail-goes (forcedTail f (e .tail) t) (F8 t x) (forced-inside t (fits-plain f t q)) q
     keeps (F8 t x) lose q = stays e (valueTo s x) (F9 t (s .value)) h q
     keeps (F9 t old) lose q = stays e (stampTo s (plus t 1)) (Idle (Displaced old)) h refl
@@ -246,10 +260,9 @@ module _ (f : Fixed) (r : Ruled f) where
         either Ok (onePast (s .stamp) w) (stay e s (O3 w)) _ (λ b. stays e s (O3 w) h q)
         (λ b. either Ok (same (s .stamp) w) (stay e s (O6 w)) (stay e s O1) (λ d. stays e s (O6 w) h q) (λ d. stays e s O1 h refl))
     keeps (O3 w) lose q =
-        either Ok (same (e .head) w) _ (stay e s (O2 (e .head)))
-        (λ b. either Ok lose (stay e s (O2 w)) (stay (headTo e (nextOf f w)) s (O4 w))
-        (λ d. stays e s (O2 w) h q) (λ d. head-moves (nextOf f w) (O4 w) (next-plain f r w (fits-plain f w q)) q))
-        (λ b. stays e s (O2 (e .head)) h (plain-fits f (e .head) (head-plain f e h)))
+        exchanged (λ (y : Exchange). Ok (endO3 f e s w y)) (e .head) w lose (λ b d. loses e s (O2 w) loss.BySchedule h q)
+        (λ b d. head-moves (nextOf f w) (O4 w) (next-plain f r w (fits-plain f w q)) q)
+        (λ b. loses e s (O2 (e .head)) loss.ByWords h (plain-fits f (e .head) (head-plain f e h)))
     keeps (O4 w) lose q = stays e s (O5 w (s .value)) h q
     keeps (O5 w v) lose q = stays e (stampTo s (plus w (f .lap))) (Idle (Popped v)) h refl
     keeps (O6 w) lose q =
@@ -283,20 +296,58 @@ begin-holds call.Close = refl
 begin-holds call.IsClosed = refl
 
 -- ---- the machine
-record-of : (f : Fixed) (p : Place) (b : Bool) → b ≡ true → fitsOf f (viewOf p .held) ≡ true → recordFits f p b ≡ true
-unfolding recordFits
-record-of f p b h k = either (λ (x : Bool). x ≡ true) (viewOf p .busy) _ true (λ q. both b _ h k) (λ q. refl)
+record-of : (f : Fixed) (n : ℕ) (r : Worker) (b : Bool) → b ≡ true → r .differed ≤ n → r .failed ≤ n → fitsOf f (viewOf (r .place) .held) ≡ true → recordFits f n r b ≡ true
+unfolding recordFits placeFits
+record-of f n r b h d s k =
+    clear-then (ltb n (r .differed)) _ (le-ltb n (r .differed) d) (clear-then (ltb n (r .failed)) _ (le-ltb n (r .failed) s)
+    (either (λ (x : Bool). x ≡ true) (viewOf (r .place) .busy) _ true (λ q. both b _ h k) (λ q. refl)))
 
-of-record : (f : Fixed) (p : Place) (b : Bool) → viewOf p .busy ≡ true → recordFits f p b ≡ true → fitsOf f (viewOf p .held) ≡ true
-unfolding recordFits
-of-record f p b h k = both-right b (fitsOf f (viewOf p .held)) (sym (simp h) ∙ k)
+module _ (f : Fixed) (n : ℕ) (r : Worker) (b : Bool) (h : recordFits f n r b ≡ true) where
+  past-words : cond (ltb n (r .failed)) false (placeFits f (r .place) b) ≡ true
+  unfolding recordFits
+  past-words = then (ltb n (r .differed)) _ h
+
+  few-differed : r .differed ≤ n
+  unfolding recordFits
+  few-differed = ltb-false n (r .differed) (first-clear (ltb n (r .differed)) _ h)
+
+  few-failed : r .failed ≤ n
+  few-failed = ltb-false n (r .failed) (first-clear (ltb n (r .failed)) _ past-words)
+
+  pub place-of : placeFits f (r .place) b ≡ true
+  place-of = then (ltb n (r .failed)) _ past-words
+
+  of-record : viewOf (r .place) .busy ≡ true → fitsOf f (viewOf (r .place) .held) ≡ true
+  unfolding placeFits
+  of-record q = both-right b (fitsOf f (viewOf (r .place) .held)) (sym (simp q) ∙ place-of)
+
+  -- the meter rises
+  record-later : recordFits f (n + 1) r b ≡ true
+  unfolding recordFits
+  record-later =
+      clear-then (ltb (n + 1) (r .differed)) _ (le-ltb (n + 1) (r .differed) (omega (arith, few-differed)))
+      (clear-then (ltb (n + 1) (r .failed)) _ (le-ltb (n + 1) (r .failed) (omega (arith, few-failed))) place-of)
+
+-- an act loses one exchange at most
+one-lost : (l : Loss) → (byWords l ≤ 1) × (bySchedule l ≤ 1)
+one-lost loss.Nothing = (omega arith, omega arith)
+one-lost loss.ByWords = (omega arith, omega arith)
+one-lost loss.BySchedule = (omega arith, omega arith)
 
 module _ (m : Machine) (u : Unbroken m) (w : ℕ) (l : w < m .count) where
-  records-with : (p : Place) → fitsOf (m .ring .fixed) (viewOf p .held) ≡ true → (i : ℕ) → i < workersMost
-      → recordFits (m .ring .fixed) (placeOf (set (m .workers) w (record { place = p })) i) (ltb i (m .count)) ≡ true
-  records-with p k i g =
-      placed (m .workers) w i (record { place = p }) idler (λ (x : Worker). recordFits (m .ring .fixed) (x .place) (ltb i (m .count)) ≡ true)
-      (λ e. record-of (m .ring .fixed) p (ltb i (m .count)) (lt-ltb i (m .count) (omega arith)) k) (u .records i g)
+  own-fits : recordFits (m .ring .fixed) (m .meter) (recordOf (m .workers) w) (ltb w (m .count)) ≡ true
+  own-fits = u .records w (omega (arith, few-workers m u))
+
+  -- the counts of losses are no more than the acts
+  pub few-lost : (recordOf (m .workers) w .differed ≤ m .meter) × (recordOf (m .workers) w .failed ≤ m .meter)
+  few-lost = (few-differed _ _ _ _ own-fits, few-failed _ _ _ _ own-fits)
+
+  records-with : (n : ℕ) (r : Worker) → ((i : ℕ) → i < workersMost → recordFits (m .ring .fixed) n (recordOf (m .workers) i) (ltb i (m .count)) ≡ true)
+      → r .differed ≤ n → r .failed ≤ n → fitsOf (m .ring .fixed) (viewOf (r .place) .held) ≡ true → (i : ℕ) → i < workersMost
+      → recordFits (m .ring .fixed) n (recordOf (set (m .workers) w r) i) (ltb i (m .count)) ≡ true
+  records-with n r others d s k i g =
+      placed (m .workers) w i r idler (λ (x : Worker). recordFits (m .ring .fixed) n x (ltb i (m .count)) ≡ true)
+      (λ e. record-of (m .ring .fixed) n r (ltb i (m .count)) (lt-ltb i (m .count) (omega arith)) d s k) (others i g)
 
   pub begun-unbroken : (c : Call) → Unbroken (begun m w (beginOf c))
   unfolding begun
@@ -307,17 +358,24 @@ module _ (m : Machine) (u : Unbroken m) (w : ℕ) (l : w < m .count) where
         edition = u .edition;
         rule = u .rule;
         ends = u .ends;
-        records = records-with (beginOf c) (ap (fitsOf (m .ring .fixed)) (begin-holds c));
+        records = records-with (m .meter) (beginner (beginOf c)) (u .records) (omega arith) (omega arith) (ap (fitsOf (m .ring .fixed)) (begin-holds c));
       }
 
   pub word-fits-in : viewOf (placeOf (m .workers) w) .busy ≡ true → fitsOf (m .ring .fixed) (viewOf (placeOf (m .workers) w) .held) ≡ true
-  word-fits-in h =
-      of-record (m .ring .fixed) (placeOf (m .workers) w) (ltb w (m .count)) h (u .records w (omega (arith, few-workers m u)))
+  word-fits-in h = of-record (m .ring .fixed) (m .meter) (recordOf (m .workers) w) (ltb w (m .count)) own-fits h
 
   pub stored-unbroken : (i : ℕ) (a : Acted) → Ok (m .ring .fixed) (ruled-in m u) a → Unbroken (stored m w i a)
-  unfolding stored
+  unfolding stored recordAfter
   stored-unbroken i a k =
-      record { capacity = u .capacity; count = u .count; edition = u .edition; rule = u .rule; ends = k .ends; records = records-with (a .place) (k .held) }
+      record {
+        capacity = u .capacity;
+        count = u .count;
+        edition = u .edition;
+        rule = u .rule;
+        ends = k .ends;
+        records = records-with (m .meter + 1) (recordAfter (recordOf (m .workers) w) (a .place) (a .loss)) (λ j g. record-later _ _ _ _ (u .records j g))
+            (omega (arith, few-lost, one-lost (a .loss))) (omega (arith, few-lost, one-lost (a .loss))) (k .held);
+      }
 
   pub acted-unbroken : (lose : Bool) → viewOf (placeOf (m .workers) w) .busy ≡ true → Unbroken (acted m w (placeOf (m .workers) w) lose)
   unfolding actedBy

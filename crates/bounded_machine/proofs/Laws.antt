@@ -1,5 +1,5 @@
 -- What the machine's functions rest on.
-use Prim.Native.Nat.{ℕ, _*_}
+use Prim.Native.Nat.{ℕ, _+_, _*_}
 use mathlib.Core.Path.{_≡_, refl, sym, ap, _∙_}
 use mathlib.Core.Bool.{Bool, true, false, not}
 use mathlib.Core.List.{List}
@@ -14,15 +14,17 @@ use Rattle.bounded_words.specs.declared.Fixed.{Fixed}
 use Rattle.bounded_words.specs.Limits.{slotsMost, editionsMost}
 use Rattle.bounded_words.specs.Words.{markOf, lapOf, Indexed, Fair}
 use Rattle.bounded_words.proofs.Marks.{Ruled, ruled, fair}
+use Rattle.bounded_places.specs.declared.Loss.{Loss}
 use Rattle.bounded_places.specs.declared.Place.{Place}
+use Rattle.bounded_places.specs.declared.Worker.{Worker}
 use Rattle.bounded_places.specs.declared.Held.{Held}
 use Rattle.bounded_places.specs.declared.Held.the-variants as held
 use Rattle.bounded_places.specs.declared.View.{View}
 use Rattle.bounded_places.specs.Places.{viewOf, fitsOf}
 use Rattle.bounded_places.specs.declared.Slot.{Slot}
 use Rattle.bounded_machine.specs.declared.Machine.{Machine}
-use Rattle.bounded_machine.specs.Broken.{byRule, endsFit, recordFits, recordsFit, brokenOf}
-use Rattle.bounded_machine.specs.Turn.{spotOf}
+use Rattle.bounded_machine.specs.Broken.{byRule, endsFit, placeFits, recordsFit, brokenOf}
+use Rattle.bounded_machine.specs.Turn.{spotOf, byWords, bySchedule, recordAfter}
 use Rattle.bounded_machine.specs.Machine.{machineOf, starts, freshSlots, freshOf, idler, idlers}
 
 -- mark and lap by rule
@@ -38,17 +40,23 @@ module _ (f : Fixed) (m : ℕ) (e : m ≡ markOf (f .capacity)) where
 -- what is read off a place
 module _ (p : Place) (v : View) (e : v ≡ viewOf p) where
   module _ (f : Fixed) (counted : Bool) where
-    pub idle-fits : v .busy ≡ false → true ≡ recordFits f p counted
-    unfolding recordFits
+    pub idle-fits : v .busy ≡ false → true ≡ placeFits f p counted
+    unfolding placeFits
     idle-fits h = rw (← e) (off (v .busy) _ _ _ h refl)
 
-    pub past-fits : v .busy ≡ true → counted ≡ false → false ≡ recordFits f p counted
-    unfolding recordFits
+    pub past-fits : v .busy ≡ true → counted ≡ false → false ≡ placeFits f p counted
+    unfolding placeFits
     past-fits h k = rw (← e) (on (v .busy) _ _ _ h (off counted _ _ _ k refl))
 
-    pub word-fits : (r : Bool) → v .busy ≡ true → counted ≡ true → r ≡ fitsOf f (v .held) → r ≡ recordFits f p counted
-    unfolding recordFits
+    pub word-fits : (r : Bool) → v .busy ≡ true → counted ≡ true → r ≡ fitsOf f (v .held) → r ≡ placeFits f p counted
+    unfolding placeFits
     word-fits r h k q = rw (← e) (on (v .busy) _ _ _ h (on counted _ _ _ k q))
+
+-- the record after an act, by what was lost
+pub after-loss : (r : Worker) (p : Place) (l k : Loss) (d f : ℕ) → l ≡ k → d ≡ r .differed + byWords k → f ≡ r .failed + bySchedule k
+    → record { place = p; differed = d; failed = f } ≡ recordAfter r p l
+unfolding recordAfter
+after-loss r p l k d f h x y = rw (x, y, h)
 
 -- the slot of an end's word
 pub spot-at : (f : Fixed) (h : Held) (w : Stamp) (i : ℕ) → h ≡ held.End w → Indexed f w i → i ≡ spotOf f h
@@ -96,15 +104,15 @@ module _ (m : Machine) (x : Bool) (ex : x ≡ inLimits (m .ring .fixed .edition)
           unfolding brokenOf
           broken-ends h = yes _ x _ _ _ ex hx (yes _ a _ _ _ ea ha (yes _ b _ _ _ eb hb (yes _ d _ _ _ ed hd (no _ g _ _ _ eg h refl))))
 
-          pub broken-records : (k : Bool) → g ≡ true → k ≡ recordsFit (m .ring .fixed) (m .count) (m .workers) → not k ≡ brokenOf m
+          pub broken-records : (k : Bool) → g ≡ true → k ≡ recordsFit (m .ring .fixed) (m .count) (m .meter) (m .workers) → not k ≡ brokenOf m
           unfolding brokenOf
           broken-records k h e =
               yes _ x _ _ _ ex hx (yes _ a _ _ _ ea ha (yes _ b _ _ _ eb hb (yes _ d _ _ _ ed hd (yes _ g _ _ _ eg h (ap not e)))))
 
-          pub broken-record : (k : Bool) → g ≡ true → k ≡ recordsFit (m .ring .fixed) (m .count) (m .workers) → k ≡ false → true ≡ brokenOf m
+          pub broken-record : (k : Bool) → g ≡ true → k ≡ recordsFit (m .ring .fixed) (m .count) (m .meter) (m .workers) → k ≡ false → true ≡ brokenOf m
           broken-record k h e l = sym (ap not l) ∙ broken-records k h e
 
-          pub unbroken : (k : Bool) → g ≡ true → k ≡ recordsFit (m .ring .fixed) (m .count) (m .workers) → k ≡ true → false ≡ brokenOf m
+          pub unbroken : (k : Bool) → g ≡ true → k ≡ recordsFit (m .ring .fixed) (m .count) (m .meter) (m .workers) → k ≡ true → false ≡ brokenOf m
           unbroken k h e l = sym (ap not l) ∙ broken-records k h e
 
 -- a fresh machine, from its mark and its slots

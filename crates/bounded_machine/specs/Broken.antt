@@ -12,7 +12,7 @@ use Rattle.bounded_places.specs.declared.Place.{Place}
 use Rattle.bounded_places.specs.declared.Worker.{Worker}
 use Rattle.bounded_places.specs.Places.{viewOf, inside, fitsOf}
 use Rattle.bounded_machine.specs.declared.Machine.{Machine}
-use Rattle.bounded_machine.specs.Machine.{placeOf}
+use Rattle.bounded_machine.specs.Machine.{recordOf, placeOf}
 
 -- mark or lap not by rule
 unfoldable pub byRule : Fixed → Bool
@@ -23,11 +23,16 @@ unfoldable pub endsFit : Fixed → Ends → Bool
 endsFit f e = cond (markedOf f (e .head)) false (cond (inside f (e .head)) (inside f (e .tail)) false)
 
 -- a busy worker's words (`fitsOf`), or a busy record past the worker count
-unfoldable pub recordFits : Fixed → Place → Bool → Bool
-recordFits f p counted = cond (viewOf p .busy) (cond counted (fitsOf f (viewOf p .held)) false) true
+unfoldable pub placeFits : Fixed → Place → Bool → Bool
+placeFits f p counted = cond (viewOf p .busy) (cond counted (fitsOf f (viewOf p .held)) false) true
 
-unfoldable pub recordsFit : Fixed → ℕ → List Worker → Bool
-recordsFit f count ws = all workersMost 0 (λ (i : ℕ). recordFits f (placeOf ws i) (ltb i count))
+-- a count of losses above the meter, in any record
+unfoldable pub recordFits : Fixed → ℕ → Worker → Bool → Bool
+recordFits f meter r counted =
+    cond (ltb meter (r .differed)) false (cond (ltb meter (r .failed)) false (placeFits f (r .place) counted))
+
+unfoldable pub recordsFit : Fixed → ℕ → ℕ → List Worker → Bool
+recordsFit f count meter ws = all workersMost 0 (λ (i : ℕ). recordFits f meter (recordOf ws i) (ltb i count))
 
 -- an edition that is neither 1 nor 2, and the rest
 unfoldable pub brokenOf : Machine → Bool
@@ -37,7 +42,7 @@ brokenOf m =
     (cond (inLimits (m .count) workersMost)
     (cond (byRule (m .ring .fixed))
     (cond (endsFit (m .ring .fixed) (m .ring .ends))
-    (not (recordsFit (m .ring .fixed) (m .count) (m .workers)))
+    (not (recordsFit (m .ring .fixed) (m .count) (m .meter) (m .workers)))
     true) true) true) true) true
 
 -- no worker is busy

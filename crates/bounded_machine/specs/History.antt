@@ -7,8 +7,10 @@ use Rattle.queue_entries.specs.declared.Entry.{Entry}
 use Rattle.queue_entries.specs.declared.Entry.the-variants.{Unreadable, Asks}
 use Rattle.queue_entries.specs.Schedules.{historyBy}
 use Rattle.bounded_words.specs.Words.{claim}
+use Rattle.bounded_places.specs.declared.Loss.{Loss}
 use Rattle.bounded_places.specs.declared.Place.{Place}
 use Rattle.bounded_places.specs.declared.Place.the-variants.{Idle, P1, P2, P3, P4, P5, P6, F6, F7, F8, F9, O1, O2, O3, O4, O5, O6, Len1, Len2, Len3, Empty1, Empty2, Full1, Full2, Close1, IsClosed1}
+use Rattle.bounded_acts.specs.Acts.{actOf}
 use Rattle.bounded_machine.specs.declared.Machine.{Machine}
 use Rattle.bounded_machine.specs.declared.Did.{Did}
 use Rattle.bounded_machine.specs.declared.Event.{Event}
@@ -16,16 +18,20 @@ use Rattle.bounded_machine.specs.declared.Moved.{Moved}
 use Rattle.bounded_machine.specs.declared.Moved.the-variants.{Neither, Tail, Head}
 use Rattle.bounded_machine.specs.declared.Tally.{Tally}
 use Rattle.bounded_machine.specs.Machine.{placeOf}
-use Rattle.bounded_machine.specs.Turn.{turnOf}
+use Rattle.bounded_machine.specs.Turn.{actAt, turnOf}
 
--- An act: who acted, from which place, to which. Beginning a call is no act.
-abbrev pub event : ℕ → Place → Place → Event
-event w before after = record { worker = w; before = before; after = after }
+-- An act: who acted, from which place, to which, and what it lost. Beginning a call is no act.
+abbrev pub event : ℕ → Place → Place → Loss → Event
+event w before after l = record { worker = w; before = before; after = after; loss = l }
+
+-- What w's next act loses, by document 01's tables.
+abbrev pub lossAt : Machine → ℕ → Bool → Loss
+lossAt m w lose = actAt actOf m (placeOf (m .workers) w) lose .loss
 
 abbrev pub eventsOf : Machine → Entry → Machine → List Event
 eventsOf m Unreadable next = []
 eventsOf m (Asks w (Begin c)) next = []
-eventsOf m (Asks w (Act lose)) next = event w (placeOf (m .workers) w) (placeOf (next .workers) w) ∷ []
+eventsOf m (Asks w (Act lose)) next = event w (placeOf (m .workers) w) (placeOf (next .workers) w) (lossAt m w lose) ∷ []
 
 -- The acts of a schedule's entries, up to the first that is refused, each entry by what it makes of a machine.
 abbrev pub historyWith : (Machine → ℕ → ℕ → Did) → Machine → List ℕ → List Event

@@ -32,7 +32,7 @@ freshSlots capacity = stamped capacity emptySlots
 
 -- idle with its last answer (none, at first)
 abbrev pub idler : Worker
-idler = record { place = Idle Nothing }
+idler = record { place = Idle Nothing; differed = 0; failed = 0 }
 
 unfoldable pub idlers : List Worker
 idlers = replicate workersMost idler
@@ -51,9 +51,12 @@ freshOf capacity workers edition = machineOf (fixedOf capacity edition) starts (
 unfoldable pub blank : Machine
 blank = machineOf (record { mark = 0; lap = 0; capacity = 0; edition = 0 }) starts emptySlots idlers 0 0
 
--- Where the worker numbered w stands.
+-- The record of the worker numbered w, and where it stands.
+abbrev pub recordOf : List Worker → ℕ → Worker
+recordOf ws w = getD ws w idler
+
 abbrev pub placeOf : List Worker → ℕ → Place
-placeOf ws w = getD ws w idler .place
+placeOf ws w = recordOf ws w .place
 
 unfoldable pub refused : ℕ → Machine → Did
 refused number m = record { refusal = number; machine = m }

@@ -13,6 +13,9 @@ use Rattle.bounded_words.specs.declared.Fixed.{Fixed}
 use Rattle.bounded_words.specs.Words.{indexOf}
 use Rattle.bounded_places.specs.declared.Slot.{Slot}
 use Rattle.bounded_places.specs.declared.Ends.{Ends}
+use Rattle.bounded_places.specs.declared.Loss.{Loss}
+use Rattle.bounded_places.specs.declared.Loss.the-variants as loss
+use Rattle.bounded_places.specs.declared.Worker.{Worker}
 use Rattle.bounded_places.specs.declared.Place.{Place}
 use Rattle.bounded_places.specs.declared.Held.{Held}
 use Rattle.bounded_places.specs.declared.Held.the-variants as held
@@ -21,7 +24,7 @@ use Rattle.bounded_acts.specs.declared.Acted.{Acted}
 use Rattle.bounded_acts.specs.Acts.{actOf}
 use Rattle.bounded_machine.specs.declared.Machine.{Machine}
 use Rattle.bounded_machine.specs.declared.Did.{Did}
-use Rattle.bounded_machine.specs.Machine.{slot, machineOf, placeOf, refused, accepted}
+use Rattle.bounded_machine.specs.Machine.{slot, machineOf, recordOf, placeOf, refused, accepted}
 
 -- What becomes of a worker at this place.
 abbrev pub verdictOf : ℕ → Place → Order → Verdict
@@ -34,24 +37,43 @@ spotOf f (held.End w) = indexOf f w
 spotOf f (held.Tail t) = 0
 spotOf f (held.Both t h) = 0
 
+-- "Each worker's record then counts its losses of both kinds in the present call, from 0 at its begin, and keeps them after its end."
+abbrev pub beginner : Place → Worker
+beginner q = record { place = q; differed = 0; failed = 0 }
+
+abbrev pub byWords : Loss → ℕ
+byWords loss.Nothing = 0
+byWords loss.ByWords = 1
+byWords loss.BySchedule = 0
+
+abbrev pub bySchedule : Loss → ℕ
+bySchedule loss.Nothing = 0
+bySchedule loss.ByWords = 0
+bySchedule loss.BySchedule = 1
+
+-- The record after an act that leads to p.
+unfoldable pub recordAfter : Worker → Place → Loss → Worker
+recordAfter r p l = record { place = p; differed = r .differed + byWords l; failed = r .failed + bySchedule l }
+
 -- Worker w begins at the place q: no act.
 unfoldable pub begun : Machine → ℕ → Place → Machine
 begun m w q =
-    machineOf (m .ring .fixed) (m .ring .ends) (m .ring .slots) (set (m .workers) w (record { place = q })) (m .count) (m .meter)
+    machineOf (m .ring .fixed) (m .ring .ends) (m .ring .slots) (set (m .workers) w (beginner q)) (m .count) (m .meter)
 
 -- What an act at slot i leaves is stored back. The meter rises by one with each accepted act.
 unfoldable pub stored : Machine → ℕ → ℕ → Acted → Machine
 stored m w i a =
-    machineOf (m .ring .fixed) (a .ends) (set (m .ring .slots) i (a .slot)) (set (m .workers) w (record { place = a .place })) (m .count) (m .meter + 1)
+    machineOf (m .ring .fixed) (a .ends) (set (m .ring .slots) i (a .slot)) (set (m .workers) w (recordAfter (recordOf (m .workers) w) (a .place) (a .loss))) (m .count) (m .meter + 1)
 
 -- What an act does at each place. Document 01's is `actOf`; crate bounded_slips has some with a slip.
 abbrev pub Table : Type 0
 Table = Fixed → Ends → Slot → Place → Bool → Acted
 
+abbrev pub actAt : Table → Machine → Place → Bool → Acted
+actAt table m p lose = table (m .ring .fixed) (m .ring .ends) (getD (m .ring .slots) (spotOf (m .ring .fixed) (viewOf p .held)) (slot 0 0)) p lose
+
 unfoldable pub actedBy : Table → Machine → ℕ → Place → Bool → Machine
-actedBy table m w p lose =
-    stored m w (spotOf (m .ring .fixed) (viewOf p .held))
-    (table (m .ring .fixed) (m .ring .ends) (getD (m .ring .slots) (spotOf (m .ring .fixed) (viewOf p .held)) (slot 0 0)) p lose)
+actedBy table m w p lose = stored m w (spotOf (m .ring .fixed) (viewOf p .held)) (actAt table m p lose)
 
 abbrev pub carriedBy : Table → Machine → ℕ → Place → Verdict → Did
 carriedBy table m w p (Refuse number) = refused number m

@@ -1,19 +1,20 @@
 // The machine: a ring, its workers' records and the meter; and what each rule asks of it.
 ghost use mathlib.Core.Path.{_≡_};
 ghost use Prim.Native.Nat.{_≤_, _<_};
-ghost use Rattle.queue_entries.specs.Limits.{workersMost};
+ghost use Rattle.queue_entries.specs.Limits.{workersMost, meterMost};
 ghost use Rattle.bounded_words.specs.Limits.{slotsMost};
 ghost use Rattle.bounded_words.specs.Words.{Fair};
 ghost use Rattle.bounded_machine.specs.Machine.{freshSlots, freshOf, blank, refused, accepted};
 ghost use Rattle.queue_entries.specs.Limits.{inLimits};
-ghost use Rattle.bounded_machine.specs.Broken.{byRule, endsFit, recordFits, recordsFit, allIdle, brokenOf};
+ghost use Rattle.bounded_machine.specs.Broken.{byRule, endsFit, placeFits, recordFits, recordsFit, allIdle, brokenOf};
 ghost use mathlib.Core.Bool.{false};
 ghost use Rattle.bounded_machine.specs.Contents.{wrapped, itemAt, Counted};
-ghost use Rattle.bounded_machine.specs.Turn.{spotOf, verdictOf};
+ghost use Rattle.bounded_machine.specs.Turn.{spotOf, verdictOf, recordAfter};
 use bounded_acts::Acted;
 use bounded_places::Answer;
 use bounded_places::Ends;
 use bounded_places::Held;
+use bounded_places::Loss;
 use bounded_places::Place;
 use bounded_places::Slot;
 use bounded_places::Worker;
@@ -57,6 +58,7 @@ pub struct Event {
     pub worker: u64,
     pub before: Place,
     pub after: Place,
+    pub loss: Loss,
 }
 
 // Which end an act moved.
@@ -133,6 +135,8 @@ pub fn fresh(capacity: u64, workers: u64, edition: u64) -> Machine
         },
         workers: [Worker {
             place: Place::Idle(Answer::Nothing),
+            differed: 0,
+            failed: 0,
         }; queue_entries::WORKERS],
         count: workers,
         meter: 0,
@@ -162,6 +166,8 @@ pub fn blank() -> Machine
         },
         workers: [Worker {
             place: Place::Idle(Answer::Nothing),
+            differed: 0,
+            failed: 0,
         }; queue_entries::WORKERS],
         count: 0,
         meter: 0,
@@ -198,9 +204,9 @@ fn ends_fit(f: Fixed, e: Ends) -> bool
     }
 }
 
-fn record_fits(f: Fixed, p: Place, counted: bool) -> bool
+fn place_fits(f: Fixed, p: Place, counted: bool) -> bool
     requires { ⌜ Fair f ⌝ }
-    ensures { λ r. ⌜ r ≡ recordFits f p counted ⌝ }
+    ensures { λ r. ⌜ r ≡ placeFits f p counted ⌝ }
 {
     let v = bounded_places::view_of(p);
     let held = v.held;
@@ -215,15 +221,27 @@ fn record_fits(f: Fixed, p: Place, counted: bool) -> bool
     }
 }
 
-fn records_fit(f: Fixed, count: u64, workers: [Worker; queue_entries::WORKERS]) -> bool
+fn record_fits(f: Fixed, meter: u64, r: Worker, counted: bool) -> bool
     requires { ⌜ Fair f ⌝ }
-    ensures { λ r. ⌜ r ≡ recordsFit f count workers ⌝ }
+    ensures { λ b. ⌜ b ≡ recordFits f meter r counted ⌝ }
+{
+    let p = r.place;
+    if meter < r.differed {
+        return false;
+    }
+    if meter < r.failed {
+        return false;
+    }
+    place_fits(f, p, counted)
+}
+
+fn records_fit(f: Fixed, count: u64, meter: u64, workers: [Worker; queue_entries::WORKERS]) -> bool
+    requires { ⌜ Fair f ⌝ }
+    ensures { λ r. ⌜ r ≡ recordsFit f count meter workers ⌝ }
 {
     let mut i = 0;
     while i < queue_entries::WORKERS {
-        let worker = workers[i];
-        let p = worker.place;
-        if record_fits(f, p, (i as u64) < count) {
+        if record_fits(f, meter, workers[i], (i as u64) < count) {
             i += 1;
         } else {
             return false;
@@ -254,7 +272,7 @@ pub fn broken(m: Machine) -> bool
     if ends_fit(f, e) {} else {
         return true;
     }
-    if records_fit(f, m.count, workers) {
+    if records_fit(f, m.count, m.meter, workers) {
         false
     } else {
         true
@@ -328,5 +346,29 @@ pub fn spot(f: Fixed, held: Held) -> u64
         Held::End(w) => bounded_words::index(f, w),
         Held::Tail(_) => 0,
         Held::Both(_, _) => 0,
+    }
+}
+
+// The record after an act that leads to p. A count is at most the meter, so that one more fits.
+pub fn record_after(r: Worker, p: Place, l: Loss) -> Worker
+    requires { ⌜ (r .differed < meterMost) × (r .failed < meterMost) ⌝ }
+    ensures { λ w. ⌜ w ≡ recordAfter r p l ⌝ }
+{
+    match l {
+        Loss::Nothing => Worker {
+            place: p,
+            differed: r.differed,
+            failed: r.failed,
+        },
+        Loss::ByWords => Worker {
+            place: p,
+            differed: r.differed + 1,
+            failed: r.failed,
+        },
+        Loss::BySchedule => Worker {
+            place: p,
+            differed: r.differed,
+            failed: r.failed + 1,
+        },
     }
 }

@@ -72,9 +72,27 @@ pub enum Place {
     IsClosed1,
 }
 
-// The record of a worker.
+// How an exchange ended: won; lost because the words differed, with the word found; or lost by the schedule. Where both apply it is the
+// first kind of loss.
+pub enum Exchange {
+    Won,
+    Differed(Stamp),
+    Failed,
+}
+
+// What an act lost: nothing, if it was no exchange or a won one.
+pub enum Loss {
+    Nothing,
+    ByWords,
+    BySchedule,
+}
+
+// The record of a worker: its place, and how many exchanges its present call, or its last one if it is idle, has lost because the words
+// differed and by the schedule.
 pub struct Worker {
     pub place: Place,
+    pub differed: u64,
+    pub failed: u64,
 }
 
 // The loaded words of a place that document 01's "Broken" speaks of.

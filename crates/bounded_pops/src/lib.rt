@@ -5,6 +5,8 @@ ghost use Rattle.bounded_acts.specs.Acts.{headTo, actO2, actO3, actO5, actO6};
 use bounded_acts::Acted;
 use bounded_places::Answer;
 use bounded_places::Ends;
+use bounded_places::Exchange;
+use bounded_places::Loss;
 use bounded_places::Place;
 use bounded_places::Slot;
 use bounded_words::Fixed;
@@ -37,15 +39,10 @@ pub fn o3(f: Fixed, e: Ends, s: Slot, h: Stamp, lose: bool) -> Acted
     requires { ⌜ Fair f ⌝ }
     ensures { λ r. ⌜ r ≡ actO3 f e s h lose ⌝ }
 {
-    let found = e.head;
-    if bounded_words::same_word(found, h) {
-        if lose {
-            bounded_acts::stay(e, s, Place::O2(h))
-        } else {
-            bounded_acts::stay(head_to_next(f, e, h), s, Place::O4(h))
-        }
-    } else {
-        bounded_acts::stay(e, s, Place::O2(found))
+    match bounded_acts::exchange(e.head, h, lose) {
+        Exchange::Won => bounded_acts::stay(head_to_next(f, e, h), s, Place::O4(h)),
+        Exchange::Differed(found) => bounded_acts::losing(e, s, Place::O2(found), Loss::ByWords),
+        Exchange::Failed => bounded_acts::losing(e, s, Place::O2(h), Loss::BySchedule),
     }
 }
 

@@ -1,7 +1,8 @@
 -- The demands of document 01, proved. What they say, in document 01's words, is crates/bounded_demands/specs/Demands.antt; the
 -- runs on paper are Eight.antt beside it.
+use Rattle.bounded_machine.specs.History.{lossAt}
 use Rattle.bounded_demands.specs.Notions.{document01, stock}
-use Rattle.bounded_demands.specs.Demands.{RefusedUnchanged, Numbered, ListFirst, StaysUnbroken, OnlyOne, UnderEverySchedule, ActByAct, WholeSchedules, LenTrue, ScheduledAlone, Attained, AsForetold, StockUnderEverySchedule, MostStock, CloseHolds, ClosedIsLast, CaseF}
+use Rattle.bounded_demands.specs.Demands.{RefusedUnchanged, Numbered, ListFirst, StaysUnbroken, OnlyOne, UnderEverySchedule, ActByAct, WholeSchedules, LenTrue, ScheduledAlone, Attained, AsForetold, StockUnderEverySchedule, MostStock, EndsTold, LossesUnderEverySchedule, CountsAside, CloseHolds, ClosedIsLast, CaseF}
 use Rattle.bounded_demands.specs.Eight.{EightRuns}
 use Rattle.bounded_demands.proofs.Numbers.{numbered}
 use Rattle.bounded_demands.proofs.Refusals.{refused-unchanged, list-first, stays-unbroken, only-one}
@@ -13,6 +14,8 @@ use Rattle.bounded_demands.proofs.Eight.{eight-runs}
 use Rattle.bounded_proof_demand2.proofs.Demand2.{demand2, act-by-act, whole-schedules}
 use Rattle.bounded_proof_demand2.proofs.Lens.{len-true}
 use Rattle.bounded_proof_demand2.proofs.Stock.{stock-stands}
+use Rattle.bounded_proof_demand2.proofs.Losses.{ends-told, losses}
+use Rattle.bounded_proof_demand2.proofs.Aside.{counts-aside}
 use Rattle.bounded_proof_demand2.proofs.Closing.{close-holds, closed-is-last}
 use Rattle.bounded_proof_demand3.proofs.Demand3.{demand3}
 
@@ -38,6 +41,10 @@ on-paper = eight-runs
 -- Stock: from the tail claim until the value is read out, both editions; its bound is attained.
 pub stock-counted : StockUnderEverySchedule document01 stock × MostStock
 stock-counted = (stock-stands, most-stock)
+
+-- How an exchange ended: told by the words and the schedule; counted by each worker, both editions; and no answer goes by it.
+pub losses-counted : EndsTold lossAt × LossesUnderEverySchedule document01 × CountsAside document01
+losses-counted = (ends-told, losses, counts-aside)
 
 -- A close that holds: edition 2; what follows a pop's Closed, in both editions; case F.
 pub close-that-holds : CloseHolds document01 × ClosedIsLast document01 × CaseF document01

@@ -25,7 +25,7 @@ use Rattle.bounded_machine.specs.declared.Moved.the-variants.{Neither}
 use Rattle.bounded_machine.specs.Machine.{slot, freshOf}
 use Rattle.bounded_machine.specs.Turn.{acted}
 use Rattle.bounded_machine.specs.Run.{runFrom}
-use Rattle.bounded_machine.specs.History.{event, historyOf, movedOf}
+use Rattle.bounded_machine.specs.History.{historyOf, movedOf}
 use Rattle.bounded_demands.specs.Notions.{document01, machineAfter, actsOf, ClosesYes, NoClaims}
 use Rattle.bounded_demands.specs.Demands.{YesOnce, NoneAfterClosed, CloseHolds, ClosedIsLast}
 use Rattle.bounded_proof_invariant.proofs.Ring.{Filled, Grab, Swapped, Cell, Await, Hold, Hand, Shared, CellOk, Inv}
@@ -35,7 +35,7 @@ use Rattle.bounded_proof_each_act.proofs.Stamps.{fixed, tailWord, marked-tail, 
 use Rattle.bounded_proof_each_act.proofs.Sight.{look, told, answerIn}
 use Rattle.bounded_proof_each_act.proofs.Steps.{Latch, Says, Step}
 use Rattle.bounded_proof_demand2.proofs.Lists.{Last, Earlier, split-end}
-use Rattle.bounded_proof_demand2.proofs.Turns.{Turned, began, did, stood, turned-fixed}
+use Rattle.bounded_proof_demand2.proofs.Turns.{Turned, began, did, stood, eventOf, turned-fixed}
 use Rattle.bounded_proof_demand2.proofs.Logged.{movedBy, shows}
 use Rattle.bounded_proof_demand2.proofs.Pictured.{Base, Pictured, stepped, spot, spot-small, result, acted-stood}
 use Rattle.bounded_proof_demand2.proofs.Reached.{Reached, lapsOf, base-of, nil-split, along, entered, begun-behind, did-behind}
@@ -139,7 +139,7 @@ module _ (c n workers : ℕ) (base : Base c n workers) where
     st = stepped c n workers base (r .ring) m pic w l lose busy
 
     abbrev new : Event
-    new = event w (stood m w) (stood (acted m w (stood m w) lose) w)
+    new = eventOf m w lose (acted m w (stood m w) lose)
 
     went : stood (acted m w (stood m w) lose) w ≡ result c n workers base (r .ring) m pic w l lose busy .place
     went = acted-stood c n workers base (r .ring) m pic w l lose busy

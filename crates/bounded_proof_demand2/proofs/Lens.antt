@@ -27,15 +27,15 @@ use Rattle.bounded_acts.specs.Acts.{stay, countOf}
 use Rattle.bounded_machine.specs.declared.Machine.{Machine}
 use Rattle.bounded_machine.specs.declared.Event.{Event}
 use Rattle.bounded_machine.specs.Machine.{idler}
-use Rattle.bounded_machine.specs.Turn.{turnOf, turnOfBy, begun, actedBy, stored}
+use Rattle.bounded_machine.specs.Turn.{turnOf, turnOfBy, beginner, begun, actedBy, stored}
 use Rattle.bounded_machine.specs.Run.{ran, runFrom}
-use Rattle.bounded_machine.specs.History.{event, eventsOf, historyOf, movedOf}
+use Rattle.bounded_machine.specs.History.{eventsOf, historyOf, movedOf}
 use Rattle.bounded_demands.specs.Notions.{document01, machineAfter, actsOf, Acts, Unmoved, tailBy, tailersOf}
 use Rattle.bounded_demands.specs.Demands.{LenTrue}
 use Rattle.bounded_proof_invariant.proofs.Width.{Near}
 use Rattle.bounded_proof_each_act.proofs.Stamps.{fixed, W, tailWord, tails-one}
 use Rattle.bounded_proof_each_act.proofs.Sight.{look, endsOf, Stands}
-use Rattle.bounded_proof_demand2.proofs.Turns.{Turned, began, did, turned, stood}
+use Rattle.bounded_proof_demand2.proofs.Turns.{Turned, began, did, turned, stood, eventOf}
 use Rattle.bounded_proof_demand2.proofs.Counts.{count-is}
 use Rattle.bounded_proof_demand2.proofs.Pictured.{Base, first-turn}
 use Rattle.bounded_proof_demand2.proofs.Reached.{Reached, entered, entries, lapsOf, base-of}
@@ -53,7 +53,7 @@ turn-stays : (m : Machine) (en : Entry) (next : Machine) (acts : List Event) (w 
 unfolding begun actedBy stored
 turn-stays m en next acts w (began v call l idle) o busy =
     let far : w ≢ v = λ e. true≢false (sym busy ∙ ap (λ (z : ℕ). viewOf (stood m z) .busy) e ∙ idle) in
-    ap (λ (z : Worker). z .place) (getD-set-other (m .workers) v w (record { place = beginOf call }) idler far)
+    ap (λ (z : Worker). z .place) (getD-set-other (m .workers) v w (beginner (beginOf call)) idler far)
 turn-stays m en next acts w (did v lose l b early) o busy =
     let far : w ≢ v = λ e. o .0 (sym e) in
     ap (λ (z : Worker). z .place) (getD-set-other (m .workers) v w _ idler far)
@@ -106,9 +106,9 @@ module _ (c n workers : ℕ) (base : Base c n workers) (m : Machine) (h : List E
     done : Done m w (load .lose) loaded
     done = acts-done m w loaded load
 
-    pub reached-loaded : Reached c n workers loaded (h ++ event w (stood m w) (stood loaded w) ∷ [])
+    pub reached-loaded : Reached c n workers loaded (h ++ eventOf m w (load .lose) loaded ∷ [])
     reached-loaded =
-        subst (λ (z : Machine). Reached c n workers z (h ++ event w (stood m w) (stood z w) ∷ [])) (sym (done .is))
+        subst (λ (z : Machine). Reached c n workers z (h ++ eventOf m w (load .lose) z ∷ [])) (sym (done .is))
         (entered c n workers base m h (Asks w (Act (load .lose))) _ _ r (did w (load .lose) (done .team) (done .busy) (done .early)))
 
     pub stands-loaded : stood loaded w ≡ Len3 t (W c mark n (r .ring .head))
@@ -143,7 +143,7 @@ len-true capacity workers edition a s w k o =
     let m = machineAfter document01 capacity workers edition s in
     let h = actsOf document01 capacity workers edition s in
     let r = reached capacity workers edition a s in
-    let e = event w (stood m w) (stood (o .loaded) w) in
+    let e = eventOf m w (o .load .lose) (o .loaded) in
     let r₁ = reached-loaded capacity n workers base m h r w (o .tail) (o .loads) (o .loaded) (o .load) in
     let r₂ = entries capacity n workers base (o .rest) (o .loaded) (h ++ e ∷ []) 0 r₁ in
     let p = stands-loaded capacity n workers base m h r w (o .tail) (o .loads) (o .loaded) (o .load) in

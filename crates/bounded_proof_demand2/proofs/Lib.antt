@@ -13,3 +13,5 @@ pub mod Demand2
 pub mod Lens
 pub mod Closing
 pub mod Stock
+pub mod Losses
+pub mod Aside

@@ -10,6 +10,7 @@ use lib.ListN.{length, getD, drop, length-append}
 use lib.Seq.{drop-append-le, drop-cons}
 use Rattle.bounded_places.specs.Places.{viewOf}
 use Rattle.bounded_places.specs.declared.Answer.the-variants.{Nothing, Pushed, Full, Closed, Displaced, Popped, Empty, PopClosed, Len, Yes, No}
+use Rattle.bounded_places.specs.declared.Loss.{Loss}
 use Rattle.bounded_places.specs.declared.Place.{Place}
 use Rattle.bounded_places.specs.declared.Place.the-variants.{Idle, P1, P2, P3, P4, P5, P6, F6, F7, F8, F9, O1, O2, O3, O4, O5, O6, Len1, Len2, Len3, Empty1, Empty2, Full1, Full2, Close1, IsClosed1}
 use Rattle.bounded_machine.specs.declared.Event.{Event}
@@ -262,13 +263,13 @@ wrote c s w i p (Frees j y) f x k z = inl z
 wrote c s w i p (Gives j y v) f x k z = inl z
 
 module _ (c : ℕ) (s : Shared) (inv : Inv c s) (w i : ℕ) (small : i < c) (e : Effect) (fits : Fits c s w i e) (h : List Event) (log : Logged c s h)
-    (p q : Place) (tells : tale (look c q) ≡ told e) (writes : WritesBy e p) (alone : (j : ℕ) → j < c → j ≢ i → Mine w (s .cell j) → ⊥)
+    (p q : Place) (x : Loss) (tells : tale (look c q) ≡ told e) (writes : WritesBy e p) (alone : (j : ℕ) → j < c → j ≢ i → Mine w (s .cell j) → ⊥)
     (holding : Mine w (after c w i e s .cell i) → viewOf q .busy ≡ true) where
   abbrev u : Shared
   u = after c w i e s
 
   abbrev new : Event
-  new = event w p q
+  new = event w p q x
 
   abbrev h′ : List Event
   h′ = h ++ new ∷ []

@@ -30,10 +30,10 @@ use Rattle.bounded_places.specs.Places.{viewOf, fitsOf, beginOf}
 use Rattle.bounded_acts.specs.declared.Acted.{Acted}
 use Rattle.bounded_acts.specs.Acts.{actOf}
 use Rattle.bounded_machine.specs.declared.Machine.{Machine}
-use Rattle.bounded_machine.specs.Machine.{slot, placeOf, idler}
-use Rattle.bounded_machine.specs.Broken.{recordFits}
-use Rattle.bounded_machine.specs.Turn.{spotOf, begun, stored, acted, actedBy}
-use Rattle.bounded_machine.proofs.Kept.{Unbroken, begun-unbroken, acted-unbroken, word-fits-in, fits-plain}
+use Rattle.bounded_machine.specs.Machine.{slot, recordOf, placeOf, idler}
+use Rattle.bounded_machine.specs.Broken.{placeFits}
+use Rattle.bounded_machine.specs.Turn.{spotOf, beginner, recordAfter, begun, stored, acted, actedBy}
+use Rattle.bounded_machine.proofs.Kept.{Unbroken, place-of, begun-unbroken, acted-unbroken, word-fits-in, fits-plain}
 use Rattle.bounded_proof_invariant.proofs.Ring.{Mine, Shared, Inv}
 use Rattle.bounded_proof_invariant.proofs.Effects.{Effect, Still, Tailed, Taken, Grabbed, Forced, Fills, Swaps, Frees, Gives, after, Course, course, inv-after, mine-after, cell-course, val-course}
 use Rattle.bounded_proof_each_act.proofs.Stamps.{Ground, fixed}
@@ -64,8 +64,8 @@ pub record Pictured (c n workers : ℕ) (s : Shared) (m : Machine) : Type 0 wher
   pub claims-few : s .tail ≤ m .meter
   pub meter-few : m .meter ≤ meterMost
 
-fits-counted : (f : Fixed) (p : Place) (b : Bool) → viewOf p .busy ≡ true → recordFits f p b ≡ true → b ≡ true
-unfolding recordFits
+fits-counted : (f : Fixed) (p : Place) (b : Bool) → viewOf p .busy ≡ true → placeFits f p b ≡ true → b ≡ true
+unfolding placeFits
 fits-counted f p true busy h = refl
 fits-counted f p false busy h = absurd (true≢false (sym (rw busy at h)))
 
@@ -74,19 +74,19 @@ pub busy-counted : (c n workers : ℕ) (s : Shared) (m : Machine) → Pictured c
 busy-counted c n workers s m pic w busy = go (decLt w workersMost)
   where
     go : Dec (w < workersMost) → w < m .count
-    go (yes l) = ltb-true w (m .count) (fits-counted (m .ring .fixed) (stood m w) (ltb w (m .count)) busy (pic .unbroken .records w l))
+    go (yes l) = ltb-true w (m .count) (fits-counted (m .ring .fixed) (stood m w) (ltb w (m .count)) busy (place-of (m .ring .fixed) (m .meter) (recordOf (m .workers) w) (ltb w (m .count)) (pic .unbroken .records w l)))
     go (no z) =
         let over : length (m .workers) ≤ w = omega (arith, pic .workers-long) in
         absurd (true≢false (sym (rw (ap (λ (y : Worker). y .place) (List·getD-eq-default (m .workers) idler over)) at busy)))
 
 -- what holds of the place that changed and of every other holds of all
-set-places : (ws : List Worker) (w : ℕ) (q : Place) (P : ℕ → Place → Type 0) → w < length ws → P w q → ((j : ℕ) → j ≢ w → P j (placeOf ws j))
-    → (j : ℕ) → P j (placeOf (set ws w (record { place = q })) j)
-set-places ws w q P l new old j = go (ℕ-discrete j w)
+set-places : (ws : List Worker) (w : ℕ) (r : Worker) (P : ℕ → Place → Type 0) → w < length ws → P w (r .place) → ((j : ℕ) → j ≢ w → P j (placeOf ws j))
+    → (j : ℕ) → P j (placeOf (set ws w r) j)
+set-places ws w r P l new old j = go (ℕ-discrete j w)
   where
-    go : Dec (j ≡ w) → P j (placeOf (set ws w (record { place = q })) j)
-    go (yes e) = rw e (subst (λ (z : Worker). P w (z .place)) (sym (getD-set-same ws w (record { place = q }) idler l)) new)
-    go (no ne) = subst (λ (z : Worker). P j (z .place)) (sym (getD-set-other ws w j (record { place = q }) idler ne)) (old j ne)
+    go : Dec (j ≡ w) → P j (placeOf (set ws w r) j)
+    go (yes e) = rw e (subst (λ (z : Worker). P w (z .place)) (sym (getD-set-same ws w r idler l)) new)
+    go (no ne) = subst (λ (z : Worker). P j (z .place)) (sym (getD-set-other ws w j r idler ne)) (old j ne)
 
 pub idle-is : (p : Place) → viewOf p .busy ≡ false → (a : Answer) × (p ≡ Idle a)
 idle-is (Idle a) h = (a, refl)
@@ -214,12 +214,12 @@ module _ (c n workers : ℕ) (base : Base c n workers) (s : Shared) (m : Machine
         ends = pic .ends;
         slots-long = pic .slots-long;
         slots = pic .slots;
-        workers-long = length-set (m .workers) w (record { place = beginOf q }) ∙ pic .workers-long;
+        workers-long = length-set (m .workers) w (beginner (beginOf q)) ∙ pic .workers-long;
         stands =
-            set-places (m .workers) w (beginOf q) (λ j p. Stands c mark n s j (look c p)) seat (rw (begin-calm c q) tt) (λ j ne. pic .stands j);
+            set-places (m .workers) w (beginner (beginOf q)) (λ j p. Stands c mark n s j (look c p)) seat (rw (begin-calm c q) tt) (λ j ne. pic .stands j);
         back =
             λ i l j mine.
-            set-places (m .workers) w (beginOf q) (λ v p. Mine v (s .cell i) → HandAt mark (look c p) i) seat
+            set-places (m .workers) w (beginner (beginOf q)) (λ v p. Mine v (s .cell i) → HandAt mark (look c p) i) seat
             (λ z. absurd (idle-hand c mark i (stood m w) idle (pic .back i l w z)))
             (λ v ne z. pic .back i l v z) j mine;
         claims-few = pic .claims-few;
@@ -236,6 +236,10 @@ module _ (c n workers : ℕ) (base : Base c n workers) (s : Shared) (m : Machine
 
     abbrev pub result : Acted
     result = actOf (m .ring .fixed) (m .ring .ends) (getD (m .ring .slots) spot (slot 0 0)) (stood m w) lose
+
+    -- its worker's record afterwards
+    abbrev pub new-record : Worker
+    new-record = recordAfter (recordOf (m .workers) w) (result .place) (result .loss)
 
     pub spot-small : spot < c
     spot-small =
@@ -277,10 +281,11 @@ module _ (c n workers : ℕ) (base : Base c n workers) (s : Shared) (m : Machine
     hand-here : (i : ℕ) → HandAt mark (look c (stood m w)) i → i ≡ spot
     hand-here i h = hand-spot c mark ed i (stood m w) h ∙ ap (λ (f : Fixed). spotOf f (viewOf (stood m w) .held)) (sym (pic .rule))
 
-    back-next : (i : ℕ) → i < c → (j : ℕ) → Mine j (next .cell i) → HandAt mark (look c (placeOf (set (m .workers) w (record { place = result .place })) j)) i
+    back-next : (i : ℕ) → i < c → (j : ℕ) → Mine j (next .cell i) → HandAt mark (look c (placeOf (set (m .workers) w new-record) j)) i
+    unfolding recordAfter
     back-next i l =
         λ j mine.
-        set-places (m .workers) w (result .place) (λ v p. Mine v (next .cell i) → HandAt mark (look c p) i) seat (own (ℕ-discrete i spot)) (λ v ne. other v ne (ℕ-discrete i spot)) j mine
+        set-places (m .workers) w new-record (λ v p. Mine v (next .cell i) → HandAt mark (look c p) i) seat (own (ℕ-discrete i spot)) (λ v ne. other v ne (ℕ-discrete i spot)) j mine
       where
         own : Dec (i ≡ spot) → Mine w (next .cell i) → HandAt mark (look c (result .place)) i
         own (yes e) z = rw e (stepped .grip (pic .back spot spot-small w) (rw e at z))
@@ -291,7 +296,7 @@ module _ (c n workers : ℕ) (base : Base c n workers) (s : Shared) (m : Machine
         other v ne (no far) z = pic .back i l v (rw (cell-course c s next w spot coursed i far) at z)
 
     pub acted-pictured : m .meter < meterMost → Pictured c n workers next (acted m w (stood m w) lose)
-    unfolding actedBy stored
+    unfolding actedBy stored recordAfter
     acted-pictured early =
         record {
           inv = inv-after c s w spot spot-small (pic .inv) effect (stepped .fits);
@@ -302,9 +307,9 @@ module _ (c n workers : ℕ) (base : Base c n workers) (s : Shared) (m : Machine
           ends = stepped .ends;
           slots-long = length-set (m .ring .slots) spot (result .slot) ∙ pic .slots-long;
           slots = λ i l. slots-next i l (ℕ-discrete i spot);
-          workers-long = length-set (m .workers) w (record { place = result .place }) ∙ pic .workers-long;
+          workers-long = length-set (m .workers) w new-record ∙ pic .workers-long;
           stands =
-              set-places (m .workers) w (result .place) (λ j p. Stands c mark n next j (look c p)) seat (stepped .stands)
+              set-places (m .workers) w new-record (λ j p. Stands c mark n next j (look c p)) seat (stepped .stands)
               (λ j ne. stands-else c mark n s next w spot (pic .inv) coursed j ne (look c (stood m j)) (pic .stands j));
           back = back-next;
           claims-few = omega (arith, grows c s w spot effect, pic .claims-few);
@@ -324,5 +329,5 @@ module _ (c n workers : ℕ) (base : Base c n workers) (s : Shared) (m : Machine
 
     -- where the acting worker stands afterwards
     pub acted-stood : stood (acted m w (stood m w) lose) w ≡ result .place
-    unfolding actedBy stored
-    acted-stood = ap (λ (z : Worker). z .place) (getD-set-same (m .workers) w (record { place = result .place }) idler seat)
+    unfolding actedBy stored recordAfter
+    acted-stood = ap (λ (z : Worker). z .place) (getD-set-same (m .workers) w new-record idler seat)

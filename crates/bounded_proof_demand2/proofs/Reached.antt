@@ -28,18 +28,18 @@ use Rattle.bounded_places.specs.declared.Worker.{Worker}
 use Rattle.bounded_places.specs.Places.{inside, viewOf, beginOf}
 use Rattle.bounded_machine.specs.declared.Machine.{Machine}
 use Rattle.bounded_machine.specs.declared.Event.{Event}
-use Rattle.bounded_machine.specs.Machine.{slot, emptySlots, stamped, freshSlots, idler, idlers, starts, freshOf}
-use Rattle.bounded_machine.specs.Broken.{byRule, endsFit, recordFits}
+use Rattle.bounded_machine.specs.Machine.{slot, emptySlots, stamped, freshSlots, idler, idlers, recordOf, starts, freshOf}
+use Rattle.bounded_machine.specs.Broken.{byRule, endsFit, placeFits, recordFits}
 use Rattle.bounded_machine.specs.Turn.{turnOf, turnOfBy, begun, acted, actedBy, stored}
 use Rattle.bounded_machine.specs.Run.{ran, runFrom}
-use Rattle.bounded_machine.specs.History.{event, eventsOf, historyOf, tallyOf}
+use Rattle.bounded_machine.specs.History.{lossAt, eventsOf, historyOf, tallyOf}
 use Rattle.bounded_machine.proofs.Kept.{Unbroken, ends-of}
 use Rattle.bounded_demands.specs.Notions.{Allowed, start, itemsOf, tailersOf, takersOf}
 use Rattle.bounded_proof_invariant.proofs.Width.{word, word-first}
 use Rattle.bounded_proof_invariant.proofs.Ring.{Await, Shared}
 use Rattle.bounded_proof_each_act.proofs.Stamps.{fixed, tailWord, index-tail, marked-tail}
 use Rattle.bounded_proof_each_act.proofs.Sight.{endsOf}
-use Rattle.bounded_proof_demand2.proofs.Turns.{Turned, began, did, turned, stood}
+use Rattle.bounded_proof_demand2.proofs.Turns.{Turned, began, did, turned, stood, eventOf}
 use Rattle.bounded_proof_demand2.proofs.Pictured.{Base, Pictured, begun-pictured, begun-shut, acted-pictured, acted-shut, stepped, effect, spot-small, next, result, acted-stood, alone, holding}
 use Rattle.bounded_proof_demand2.proofs.Logged.{Logged, logged-after}
 
@@ -83,13 +83,20 @@ idle-all zero i = refl
 idle-all (suc n) zero = refl
 idle-all (suc n) (suc i) = idle-all n i
 
-fresh-stood : (c workers ed w : ℕ) → stood (freshOf c workers ed) w ≡ Idle Nothing
+pub fresh-record : (c workers ed w : ℕ) → recordOf (freshOf c workers ed .workers) w ≡ idler
 unfolding freshOf idlers
-fresh-stood c workers ed w = ap (λ (z : Worker). z .place) (idle-all workersMost w)
+fresh-record c workers ed w = idle-all workersMost w
+
+fresh-stood : (c workers ed w : ℕ) → stood (freshOf c workers ed) w ≡ Idle Nothing
+fresh-stood c workers ed w = ap (λ (z : Worker). z .place) (fresh-record c workers ed w)
 
 idlers-long : length idlers ≡ workersMost
 unfolding idlers
 idlers-long = length-replicate workersMost idler
+
+pub fresh-seats : (c workers ed : ℕ) → workers ≤ workersMost → (w : ℕ) → w < freshOf c workers ed .count → w < length (freshOf c workers ed .workers)
+unfolding freshOf
+fresh-seats c workers ed few w l = omega (arith, idlers-long)
 
 stamped-long : (k : ℕ) (l : List Slot) → length (stamped k l) ≡ length l
 unfolding stamped
@@ -136,9 +143,9 @@ rule-true : (c ed : ℕ) → byRule (fixedOf c ed) ≡ true
 unfolding byRule
 rule-true c ed = rw (eq-eqb (markOf c) (markOf c) refl) (eq-eqb (lapOf c) (lapOf c) refl)
 
-idle-fits : (c ed : ℕ) (p : Place) (b : Bool) → p ≡ Idle Nothing → recordFits (fixedOf c ed) p b ≡ true
-unfolding recordFits
-idle-fits c ed p b e = rw e
+idle-fits : (c ed : ℕ) (r : Worker) (b : Bool) → r ≡ idler → recordFits (fixedOf c ed) 0 r b ≡ true
+unfolding recordFits placeFits
+idle-fits c ed r b e = rw e
 
 module _ (c n workers ed : ℕ) (base : Base c n workers) where
   zero-word : word c (markOf c) n 0 ≡ 0
@@ -168,7 +175,7 @@ module _ (c n workers ed : ℕ) (base : Base c n workers) where
           edition = limits-true ed editionsMost first last;
           rule = rule-true c ed;
           ends = starts-fit;
-          records = λ i l. idle-fits c ed _ (ltb i workers) (fresh-stood c workers ed i);
+          records = λ i l. idle-fits c ed _ (ltb i workers) (fresh-record c workers ed i);
         }
 
     pub fresh-pictured : Pictured c n workers ring0 (freshOf c workers ed)
@@ -280,10 +287,10 @@ module _ (c n workers : ℕ) (base : Base c n workers) where
         logged =
             rw (acted-stood c n workers base (r .ring) m pic w l lose busy)
             (logged-after c (r .ring) (pic .inv) w _ (spot-small c n workers base (r .ring) m pic w l lose busy) (st .effect) (st .fits) h (r .logged) (stood m w)
-            (result c n workers base (r .ring) m pic w l lose busy .place) (st .tells) (st .writes) (alone c n workers base (r .ring) m pic w l lose busy) (holding c n workers base (r .ring) m pic w l lose busy));
+            (result c n workers base (r .ring) m pic w l lose busy .place) (lossAt m w lose) (st .tells) (st .writes) (alone c n workers base (r .ring) m pic w l lose busy) (holding c n workers base (r .ring) m pic w l lose busy));
         metered =
             acted-meter m w (stood m w) lose ∙ ap (λ (k : ℕ). k + 1) (r .metered)
-            ∙ sym (length-append h (event w (stood m w) (stood (acted m w (stood m w) lose) w) ∷ []));
+            ∙ sym (length-append h (eventOf m w lose (acted m w (stood m w) lose) ∷ []));
       }
 
   -- the ring and the mark behind a machine, and what an entry makes of them
@@ -297,7 +304,7 @@ module _ (c n workers : ℕ) (base : Base c n workers) where
     begun-behind q idle = ap (λ (b : Bool). (r .ring, b)) (begun-shut c n workers base (r .ring) m (r .pictured) w l q idle)
 
     pub did-behind : (lose : Bool) (busy : viewOf (stood m w) .busy ≡ true) (early : m .meter < meterMost)
-        → markedRing (entered m h (Asks w (Act lose)) (acted m w (stood m w) lose) (event w (stood m w) (stood (acted m w (stood m w) lose) w) ∷ []) r (did w lose l busy early))
+        → markedRing (entered m h (Asks w (Act lose)) (acted m w (stood m w) lose) (eventOf m w lose (acted m w (stood m w) lose) ∷ []) r (did w lose l busy early))
         ≡ (next c n workers base (r .ring) m (r .pictured) w l lose busy, stepped c n workers base (r .ring) m (r .pictured) w l lose busy .shut)
     unfolding entered
     did-behind lose busy early =

@@ -15,18 +15,19 @@ use Rattle.queue_entries.specs.declared.Call.the-variants as call
 use Rattle.queue_entries.specs.declared.Entry.{Entry}
 use Rattle.bounded_words.specs.declared.Stamp.{Stamp}
 use Rattle.bounded_words.specs.declared.Fixed.{Fixed}
-use Rattle.bounded_words.specs.Words.{markOf, markedOf, unmarkedOf, minus, nextOf, same, onePast, lapBehind, lapBehindOnePast, withMark}
+use Rattle.bounded_words.specs.Words.{markOf, markedOf, unmarkedOf, minus, same, onePast, lapBehind, lapBehindOnePast, withMark}
 use Rattle.bounded_places.specs.declared.Slot.{Slot}
 use Rattle.bounded_places.specs.declared.Ends.{Ends}
 use Rattle.bounded_places.specs.declared.Kind.{Kind}
 use Rattle.bounded_places.specs.declared.Kind.the-variants.{Push, Force}
 use Rattle.bounded_places.specs.declared.Answer.the-variants.{Nothing, Full, Closed, Empty, PopClosed, Len, Yes, No}
+use Rattle.bounded_places.specs.declared.Exchange.{Exchange}
 use Rattle.bounded_places.specs.declared.Place.{Place}
 use Rattle.bounded_places.specs.declared.Place.the-variants.{Idle, P1, P2, P3, P4, P5, P6, F6, F7, F8, F9, O1, O2, O3, O4, O5, O6, Len1, Len2, Len3, Empty1, Empty2, Full1, Full2, Close1, IsClosed1}
 use Rattle.bounded_places.specs.declared.Worker.{Worker}
 use Rattle.bounded_places.specs.Places.{viewOf, beginOf}
 use Rattle.bounded_acts.specs.declared.Acted.{Acted}
-use Rattle.bounded_acts.specs.Acts.{stay, tailTo, headTo, fullAt, countOf, actOf, actP1}
+use Rattle.bounded_acts.specs.Acts.{stay, losing, afterTail, endP3, endF6, endO3, tailTo, fullAt, countOf, actOf}
 use Rattle.bounded_machine.specs.declared.Machine.{Machine}
 use Rattle.bounded_machine.specs.declared.Event.{Event}
 use Rattle.bounded_machine.specs.declared.Moved.{Moved}
@@ -35,17 +36,17 @@ use Rattle.bounded_machine.specs.declared.Tally.{Tally}
 use Rattle.bounded_machine.specs.Machine.{placeOf, idler, idlers, freshOf}
 use Rattle.bounded_machine.specs.Broken.{allIdle}
 use Rattle.bounded_machine.specs.Contents.{contentsOf}
-use Rattle.bounded_machine.specs.Turn.{begun, stored, acted, actedBy}
-use Rattle.bounded_machine.specs.History.{event, movedOf, readsAt, untallied, tallyOf, stockOf, untakenOf}
-use Rattle.bounded_machine.proofs.Kept.{either}
+use Rattle.bounded_machine.specs.Turn.{beginner, recordAfter, begun, stored, acted, actedBy}
+use Rattle.bounded_machine.specs.History.{movedOf, readsAt, untallied, tallyOf, stockOf, untakenOf}
+use Rattle.bounded_machine.proofs.Kept.{either, exchanged}
 use Rattle.bounded_demands.specs.Notions.{document01, machineAfter, actsOf, Reads, readO4, readF8, tailBy, headBy, tally, stock, unread, unreadBy, lesser}
 use Rattle.bounded_demands.specs.Demands.{StockRises, StockFalls, StockStays, Stocked, StockUnderEverySchedule}
 use Rattle.bounded_proof_invariant.proofs.Ring.{Cell, Await, Hold, Hand, Mine, Shared}
 use Rattle.bounded_proof_each_act.proofs.Sight.{look, Stands}
 use Rattle.bounded_proof_demand2.proofs.Lists.{Last, Earlier, split-end}
-use Rattle.bounded_proof_demand2.proofs.Turns.{Turned, began, did, stood}
+use Rattle.bounded_proof_demand2.proofs.Turns.{Turned, began, did, stood, eventOf}
 use Rattle.bounded_proof_demand2.proofs.Counts.{by-act, tally-end, tally-tail, tally-head}
-use Rattle.bounded_proof_demand2.proofs.Pictured.{Base, Pictured, idle-is, busy-counted, hand-busy, result, acted-stood}
+use Rattle.bounded_proof_demand2.proofs.Pictured.{Base, Pictured, idle-is, busy-counted, hand-busy, result, new-record, acted-stood}
 use Rattle.bounded_proof_demand2.proofs.Reached.{Reached, lapsOf, base-of, nil-split, along, entered}
 use Rattle.bounded_proof_demand2.proofs.Contents.{idle-at, contents-number}
 use Rattle.bounded_proof_demand2.proofs.Demand2.{fresh-reached}
@@ -66,30 +67,30 @@ abbrev Kept : Place → Place → Type 0
 Kept p q = (heads (movedOf q) + one (unread p) ≡ one (readsAt p) + one (unread q)) × (one (readsAt p) + tails (movedOf q) ≤ 1)
 
 -- the word found at P1, or at a lost P3
-found-kept : (f : Fixed) (e : Ends) (s : Slot) (k : Kind) (x : ℕ) (p : Place) → readsAt p ≡ false → unread p ≡ false → Kept p (actP1 f e s k x .place)
-unfolding stay
-found-kept f e s k x p reads waits =
-    either (λ (a : Acted). Kept p (a .place)) (markedOf f (e .tail)) (stay e s (Idle (Closed x))) (stay e s (P2 k (e .tail) x))
-    (λ z. rw (reads, waits) (omega arith)) (λ z. rw (reads, waits) (omega arith))
+found-kept : (f : Fixed) (t : Stamp) (k : Kind) (x : ℕ) (p : Place) → readsAt p ≡ false → unread p ≡ false → Kept p (afterTail f k t x)
+unfolding afterTail
+found-kept f t k x p reads waits =
+    either (Kept p) (markedOf f t) (Idle (Closed x)) (P2 k t x) (λ z. rw (reads, waits) (omega arith)) (λ z. rw (reads, waits) (omega arith))
 
 full-kept : (k j : Kind) (t : Stamp) (x : ℕ) → Kept (P2 j t x) (fullAt k t x)
 full-kept Push j t x = omega arith
 full-kept Force j t x = omega arith
 
 act-kept : (f : Fixed) (e : Ends) (s : Slot) (p : Place) (lose : Bool) → Kept p (actOf f e s p lose .place)
-unfolding stay
+unfolding stay losing
 act-kept f e s (Idle a) lose = omega arith
-act-kept f e s (P1 k x) lose = found-kept f e s k x (P1 k x) refl refl
+act-kept f e s (P1 k x) lose = found-kept f (e .tail) k x (P1 k x) refl refl
 act-kept f e s (P2 k t x) lose =
     either (λ (a : Acted). Kept (P2 k t x) (a .place)) (same (s .stamp) t) (stay e s (P3 k t x)) (cond (lapBehindOnePast f (s .stamp) t) (stay e s (fullAt k t x)) (stay e s (P1 k x))) (λ z. omega arith) (λ z. either (λ (a : Acted). Kept (P2 k t x) (a .place)) (lapBehindOnePast f (s .stamp) t) (stay e s (fullAt k t x)) (stay e s (P1 k x)) (λ y. full-kept k k t x) (λ y. omega arith))
 act-kept f e s (P3 k t x) lose =
-    either (λ (a : Acted). Kept (P3 k t x) (a .place)) (same (e .tail) t) (cond lose (stay e s (P2 k t x)) (stay (tailTo e (nextOf f t)) s (P4 t x))) (actP1 f e s k x) (λ z. either (λ (a : Acted). Kept (P3 k t x) (a .place)) (lose) (stay e s (P2 k t x)) (stay (tailTo e (nextOf f t)) s (P4 t x)) (λ y. omega arith) (λ y. omega arith)) (λ z. found-kept f e s k x (P3 k t x) refl refl)
+    exchanged (λ (y : Exchange). Kept (P3 k t x) (endP3 f e s k t x y .place)) (e .tail) t lose (λ b d. omega arith) (λ b d. omega arith)
+    (λ b. found-kept f (e .tail) k x (P3 k t x) refl refl)
 act-kept f e s (P4 t x) lose = omega arith
 act-kept f e s (P5 t) lose = omega arith
 act-kept f e s (P6 t x) lose =
     either (λ (a : Acted). Kept (P6 t x) (a .place)) (lapBehind f (e .head) t) (stay e s (Idle (Full x))) (stay e s (P1 Push x)) (λ z. omega arith) (λ z. omega arith)
 act-kept f e s (F6 t x) lose =
-    either (λ (a : Acted). Kept (F6 t x) (a .place)) (same (e .head) (minus t (f .lap))) (cond lose (stay e s (P1 Force x)) (stay (headTo e (minus (nextOf f t) (f .lap))) s (F7 t x))) (stay e s (P1 Force x)) (λ z. either (λ (a : Acted). Kept (F6 t x) (a .place)) (lose) (stay e s (P1 Force x)) (stay (headTo e (minus (nextOf f t) (f .lap))) s (F7 t x)) (λ y. omega arith) (λ y. omega arith)) (λ z. omega arith)
+    exchanged (λ (y : Exchange). Kept (F6 t x) (endF6 f e s t x y .place)) (e .head) (minus t (f .lap)) lose (λ b d. omega arith) (λ b d. omega arith) (λ b. omega arith)
 act-kept f e s (F7 t x) lose = omega arith
 act-kept f e s (F8 t x) lose = omega arith
 act-kept f e s (F9 t old) lose = omega arith
@@ -97,7 +98,7 @@ act-kept f e s O1 lose = omega arith
 act-kept f e s (O2 h) lose =
     either (λ (a : Acted). Kept (O2 h) (a .place)) (onePast (s .stamp) h) (stay e s (O3 h)) (cond (same (s .stamp) h) (stay e s (O6 h)) (stay e s O1)) (λ z. omega arith) (λ z. either (λ (a : Acted). Kept (O2 h) (a .place)) (same (s .stamp) h) (stay e s (O6 h)) (stay e s O1) (λ y. omega arith) (λ y. omega arith))
 act-kept f e s (O3 h) lose =
-    either (λ (a : Acted). Kept (O3 h) (a .place)) (same (e .head) h) (cond lose (stay e s (O2 h)) (stay (headTo e (nextOf f h)) s (O4 h))) (stay e s (O2 (e .head))) (λ z. either (λ (a : Acted). Kept (O3 h) (a .place)) (lose) (stay e s (O2 h)) (stay (headTo e (nextOf f h)) s (O4 h)) (λ y. omega arith) (λ y. omega arith)) (λ z. omega arith)
+    exchanged (λ (y : Exchange). Kept (O3 h) (endO3 f e s h y .place)) (e .head) h lose (λ b d. omega arith) (λ b d. omega arith) (λ b. omega arith)
 act-kept f e s (O4 h) lose = omega arith
 act-kept f e s (O5 h v) lose = omega arith
 act-kept f e s (O6 h) lose =
@@ -167,12 +168,12 @@ begin-read call.Close = refl
 begin-read call.IsClosed = refl
 
 -- one of them moves
-set-read : (ws : List Worker) (w : ℕ) (q : Place) → w < length ws
-    → unreadBy (set ws w (record { place = q })) + one (unread (placeOf ws w)) ≡ unreadBy ws + one (unread q)
+set-read : (ws : List Worker) (w : ℕ) (r : Worker) → w < length ws
+    → unreadBy (set ws w r) + one (unread (placeOf ws w)) ≡ unreadBy ws + one (unread (r .place))
 unfolding unreadBy
-set-read [] w q l = absurd (omega arith)
-set-read (x ∷ ws) zero q l = omega arith
-set-read (x ∷ ws) (suc w) q l = omega (arith, set-read ws w q (omega arith))
+set-read [] w r l = absurd (omega arith)
+set-read (x ∷ ws) zero r l = omega arith
+set-read (x ∷ ws) (suc w) r l = omega (arith, set-read ws w r (omega arith))
 
 -- each is one of the sum
 part-read : (ws : List Worker) (w : ℕ) → one (unread (placeOf ws w)) ≤ unreadBy ws
@@ -275,7 +276,7 @@ module _ (c n workers : ℕ) (base : Base c n workers) where
 
   begun-read : (m : Machine) (w : ℕ) (q : Call) → w < length (m .workers) → viewOf (stood m w) .busy ≡ false → unreadBy (begun m w (beginOf q) .workers) ≡ unreadBy (m .workers)
   unfolding begun
-  begun-read m w q l idle = omega (arith, set-read (m .workers) w (beginOf q) l, ap one (idle-read (stood m w) idle), ap one (begin-read q))
+  begun-read m w q l idle = omega (arith, set-read (m .workers) w (beginner (beginOf q)) l, ap one (idle-read (stood m w) idle), ap one (begin-read q))
 
   module _ (m : Machine) (h : List Event) (o : Shelved m h) (w : ℕ) (lose : Bool) (l : w < m .count) (busy : viewOf (stood m w) .busy ≡ true) where
     abbrev pic : Pictured c n workers (o .behind .ring) m
@@ -285,7 +286,7 @@ module _ (c n workers : ℕ) (base : Base c n workers) where
     next = acted m w (stood m w) lose
 
     abbrev new : Event
-    new = event w (stood m w) (stood next w)
+    new = eventOf m w lose next
 
     seat : w < length (m .workers)
     seat = omega (arith, pic .workers-long, pic .count, base .team)
@@ -297,8 +298,8 @@ module _ (c n workers : ℕ) (base : Base c n workers) where
     kept = subst (Kept (stood m w)) (sym went) (act-kept (m .ring .fixed) (m .ring .ends) _ (stood m w) lose)
 
     set-there : unreadBy (next .workers) + one (unread (stood m w)) ≡ unreadBy (m .workers) + one (unread (result c n workers base (o .behind .ring) m pic w l lose busy .place))
-    unfolding actedBy stored
-    set-there = set-read (m .workers) w (result c n workers base (o .behind .ring) m pic w l lose busy .place) seat
+    unfolding actedBy stored recordAfter
+    set-there = set-read (m .workers) w (new-record c n workers base (o .behind .ring) m pic w l lose busy) seat
 
     moved-read : unreadBy (next .workers) + one (unread (stood m w)) ≡ unreadBy (m .workers) + one (unread (stood next w))
     moved-read = subst (λ (q : Place). unreadBy (next .workers) + one (unread (stood m w)) ≡ unreadBy (m .workers) + one (unread q)) (sym went) set-there

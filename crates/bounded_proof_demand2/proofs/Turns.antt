@@ -21,16 +21,20 @@ use Rattle.bounded_machine.specs.declared.Event.{Event}
 use Rattle.bounded_machine.specs.Machine.{placeOf, refused, accepted}
 use Rattle.bounded_machine.specs.Turn.{verdictOf, carried, turn, begun, stored, acted, actedBy}
 use Rattle.bounded_machine.proofs.Kept.{either}
-use Rattle.bounded_machine.specs.History.{event, eventsOf}
+use Rattle.bounded_machine.specs.History.{event, lossAt, eventsOf}
 
 -- where worker w stands
 abbrev pub stood : Machine → ℕ → Place
 stood m w = placeOf (m .workers) w
 
+-- its act on m that led to the machine next
+abbrev pub eventOf : Machine → ℕ → Bool → Machine → Event
+eventOf m w lose next = event w (stood m w) (stood next w) (lossAt m w lose)
+
 pub data Turned (m : Machine) : Entry → Machine → List Event → Type 0 where
   began : (w : ℕ) (call : Call) → w < m .count → viewOf (stood m w) .busy ≡ false → Turned m (Asks w (Begin call)) (begun m w (beginOf call)) []
   did : (w : ℕ) (lose : Bool) → w < m .count → viewOf (stood m w) .busy ≡ true → m .meter < meterMost
-      → Turned m (Asks w (Act lose)) (acted m w (stood m w) lose) (event w (stood m w) (stood (acted m w (stood m w) lose) w) ∷ [])
+      → Turned m (Asks w (Act lose)) (acted m w (stood m w) lose) (eventOf m w lose (acted m w (stood m w) lose) ∷ [])
 
 abbrev Result : Machine → Entry → Did → Type 0
 Result m e d = d .refusal ≡ 0 → Turned m e (d .machine) (eventsOf m e (d .machine))

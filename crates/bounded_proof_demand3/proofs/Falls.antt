@@ -7,18 +7,20 @@ use native.Mathlib.Omega.{arith}
 use borrow.Author.Tests.{eq-eqb}
 use Rattle.bounded_words.specs.declared.Stamp.{Stamp}
 use Rattle.bounded_words.specs.declared.Fixed.{Fixed}
-use Rattle.bounded_words.specs.Words.{stamp, indexOf, markedOf, unmarkedOf, minus, nextOf, withMark, same, onePast, lapBehind, lapBehindOnePast}
+use Rattle.bounded_words.specs.Words.{stamp, indexOf, markedOf, unmarkedOf, minus, withMark, same, onePast, lapBehind, lapBehindOnePast}
 use Rattle.bounded_places.specs.declared.Slot.{Slot}
 use Rattle.bounded_places.specs.declared.Ends.{Ends}
 use Rattle.bounded_places.specs.declared.Kind.{Kind}
 use Rattle.bounded_places.specs.declared.Kind.the-variants.{Push, Force}
 use Rattle.bounded_places.specs.declared.Answer.the-variants.{Full, Closed, Empty, PopClosed, Len, Yes, No}
+use Rattle.bounded_places.specs.declared.Exchange.{Exchange}
+use Rattle.bounded_places.specs.declared.Exchange.the-variants.{Won, Differed}
 use Rattle.bounded_places.specs.declared.Place.{Place}
 use Rattle.bounded_places.specs.declared.Place.the-variants.{Idle, P1, P2, P3, P4, P5, P6, F6, F7, F8, F9, O1, O2, O3, O4, O5, O6, Len1, Len2, Len3, Empty1, Empty2, Full1, Full2, Close1, IsClosed1}
 use Rattle.bounded_places.specs.Places.{viewOf}
 use Rattle.bounded_acts.specs.declared.Acted.{Acted}
-use Rattle.bounded_acts.specs.Acts.{stay, tailTo, headTo, actOf, actP1, actP2, actP3, fullAt, countOf}
-use Rattle.bounded_machine.proofs.Kept.{either}
+use Rattle.bounded_acts.specs.Acts.{stay, losing, exchangeOf, afterTail, endP3, endF6, endO3, tailTo, headTo, actOf, actP2, actP3, fullAt, countOf}
+use Rattle.bounded_machine.proofs.Kept.{either, exchanged}
 use Rattle.bounded_demands.specs.Notions.{oneMore, mostOf}
 use Rattle.bounded_proof_demand3.specs.Rank.{rankOf}
 
@@ -104,11 +106,10 @@ module _ (f : Fixed) (e : Ends) (s : Slot) where
   now-at true x y n h l = l
   now-at false x y n h l = absurd (true≢false (sym h))
 
-  -- P1: the word of tail, just loaded
-  loads : (k : Kind) (x n : ℕ) → (markedOf f (e .tail) ≡ false → rankOf f e (P2 k (e .tail) x) < n) → 0 < n → Less n (actP1 f e s k x)
-  unfolding stay
-  loads k x n in-date pos =
-      either (Less n) (markedOf f (e .tail)) (stay e s (Idle (Closed x))) (stay e s (P2 k (e .tail) x)) (λ h. pos) in-date
+  -- the word of tail, just loaded or found
+  finds : (k : Kind) (x n : ℕ) → (markedOf f (e .tail) ≡ false → rankOf f e (P2 k (e .tail) x) < n) → 0 < n → rankOf f e (afterTail f k (e .tail) x) < n
+  unfolding afterTail
+  finds k x n in-date pos = either (λ (p : Place). rankOf f e p < n) (markedOf f (e .tail)) (Idle (Closed x)) (P2 k (e .tail) x) (λ h. pos) in-date
 
   falls-p2 : (k : Kind) (t : Stamp) (x : ℕ) → FindsTail f e s t → Less (rankOf f e (P2 k t x)) (actP2 f e s k t x)
   unfolding stay
@@ -124,11 +125,11 @@ module _ (f : Fixed) (e : Ends) (s : Slot) where
       full Force q = now-at (same (e .head) (minus t (f .lap))) _ _ _ (q .1) (low (same (unmarkedOf f (e .tail)) t) _ _ _ (omega arith) (omega arith))
 
   falls-p3 : (k : Kind) (t : Stamp) (x : ℕ) → Less (rankOf f e (P3 k t x)) (actP3 f e s k t x false)
-  unfolding stay
+  unfolding stay losing
   falls-p3 k t x =
-      either (Less (rankOf f e (P3 k t x))) (same (e .tail) t) (stay (tailTo e (nextOf f t)) s (P4 t x)) (actP1 f e s k x)
-      (λ h. low (same (unmarkedOf f (e .tail)) t) _ _ _ (omega arith) (omega arith))
-      (λ h. loads k x (rankOf f e (P3 k t x))
+      exchanged (λ (y : Exchange). Less (rankOf f e (P3 k t x)) (endP3 f e s k t x y)) (e .tail) t false (λ h g. absurd (true≢false (sym g)))
+      (λ h g. low (same (unmarkedOf f (e .tail)) t) _ _ _ (omega arith) (omega arith))
+      (λ h. finds k x (rankOf f e (P3 k t x))
       (λ g. now-at (same (unmarkedOf f (e .tail)) (e .tail)) _ _ _ (clear-same f (e .tail) g) (second (same (unmarkedOf f (e .tail)) t) _ _ _ (lost h g) (omega arith)))
       (low (same (unmarkedOf f (e .tail)) t) _ _ _ (omega arith) (omega arith)))
     where
@@ -150,25 +151,35 @@ module _ (f : Fixed) (e : Ends) (s : Slot) where
   back true a c x y p q = p
   back false a c x y p q = q
 
+  -- the same of an exchange
+  back-lost : (end : Exchange → Acted) (found expected : Stamp) (x y : ℕ) → Less x (end Won) → Less y (end (Differed found))
+      → Less (cond (same found expected) x y) (end (exchangeOf found expected false))
+  unfolding exchangeOf
+  back-lost end found expected x y p q = go (same found expected)
+    where
+      go : (b : Bool) → Less (cond b x y) (end (cond b Won (Differed found)))
+      go true = p
+      go false = q
+
   pub falls : (p : Place) → viewOf p .busy ≡ true → Finds f e s p → rankOf f (actOf f e s p false .ends) (actOf f e s p false .place) < rankOf f e p
-  unfolding stay tailTo headTo
+  unfolding stay losing tailTo headTo
   falls (Idle a) busy d = absurd (true≢false (sym busy))
   falls (P1 k x) busy d =
-      loads k x _ (λ g. now-at (same (unmarkedOf f (e .tail)) (e .tail)) _ _ _ (clear-same f (e .tail) g) (omega arith)) (omega arith)
+      finds k x _ (λ g. now-at (same (unmarkedOf f (e .tail)) (e .tail)) _ _ _ (clear-same f (e .tail) g) (omega arith)) (omega arith)
   falls (P2 k t x) busy d = falls-p2 k t x d
   falls (P3 k t x) busy d = falls-p3 k t x
   falls (P4 t x) busy d = omega arith
   falls (P5 t) busy d = omega arith
   falls (P6 t x) busy d = back (lapBehind f (e .head) t) (stay e s (Idle (Full x))) (stay e s (P1 Push x)) _ _ (omega arith) (omega arith)
   falls (F6 t x) busy d =
-      back (same (e .head) (minus t (f .lap))) (stay (headTo e (minus (nextOf f t) (f .lap))) s (F7 t x)) (stay e s (P1 Force x)) _ _ (omega arith) (omega arith)
+      back-lost (endF6 f e s t x) (e .head) (minus t (f .lap)) _ _ (omega arith) (omega arith)
   falls (F7 t x) busy d = omega arith
   falls (F8 t x) busy d = omega arith
   falls (F9 t old) busy d = omega arith
   falls O1 busy d = now-at (same (e .head) (e .head)) _ _ _ (same-self (e .head)) (omega arith)
   falls (O2 h) busy d = falls-o2 h d
   falls (O3 h) busy d =
-      back (same (e .head) h) (stay (headTo e (nextOf f h)) s (O4 h)) (stay e s (O2 (e .head))) _ _ (omega arith)
+      back-lost (endO3 f e s h) (e .head) h _ _ (omega arith)
       (now-at (same (e .head) (e .head)) _ _ _ (same-self (e .head)) (omega arith))
   falls (O4 h) busy d = omega arith
   falls (O5 h v) busy d = omega arith

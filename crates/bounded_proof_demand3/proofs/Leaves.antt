@@ -5,20 +5,24 @@ use Prim.Native.Nat.{ℕ}
 use borrow.Author.Tests.{eqb-true}
 use Rattle.bounded_words.specs.declared.Stamp.{Stamp}
 use Rattle.bounded_words.specs.declared.Fixed.{Fixed}
-use Rattle.bounded_words.specs.Words.{stamp, indexOf, markedOf, unmarkedOf, minus, nextOf, withMark, same, onePast, lapBehind, lapBehindOnePast}
+use Rattle.bounded_words.specs.Words.{stamp, indexOf, markedOf, unmarkedOf, minus, withMark, same, onePast, lapBehind, lapBehindOnePast}
 use Rattle.bounded_places.specs.declared.Slot.{Slot}
 use Rattle.bounded_places.specs.declared.Ends.{Ends}
 use Rattle.bounded_places.specs.declared.Kind.{Kind}
 use Rattle.bounded_places.specs.declared.Kind.the-variants.{Push, Force}
 use Rattle.bounded_places.specs.declared.Answer.{Answer}
 use Rattle.bounded_places.specs.declared.Answer.the-variants.{Pushed, Full, Closed, Displaced, Popped, Empty, PopClosed, Len, Yes, No}
+use Rattle.bounded_places.specs.declared.Exchange.{Exchange}
+use Rattle.bounded_places.specs.declared.Exchange.the-variants.{Won, Differed}
+use Rattle.bounded_places.specs.declared.Loss.{Loss}
+use Rattle.bounded_places.specs.declared.Loss.the-variants as loss
 use Rattle.bounded_places.specs.declared.Place.{Place}
 use Rattle.bounded_places.specs.declared.Place.the-variants.{Idle, P1, P2, P3, P4, P5, P6, F6, F7, F8, F9, O1, O2, O3, O4, O5, O6, Len1, Len2, Len3, Empty1, Empty2, Full1, Full2, Close1, IsClosed1}
 use Rattle.bounded_places.specs.Places.{viewOf}
 use Rattle.bounded_acts.specs.declared.Acted.{Acted}
-use Rattle.bounded_acts.specs.Acts.{stay, tailTo, headTo, stampTo, valueTo, actOf, actP1, actP2, fullAt, countOf, yesNo}
+use Rattle.bounded_acts.specs.Acts.{stay, losing, exchangeOf, afterTail, endP3, endF6, endO3, tailTo, headTo, stampTo, valueTo, actOf, actP2, fullAt, countOf, yesNo}
 use Rattle.bounded_machine.specs.Turn.{spotOf}
-use Rattle.bounded_machine.proofs.Kept.{either}
+use Rattle.bounded_machine.proofs.Kept.{either, exchanged}
 use Rattle.bounded_demands.specs.Foretold.{fullAnswer, pushAnswer, foretoldOf}
 use Rattle.bounded_proof_demand3.proofs.Falls.{Finds, FindsTail, clear-is}
 
@@ -40,19 +44,35 @@ module _ (f : Fixed) (e : Ends) (s : Slot) (i v : ℕ) (first : i ≡ indexOf f 
       → foretoldOf f (a .ends) v′ u′ (a .place) ≡ r
 
   -- nothing but the place changed
+  lost : (l : Loss) (r : Answer) (q : Place) → ((u : ℕ) → foretoldOf f e v u q ≡ r) → Leaves r (losing e s q l)
+  unfolding losing
+  lost l r q k v′ u′ h w = ap (λ (z : ℕ). foretoldOf f e z u′ q) (h refl refl) ∙ k u′
+
   rest : (r : Answer) (q : Place) → ((u : ℕ) → foretoldOf f e v u q ≡ r) → Leaves r (stay e s q)
-  unfolding stay
-  rest r q k v′ u′ h w = ap (λ (z : ℕ). foretoldOf f e z u′ q) (h refl refl) ∙ k u′
+  unfolding stay losing
+  rest = lost loss.Nothing
 
   split : (b : Bool) (a c : Acted) (x y : Answer) → (b ≡ true → Leaves x a) → (b ≡ false → Leaves y c) → Leaves (cond b x y) (cond b a c)
   split true a c x y p q = p refl
   split false a c x y p q = q refl
 
-  loads : (k : Kind) (x : ℕ) → Leaves (pushAnswer f e v k x) (actP1 f e s k x)
-  loads k x =
-      either (Leaves (pushAnswer f e v k x)) (markedOf f (e .tail)) (stay e s (Idle (Closed x))) (stay e s (P2 k (e .tail) x))
-      (λ h. rest _ (Idle (Closed x)) (λ u. rw h))
-      (λ h. rest _ (P2 k (e .tail) x) (λ u. rw (h, clear-is f (e .tail) h) (twice (lapBehind f (e .head) (e .tail)) (fullAnswer k x v) Pushed)))
+  -- the same of an exchange
+  split-lost : (end : Exchange → Acted) (found expected : Stamp) (x y : Answer) → (same found expected ≡ true → Leaves x (end Won)) → Leaves y (end (Differed found))
+      → Leaves (cond (same found expected) x y) (end (exchangeOf found expected false))
+  unfolding exchangeOf
+  split-lost end found expected x y p q = go (same found expected) refl
+    where
+      go : (b : Bool) → same found expected ≡ b → Leaves (cond b x y) (end (cond b Won (Differed found)))
+      go true h = p h
+      go false h = q
+
+  -- tail loaded, or found
+  finds : (l : Loss) (k : Kind) (x : ℕ) → Leaves (pushAnswer f e v k x) (losing e s (afterTail f k (e .tail) x) l)
+  unfolding afterTail
+  finds l k x =
+      either (λ (q : Place). Leaves (pushAnswer f e v k x) (losing e s q l)) (markedOf f (e .tail)) (Idle (Closed x)) (P2 k (e .tail) x)
+      (λ h. lost l _ (Idle (Closed x)) (λ u. rw h))
+      (λ h. lost l _ (P2 k (e .tail) x) (λ u. rw (h, clear-is f (e .tail) h) (twice (lapBehind f (e .head) (e .tail)) (fullAnswer k x v) Pushed)))
 
   told-p2 : (k : Kind) (t : Stamp) (x : ℕ) → FindsTail f e s t → Leaves (foretoldOf f e v (s .value) (P2 k t x)) (actP2 f e s k t x)
   told-p2 k t x d =
@@ -73,20 +93,20 @@ module _ (f : Fixed) (e : Ends) (s : Slot) (i v : ℕ) (first : i ≡ indexOf f 
       out false q h g = refl
 
   pub leaves : (p : Place) → viewOf p .busy ≡ true → i ≡ spotOf f (viewOf p .held) → Finds f e s p → Leaves (foretoldOf f e v (s .value) p) (actOf f e s p false)
-  unfolding stay tailTo headTo valueTo stampTo
+  unfolding stay losing tailTo headTo valueTo stampTo
   leaves (Idle a) busy at d = absurd (true≢false (sym busy))
-  leaves (P1 k x) busy at d = loads k x
+  leaves (P1 k x) busy at d = finds loss.Nothing k x
   leaves (P2 k t x) busy at d = told-p2 k t x d
   leaves (P3 k t x) busy at d =
-      either (Leaves _) (same (e .tail) t) (stay (tailTo e (nextOf f t)) s (P4 t x)) (actP1 f e s k x)
-      (λ h v′ u′ p q. rw (d h .0, d h .1)) (λ h. loads k x)
+      exchanged (λ (y : Exchange). Leaves (foretoldOf f e v (s .value) (P3 k t x)) (endP3 f e s k t x y)) (e .tail) t false (λ h g. absurd (true≢false (sym g)))
+      (λ h g v′ u′ p q. rw (d h .0, d h .1)) (λ h. finds loss.ByWords k x)
   leaves (P4 t x) busy at d = λ v′ u′ p q. refl
   leaves (P5 t) busy at d = λ v′ u′ p q. refl
   leaves (P6 t x) busy at d =
       split (lapBehind f (e .head) t) (stay e s (Idle (Full x))) (stay e s (P1 Push x)) (Full x) (pushAnswer f e v Push x) (λ h. rest _ (Idle (Full x)) (λ u. refl)) (λ h. rest _ (P1 Push x) (λ u. refl))
   leaves (F6 t x) busy at d =
-      split (same (e .head) (minus t (f .lap))) (stay (headTo e (minus (nextOf f t) (f .lap))) s (F7 t x)) (stay e s (P1 Force x)) (Displaced v) (pushAnswer f e v Force x)
-      (λ h v′ u′ p q. ap Displaced (q (sym at) ∙ sym (first (at ∙ d h)))) (λ h. rest _ (P1 Force x) (λ u. refl))
+      split-lost (endF6 f e s t x) (e .head) (minus t (f .lap)) (Displaced v) (pushAnswer f e v Force x)
+      (λ h v′ u′ p q. ap Displaced (q (sym at) ∙ sym (first (at ∙ d h)))) (lost loss.ByWords _ (P1 Force x) (λ u. refl))
   leaves (F7 t x) busy at d = λ v′ u′ p q. ap Displaced (q (sym at))
   leaves (F8 t x) busy at d = λ v′ u′ p q. refl
   leaves (F9 t old) busy at d = λ v′ u′ p q. refl
@@ -95,9 +115,9 @@ module _ (f : Fixed) (e : Ends) (s : Slot) (i v : ℕ) (first : i ≡ indexOf f 
       either (Leaves _) (onePast (s .stamp) h) (stay e s (O3 h)) _ (λ p. rest _ (O3 h) (λ u. refl))
       (λ p. either (Leaves _) (same (s .stamp) h) (stay e s (O6 h)) (stay e s O1) (λ q. rest _ (O6 h) (λ u. refl)) (λ q. rest _ O1 (λ u. refl)))
   leaves (O3 h) busy at d =
-      either (Leaves _) (same (e .head) h) (stay (headTo e (nextOf f h)) s (O4 h)) (stay e s (O2 (e .head)))
-      (λ z v′ u′ p q. rw (d z) (ap Popped (q (sym at) ∙ sym (first (at ∙ ap (indexOf f) (sym (same-is (e .head) h z)))))))
-      (λ z. rest _ (O2 (e .head)) (λ u. refl))
+      exchanged (λ (y : Exchange). Leaves (foretoldOf f e v (s .value) (O3 h)) (endO3 f e s h y)) (e .head) h false (λ z g. absurd (true≢false (sym g)))
+      (λ z g v′ u′ p q. rw (d z) (ap Popped (q (sym at) ∙ sym (first (at ∙ ap (indexOf f) (sym (same-is (e .head) h z)))))))
+      (λ z. lost loss.ByWords _ (O2 (e .head)) (λ u. refl))
   leaves (O4 h) busy at d = λ v′ u′ p q. refl
   leaves (O5 h w) busy at d = λ v′ u′ p q. refl
   leaves (O6 h) busy at d =

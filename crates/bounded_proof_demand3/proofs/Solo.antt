@@ -32,14 +32,14 @@ use Rattle.bounded_machine.specs.declared.Ran.{Ran}
 use Rattle.bounded_machine.specs.Machine.{slot, placeOf, idler, refused, accepted}
 use Rattle.bounded_machine.specs.Turn.{verdictOf, carried, turnOf, turnOfBy, spotOf, stored, acted, actedBy}
 use Rattle.bounded_machine.specs.Run.{ran, runFrom}
-use Rattle.bounded_machine.specs.History.{event, historyOf}
+use Rattle.bounded_machine.specs.History.{historyOf}
 use Rattle.bounded_demands.specs.Notions.{acts, InHand, HandsOut, Truth, CallClaim, ItemIn, OtherHand, valueAt}
 use Rattle.bounded_demands.specs.Foretold.{foretoldOf, ownValue, foretold}
 use Rattle.bounded_proof_invariant.proofs.Ring.{Shared}
 use Rattle.bounded_proof_invariant.proofs.Effects.{Loose}
 use Rattle.bounded_proof_each_act.proofs.Stamps.{fixed}
 use Rattle.bounded_proof_each_act.proofs.Sight.{look, HandAt, endsOf, slotOf}
-use Rattle.bounded_proof_demand2.proofs.Turns.{did, stood}
+use Rattle.bounded_proof_demand2.proofs.Turns.{did, stood, eventOf}
 use Rattle.bounded_proof_demand2.proofs.Pictured.{Base, Pictured, busy-counted, first-turn, spot-small, acted-stood, idle-is}
 use Rattle.bounded_proof_demand2.proofs.Reached.{Reached, entered}
 use Rattle.bounded_proof_demand2.proofs.Answers.{true-answers}
@@ -172,10 +172,10 @@ unfolding runBy acts accepted
 run-more m next from w k e = rw e
 
 history-more : (m next : Machine) (h : List Event) (w k : ℕ) → turnOf m (16 * w + 8) 0 ≡ accepted next
-    → (h ++ event w (stood m w) (stood next w) ∷ []) ++ historyOf next (acts w k) ≡ h ++ historyOf m (acts w (suc k))
+    → (h ++ eventOf m w false next ∷ []) ++ historyOf next (acts w k) ≡ h ++ historyOf m (acts w (suc k))
 unfolding historyBy acts accepted
 history-more m next h w k e =
-    append-assoc h (event w (stood m w) (stood next w) ∷ []) (historyOf next (acts w k))
+    append-assoc h (eventOf m w false next ∷ []) (historyOf next (acts w k))
     ∙ ap (λ (l : List Event). h ++ l) (rw (e, act-entry w))
 
 -- the answer foretold of an idle worker is the one it gave
@@ -219,7 +219,7 @@ module _ (c n workers : ℕ) (base : Base c n workers) (w : ℕ) where
   pub ends-by : (k : ℕ) (m : Machine) (h : List Event) (from : ℕ) (r : Reached c n workers m h) → viewOf (stood m w) .busy ≡ true → m .meter + k ≤ meterMost
       → (OtherHand m w → ⊥) → rank m w ≤ k → Ended m h from w k (foretold m w)
   ends-by zero m h from r busy left free low = absurd (omega (arith, rank-falls c n workers base (r .ring) m (r .pictured) w busy free))
-  ends-by (suc k) m h from r busy left free low = go (viewOf (stood next w) .busy) refl (λ b. ends-by k next (h ++ event w (stood m w) (stood next w) ∷ []) (from + 1) r′ b (omega (arith, acted-meter m w (stood m w) false)) free′ (omega (arith, falls′)))
+  ends-by (suc k) m h from r busy left free low = go (viewOf (stood next w) .busy) refl (λ b. ends-by k next (h ++ eventOf m w false next ∷ []) (from + 1) r′ b (omega (arith, acted-meter m w (stood m w) false)) free′ (omega (arith, falls′)))
     where
       next : Machine
       next = acted m w (stood m w) false
@@ -233,7 +233,7 @@ module _ (c n workers : ℕ) (base : Base c n workers) (w : ℕ) where
       taken : turnOf m (16 * w + 8) 0 ≡ accepted (acted m w (stood m w) false)
       taken = act-turn c n workers base (r .ring) m (r .pictured) w busy early
 
-      r′ : Reached c n workers next (h ++ event w (stood m w) (stood next w) ∷ [])
+      r′ : Reached c n workers next (h ++ eventOf m w false next ∷ [])
       r′ = entered c n workers base m h (Asks w (Act false)) _ _ r (did w false mine busy early)
 
       free′ : OtherHand next w → ⊥
@@ -245,7 +245,7 @@ module _ (c n workers : ℕ) (base : Base c n workers) (w : ℕ) where
       told : foretold next w ≡ foretold m w
       told = foretold-stays c n workers base (r .ring) m (r .pictured) w busy free
 
-      go : (b : Bool) → viewOf (stood next w) .busy ≡ b → (viewOf (stood next w) .busy ≡ true → Ended next (h ++ event w (stood m w) (stood next w) ∷ []) (from + 1) w k (foretold next w))
+      go : (b : Bool) → viewOf (stood next w) .busy ≡ b → (viewOf (stood next w) .busy ≡ true → Ended next (h ++ eventOf m w false next ∷ []) (from + 1) w k (foretold next w))
           → Ended m h from w (suc k) (foretold m w)
       go true e more =
           let d = more e in
@@ -272,6 +272,6 @@ module _ (c n workers : ℕ) (base : Base c n workers) (w : ℕ) where
           (true-answers c n workers base m h r w next (foretold m w)
           (record { first = 16 * w + 8; second = 0; lose = false; asks = act-entry w; done = taken }) a)
           (λ v out.
-          let c = r′ .logged .rule h [] (event w (stood m w) (stood next w)) v refl (subst (λ (q : Place). HandsOut q v) (sym a) out) in
+          let c = r′ .logged .rule h [] (eventOf m w false next) v refl (subst (λ (q : Place). HandsOut q v) (sym a) out) in
           (c .0, c .1, c .3))
           k

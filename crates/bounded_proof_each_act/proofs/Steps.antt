@@ -15,14 +15,17 @@ use Rattle.bounded_places.specs.declared.Kind.{Kind}
 use Rattle.bounded_places.specs.declared.Kind.the-variants.{Push, Force}
 use Rattle.bounded_places.specs.declared.Answer.{Answer}
 use Rattle.bounded_places.specs.declared.Answer.the-variants.{Nothing, Pushed, Full, Closed, Displaced, Popped, Empty, PopClosed, Len, Yes, No}
+use Rattle.bounded_places.specs.declared.Exchange.{Exchange}
+use Rattle.bounded_places.specs.declared.Loss.{Loss}
+use Rattle.bounded_places.specs.declared.Loss.the-variants as loss
 use Rattle.bounded_places.specs.declared.Place.{Place}
 use Rattle.bounded_places.specs.declared.Place.the-variants.{Idle, P1, P2, P3, P4, P5, P6, F6, F7, F8, F9, O1, O2, O3, O4, O5, O6, Len1, Len2, Len3, Empty1, Empty2, Full1, Full2, Close1, IsClosed1}
 use Rattle.bounded_places.specs.declared.Held.the-variants as held
 use Rattle.bounded_places.specs.Places.{viewOf}
 use Rattle.bounded_acts.specs.declared.Acted.{Acted}
-use Rattle.bounded_acts.specs.Acts.{stay, tailTo, headTo, stampTo, valueTo, actOf, actP1, actP2, actP3, actP5, actP6, actF6, actF7, actF8, actF9, actO2, actO3, actO5, actO6, actLen3, actClose1, fullAt, yesNo, countOf}
+use Rattle.bounded_acts.specs.Acts.{stay, losing, afterTail, endP3, endF6, endO3, tailTo, headTo, stampTo, valueTo, actOf, actP1, actP2, actP3, actP5, actP6, actF6, actF7, actF8, actF9, actO2, actO3, actO5, actO6, actLen3, actClose1, fullAt, yesNo, countOf}
 use Rattle.bounded_machine.specs.Turn.{spotOf}
-use Rattle.bounded_machine.proofs.Kept.{either}
+use Rattle.bounded_machine.proofs.Kept.{either, exchanged}
 use Rattle.bounded_demands.specs.Notions.{Truth, Writes, writeP4, writeF8}
 use Rattle.bounded_proof_invariant.proofs.Width.{word, Near, index-word, turn-long}
 use Rattle.bounded_proof_invariant.proofs.Upd.{upd, upd-same}
@@ -136,10 +139,10 @@ module _ (c mark n ed : ℕ) (g : Ground c mark n) (s : Shared) (inv : Inv c s) 
   turn = turn-long c mark n (g .laws)
 
   -- an act that changes nothing but its worker's place, from a place that is not in hand
-  still : (b : Bool) (p q : Place) → (HandAt mark (look c p) i → ⊥) → tale (look c q) ≡ Quiet → Says c mark n ed s b (answerIn (look c q))
-      → Stands c mark n s w (look c q) → Does b p (stay (E b) S q)
-  unfolding stay
-  still b p q loose t r o =
+  lost : (l : Loss) (b : Bool) (p q : Place) → (HandAt mark (look c p) i → ⊥) → tale (look c q) ≡ Quiet → Says c mark n ed s b (answerIn (look c q))
+      → Stands c mark n s w (look c q) → Does b p (losing (E b) S q l)
+  unfolding losing
+  lost l b p q loose t r o =
       record {
         effect = Still;
         fits = tt;
@@ -154,6 +157,11 @@ module _ (c mark n ed : ℕ) (g : Ground c mark n) (s : Shared) (inv : Inv c s) 
         writes = tt;
       }
 
+  still : (b : Bool) (p q : Place) → (HandAt mark (look c p) i → ⊥) → tale (look c q) ≡ Quiet → Says c mark n ed s b (answerIn (look c q))
+      → Stands c mark n s w (look c q) → Does b p (stay (E b) S q)
+  unfolding stay losing
+  still = lost loss.Nothing
+
   no-hand : {P : Type 0} → (false ≡ true) × P → ⊥
   no-hand h = true≢false (sym (h .0))
 
@@ -161,12 +169,17 @@ module _ (c mark n ed : ℕ) (g : Ground c mark n) (s : Shared) (inv : Inv c s) 
   clear-tail : (b : Bool) → markedOf f (E b .tail) ≡ false → tailWord c mark n (s .tail) b ≡ Word (s .tail)
   clear-tail b h = let q : b ≡ false = sym (Stamps.marked-tail c mark n g ed (s .tail) b) ∙ h in rw q
 
-  -- P1, and P3 that lost: load tail
+  -- P1, and P3 that lost: tail is loaded, or found
+  finds : (l : Loss) (b : Bool) (p : Place) (k : Kind) (x : ℕ) → (HandAt mark (look c p) i → ⊥) → Does b p (losing (E b) S (afterTail f k (E b .tail) x) l)
+  unfolding afterTail
+  finds l b p k x loose =
+      either (λ (q : Place). Does b p (losing (E b) S q l)) (markedOf f (E b .tail)) (Idle (Closed x)) (P2 k (E b .tail) x)
+      (λ h. lost l b p (Idle (Closed x)) loose refl h tt)
+      (λ h. lost l b p (P2 k (E b .tail) x) loose refl tt (s .tail, clear-tail b h, omega arith))
+
   loads : (b : Bool) (p : Place) (k : Kind) (x : ℕ) → (HandAt mark (look c p) i → ⊥) → Does b p (actP1 f (E b) S k x)
-  loads b p k x loose =
-      either (Does b p) (markedOf f (E b .tail)) (stay (E b) S (Idle (Closed x))) (stay (E b) S (P2 k (E b .tail) x))
-      (λ h. still b p (Idle (Closed x)) loose refl h tt)
-      (λ h. still b p (P2 k (E b .tail) x) loose refl tt (s .tail, clear-tail b h, omega arith))
+  unfolding stay losing
+  loads = finds loss.Nothing
 
   ok-here : CellOk c s i (s .cell i)
   ok-here = inv .cells i small
@@ -239,11 +252,10 @@ module _ (c mark n ed : ℕ) (g : Ground c mark n) (s : Shared) (inv : Inv c s) 
   p3 : (b : Bool) (k : Kind) (m x : ℕ) (lose : Bool) → m % c ≡ i → ViewOk c s w (Awaits m) → Late m
       → Does b (P3 k (Word m) x) (actP3 f (E b) S k (Word m) x lose)
   p3 b k m x lose at o late =
-      either (Does b (P3 k (Word m) x)) (same (E b .tail) (Word m)) _ (actP1 f (E b) S k x)
-      (λ h. either (Does b (P3 k (Word m) x)) lose (stay (E b) S (P2 k (Word m) x)) (stay (tailTo (E b) (nextOf f (Word m))) S (P4 (Word m) x))
-      (λ d. still b (P3 k (Word m) x) (P2 k (Word m) x) no-hand refl tt (m, refl, o .0))
-      (λ d. won h))
-      (λ h. loads b (P3 k (Word m) x) k x no-hand)
+      exchanged (λ (y : Exchange). Does b (P3 k (Word m) x) (endP3 f (E b) S k (Word m) x y)) (E b .tail) (Word m) lose
+      (λ h d. lost loss.BySchedule b (P3 k (Word m) x) (P2 k (Word m) x) no-hand refl tt (m, refl, o .0))
+      (λ h d. won h)
+      (λ h. finds loss.ByWords b (P3 k (Word m) x) k x no-hand)
     where
       won : same (E b .tail) (Word m) ≡ true → Does b (P3 k (Word m) x) (stay (tailTo (E b) (nextOf f (Word m))) S (P4 (Word m) x))
       won h =
@@ -331,11 +343,10 @@ module _ (c mark n ed : ℕ) (g : Ground c mark n) (s : Shared) (inv : Inv c s) 
   f6 : (b : Bool) (m x : ℕ) (lose : Bool) → m % c ≡ i → ViewOk c s w (Forces m) → Late (m + c)
       → Does b (F6 (Word (m + c)) x) (actF6 f (E b) S (Word (m + c)) x lose)
   f6 b m x lose at o late =
-      either (Does b (F6 (Word (m + c)) x)) (same (E b .head) (minus (Word (m + c)) (2 * mark))) _ (stay (E b) S (P1 Force x))
-      (λ h. either (Does b (F6 (Word (m + c)) x)) lose (stay (E b) S (P1 Force x)) (stay (headTo (E b) (minus (nextOf f (Word (m + c))) (2 * mark))) S (F7 (Word (m + c)) x))
-      (λ d. still b (F6 (Word (m + c)) x) (P1 Force x) no-hand refl tt tt)
-      (λ d. won h))
-      (λ h. still b (F6 (Word (m + c)) x) (P1 Force x) no-hand refl tt tt)
+      exchanged (λ (y : Exchange). Does b (F6 (Word (m + c)) x) (endF6 f (E b) S (Word (m + c)) x y)) (E b .head) (minus (Word (m + c)) (2 * mark)) lose
+      (λ h d. lost loss.BySchedule b (F6 (Word (m + c)) x) (P1 Force x) no-hand refl tt tt)
+      (λ h d. won h)
+      (λ h. lost loss.ByWords b (F6 (Word (m + c)) x) (P1 Force x) no-hand refl tt tt)
     where
       won : same (E b .head) (minus (Word (m + c)) (2 * mark)) ≡ true
           → Does b (F6 (Word (m + c)) x) (stay (headTo (E b) (minus (nextOf f (Word (m + c))) (2 * mark))) S (F7 (Word (m + c)) x))
@@ -456,11 +467,10 @@ module _ (c mark n ed : ℕ) (g : Ground c mark n) (s : Shared) (inv : Inv c s) 
 
   o3 : (b : Bool) (m : ℕ) (lose : Bool) → m % c ≡ i → ViewOk c s w (Holds m) → LateHead m → Does b (O3 (Word m)) (actO3 f (E b) S (Word m) lose)
   o3 b m lose at o late =
-      either (Does b (O3 (Word m))) (same (E b .head) (Word m)) _ (stay (E b) S (O2 (E b .head)))
-      (λ h. either (Does b (O3 (Word m))) lose (stay (E b) S (O2 (Word m))) (stay (headTo (E b) (nextOf f (Word m))) S (O4 (Word m)))
-      (λ d. still b (O3 (Word m)) (O2 (Word m)) no-hand refl tt (m, refl, o .0))
-      (λ d. won h))
-      (λ h. still b (O3 (Word m)) (O2 (E b .head)) no-hand refl tt (s .head, refl, omega arith))
+      exchanged (λ (y : Exchange). Does b (O3 (Word m)) (endO3 f (E b) S (Word m) y)) (E b .head) (Word m) lose
+      (λ h d. lost loss.BySchedule b (O3 (Word m)) (O2 (Word m)) no-hand refl tt (m, refl, o .0))
+      (λ h d. won h)
+      (λ h. lost loss.ByWords b (O3 (Word m)) (O2 (E b .head)) no-hand refl tt (s .head, refl, omega arith))
     where
       won : same (E b .head) (Word m) ≡ true → Does b (O3 (Word m)) (stay (headTo (E b) (nextOf f (Word m))) S (O4 (Word m)))
       won h =

@@ -1,11 +1,13 @@
 // The rows of push, of which force_push takes the first three. The definitions: crate bounded_acts.
 ghost use mathlib.Core.Path.{_≡_};
 ghost use Rattle.bounded_words.specs.Words.{Fair, nextOf};
-ghost use Rattle.bounded_acts.specs.Acts.{tailTo, fullAt, actP1, actP2, actP3, actP5, actP6};
+ghost use Rattle.bounded_acts.specs.Acts.{afterTail, tailTo, fullAt, actP1, actP2, actP3, actP5, actP6};
 use bounded_acts::Acted;
 use bounded_places::Answer;
 use bounded_places::Ends;
+use bounded_places::Exchange;
 use bounded_places::Kind;
+use bounded_places::Loss;
 use bounded_places::Place;
 use bounded_places::Slot;
 use bounded_words::Fixed;
@@ -20,16 +22,23 @@ fn tail_to_next(f: Fixed, e: Ends, t: Stamp) -> Ends
     Ends { head: h, tail: w }
 }
 
+// Where push goes with a tail loaded or found: "marked: Closed, else P2".
+fn after_tail(f: Fixed, k: Kind, t: Stamp, item: u64) -> Place
+    requires { ⌜ Fair f ⌝ }
+    ensures { λ r. ⌜ r ≡ afterTail f k t item ⌝ }
+{
+    if bounded_words::marked(f, t) {
+        Place::Idle(Answer::Closed(item))
+    } else {
+        Place::P2(k, t, item)
+    }
+}
+
 pub fn p1(f: Fixed, e: Ends, s: Slot, k: Kind, item: u64) -> Acted
     requires { ⌜ Fair f ⌝ }
     ensures { λ r. ⌜ r ≡ actP1 f e s k item ⌝ }
 {
-    let t = e.tail;
-    if bounded_words::marked(f, t) {
-        bounded_acts::stay(e, s, Place::Idle(Answer::Closed(item)))
-    } else {
-        bounded_acts::stay(e, s, Place::P2(k, t, item))
-    }
+    bounded_acts::stay(e, s, after_tail(f, k, e.tail, item))
 }
 
 fn full_at(k: Kind, t: Stamp, item: u64) -> Place
@@ -59,15 +68,12 @@ pub fn p3(f: Fixed, e: Ends, s: Slot, k: Kind, t: Stamp, item: u64, lose: bool) 
     requires { ⌜ Fair f ⌝ }
     ensures { λ r. ⌜ r ≡ actP3 f e s k t item lose ⌝ }
 {
-    let found = e.tail;
-    if bounded_words::same_word(found, t) {
-        if lose {
-            bounded_acts::stay(e, s, Place::P2(k, t, item))
-        } else {
-            bounded_acts::stay(tail_to_next(f, e, t), s, Place::P4(t, item))
+    match bounded_acts::exchange(e.tail, t, lose) {
+        Exchange::Won => bounded_acts::stay(tail_to_next(f, e, t), s, Place::P4(t, item)),
+        Exchange::Differed(found) => {
+            bounded_acts::losing(e, s, after_tail(f, k, found, item), Loss::ByWords)
         }
-    } else {
-        p1(f, e, s, k, item)
+        Exchange::Failed => bounded_acts::losing(e, s, Place::P2(k, t, item), Loss::BySchedule),
     }
 }
 

@@ -5,7 +5,7 @@ use mathlib.Core.Bool.{Bool, true, false}
 use mathlib.Core.List.{List, _∷_}
 use native.Mathlib.Omega.{arith}
 use lib.Dec.{ltb}
-use lib.ListN.{getD, length, drop, drop-of-length-le}
+use lib.ListN.{getD, set, length, drop, drop-of-length-le}
 use borrow.Author.Tests.{ne-eqb, eq-eqb, ltb-true}
 use Rattle.queue_entries.specs.declared.Finding.{Finding}
 use Rattle.queue_entries.specs.declared.Finding.the-variants.{AllRead, UnreadableAt}
@@ -24,6 +24,7 @@ use Rattle.queue_entries.specs.declared.Verdict.the-variants.{Refuse, Start, Mo
 use Rattle.bounded_words.specs.Limits.{slotsMost}
 use Rattle.bounded_places.specs.declared.Slot.{Slot}
 use Rattle.bounded_places.specs.declared.Place.{Place}
+use Rattle.bounded_places.specs.declared.Worker.{Worker}
 use Rattle.bounded_places.specs.declared.Held.{Held}
 use Rattle.bounded_places.specs.declared.Held.the-variants as held
 use Rattle.bounded_places.specs.Places.{viewOf, fitsOf, beginOf}
@@ -31,11 +32,11 @@ use Rattle.bounded_acts.specs.declared.Acted.{Acted}
 use Rattle.bounded_acts.specs.Acts.{actOf, Fits}
 use Rattle.bounded_machine.specs.declared.Machine.{Machine}
 use Rattle.bounded_machine.specs.declared.Ran.{Ran}
-use Rattle.bounded_machine.specs.Machine.{slot, placeOf, refused, accepted}
+use Rattle.bounded_machine.specs.Machine.{slot, machineOf, recordOf, placeOf, refused, accepted}
 use Rattle.bounded_machine.specs.Broken.{brokenOf}
-use Rattle.bounded_machine.specs.Turn.{verdictOf, spotOf, begun, stored, actedBy, carried, turn, turnOf, turnOfBy}
+use Rattle.bounded_machine.specs.Turn.{verdictOf, spotOf, recordAfter, begun, stored, actedBy, carried, turn, turnOf, turnOfBy}
 use Rattle.bounded_machine.specs.Run.{ran, runFrom, runOf}
-use Rattle.bounded_machine.proofs.Kept.{Unbroken, fair-in, ruled-in, few-workers, begun-unbroken, stored-unbroken, Ok, keeps, word-fits-in, fits-plain, either}
+use Rattle.bounded_machine.proofs.Kept.{Unbroken, fair-in, ruled-in, few-workers, few-lost, begun-unbroken, stored-unbroken, Ok, keeps, word-fits-in, fits-plain, either}
 
 -- ---- what a verdict tells: a refusal has a number, a move is a busy worker's in time
 abbrev Sense : ℕ → Place → Verdict → Type 0
@@ -63,6 +64,14 @@ module _ (meter : ℕ) (p : Place) (o : Order) (v : Verdict) (e : v ≡ verdictO
 
   pub move-in-time : (lose : Bool) → v ≡ Move lose → meter < meterMost
   move-in-time lose h = subst (Sense meter p) (sym e ∙ h) (sense meter p o) .1
+
+-- ---- what an act leaves, with the worker's record as the code made it
+abbrev pub kept : Machine → ℕ → ℕ → Acted → Worker → Machine
+kept m w i a r = machineOf (m .ring .fixed) (a .ends) (set (m .ring .slots) i (a .slot)) (set (m .workers) w r) (m .count) (m .meter + 1)
+
+as-stored : (m : Machine) (w i : ℕ) (a : Acted) (r : Worker) → r ≡ recordAfter (recordOf (m .workers) w) (a .place) (a .loss) → stored m w i a ≡ kept m w i a r
+unfolding stored
+as-stored m w i a r e = ap (kept m w i a) (sym e)
 
 -- ---- what an entry does
 module _ (m : Machine) (first second : ℕ) (x : Entry) (ex : x ≡ entryOf first second) where
@@ -109,11 +118,11 @@ module _ (s : List ℕ) (n i : ℕ) (m : Machine) (whole : Ran) (back : runFrom 
 
         pub move : (lose : Bool) (sp : ℕ) (a : Acted) → v ≡ Move lose → sp ≡ spotOf (m .ring .fixed) (viewOf (placeOf (m .workers) w) .held)
             → a ≡ actOf (m .ring .fixed) (m .ring .ends) (getD (m .ring .slots) sp (slot 0 0)) (placeOf (m .workers) w) lose
-            → runFrom (stored m w sp a) (i + 1) (drop (2 * (i + 1)) s) ≡ whole
+            → (r : Worker) → r ≡ recordAfter (recordOf (m .workers) w) (a .place) (a .loss) → runFrom (kept m w sp a r) (i + 1) (drop (2 * (i + 1)) s) ≡ whole
         unfolding actedBy
-        move lose sp a k es ea =
-            went (stored m w sp a)
-            (near m _ _ x ex w o h v g e ∙ ap (carried m w (placeOf (m .workers) w)) k ∙ ap accepted (rw (ea, es)))
+        move lose sp a k es ea r er =
+            went (kept m w sp a r)
+            (near m _ _ x ex w o h v g e ∙ ap (carried m w (placeOf (m .workers) w)) k ∙ ap accepted (rw (ea, es)) ∙ ap accepted (as-stored m w sp a r er))
 
 -- ---- before and after the loop
 module _ (m : Machine) (s : List ℕ) (b : Bool) (e : b ≡ brokenOf m) where
@@ -157,13 +166,19 @@ module _ (m : Machine) (u : Unbroken m) where
         spot-fits (held.Tail t) k = omega arith
         spot-fits (held.Both t d) k = omega arith
 
+  -- one loss more can be counted while the meter can rise
+  pub lost-below : (w : ℕ) → w < m .count → m .meter < meterMost → (recordOf (m .workers) w .differed < meterMost) × (recordOf (m .workers) w .failed < meterMost)
+  lost-below w l h = (omega (arith, few-lost m u w l), omega (arith, few-lost m u w l))
+
   -- and it stays unbroken
   module _ (w : ℕ) (l : w < m .count) where
     pub started-unbroken : (c : Call) (q : Place) → q ≡ beginOf c → Unbroken (begun m w q)
     started-unbroken c q e = subst (λ (x : Place). Unbroken (begun m w x)) (sym e) (begun-unbroken m u w l c)
 
-    pub moved-unbroken : (sp : ℕ) (a : Acted) (s : Slot) (lose : Bool) → viewOf (placeOf (m .workers) w) .busy ≡ true → a ≡ actOf (m .ring .fixed) (m .ring .ends) s (placeOf (m .workers) w) lose → Unbroken (stored m w sp a)
-    moved-unbroken sp a s lose h e =
-        stored-unbroken m u w l sp a
+    pub moved-unbroken : (sp : ℕ) (a : Acted) (s : Slot) (lose : Bool) → viewOf (placeOf (m .workers) w) .busy ≡ true → a ≡ actOf (m .ring .fixed) (m .ring .ends) s (placeOf (m .workers) w) lose
+        → (r : Worker) → r ≡ recordAfter (recordOf (m .workers) w) (a .place) (a .loss) → Unbroken (kept m w sp a r)
+    moved-unbroken sp a s lose h e r er =
+        subst Unbroken (as-stored m w sp a r er)
+        (stored-unbroken m u w l sp a
         (subst (Ok (m .ring .fixed) (ruled-in m u)) (sym e)
-        (keeps (m .ring .fixed) (ruled-in m u) (m .ring .ends) s (u .ends) (placeOf (m .workers) w) lose (word-fits-in m u w l h)))
+        (keeps (m .ring .fixed) (ruled-in m u) (m .ring .ends) s (u .ends) (placeOf (m .workers) w) lose (word-fits-in m u w l h))))

@@ -87,6 +87,8 @@ pub fn run(m: Machine, schedule: &[u64]) -> Ran
             Verdict::Start(call) => {
                 workers[w] = Worker {
                     place: bounded_places::first_place(call),
+                    differed: 0,
+                    failed: 0,
                 };
                 i += 1;
             }
@@ -98,9 +100,10 @@ pub fn run(m: Machine, schedule: &[u64]) -> Ran
                 let a = bounded_table::act_at(f, ends, slot, p, lose);
                 let slot_after = a.slot;
                 let place_after = a.place;
+                let loss = a.loss;
                 ends = a.ends;
                 slots[k] = slot_after;
-                workers[w] = Worker { place: place_after };
+                workers[w] = bounded_machine::record_after(record, place_after, loss);
                 meter += 1;
                 i += 1;
             }

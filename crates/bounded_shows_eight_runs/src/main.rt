@@ -1,4 +1,4 @@
-// Document 01's eight runs, A to H, on the compiled code. The file `stdout` is written from the document.
+// Document 01's eight runs, A to H, on the compiled code. The file `stdout` is written from the documents.
 use bounded_machine::Machine;
 use bounded_machine::Ran;
 use bounded_machine::Tally;
@@ -155,11 +155,19 @@ fn run_a() {
     constants(1024);
 }
 
+// lost=D,S, of worker 0 (document 02, item 8)
+fn say_lost(out: &mut [u8], at: usize, m: Machine) -> usize {
+    let workers = m.workers;
+    let r = workers[0];
+    text_output::form(out, at, b" lost=#,#", &[r.differed, r.failed])
+}
+
 fn say_ran(r: Ran) {
     let mut out = [0u8; 512];
     let p = text_output::text(&mut out, 0, b"B as one schedule: ");
     let q = bounded_text_machine::text::entry(&mut out, p, r.place, r.refusal, 0, r.machine);
-    text_output::end(&mut out, q);
+    let s = say_lost(&mut out, q, r.machine);
+    text_output::end(&mut out, s);
     bounded_text_answers::entry::slots(r.machine);
 }
 

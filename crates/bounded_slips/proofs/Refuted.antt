@@ -1,7 +1,7 @@
 -- Each slip, refuted by computing its schedule.
 use Prim.Native.Nat.{ℕ, _≤_}
 use native.Mathlib.Omega.{arith}
-use mathlib.Core.Bool.{true≢false}
+use mathlib.Core.Bool.{true, true≢false}
 use mathlib.Core.List.{List, [], _∷_, _++_}
 use mathlib.Core.Path.{_≡_, refl, sym, ap}
 use lib.ListN.{getD}
@@ -14,22 +14,23 @@ use Rattle.bounded_words.specs.Words.{doubled, markOf, markedOf, unmarkedOf, pl
 use Rattle.bounded_places.specs.declared.Answer.{Answer}
 use Rattle.bounded_places.specs.declared.Answer.the-variants.{Nothing, Pushed, Full, Closed, Displaced, Popped, Empty, PopClosed, Len, Yes, No}
 use Rattle.bounded_places.specs.declared.Kind.the-variants.{Push}
+use Rattle.bounded_places.specs.declared.Loss.the-variants as loss
 use Rattle.bounded_places.specs.declared.Place.the-variants.{Idle, P3, P4, F8, F9, O1, O2, O3, O4, O5, O6}
 use Rattle.bounded_places.specs.Places.{inside}
-use Rattle.bounded_acts.specs.Acts.{forcedTail, stay, tailTo, headTo, stampTo, valueTo, countOf}
+use Rattle.bounded_acts.specs.Acts.{forcedTail, stay, losing, exchangeOf, afterTail, tailTo, headTo, stampTo, valueTo, countOf}
 use Rattle.bounded_machine.specs.declared.Machine.{Machine}
 use Rattle.bounded_machine.specs.declared.Moved.the-variants.{Neither, Tail, Head}
 use Rattle.bounded_machine.specs.declared.Ran.{Ran}
 use Rattle.bounded_machine.specs.Machine.{emptySlots, stamped, freshSlots, idlers, freshOf, refused, accepted}
-use Rattle.bounded_machine.specs.Broken.{byRule, endsFit, recordFits, recordsFit, brokenOf, allIdle}
+use Rattle.bounded_machine.specs.Broken.{byRule, endsFit, placeFits, recordFits, recordsFit, brokenOf, allIdle}
 use Rattle.bounded_machine.specs.Contents.{countIn, wrapped, itemAt, itemsFrom, contentsOf}
-use Rattle.bounded_machine.specs.Turn.{begun, stored, actedBy, turnOfBy}
+use Rattle.bounded_machine.specs.Turn.{recordAfter, begun, stored, actedBy, turnOfBy}
 use Rattle.bounded_machine.specs.Run.{ran}
 use Rattle.bounded_machine.specs.History.{event, tallyOf, stockOf, untakenOf}
-use Rattle.bounded_demands.specs.Notions.{acts, itemsOf, tailersOf, takersOf, handP4, handO4, Reads, readO4, readF8, unreadBy, popped, passed, ownActs, actsOf, Allowed}
+use Rattle.bounded_demands.specs.Notions.{acts, itemsOf, tailersOf, takersOf, handP4, handO4, Reads, readO4, readF8, unreadBy, exchangeP3, lostFrom, struck, popped, passed, ownActs, actsOf, Allowed}
 use Rattle.bounded_proof_demand2.proofs.Stock.{reading}
 use Rattle.bounded_slips.specs.Slips.{none, actWith, slipped, howMany, emptyUnseen, fullUnseen, closedUnseen, emptyTailFirst, fullHeadFirst, lenLooksOnce, popKeepsItsWord, lostForceKeepsItsWord, lostForceTakesTheHead, unstamped, releasesWithNext, neverLetsGo, handsOutAgain, readsAfterItsStore, stampBeforeValue, pushWritesLate, closedTooSoon}
-use Rattle.bounded_slips.specs.Refuted.{Trial, reached, past, does, Refuted, popOfNothing, popLooksLate, pushLooksLate, pushLoses, emptyLooks, fullLooks, popAfterPush, secondLap, popOutOfDate, forceOutOfDate, popInHand, lenLooks, lenOutOfDate, closedBefore}
+use Rattle.bounded_slips.specs.Refuted.{Trial, trial, reached, past, does, popLoses, Refuted, popOfNothing, popLooksLate, pushLooksLate, pushLoses, emptyLooks, fullLooks, popAfterPush, secondLap, popOutOfDate, forceOutOfDate, popInHand, lenLooks, lenOutOfDate, closedBefore}
 use Rattle.bounded_slips.proofs.Ways.{busyAt, nowhere, wrong-item, unclaimed, sole, acting, said, no-cons, untouched, quiet, no-hand, stillBusy, late, rests, at-once, busyAlong, holds-on}
 
 one-two : Allowed 1 2 1
@@ -71,23 +72,26 @@ readable e = let q : _≡_ {A = ℕ} 0 1 = cc in omega arith
 head-tail : Head ≡ Tail → ⊥
 head-tail e = let q : _≡_ {A = ℕ} 0 1 = cc in omega arith
 
+words-schedule : loss.BySchedule ≡ loss.ByWords → ⊥
+words-schedule e = let q : _≡_ {A = ℕ} 0 1 = cc in omega arith
+
 -- O3 reads no value
 loses-nothing : (t : Stamp) → Reads (O3 (stamp 0)) t → ⊥
 loses-nothing t r = true≢false (sym (reading (O3 (stamp 0)) t r .0))
 
 pub refuted : Refuted
-unfolding forcedTail doubled markOf markedOf unmarkedOf plus minus withMark nextOf same onePast lapBehind lapBehindOnePast inside strayOf orderOf entryOf stay tailTo headTo stampTo valueTo countOf emptySlots stamped freshSlots idlers freshOf refused accepted all inLimits byRule endsFit recordFits recordsFit brokenOf allIdle countIn wrapped itemAt itemsFrom contentsOf begun stored actedBy turnOfBy ran runBy searchBy scheduleBy historyBy tallyOf stockOf untakenOf howMany unreadBy acts itemsOf tailersOf takersOf passed ownActs nowhere stillBusy busyAlong
+unfolding forcedTail doubled markOf markedOf unmarkedOf plus minus withMark nextOf same onePast lapBehind lapBehindOnePast inside strayOf orderOf entryOf stay losing exchangeOf afterTail tailTo headTo stampTo valueTo countOf emptySlots stamped freshSlots idlers freshOf refused accepted all inLimits byRule endsFit placeFits recordFits recordsFit brokenOf allIdle countIn wrapped itemAt itemsFrom contentsOf recordAfter begun stored actedBy turnOfBy ran runBy searchBy scheduleBy historyBy tallyOf stockOf untakenOf howMany unreadBy acts itemsOf tailersOf takersOf lostFrom struck passed ownActs nowhere stillBusy busyAlong
 refuted =
     record {
       act-by-act = λ a. true≢false (sym (ap (λ (m : Machine). busyAt m 0) (a (freshOf 1 2 1) [] 0 5 refl refl refl .0)));
       whole-schedules = λ w. true≢false (ap (λ (r : Ran). busyAt (r .machine) 0) (w 1 2 1 one-two (0 ∷ 5 ∷ []) .0 refl (readable, tt)));
-      claim-rule = λ r. wrong-item _ 1 6 refl (r (actsOf (slipped readsAfterItsStore) 1 2 1 (does 0 0 5 5 ++ does 1 2 0 4 ++ does 0 0 6 5)) [] (event 1 (O5 (stamp 0) 0) (Idle (Popped 6))) 6 refl popped);
-      claim-rule-push = λ r. wrong-item _ 1 0 refl (r (actsOf (slipped pushWritesLate) 1 2 1 (does 0 0 5 4 ++ does 1 2 0 4)) [] (event 1 (O5 (stamp 0) 0) (Idle (Popped 0))) 0 refl popped);
-      claim-rule-force = λ r. wrong-item _ 0 5 refl (r (actsOf (slipped stampBeforeValue) 1 2 1 (does 0 0 5 5 ++ does 1 1 6 5 ++ does 0 2 0 4)) [] (event 0 (O5 (stamp 4) 5) (Idle (Popped 5))) 5 refl popped);
+      claim-rule = λ r. wrong-item _ 1 6 refl (r (actsOf (slipped readsAfterItsStore) 1 2 1 (does 0 0 5 5 ++ does 1 2 0 4 ++ does 0 0 6 5)) [] (event 1 (O5 (stamp 0) 0) (Idle (Popped 6)) loss.Nothing) 6 refl popped);
+      claim-rule-push = λ r. wrong-item _ 1 0 refl (r (actsOf (slipped pushWritesLate) 1 2 1 (does 0 0 5 4 ++ does 1 2 0 4)) [] (event 1 (O5 (stamp 0) 0) (Idle (Popped 0)) loss.Nothing) 0 refl popped);
+      claim-rule-force = λ r. wrong-item _ 0 5 refl (r (actsOf (slipped stampBeforeValue) 1 2 1 (does 0 0 5 5 ++ does 1 1 6 5 ++ does 0 2 0 4)) [] (event 0 (O5 (stamp 4) 5) (Idle (Popped 5)) loss.Nothing) 5 refl popped);
       once-out =
           λ o.
-          o (actsOf (slipped handsOutAgain) 1 2 1 (does 0 0 5 5 ++ does 0 2 0 4)) (event 0 O1 (O2 (stamp 4)) ∷ event 0 (O2 (stamp 4)) (O6 (stamp 4)) ∷ []) []
-          (event 0 (O5 (stamp 0) 5) (Idle (Popped 5))) (event 0 (O6 (stamp 4)) (Idle (Popped 5))) 5 5 0 refl popped popped sole sole;
+          o (actsOf (slipped handsOutAgain) 1 2 1 (does 0 0 5 5 ++ does 0 2 0 4)) (event 0 O1 (O2 (stamp 4)) loss.Nothing ∷ event 0 (O2 (stamp 4)) (O6 (stamp 4)) loss.Nothing ∷ []) []
+          (event 0 (O5 (stamp 0) 5) (Idle (Popped 5)) loss.Nothing) (event 0 (O6 (stamp 4)) (Idle (Popped 5)) loss.Nothing) 5 5 0 refl popped popped sole sole;
       one-hand = λ h. let q : _≡_ {A = ℕ} 0 1 = h 0 1 (stamp 0) (stamp 0) handP4 handP4 refl in omega arith;
       answers-empty = λ a. let q = ap (λ (s : Stamp). s .0) (said (slipped emptyUnseen) (reached popLooksLate) 1 Empty a refl refl refl .1) in omega arith;
       answers-full = λ a. true≢false (sym (said (slipped fullUnseen) (reached pushLooksLate) 1 (Full 6) a refl refl refl));
@@ -141,24 +145,32 @@ refuted =
       in-the-way = λ i. no-hand (reached popAfterPush) 0 refl refl quiet (i 0 (omega arith) refl);
       lets-go = λ l. holds-on (slipped neverLetsGo) (reached popInHand) 0 2 (acts 0 2) refl (l 0 (stamp 0) (acts 0 2) handO4 (let q : 2 ≤ 2 = omega arith in q));
       as-run = λ p. true≢false (ap (λ (m : Machine). busyAt m 0) (p (0 ∷ 5 ∷ []) refl));
-      rises = λ s. let q : _≡_ {A = ℕ} 0 1 = s (actsOf (slipped none) 1 2 1 (does 0 0 5 2)) [] (event 0 (P3 Push (stamp 0) 5) (P4 (stamp 0) 5)) refl refl in omega arith;
+      rises = λ s. let q : _≡_ {A = ℕ} 0 1 = s (actsOf (slipped none) 1 2 1 (does 0 0 5 2)) [] (event 0 (P3 Push (stamp 0) 5) (P4 (stamp 0) 5) loss.Nothing) refl refl in omega arith;
       falls =
           λ s.
           let q : _≡_ {A = ℕ} 2 3 =
-          s (actsOf (slipped none) 1 2 1 (does 0 0 5 5 ++ does 0 1 6 4)) (event 0 (F9 (stamp 4) 5) (Idle (Displaced 5)) ∷ []) (event 0 (F8 (stamp 4) 6) (F9 (stamp 4) 5)) (stamp 4) refl readF8 in
+          s (actsOf (slipped none) 1 2 1 (does 0 0 5 5 ++ does 0 1 6 4)) (event 0 (F9 (stamp 4) 5) (Idle (Displaced 5)) loss.Nothing ∷ []) (event 0 (F8 (stamp 4) 6) (F9 (stamp 4) 5) loss.Nothing) (stamp 4) refl readF8 in
           omega arith;
       stays =
           λ s.
           let q : _≡_ {A = ℕ} 0 1 =
-          s (actsOf (slipped none) 1 2 1 (does 0 0 5 5 ++ does 0 2 0 2)) [] (event 0 (O3 (stamp 0)) (O4 (stamp 0))) refl (λ e. head-tail e) (λ t r. loses-nothing t r) in
+          s (actsOf (slipped none) 1 2 1 (does 0 0 5 5 ++ does 0 2 0 2)) [] (event 0 (O3 (stamp 0)) (O4 (stamp 0)) loss.Nothing) refl (λ e. head-tail e) (λ t r. loses-nothing t r) in
           omega arith;
       hands = λ s. let q : _≡_ {A = ℕ} 0 1 = s in omega arith;
       number = λ s. let q : _≡_ {A = ℕ} 2 1 = s refl .0 in omega arith;
       number-push = λ s. let q : _≡_ {A = ℕ} 1 0 = s refl .0 in omega arith;
       most = λ s. let q : 3 ≤ 2 = s in omega arith;
+      both = λ c. let q : _≡_ {A = ℕ} 0 1 = c 1 .0 in omega arith;
+      force = λ c. let q : _≡_ {A = ℕ} 0 1 = c 1 .1 in omega arith;
+      won = λ c. let q : _≡_ {A = ℕ} 1 0 = c 0 .0 in omega arith;
+      twice-counted = λ c. let q : _≡_ {A = ℕ} 2 1 = c 0 .1 in omega arith;
+      ended = λ c. let q : _≡_ {A = ℕ} 0 1 = c 0 .1 in omega arith;
+      begun-anew = λ c. let q : _≡_ {A = ℕ} 1 0 = c 0 .1 in omega arith;
+      told = λ t. words-schedule (t .differed (stamp 4) (stamp 0) true exchangeP3 (λ e. let q : _≡_ {A = ℕ} 4 0 = ap (λ (z : Stamp). z .0) e in omega arith));
+      aside = λ a. let q : _≡_ {A = ℕ} 7 0 = a (reached (trial none 1 popLoses)) 8 0 .0 in omega arith;
       once-closed = λ o. true≢false (sym (o refl (acts 0 2)));
       closed-last =
           λ o.
-          let q = o (actsOf (slipped closedTooSoon) 1 2 1 closedBefore) (event 0 O1 (O2 (stamp 0)) ∷ event 0 (O2 (stamp 0)) (O3 (stamp 0)) ∷ event 0 (O3 (stamp 0)) (O4 (stamp 0)) ∷ []) (event 1 (O6 (stamp 0)) (Idle PopClosed)) refl refl in
+          let q = o (actsOf (slipped closedTooSoon) 1 2 1 closedBefore) (event 0 O1 (O2 (stamp 0)) loss.Nothing ∷ event 0 (O2 (stamp 0)) (O3 (stamp 0)) loss.Nothing ∷ event 0 (O3 (stamp 0)) (O4 (stamp 0)) loss.Nothing ∷ []) (event 1 (O6 (stamp 0)) (Idle PopClosed) loss.Nothing) refl refl in
           claimed (q .1 .1 .0);
     }

@@ -7,9 +7,9 @@ use mathlib.Core.Path.{_≡_}
 use Rattle.bounded_machine.specs.declared.Machine.{Machine}
 use Rattle.bounded_machine.specs.declared.Event.{Event}
 use Rattle.bounded_machine.specs.Broken.{brokenOf}
-use Rattle.bounded_demands.specs.Notions.{Plain, machineAfter, actsOf, acts, stock}
-use Rattle.bounded_demands.specs.Demands.{ClaimRule, OnceOut, OneHand, ReadsWritten, AnswersTrue, UntakenCounts, ContentsWait, PlainQueue, EmptyTrue, FullTrue, ActByAct, WholeSchedules, LenTrue, NeverRefused, AloneEnds, InTheWay, HandLetsGo, PassedAsRun, StockRises, StockFalls, StockStays, StockByHands, StockIsNumber, StockMost, OnceClosed, NoneAfterClosed}
-use Rattle.bounded_slips.specs.Slips.{none, lostPushGoesOn, closedUnseen, unwrapped, tailUnmoved, unwritten, unstamped, fullUnseen, tailBeforeHead, lostForceKeepsItsWord, lostForceTakesTheHead, stampBeforeValue, stampUntested, readsAfterItsStore, releasesWithNext, neverLetsGo, emptyUnseen, handsOutAgain, popKeepsItsWord, lenLooksOnce, emptyTailFirst, fullHeadFirst, pushWritesLate, forceForgets, closedTooSoon, fallsWhenTaken, risesWhenWritten, forceUnread, popUncounted, slipped, stockWith, deaf, refusing}
+use Rattle.bounded_demands.specs.Notions.{Definition, Plain, machineAfter, actsOf, acts, stock}
+use Rattle.bounded_demands.specs.Demands.{ClaimRule, OnceOut, OneHand, ReadsWritten, AnswersTrue, UntakenCounts, ContentsWait, PlainQueue, EmptyTrue, FullTrue, ActByAct, WholeSchedules, LenTrue, NeverRefused, AloneEnds, InTheWay, HandLetsGo, PassedAsRun, StockRises, StockFalls, StockStays, StockByHands, StockIsNumber, StockMost, EndTold, LossesCounted, CountsAside, OnceClosed, NoneAfterClosed}
+use Rattle.bounded_slips.specs.Slips.{none, lostPushGoesOn, closedUnseen, unwrapped, tailUnmoved, unwritten, unstamped, fullUnseen, tailBeforeHead, lostForceKeepsItsWord, lostForceTakesTheHead, stampBeforeValue, stampUntested, readsAfterItsStore, releasesWithNext, neverLetsGo, emptyUnseen, handsOutAgain, popKeepsItsWord, lenLooksOnce, emptyTailFirst, fullHeadFirst, pushWritesLate, forceForgets, closedTooSoon, fallsWhenTaken, risesWhenWritten, forceUnread, popUncounted, bothBySchedule, forceUncounted, wonCounted, counting, unreset, forgotten, twice, toldBySchedule, weary, slipped, stockWith, deaf, refusing}
 
 -- A schedule for a machine of this capacity and edition with two workers, with this slip.
 pub record Trial : Type 0 where
@@ -131,6 +131,34 @@ oneForce = does 0 0 5 5 ++ does 0 1 6 6
 abbrev pub twoForces : Trial
 twoForces = trial none 1 (oneForce ++ does 0 1 7 6)
 
+-- ---- lost exchanges
+
+-- one act whose exchange the schedule makes fail
+abbrev pub fails : ℕ → List ℕ
+fails w = (16 * w + 9) ∷ 0 ∷ []
+
+-- a push is about to lose its exchange to another, and the schedule makes it fail too
+abbrev pub pushLosesTwice : Trial
+pushLosesTwice = trial bothBySchedule 1 (pushLoses .schedule ++ fails 1)
+
+-- a force_push on a full ring, made to fail
+abbrev pub forceLoses : Trial
+forceLoses = trial forceUncounted 1 (does 0 0 5 5 ++ does 1 1 6 2 ++ fails 1)
+
+-- a pop, made to fail once; its end; and a pop more, begun
+abbrev pub popLoses : List ℕ
+popLoses = does 0 0 5 5 ++ does 0 2 0 2 ++ fails 0
+
+abbrev pub popEnds : List ℕ
+popEnds = popLoses ++ acts 0 4
+
+abbrev pub popAgain : List ℕ
+popAgain = popEnds ++ does 0 2 0 0
+
+-- The counts along a schedule on one slot, by a definition that counts so.
+abbrev pub LossesBy : Definition → List ℕ → Type 0
+LossesBy d s = LossesCounted (machineAfter d 1 2 1 s) (actsOf d 1 2 1 s)
+
 -- ---- a close that holds
 
 -- case F in edition 2, up to the close: a force_push past its load, and then a close
@@ -196,6 +224,15 @@ pub record Refuted : Type 0 where
   pub number : StockIsNumber (stockWith forceUnread) (reached (trial none 1 oneForce)) (past (trial none 1 oneForce)) → ⊥
   pub number-push : StockIsNumber stock (reached (onePush tailUnmoved)) (past (onePush tailUnmoved)) → ⊥
   pub most : StockMost (stockWith forceUnread) 1 2 (past twoForces) → ⊥
+  -- lost exchanges
+  pub both : LossesCounted (reached pushLosesTwice) (past pushLosesTwice) → ⊥
+  pub force : LossesCounted (reached forceLoses) (past forceLoses) → ⊥
+  pub won : LossesCounted (reached (trial wonCounted 1 (does 0 0 5 5 ++ does 0 2 0 3))) (past (trial wonCounted 1 (does 0 0 5 5 ++ does 0 2 0 3))) → ⊥
+  pub twice-counted : LossesBy (counting twice) popLoses → ⊥
+  pub ended : LossesBy (counting forgotten) popEnds → ⊥
+  pub begun-anew : LossesBy (counting unreset) popAgain → ⊥
+  pub told : EndTold toldBySchedule (reached (trial none 1 (pushLoses .schedule))) 1 → ⊥
+  pub aside : CountsAside weary → ⊥
   -- a close that holds
   pub once-closed : OnceClosed (slipped forceForgets) (reached closedF) → ⊥
   pub closed-last : NoneAfterClosed (past popAfterClosed) → ⊥

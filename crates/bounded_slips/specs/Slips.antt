@@ -1,29 +1,38 @@
--- Document 01's tables with a slip in one row, all else as it is; definitions of the machine made of them; and ways to count stock with a slip.
+-- Document 01's tables with a slip in one row, all else as it is; definitions of the machine made of them; and ways to count losses and stock with a slip.
 use Prim.Native.Nat.{ℕ, _+_, _-_}
 use mathlib.Core.Bool.{Bool, true, false, cond, not}
 use mathlib.Core.List.{List, [], _∷_}
 use mathlib.Core.Path.{_≡_}
 use lib.Dec.{eqb}
-use lib.ListN.{length}
+use lib.ListN.{length, set}
+use Rattle.queue_entries.specs.declared.Entry.{Entry}
+use Rattle.queue_entries.specs.declared.Entry.the-variants.{Unreadable, Asks}
+use Rattle.queue_entries.specs.Entries.{entryOf}
 use Rattle.bounded_words.specs.declared.Fixed.{Fixed}
 use Rattle.bounded_words.specs.Words.{plus, minus, nextOf, same, markedOf, unmarkedOf, lapBehind}
 use Rattle.bounded_places.specs.declared.Slot.{Slot}
 use Rattle.bounded_places.specs.declared.Ends.{Ends}
 use Rattle.bounded_places.specs.declared.Kind.the-variants.{Force}
 use Rattle.bounded_places.specs.declared.Answer.the-variants.{Pushed, Full, Closed, Displaced, Popped, Empty, PopClosed, Len}
+use Rattle.bounded_places.specs.declared.Loss.{Loss}
+use Rattle.bounded_places.specs.declared.Loss.the-variants.{ByWords, BySchedule}
 use Rattle.bounded_places.specs.declared.Place.{Place}
 use Rattle.bounded_places.specs.declared.Place.the-variants.{Idle, P1, P2, P3, P4, P5, P6, F6, F7, F8, F9, O1, O2, O3, O4, O5, O6, Len1, Len2, Len3, Empty1, Empty2, Full1, Full2, Close1, IsClosed1}
+use Rattle.bounded_places.specs.declared.Worker.{Worker}
+use Rattle.bounded_places.specs.Places.{viewOf}
 use Rattle.bounded_acts.specs.declared.Acted.{Acted}
-use Rattle.bounded_acts.specs.Acts.{stay, tailTo, headTo, stampTo, valueTo, countOf, yesNo, actOf}
+use Rattle.bounded_acts.specs.Acts.{stay, losing, afterTail, tailTo, headTo, stampTo, valueTo, countOf, yesNo, actOf}
+use Rattle.bounded_machine.specs.declared.Machine.{Machine}
+use Rattle.bounded_machine.specs.declared.Did.{Did}
 use Rattle.bounded_machine.specs.declared.Event.{Event}
 use Rattle.bounded_machine.specs.declared.Moved.{Moved}
 use Rattle.bounded_machine.specs.declared.Moved.the-variants.{Neither, Tail, Head}
-use Rattle.bounded_machine.specs.Machine.{refused}
-use Rattle.bounded_machine.specs.Turn.{turnOf}
-use Rattle.bounded_machine.specs.Run.{ran, runFrom}
-use Rattle.bounded_machine.specs.History.{historyOf, movedOf, readsAt, untakenOf}
+use Rattle.bounded_machine.specs.Machine.{machineOf, recordOf, refused}
+use Rattle.bounded_machine.specs.Turn.{beginner, turnOf}
+use Rattle.bounded_machine.specs.Run.{ran, runWith, runFrom}
+use Rattle.bounded_machine.specs.History.{lossAt, historyWith, historyOf, movedOf, readsAt, untakenOf}
 use Rattle.bounded_demands.specs.Notions.{Definition, byTable, document01, itemIn, tally, stock}
-use Rattle.bounded_demands.specs.Demands.{UnderEverySchedule, ActByAct, WholeSchedules, LenTrue, ScheduledAlone, StockUnderEverySchedule, CloseHolds, ClosedIsLast}
+use Rattle.bounded_demands.specs.Demands.{UnderEverySchedule, ActByAct, WholeSchedules, LenTrue, ScheduledAlone, StockUnderEverySchedule, LossesUnderEverySchedule, CountsAside, CloseHolds, ClosedIsLast}
 
 -- ---- the slips
 
@@ -142,6 +151,18 @@ forceUnread = 27
 abbrev pub popUncounted : ℕ
 popUncounted = 28
 
+-- a P3 that finds another word where the schedule makes it fail too counts as lost by the schedule
+abbrev pub bothBySchedule : ℕ
+bothBySchedule = 29
+
+-- a lost F6 counts no loss
+abbrev pub forceUncounted : ℕ
+forceUncounted = 30
+
+-- a won O3 counts a loss
+abbrev pub wonCounted : ℕ
+wonCounted = 31
+
 -- The row of document 01, but for this slip.
 abbrev but : ℕ → ℕ → Acted → Acted → Acted
 but n slip wrong right = cond (eqb n slip) wrong right
@@ -159,7 +180,9 @@ actWith n f e s (P3 k t x) lose =
     but n lostPushGoesOn (stay (tailTo e (nextOf f t)) s (P4 t x))
     (but n closedUnseen (cond (same (e .tail) t) (actOf f e s (P3 k t x) lose) (stay e s (Idle (Closed x))))
     (but n unwrapped (onWin (same (e .tail) t) lose (stay (tailTo e (plus t 1)) s (P4 t x)) (actOf f e s (P3 k t x) lose))
-    (but n tailUnmoved (onWin (same (e .tail) t) lose (stay e s (P4 t x)) (actOf f e s (P3 k t x) lose)) (actOf f e s (P3 k t x) lose))))
+    (but n tailUnmoved (onWin (same (e .tail) t) lose (stay e s (P4 t x)) (actOf f e s (P3 k t x) lose))
+    (but n bothBySchedule (cond (same (e .tail) t) (actOf f e s (P3 k t x) lose) (cond lose (losing e s (afterTail f k (e .tail) x) BySchedule) (actOf f e s (P3 k t x) lose)))
+    (actOf f e s (P3 k t x) lose)))))
 actWith n f e s (P4 t x) lose =
     but n unwritten (stay e s (P5 t)) (but n pushWritesLate (stay e (stampTo s (plus t 1)) (F9 t x)) (actOf f e s (P4 t x) lose))
 actWith n f e s (P5 t) lose = but n unstamped (stay e s (Idle Pushed)) (actOf f e s (P5 t) lose)
@@ -168,7 +191,8 @@ actWith n f e s (F6 t x) lose =
     but n tailBeforeHead (stay (tailTo e (nextOf f t)) s (F7 t x))
     (but n lostForceKeepsItsWord (cond (same (e .head) (minus t (f .lap))) (actOf f e s (F6 t x) lose) (stay e s (P2 Force t x)))
     (but n lostForceTakesTheHead (cond (same (e .head) (minus t (f .lap))) (actOf f e s (F6 t x) lose) (stay e s (P2 Force (e .head) x)))
-    (actOf f e s (F6 t x) lose)))
+    (but n forceUncounted (onWin (same (e .head) (minus t (f .lap))) lose (actOf f e s (F6 t x) lose) (stay e s (P1 Force x)))
+    (actOf f e s (F6 t x) lose))))
 actWith n f e s (F7 t x) lose =
     but n forceForgets (stay (tailTo e (nextOf f t)) s (F8 t x))
     (but n tailBeforeHead
@@ -179,7 +203,8 @@ actWith n f e s (F9 t x) lose = but n stampBeforeValue (stay e (valueTo s x) (Id
     (but n pushWritesLate (stay e (valueTo s x) (Idle Pushed)) (actOf f e s (F9 t x) lose))
 actWith n f e s O1 lose = actOf f e s O1 lose
 actWith n f e s (O2 h) lose = but n stampUntested (stay e s (O3 h)) (actOf f e s (O2 h) lose)
-actWith n f e s (O3 h) lose = actOf f e s (O3 h) lose
+actWith n f e s (O3 h) lose =
+    but n wonCounted (onWin (same (e .head) h) lose (losing (headTo e (nextOf f h)) s (O4 h) ByWords) (actOf f e s (O3 h) lose)) (actOf f e s (O3 h) lose)
 actWith n f e s (O4 h) lose = but n readsAfterItsStore (stay e (stampTo s (plus h (f .lap))) (O5 h 0)) (actOf f e s (O4 h) lose)
 actWith n f e s (O5 h v) lose =
     but n readsAfterItsStore (stay e s (Idle (Popped (s .value))))
@@ -207,6 +232,47 @@ actWith n f e s IsClosed1 lose = actOf f e s IsClosed1 lose
 
 abbrev pub slipped : ℕ → Definition
 slipped n = byTable (actWith n)
+
+-- ---- counts of losses with a slip
+
+-- The record of an entry's worker, made of what it was and what document 02 makes of it.
+abbrev recounted : (Worker → Worker → Worker) → Machine → Entry → Machine → Machine
+recounted how m Unreadable next = next
+recounted how m (Asks w o) next =
+    machineOf (next .ring .fixed) (next .ring .ends) (next .ring .slots) (set (next .workers) w (how (recordOf (m .workers) w) (recordOf (next .workers) w)))
+    (next .count) (next .meter)
+
+abbrev turnCounting : (Worker → Worker → Worker) → Machine → ℕ → ℕ → Did
+turnCounting how m first second =
+    record { refusal = turnOf m first second .refusal; machine = recounted how m (entryOf first second) (turnOf m first second .machine) }
+
+abbrev pub counting : (Worker → Worker → Worker) → Definition
+counting how = record { turn = turnCounting how; run = runWith (turnCounting how); history = historyWith (turnCounting how) }
+
+-- a begun call goes on with the counts of the last
+abbrev pub unreset : Worker → Worker → Worker
+unreset was is = cond (viewOf (was .place) .busy) is (record { place = is .place; differed = was .differed; failed = was .failed })
+
+-- a call that ends forgets its counts
+abbrev pub forgotten : Worker → Worker → Worker
+forgotten was is = cond (viewOf (is .place) .busy) is (beginner (is .place))
+
+-- a loss counts twice
+abbrev pub twice : Worker → Worker → Worker
+twice was is = record { place = is .place; differed = is .differed + (is .differed - was .differed); failed = is .failed + (is .failed - was .failed) }
+
+-- Losses told with a slip: whatever the schedule makes fail is lost by the schedule.
+abbrev pub toldBySchedule : Machine → ℕ → Bool → Loss
+toldBySchedule m w lose = cond lose BySchedule (lossAt m w lose)
+
+-- A definition in which a count decides: no act of worker 0 is taken once it has lost an exchange.
+abbrev pub weary : Definition
+weary =
+    record {
+      turn = λ m first second. cond (eqb (recordOf (m .workers) 0 .failed) 0) (turnOf m first second) (refused 7 m);
+      run = runFrom;
+      history = historyOf;
+    }
 
 -- ---- stock with a slip
 
@@ -263,4 +329,5 @@ Faithful = (given ≡ document01) × (givenStock ≡ stock)
 
 abbrev pub Stands : Type 0
 Stands =
-    UnderEverySchedule given × ActByAct given × WholeSchedules given × LenTrue given × ScheduledAlone given × StockUnderEverySchedule given givenStock × CloseHolds given × ClosedIsLast given
+    UnderEverySchedule given × ActByAct given × WholeSchedules given × LenTrue given × ScheduledAlone given × StockUnderEverySchedule given givenStock
+    × LossesUnderEverySchedule given × CountsAside given × CloseHolds given × ClosedIsLast given

@@ -30,6 +30,8 @@ pub fn zeroed() -> Machine {
         },
         workers: [Worker {
             place: Place::Idle(Answer::Nothing),
+            differed: 0,
+            failed: 0,
         }; queue_entries::WORKERS],
         count: 0,
         meter: 0,
@@ -126,10 +128,36 @@ pub fn with_slot(m: Machine, i: usize, stamp: u64, value: u64) -> Machine {
 }
 
 pub fn with_place(m: Machine, i: usize, p: Place) -> Machine {
+    with_record(
+        m,
+        i,
+        Worker {
+            place: p,
+            differed: 0,
+            failed: 0,
+        },
+    )
+}
+
+// Its place stays.
+pub fn with_losses(m: Machine, i: usize, differed: u64, failed: u64) -> Machine {
+    let p = crate::place_of(m, i as u64);
+    with_record(
+        m,
+        i,
+        Worker {
+            place: p,
+            differed: differed,
+            failed: failed,
+        },
+    )
+}
+
+fn with_record(m: Machine, i: usize, r: Worker) -> Machine {
     let ring = m.ring;
     let mut workers = m.workers;
     if i < queue_entries::WORKERS {
-        workers[i] = Worker { place: p };
+        workers[i] = r;
     }
     Machine {
         ring: ring,

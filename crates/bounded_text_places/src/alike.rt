@@ -1,4 +1,4 @@
-// Whether places and slots are the same.
+// Whether records and slots are the same.
 use bounded_places::Place;
 use bounded_places::Slot;
 use bounded_places::Worker;
@@ -18,14 +18,24 @@ fn same(p: Place, q: Place) -> bool {
     x.b == y.b
 }
 
+fn worker(x: Worker, y: Worker) -> bool {
+    let p = x.place;
+    let q = y.place;
+    if x.differed != y.differed {
+        return false;
+    }
+    if x.failed != y.failed {
+        return false;
+    }
+    same(p, q)
+}
+
 pub fn workers(a: [Worker; queue_entries::WORKERS], b: [Worker; queue_entries::WORKERS]) -> bool {
     let mut i = 0;
     while i < queue_entries::WORKERS {
         let x = a[i];
         let y = b[i];
-        let p = x.place;
-        let q = y.place;
-        if same(p, q) {} else {
+        if worker(x, y) {} else {
             return false;
         }
         i += 1;

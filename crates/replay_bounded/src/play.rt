@@ -1,7 +1,9 @@
 // A machine, run pair by pair. The first pair of numbers makes it; every other is an entry.
 use crate::summary::Summary;
 use bounded_machine::Machine;
+use bounded_places::Answer;
 use bounded_places::Place;
+use bounded_places::Worker;
 use replay_options::Options;
 use replay_survey::Whole;
 
@@ -69,14 +71,28 @@ fn make(o: Options, capacity: u64, workers: u64, whole: Whole, out: &mut [u8], a
     made(did.machine, whole, end)
 }
 
-// The summary after an entry of this first word, which led its worker from one place to the other.
+// The record of a worker; idle without an answer where there is none.
+fn record_of(m: Machine, w: u64) -> Worker {
+    let workers = m.workers;
+    let i = w as usize;
+    if i < queue_entries::WORKERS {
+        return workers[i];
+    }
+    Worker {
+        place: Place::Idle(Answer::Nothing),
+        differed: 0,
+        failed: 0,
+    }
+}
+
+// The summary after an entry of this first word, which led its worker from one record to the other.
 fn counted(
     o: Options,
     s: Summary,
     refusal: u64,
     first: u64,
-    before: Place,
-    after: Place,
+    before: Worker,
+    after: Worker,
 ) -> Summary {
     if !o.summary && !o.stock {
         return s;
@@ -88,6 +104,18 @@ fn counted(
         return crate::summary::begun(s);
     }
     crate::summary::acted(s, before, after)
+}
+
+// lost=D,S; "-" where there is no such worker
+fn losses_if(asked: bool, out: &mut [u8], at: usize, there: bool, r: Worker) -> usize {
+    if !asked {
+        return at;
+    }
+    if !there {
+        return text_output::text(out, at, b" lost=-");
+    }
+    let counts = [r.differed, r.failed];
+    text_output::form(out, at, b" lost=#,#", &counts)
 }
 
 fn stock_if(asked: bool, out: &mut [u8], at: usize, s: Summary) -> usize {
@@ -106,16 +134,18 @@ fn line_unless(
     refusal: u64,
     w: u64,
     numbers: [u64; 8],
-    after: Place,
+    after: Worker,
     s: Summary,
 ) -> usize {
     if o.quiet {
         return at;
     }
-    let p = bounded_text_machine::text::entry_of(out, at, place, refusal, w, numbers, after);
-    let q = stock_if(o.stock, out, p, s);
-    let r = text_output::byte(out, q, b'\n');
-    text_output::settle(out, r)
+    let stands = after.place;
+    let p = bounded_text_machine::text::entry_of(out, at, place, refusal, w, numbers, stands);
+    let q = losses_if(o.losses, out, p, w < numbers[6], after);
+    let r = stock_if(o.stock, out, q, s);
+    let t = text_output::byte(out, r, b'\n');
+    text_output::settle(out, t)
 }
 
 fn next_place(place: u64, refusal: u64) -> u64 {
@@ -143,11 +173,11 @@ fn steps(r: Run, o: Options, list: &[u64], from: usize, out: &mut [u8]) -> Run {
         i += 2;
         let w = first / 16;
         let pair = [first, second];
-        let before = bounded_text_machine::place_of(m, w);
+        let before = record_of(m, w);
         let ran = bounded::run(m, &pair);
         m = ran.machine;
         refusal = ran.refusal;
-        let after = bounded_text_machine::place_of(m, w);
+        let after = record_of(m, w);
         s = counted(o, s, refusal, first, before, after);
         at = line_unless(
             o,
@@ -243,11 +273,15 @@ fn contents(out: &mut [u8], at: usize, m: Machine) -> usize {
     bounded_text_machine::text::told(out, at, b"contents", &items, t)
 }
 
-fn tell_summary(s: Summary, asked: bool, out: &mut [u8], at: usize) -> usize {
-    if asked {
-        return crate::summary::tell(out, at, s);
+fn tell_summary(s: Summary, o: Options, out: &mut [u8], at: usize) -> usize {
+    if !o.summary {
+        return at;
     }
-    at
+    let p = crate::summary::tell(out, at, s);
+    if o.losses {
+        return crate::summary::tell_losses(out, p, s);
+    }
+    p
 }
 
 // What follows the output of one of many.
@@ -259,7 +293,7 @@ fn tell_mark(out: &mut [u8], at: usize, many: bool) -> usize {
 }
 
 fn tell_end(s: Summary, o: Options, out: &mut [u8], at: usize) -> usize {
-    let p = tell_summary(s, o.summary, out, at);
+    let p = tell_summary(s, o, out, at);
     let q = tell_mark(out, p, o.many);
     text_output::settle(out, q)
 }

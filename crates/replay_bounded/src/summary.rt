@@ -1,6 +1,6 @@
 // What a run came to: counts over its entries.
 use bounded_machine::Tally;
-use bounded_places::Place;
+use bounded_places::Worker;
 use bounded_text_places::code::Coded;
 use bounded_words::Claim;
 
@@ -10,6 +10,9 @@ pub struct Summary {
     pub retries: u64,
     pub refusals: u64,
     pub tally: Tally,
+    // exchanges lost because the words differed, and by the schedule
+    pub differed: u64,
+    pub failed: u64,
     // of the answers, in the order of their numbers below
     pub answers: [u64; 11],
 }
@@ -25,6 +28,8 @@ pub fn none() -> Summary {
             head: Claim(0),
             reads: 0,
         },
+        differed: 0,
+        failed: 0,
         answers: [0u64; 11],
     }
 }
@@ -57,22 +62,31 @@ fn is_retry(before: Coded, after: Coded) -> bool {
     after.case < before.case
 }
 
-// One more act, from place to place.
-pub fn acted(s: Summary, before: Place, after: Place) -> Summary {
+// A total with what one act added to a count.
+fn on(total: u64, before: u64, after: u64) -> u64 {
+    std::num::wrapping_add_u64(total, std::num::wrapping_sub_u64(after, before))
+}
+
+// One more act, from record to record.
+pub fn acted(s: Summary, before: Worker, after: Worker) -> Summary {
     let tally = s.tally;
     let answers = s.answers;
-    let tallied = bounded_stock::tally(tally, before, after);
-    let code = bounded_text_places::code::of(after);
+    let stood = before.place;
+    let stands = after.place;
+    let tallied = bounded_stock::tally(tally, stood, stands);
+    let code = bounded_text_places::code::of(stands);
     let counted = answered(answers, code);
     Summary {
         entries: up(s.entries),
         acts: up(s.acts),
         retries: up_if(
             s.retries,
-            is_retry(bounded_text_places::code::of(before), code),
+            is_retry(bounded_text_places::code::of(stood), code),
         ),
         refusals: s.refusals,
         tally: tallied,
+        differed: on(s.differed, before.differed, after.differed),
+        failed: on(s.failed, before.failed, after.failed),
         answers: counted,
     }
 }
@@ -112,6 +126,11 @@ fn tell_claims(out: &mut [u8], at: usize, t: Tally) -> usize {
 pub fn tell_stock(out: &mut [u8], at: usize, s: Summary) -> usize {
     let stock = [bounded_stock::stock(s.tally)];
     text_output::form(out, at, b" stock=#", &stock)
+}
+
+pub fn tell_losses(out: &mut [u8], at: usize, s: Summary) -> usize {
+    let lost = [s.differed, s.failed];
+    text_output::form(out, at, b"lost differed=# schedule=#\n", &lost)
 }
 
 pub fn tell(out: &mut [u8], at: usize, s: Summary) -> usize {

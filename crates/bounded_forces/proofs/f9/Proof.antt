@@ -8,15 +8,15 @@ use Rattle.bounded_forces.proofs.f9.Lts as lts
 use Rattle.bounded_acts.proofs.stamp_to.Reads as stamp-to-reads
 use Rattle.bounded_acts.proofs.stay.Reads as stay-reads
 
--- src/lib.rt:88:9
+-- src/lib.rt:26:13
 stamp-to-requires : tie.Need-stamp-to-requires
 stamp-to-requires c κs = search needs
 
--- src/lib.rt:86:5
+-- src/lib.rt:26:5
 stay-requires : tie.Need-stay-requires
 stay-requires c κs = search needs
 
--- src/lib.rt:53:1
+-- src/lib.rt:23:1
 returns : tie.Need-returns
 returns c = search (needs, picks, parts)
 

@@ -9,27 +9,27 @@ use Rattle.bounded_lookers.proofs.len3.Lts as lts
 use Rattle.bounded_lookers.proofs.count.Reads as count-reads
 use Rattle.bounded_acts.proofs.stay.Reads as stay-reads
 
--- src/lib.rt:28:8
+-- src/lib.rt:6:8
 same-word-requires : tie.Need-same-word-requires
 same-word-requires c κs = search needs
 
--- src/lib.rt:29:44
+-- src/lib.rt:7:44
 count-requires : tie.Need-count-requires
 count-requires c κs = search needs
 
--- src/lib.rt:29:9
+-- src/lib.rt:7:9
 stay-requires : tie.Need-stay-requires
 stay-requires c κs = search needs
 
--- src/lib.rt:31:9
+-- src/lib.rt:9:9
 stay-requires-2 : tie.Need-stay-requires-2
 stay-requires-2 c κs = search needs
 
--- src/lib.rt:23:1
+-- src/lib.rt:1:1
 returns : tie.Need-returns
 returns c = search (needs, picks, len-is)
 
--- src/lib.rt:23:1
+-- src/lib.rt:1:1
 returns-2 : tie.Need-returns-2
 returns-2 c = search (needs, picks, len-is)
 

@@ -6,19 +6,19 @@ use Rattle.bounded_lookers.proofs.told.Reads as reads
 use Rattle.bounded_lookers.proofs.told.Lts as lts
 use Rattle.bounded_acts.proofs.stay.Reads as stay-reads
 
--- src/lib.rt:19:9
+-- src/lib.rt:-11:9
 stay-requires : tie.Need-stay-requires
 stay-requires c κs = search needs
 
--- src/lib.rt:21:9
+-- src/lib.rt:-9:9
 stay-requires-2 : tie.Need-stay-requires-2
 stay-requires-2 c κs = search needs
 
--- src/lib.rt:15:1
+-- src/lib.rt:-15:1
 returns : tie.Need-returns
 returns c = search (needs, told-yes, told-no)
 
--- src/lib.rt:15:1
+-- src/lib.rt:-15:1
 returns-2 : tie.Need-returns-2
 returns-2 c = search (needs, told-yes, told-no)
 

@@ -5,7 +5,7 @@ use lib.Dec.{ltb}
 use borrow.Author.Needs.{needs}
 use Rattle.queue_entries.specs.Limits.{workersMost, all}
 use Rattle.queue_entries.proofs.Limits.{all-more, all-failed, all-passed}
-use Rattle.bounded_machine.specs.Machine.{placeOf}
+use Rattle.bounded_machine.specs.Machine.{recordOf}
 use Rattle.bounded_machine.specs.Broken.{recordFits, recordsFit}
 use Rattle.bounded_machine.proofs.records_fit.Statement.{statement}
 use Rattle.bounded_machine.proofs.records_fit.Tie as tie
@@ -14,11 +14,11 @@ use Rattle.bounded_machine.proofs.records_fit.Lts as lts
 use Rattle.bounded_machine.proofs.record_fits.Reads as record-fits-reads
 
 abbrev Inv-loop : tie.InvT-loop
-Inv-loop f count workers i₀ i =
-    (i ≤ workersMost) × (all (workersMost - i) i (λ (k : ℕ). recordFits f (placeOf workers k) (ltb k count)) ≡ recordsFit f count workers)
+Inv-loop f count meter workers i₀ i =
+    (i ≤ workersMost) × (all (workersMost - i) i (λ (k : ℕ). recordFits f meter (recordOf workers k) (ltb k count)) ≡ recordsFit f count meter workers)
 
 abbrev μ-loop : tie.MeasureT-loop
-μ-loop f count workers i₀ i = workersMost - i
+μ-loop f count meter workers i₀ i = workersMost - i
 
 -- src/lib.rt:176:5
 loop-holds : tie.Need-loop-holds Inv-loop μ-loop
@@ -26,12 +26,12 @@ unfolding recordsFit
 loop-holds c = (search needs, refl)
 
 -- src/lib.rt:177:22
-mul-worker : tie.Need-mul-worker Inv-loop μ-loop
-mul-worker c = search needs
+mul-record-fits : tie.Need-mul-record-fits Inv-loop μ-loop
+mul-record-fits c = search needs
 
 -- src/lib.rt:177:22
-array-copy-out-worker : tie.Need-array-copy-out-worker Inv-loop μ-loop
-array-copy-out-worker c = search needs
+array-copy-out-record-fits : tie.Need-array-copy-out-record-fits Inv-loop μ-loop
+array-copy-out-record-fits c = search needs
 
 -- src/lib.rt:179:12
 record-fits-requires : tie.Need-record-fits-requires Inv-loop μ-loop
@@ -64,8 +64,8 @@ records-fit-spec =
     Inv-loop
     μ-loop
     loop-holds
-    mul-worker
-    array-copy-out-worker
+    mul-record-fits
+    array-copy-out-record-fits
     record-fits-requires
     add-i
     loop-less

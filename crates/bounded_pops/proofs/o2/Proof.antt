@@ -9,35 +9,35 @@ use Rattle.bounded_pops.proofs.o2.Reads as reads
 use Rattle.bounded_pops.proofs.o2.Lts as lts
 use Rattle.bounded_acts.proofs.stay.Reads as stay-reads
 
--- src/lib.rt:-38:8
+-- src/lib.rt:-63:8
 one-past-requires : tie.Need-one-past-requires
 one-past-requires c κs = search needs
 
--- src/lib.rt:-37:9
+-- src/lib.rt:-62:9
 stay-requires : tie.Need-stay-requires
 stay-requires c κs = search needs
 
--- src/lib.rt:-37:9
+-- src/lib.rt:-62:9
 returns : tie.Need-returns
 returns c = search (needs, picks, parts)
 
--- src/lib.rt:-35:8
+-- src/lib.rt:-60:8
 same-word-requires : tie.Need-same-word-requires
 same-word-requires c κs = search needs
 
--- src/lib.rt:-34:9
+-- src/lib.rt:-59:9
 stay-requires-2 : tie.Need-stay-requires-2
 stay-requires-2 c κs = search needs
 
--- src/lib.rt:-32:9
+-- src/lib.rt:-57:9
 stay-requires-3 : tie.Need-stay-requires-3
 stay-requires-3 c κs = search needs
 
--- src/lib.rt:-42:1
+-- src/lib.rt:-67:1
 returns-2 : tie.Need-returns-2
 returns-2 c = search (needs, picks, parts)
 
--- src/lib.rt:-42:1
+-- src/lib.rt:-67:1
 returns-3 : tie.Need-returns-3
 returns-3 c = search (needs, picks, parts)
 

@@ -8,15 +8,15 @@ use Rattle.bounded_pops.proofs.o5.Lts as lts
 use Rattle.bounded_acts.proofs.stamp_to.Reads as stamp-to-reads
 use Rattle.bounded_acts.proofs.stay.Reads as stay-reads
 
--- src/lib.rt:57:9
+-- src/lib.rt:0:13
 stamp-to-requires : tie.Need-stamp-to-requires
 stamp-to-requires c κs = search needs
 
--- src/lib.rt:55:5
+-- src/lib.rt:0:5
 stay-requires : tie.Need-stay-requires
 stay-requires c κs = search needs
 
--- src/lib.rt:22:1
+-- src/lib.rt:-3:1
 returns : tie.Need-returns
 returns c = search (needs, picks, parts)
 

@@ -10,39 +10,39 @@ use Rattle.bounded_pushes.proofs.p2.Lts as lts
 use Rattle.bounded_pushes.proofs.full_at.Reads as full-at-reads
 use Rattle.bounded_acts.proofs.stay.Reads as stay-reads
 
--- src/lib.rt:-16:8
+-- src/lib.rt:-44:8
 same-word-requires : tie.Need-same-word-requires
 same-word-requires c κs = search needs
 
--- src/lib.rt:-15:9
+-- src/lib.rt:-43:9
 stay-requires : tie.Need-stay-requires
 stay-requires c κs = search needs
 
--- src/lib.rt:-15:9
+-- src/lib.rt:-43:9
 returns : tie.Need-returns
 returns c = search (needs, picks, parts)
 
--- src/lib.rt:-13:8
+-- src/lib.rt:-41:8
 lap-behind-one-past-requires : tie.Need-lap-behind-one-past-requires
 lap-behind-one-past-requires c κs = search needs
 
--- src/lib.rt:-12:20
+-- src/lib.rt:-40:20
 full-at-requires : tie.Need-full-at-requires
 full-at-requires c κs = search needs
 
--- src/lib.rt:-12:9
+-- src/lib.rt:-40:9
 stay-requires-2 : tie.Need-stay-requires-2
 stay-requires-2 c κs = search needs
 
--- src/lib.rt:-10:9
+-- src/lib.rt:-38:9
 stay-requires-3 : tie.Need-stay-requires-3
 stay-requires-3 c κs = search needs
 
--- src/lib.rt:-20:1
+-- src/lib.rt:-48:1
 returns-2 : tie.Need-returns-2
 returns-2 c = search (needs, picks, parts)
 
--- src/lib.rt:-20:1
+-- src/lib.rt:-48:1
 returns-3 : tie.Need-returns-3
 returns-3 c = search (needs, picks, parts)
 

@@ -8,15 +8,15 @@ use Rattle.bounded_pushes.proofs.p5.Lts as lts
 use Rattle.bounded_acts.proofs.stamp_to.Reads as stamp-to-reads
 use Rattle.bounded_acts.proofs.stay.Reads as stay-reads
 
--- src/lib.rt:79:9
+-- src/lib.rt:20:13
 stamp-to-requires : tie.Need-stamp-to-requires
 stamp-to-requires c κs = search needs
 
--- src/lib.rt:77:5
+-- src/lib.rt:20:5
 stay-requires : tie.Need-stay-requires
 stay-requires c κs = search needs
 
--- src/lib.rt:45:1
+-- src/lib.rt:17:1
 returns : tie.Need-returns
 returns c = search (needs, picks, parts)
 

@@ -8,23 +8,23 @@ use Rattle.bounded_pushes.proofs.p6.Reads as reads
 use Rattle.bounded_pushes.proofs.p6.Lts as lts
 use Rattle.bounded_acts.proofs.stay.Reads as stay-reads
 
--- src/lib.rt:24:8
+-- src/lib.rt:-8:8
 lap-behind-requires : tie.Need-lap-behind-requires
 lap-behind-requires c κs = search needs
 
--- src/lib.rt:25:9
+-- src/lib.rt:-7:9
 stay-requires : tie.Need-stay-requires
 stay-requires c κs = search needs
 
--- src/lib.rt:27:9
+-- src/lib.rt:-5:9
 stay-requires-2 : tie.Need-stay-requires-2
 stay-requires-2 c κs = search needs
 
--- src/lib.rt:20:1
+-- src/lib.rt:-12:1
 returns : tie.Need-returns
 returns c = search (needs, picks, parts)
 
--- src/lib.rt:20:1
+-- src/lib.rt:-12:1
 returns-2 : tie.Need-returns-2
 returns-2 c = search (needs, picks, parts)
 

@@ -16,13 +16,14 @@ use Rattle.bounded_places.proofs.first_place.Reads as first-place-reads
 use Rattle.bounded_places.proofs.view_of.Reads as view-of-reads
 use Rattle.bounded_table.proofs.act_at.Reads as act-at-reads
 use Rattle.bounded_machine.specs.Machine.{machineOf, placeOf}
-use Rattle.bounded_machine.specs.Turn.{spotOf, begun, stored}
+use Rattle.bounded_machine.specs.Turn.{spotOf, begun}
 use Rattle.bounded_machine.specs.Run.{runFrom, runOf}
 use Rattle.bounded_machine.proofs.Kept.{Unbroken, unbroken-of, fair-in}
 use Rattle.bounded_machine.proofs.broken.Reads as broken-reads
+use Rattle.bounded_machine.proofs.record_after.Reads as record-after-reads
 use Rattle.bounded_machine.proofs.spot.Reads as spot-reads
 use Rattle.bounded_machine.proofs.verdict_of.Reads as verdict-of-reads
-use Rattle.bounded_runs.proofs.Turns.{broken-run, odd-run, unread-run, read-run, stop-9, stop-3, stop, start, move, ended, worker-below, fits-in, spot-below, started-unbroken, moved-unbroken, move-busy, move-in-time}
+use Rattle.bounded_runs.proofs.Turns.{broken-run, odd-run, unread-run, read-run, stop-9, stop-3, stop, start, move, ended, worker-below, fits-in, spot-below, lost-below, started-unbroken, moved-unbroken, move-busy, move-in-time}
 use Rattle.bounded_runs.proofs.run.Statement.{statement}
 use Rattle.bounded_runs.proofs.run.Tie as tie
 use Rattle.bounded_runs.proofs.run.Reads as reads
@@ -264,36 +265,38 @@ mul-slots c = let h = spot-below-at (c .before .before .before .before) in omega
 array-set-from-slots : tie.Need-array-set-from-slots Inv-loop μ-loop
 array-set-from-slots c = spot-below-at (c .before .before .before .before)
 
+record-after-requires : tie.Need-record-after-requires Inv-loop μ-loop
+record-after-requires c κs = lost-below _ (c .before .before .before .before .before .before .before .before .before .before .before .before .before .before .before .before .before .before .before .loop .inv .2) _ (c .before .before .before .before .before .before .before .before .before .before .before .if3 .left) (in-time-at (c .before .before .before .before .before .before))
+
 -- src/lib.rt:156:17
 mul-workers-2 : tie.Need-mul-workers-2 Inv-loop μ-loop
-mul-workers-2 c = let h = worker-below-at (c .before .before .before .before .before .before .before .before .before .before .before) in omega arith
+mul-workers-2 c = let h = worker-below-at (c .before .before .before .before .before .before .before .before .before .before .before .before) in omega arith
 
 -- src/lib.rt:156:17
 array-set-from-workers-2 : tie.Need-array-set-from-workers-2 Inv-loop μ-loop
-array-set-from-workers-2 c = worker-below-at (c .before .before .before .before .before .before .before .before .before .before .before)
+array-set-from-workers-2 c = worker-below-at (c .before .before .before .before .before .before .before .before .before .before .before .before)
 
 -- src/lib.rt:157:17
 add-meter : tie.Need-add-meter Inv-loop μ-loop
-add-meter c = let h = in-time-at (c .before .before .before .before .before .before) in omega arith
+add-meter c = let h = in-time-at (c .before .before .before .before .before .before .before) in omega arith
 
 -- src/lib.rt:158:17
 add-i-2 : tie.Need-add-i-2 Inv-loop μ-loop
-add-i-2 c = let h = c .before .before .before .before .before .before .before .before .before .before .before .before .before .before .before .before .before .before .loop-test .taken in let l = c .before .before .before .before .before .before .before .before .before .before .before .before .before .before .before .before .before .before .before .loop .inv .1 in omega (arith, c .before .before .before .before .before .before .before .before .before .before .before .before .before .before .before .before .before .before .before .before .before .before .before .before .before .before .before .before .before .before .before .before .good)
+add-i-2 c = let h = c .before .before .before .before .before .before .before .before .before .before .before .before .before .before .before .before .before .before .before .loop-test .taken in let l = c .before .before .before .before .before .before .before .before .before .before .before .before .before .before .before .before .before .before .before .before .loop .inv .1 in omega (arith, c .before .before .before .before .before .before .before .before .before .before .before .before .before .before .before .before .before .before .before .before .before .before .before .before .before .before .before .before .before .before .before .before .before .good)
 
 -- src/lib.rt:127:5
 loop-less-2 : tie.Need-loop-less-2 Inv-loop μ-loop
-loop-less-2 c = let h = c .before .before .before .before .before .before .before .before .before .before .before .before .before .before .before .before .before .before .loop-test .taken in omega arith
+loop-less-2 c = let h = c .before .before .before .before .before .before .before .before .before .before .before .before .before .before .before .before .before .before .before .loop-test .taken in omega arith
 
 -- src/lib.rt:127:5
 loop-again-2 : tie.Need-loop-again-2 Inv-loop μ-loop
-unfolding stored
-loop-again-2 c = let l = c .before .before .before .before .before .before .before .before .before .before .before .before .before .before .before .before .before .before .before .loop in
-    let e = c .before .before .before .before .before .before .before .before .before .before .before .before .before .before .before .entry-of in
-    let a = c .before .before .before .before .before .before .before .before .before .before .before .before .before .worker .given .0 in
-    let v = c .before .before .before .before .before .before .before .before .before .verdict-of in
-    let g = c .before .before .before .before .before .before .before .before .before .before .before .if3 .left in
-    let h = c .before .before .act-at in
-    (bound (c .before .before .before .before .before .before .before .before .before .before .before .before .before .before .before .before .before .before .loop-test .taken), l .inv .1, moved-unbroken _ (l .inv .2) (a .0) g _ (h .result) _ _ (busy-at (c .before .before .before .before .before .before)) (h .ensures), move _ _ _ _ _ (l .inv .3) (l .inv .1) (c .before .before .before .before .before .before .before .before .before .before .before .before .before .before .before .before .before .before .loop-test .taken) (e .result) (e .ensures) (a .0) (a .1 .0) (asks-at (c .before .before .before .before .before .before .before .before .before .before .before .before)) (v .result) g (v .ensures) (c .before .before .before .before .before .before .before .verdict3 .given .0 .0) (c .before .before .before .before .spot .result) (h .result) (moves-at (c .before .before .before .before .before .before)) (spot-at (c .before .before .before .before)) (h .ensures))
+loop-again-2 c = let l = c .before .before .before .before .before .before .before .before .before .before .before .before .before .before .before .before .before .before .before .before .loop in
+    let e = c .before .before .before .before .before .before .before .before .before .before .before .before .before .before .before .before .entry-of in
+    let a = c .before .before .before .before .before .before .before .before .before .before .before .before .before .before .worker .given .0 in
+    let v = c .before .before .before .before .before .before .before .before .before .before .verdict-of in
+    let g = c .before .before .before .before .before .before .before .before .before .before .before .before .if3 .left in
+    let h = c .before .before .before .act-at in
+    (bound (c .before .before .before .before .before .before .before .before .before .before .before .before .before .before .before .before .before .before .before .loop-test .taken), l .inv .1, moved-unbroken _ (l .inv .2) (a .0) g _ (h .result) _ _ (busy-at (c .before .before .before .before .before .before .before)) (h .ensures) _ (c .record-after .ensures), move _ _ _ _ _ (l .inv .3) (l .inv .1) (c .before .before .before .before .before .before .before .before .before .before .before .before .before .before .before .before .before .before .before .loop-test .taken) (e .result) (e .ensures) (a .0) (a .1 .0) (asks-at (c .before .before .before .before .before .before .before .before .before .before .before .before .before)) (v .result) g (v .ensures) (c .before .before .before .before .before .before .before .before .verdict3 .given .0 .0) (c .before .before .before .before .before .spot .result) (h .result) (moves-at (c .before .before .before .before .before .before .before)) (spot-at (c .before .before .before .before .before)) (h .ensures) _ (c .record-after .ensures))
 
 -- src/lib.rt:162:5
 ran-requires-7 : tie.Need-ran-requires-7 Inv-loop μ-loop
@@ -355,6 +358,7 @@ run-spec =
     act-at-requires
     mul-slots
     array-set-from-slots
+    record-after-requires
     mul-workers-2
     array-set-from-workers-2
     add-meter

@@ -7,7 +7,7 @@ use Rattle.bounded_text_places.proofs.alike.workers.Statement.{statemen
 use Rattle.bounded_text_places.proofs.alike.workers.Tie as tie
 use Rattle.bounded_text_places.proofs.alike.workers.Reads as reads
 use Rattle.bounded_text_places.proofs.alike.workers.Lts as lts
-use Rattle.bounded_text_places.proofs.alike.same.Reads as same-reads
+use Rattle.bounded_text_places.proofs.alike.worker.Reads as worker-reads
 
 abbrev Inv-loop : tie.InvT-loop
 Inv-loop a b i₀ i = Unit {0}
@@ -36,8 +36,8 @@ array-copy-out-y : tie.Need-array-copy-out-y Inv-loop μ-loop
 array-copy-out-y c = search needs
 
 -- src/lib.rt:102:12
-same-requires : tie.Need-same-requires Inv-loop μ-loop
-same-requires c κs = search needs
+worker-requires : tie.Need-worker-requires Inv-loop μ-loop
+worker-requires c κs = search needs
 
 -- src/lib.rt:103:13
 returns : tie.Need-returns Inv-loop μ-loop
@@ -70,7 +70,7 @@ workers-spec =
     array-copy-out-x
     mul-y
     array-copy-out-y
-    same-requires
+    worker-requires
     returns
     add-i
     loop-less

@@ -12,7 +12,7 @@ use Rattle.replay_bounded.proofs.play.counted.Reads as counted-reads
 use Rattle.replay_bounded.proofs.play.line_unless.Reads as line-unless-reads
 use Rattle.replay_bounded.proofs.play.next_place.Reads as next-place-reads
 use Rattle.bounded_text_machine.proofs.numbers.Reads as numbers-reads
-use Rattle.bounded_text_machine.proofs.place_of.Reads as place-of-reads
+use Rattle.replay_bounded.proofs.play.record_of.Reads as record-of-reads
 
 abbrev Inv-loop : tie.InvT-loop
 Inv-loop o list from out₀ m₀ place₀ refusal₀ at₀ s₀ last i₀ out m place refusal at s i = (length out ≡ length out₀) × (last < length list)
@@ -57,8 +57,8 @@ add-i : tie.Need-add-i Inv-loop μ-loop
 add-i c = search needs
 
 -- src/play.rt:133:13
-place-of-requires : tie.Need-place-of-requires Inv-loop μ-loop
-place-of-requires c κs = search needs
+record-of-requires : tie.Need-record-of-requires Inv-loop μ-loop
+record-of-requires c κs = search needs
 
 -- src/play.rt:134:35
 slice-aggregate-run : tie.Need-slice-aggregate-run Inv-loop μ-loop
@@ -69,8 +69,8 @@ run-requires : tie.Need-run-requires Inv-loop μ-loop
 run-requires c κs = search needs
 
 -- src/play.rt:137:13
-place-of-requires-2 : tie.Need-place-of-requires-2 Inv-loop μ-loop
-place-of-requires-2 c κs = search needs
+record-of-requires-2 : tie.Need-record-of-requires-2 Inv-loop μ-loop
+record-of-requires-2 c κs = search needs
 
 -- src/play.rt:138:9
 counted-requires : tie.Need-counted-requires Inv-loop μ-loop
@@ -127,10 +127,10 @@ steps-spec =
     mul-second
     shared-slice-read-second
     add-i
-    place-of-requires
+    record-of-requires
     slice-aggregate-run
     run-requires
-    place-of-requires-2
+    record-of-requires-2
     counted-requires
     numbers-requires
     line-unless-requires
