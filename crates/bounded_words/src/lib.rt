@@ -143,10 +143,3 @@ pub fn lap_behind_unmarked(f: Fixed, h: Stamp, t: Stamp) -> bool
 {
     lap_behind(f, h, unmarked(f, t))
 }
-
-// h = t - lap
-pub fn is_lap_before(f: Fixed, h: Stamp, t: Stamp) -> bool
-    ensures { λ r. ⌜ r ≡ same h (minus t (f .lap)) ⌝ }
-{
-    same_word(h, earlier(t, f.lap))
-}
