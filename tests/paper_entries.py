@@ -1,7 +1,7 @@
 """What the readings of all queues share: workers, calls, codes, refusals and their order, schedules, contents.
 
-A queue's own reading says what its machine and its acts are (paper.py the ring, paper_single.py the one-slot queue); Entries has the
-functions that are handed entries. Written from document 01 and from none of the crates.
+A queue's own reading says what its machine and its acts are (paper.py the ring, paper_single.py the one-slot queue, paper_unbounded.py
+the unbounded one); Entries has the functions that are handed entries. Written from document 01 and from none of the crates.
 """
 
 from dataclasses import dataclass
@@ -43,9 +43,13 @@ class Entries:
     act_of: Callable  # machine, record, whether a weak exchange fails -> the record after the act; the machine is changed
     items_of: Callable  # machine that is not broken, with all workers idle -> what Drop meets
     weak_exchanges: tuple = ()  # places
+    calls_missing: tuple = ()  # calls that the queue has not
+    lacks_a_block: Callable = lambda machine, worker: False  # whether the act takes a block where none is free
 
     def unreadable(self, codes, code, item):
-        return code not in codes or (item != 0 and code not in CODES_WITH_ITEM)
+        if code not in codes or (item != 0 and code not in CODES_WITH_ITEM):
+            return True
+        return code in BEGIN_CODES and CALLS[code] in self.calls_missing
 
     def first_unreadable(self, words):
         """The place of the first entry that is refusal 9 whatever the machine, or None: document 02, item 7."""
@@ -77,6 +81,8 @@ class Entries:
             return 7
         if code == FAILING and machine.workers[number].place not in self.weak_exchanges:
             return 8
+        if self.lacks_a_block(machine, machine.workers[number]):
+            return 23
         return 0
 
     # The document does not say what begin and act are handed. docs/DECISIONS.md does: an entry's two words, as step is, and a code of

@@ -1,5 +1,19 @@
 //! The entries of schedules: the calls and acts that their codes name.
 
+use crate::queue::Queue;
+
+/// The codes that begin a call.
+pub mod code {
+    pub const PUSH: u64 = 0;
+    pub const FORCE_PUSH: u64 = 1;
+    pub const POP: u64 = 2;
+    pub const LEN: u64 = 3;
+    pub const IS_EMPTY: u64 = 4;
+    pub const IS_FULL: u64 = 5;
+    pub const CLOSE: u64 = 6;
+    pub const IS_CLOSED: u64 = 7;
+}
+
 /// The calls in the order of their codes.
 #[derive(Clone, Copy, Debug, PartialEq, Eq)]
 pub enum Call {
@@ -53,9 +67,10 @@ pub enum Entry {
 }
 
 impl Entry {
-    /// None is refusal 9.
-    pub fn decode(code: u64, item: u64) -> Option<Entry> {
+    /// None is refusal 9. The unbounded queue has no force_push.
+    pub fn decode(queue: Queue, code: u64, item: u64) -> Option<Entry> {
         match (code, item) {
+            (1, _) if queue == Queue::Unbounded => None,
             (8, 0) => Some(Entry::Act { lose: false }),
             (9, 0) => Some(Entry::Act { lose: true }),
             _ => Call::decode(code, item).map(Entry::Begin),

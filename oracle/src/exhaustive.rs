@@ -1,9 +1,11 @@
-//! Every schedule of a few calls at once: two on rings of one and two slots, three on the one-slot queue.
+//! Every schedule of a few calls at once: two on rings of one and two slots, three on the one-slot queue, two on the unbounded queue
+//! when it is fresh and where a block ends.
 //!
 //! Either all sequences of so many acts (which busy worker goes, and code 8 or, at a weak exchange, code 9), after which the
 //! calls are ended in turn so that the contents are seen. Or the compact set, without a bound: every act from every state that
 //! can be reached, each in a schedule that ends right after it, so that all slots are compared after each act.
 
+use crate::call::code::{CLOSE, FORCE_PUSH, LEN, POP, PUSH};
 use crate::drive::Run;
 use crate::interleaved::end_all_calls;
 use crate::machine::Machine;
@@ -30,47 +32,69 @@ struct Preload {
 }
 
 pub fn drive(run: &mut Run, extent: Extent) -> Result<(), String> {
-    for preload in preloads(run.queue) {
-        for calls in calls_at_once(run.queue) {
-            match extent {
-                Extent::Depth(depth) => deep(run, depth, preload, &calls)?,
-                Extent::Compact => compact(run, preload, &calls)?,
-            }
+    for (preload, calls) in cases(run.queue) {
+        match extent {
+            Extent::Depth(depth) => deep(run, depth, preload, &calls)?,
+            Extent::Compact => compact(run, preload, &calls)?,
         }
     }
     run.flush()
 }
 
-/// Empty, partly full and full, open and closed; rings fresh and on a later lap, the one slot with an old value in it.
-fn preloads(queue: Queue) -> Vec<Preload> {
-    let (makings, gone): (Vec<Making>, &[u64]) = match queue {
+/// How the queue stands, and the codes of the calls, one for each worker.
+fn cases(queue: Queue) -> Vec<(Preload, Vec<u64>)> {
+    match queue {
         Queue::Bounded { edition } => {
-            (vec![1, 2].into_iter().map(|capacity| Making::Bounded { capacity, edition }).collect(), &[0, 1])
+            let rings = [1, 2].map(|capacity| Making::Bounded { capacity, edition });
+            rings.iter().flat_map(|ring| crossed(&preloads(*ring, &[0, 1]), &pairs())).collect()
         }
-        Queue::Single => (vec![Making::Single], &[1]),
-    };
-    let mut all = Vec::new();
-    for making in makings {
-        for gone in gone.iter().copied() {
-            for held in 0..=making.room() as u64 {
-                all.extend([false, true].map(|closed| Preload { making, gone, held, closed }));
+        Queue::Single => crossed(&preloads(Making::Single, &[1]), &threes()),
+        Queue::Unbounded => {
+            let of = |gone, held| Preload { making: Making::Unbounded, gone, held, closed: false };
+            let mut all = crossed(&[of(0, 0)], &pairs_without_force_push());
+            // Where a block ends: tail at its last slot; head there too; tail in the next block; two slots left to be popped.
+            for (gone, held, pairs) in [
+                (0, 30, [[PUSH, PUSH], [PUSH, POP], [PUSH, LEN], [PUSH, CLOSE]].as_slice()),
+                (30, 0, &[[PUSH, PUSH], [PUSH, POP]]),
+                (30, 1, &[[POP, POP], [POP, LEN]]),
+                (29, 2, &[[POP, POP]]),
+            ] {
+                all.extend(pairs.iter().map(|pair| (of(gone, held), pair.to_vec())));
             }
+            all
+        }
+    }
+}
+
+fn crossed(preloads: &[Preload], calls: &[Vec<u64>]) -> Vec<(Preload, Vec<u64>)> {
+    preloads.iter().flat_map(|preload| calls.iter().map(|calls| (*preload, calls.clone()))).collect()
+}
+
+/// Empty, partly full and full, open and closed, with so many items gone before: a ring on a later lap, a slot with an old value in it.
+fn preloads(making: Making, gone: &[u64]) -> Vec<Preload> {
+    let mut all = Vec::new();
+    for gone in gone.iter().copied() {
+        for held in 0..=making.room() as u64 {
+            all.extend([false, true].map(|closed| Preload { making, gone, held, closed }));
         }
     }
     all
 }
 
-/// The codes of the calls, one for each worker. Each pair in both orders; of each three one order, since workers differ in
-/// nothing but their numbers.
-fn calls_at_once(queue: Queue) -> Vec<Vec<u64>> {
-    let pairs = || (0..64).map(|pair| vec![pair / 8, pair % 8]);
-    match queue {
-        Queue::Bounded { .. } => pairs().collect(),
-        Queue::Single => pairs()
-            .filter(|pair| pair[0] <= pair[1])
-            .flat_map(|pair| (pair[1]..8).map(move |third| vec![pair[0], pair[1], third]))
-            .collect(),
-    }
+/// Each two calls, in both orders.
+fn pairs() -> Vec<Vec<u64>> {
+    (0..64).map(|pair| vec![pair / 8, pair % 8]).collect()
+}
+
+/// Each two calls of the unbounded queue, in one order.
+fn pairs_without_force_push() -> Vec<Vec<u64>> {
+    pairs().into_iter().filter(|pair| pair.is_sorted() && !pair.contains(&FORCE_PUSH)).collect()
+}
+
+/// Each three calls, in one order: workers differ in nothing but their numbers.
+fn threes() -> Vec<Vec<u64>> {
+    let all = (0..512).map(|three| vec![three / 64, three / 8 % 8, three % 8]);
+    all.filter(|three| three.is_sorted()).collect()
 }
 
 /// All sequences of acts of these calls, up to their ends or so many acts.
@@ -119,14 +143,14 @@ fn begun(preload: Preload, calls: &[u64]) -> (Schedule, Machine) {
     let mut machine = Machine::make(preload.making, workers).expect("within the limits");
     let mut whole = |code, item| whole_call(&mut schedule, &mut machine, code, item);
     for item in 0..preload.gone {
-        whole(0, 11 + item);
-        whole(2, 0);
+        whole(PUSH, 11 + item);
+        whole(POP, 0);
     }
     for item in 0..preload.held {
-        whole(0, 21 + item);
+        whole(PUSH, 21 + item);
     }
     if preload.closed {
-        whole(6, 0);
+        whole(CLOSE, 0);
     }
     for (worker, code) in calls.iter().enumerate() {
         let item = if *code <= 1 { 31 + worker as u64 } else { 0 };

@@ -7,6 +7,7 @@ use crate::machine::Machine;
 use crate::queue::{Making, Queue};
 use crate::random::Random;
 use crate::schedule::Schedule;
+use crate::sequential::whole_call;
 use crate::stage::Action;
 
 /// How likely each call is, in the order of the codes; close has its own rule.
@@ -19,6 +20,14 @@ const MIXES: [[usize; 8]; 7] = [
     [0, 6, 4, 1, 0, 0, 0, 0], // displacing against popping
     [2, 1, 2, 4, 4, 4, 0, 4], // looks on
 ];
+
+/// The unbounded queue has no force_push: its share goes to push.
+pub fn mix_for(queue: Queue, mut mix: [usize; 8]) -> [usize; 8] {
+    if queue == Queue::Unbounded {
+        mix[0] += std::mem::take(&mut mix[1]);
+    }
+    mix
+}
 
 /// What is likely for a while.
 struct Phase {
@@ -36,7 +45,7 @@ impl Phase {
     fn new(random: &mut Random, schedule: &Schedule) -> Phase {
         Phase {
             left: 30 + random.below(300 + 12 * schedule.making.room()),
-            mix: random.pick(&MIXES),
+            mix: mix_for(schedule.making.queue(), random.pick(&MIXES)),
             weights: (0..schedule.workers).map(|_| random.pick(&[1, 10, 10, 30])).collect(),
             stay: random.pick(&[1, 1, 4, 20]),
             lose: random.pick(&[0, 0, 8, 2]),
@@ -74,30 +83,59 @@ pub fn drive(run: &mut Run, acts: u64, seed: u64, closing: bool) -> Result<(), S
             let making = Making::small(run.queue, &mut random);
             let length = 20 + random.below(200);
             let (workers, close_from) = (2 + random.below(4) as u64, random.below(length));
-            schedule_closed(&mut random, making, workers, length, close_from)
+            schedule_closed(&mut random, making, workers, 0, length, close_from)
         } else {
             let making = Making::random(run.queue, &mut random);
             let workers = 1 + random.below(16) as u64;
-            // One process for each schedule wants long ones, and a large ring needs time to run full.
-            let length = if run.many() { 100 + random.below(6000 + 60 * making.room()) } else { run.batch };
-            schedule(&mut random, making, workers, length)
+            // One process for each schedule wants long ones.
+            let length = if run.many() { 100 + random.below(most_entries(making)) } else { run.batch };
+            let held = held_at_first(making, &mut random);
+            schedule(&mut random, making, workers, held, length)
         };
         run.add(schedule)?;
     }
     run.flush()
 }
 
+/// A large ring needs time to run full; the unbounded queue has its own way.
+fn most_entries(making: Making) -> usize {
+    match making {
+        Making::Bounded { .. } | Making::Single => 6000 + 60 * making.room(),
+        Making::Unbounded => 3000,
+    }
+}
+
+/// How many items are pushed before the schedule proper: one in sixteen unbounded queues has nearly all blocks taken, so that some call
+/// finds none free.
+fn held_at_first(making: Making, random: &mut Random) -> u64 {
+    if making == Making::Unbounded && random.once_in(16) {
+        return (ALL_SLOTS - random.below(100)) as u64;
+    }
+    0
+}
+
+/// Items that fit into all blocks but for the last slot, which needs one block more.
+const ALL_SLOTS: usize = 64 * 31 - 1;
+
 /// A schedule that is accepted but perhaps for its end.
-pub fn schedule(random: &mut Random, making: Making, workers: u64, length: usize) -> Schedule {
+pub fn schedule(random: &mut Random, making: Making, workers: u64, held: u64, length: usize) -> Schedule {
     // Little happens once the queue is closed, so closing comes late or not at all.
     let close_from = if random.once_in(2) { length - random.below(length.min(1500)) } else { length };
-    schedule_closed(random, making, workers, length, close_from)
+    schedule_closed(random, making, workers, held, length, close_from)
 }
 
 /// From `close_from` on a call may be a close.
-fn schedule_closed(random: &mut Random, making: Making, workers: u64, length: usize, close_from: usize) -> Schedule {
+fn schedule_closed(
+    random: &mut Random,
+    making: Making,
+    workers: u64,
+    held: u64,
+    length: usize,
+    close_from: usize,
+) -> Schedule {
     let mut schedule = Schedule::new(making, workers);
     let mut machine = Machine::make(making, workers).expect("within the limits");
+    (0..held).for_each(|item| whole_call(&mut schedule, &mut machine, 0, item));
     let mut phase = Phase::new(random, &schedule);
     let mut worker = 0;
     for done in 0..length {
@@ -108,6 +146,10 @@ fn schedule_closed(random: &mut Random, making: Making, workers: u64, length: us
         if random.once_in(phase.stay) {
             worker = random.weighted(&phase.weights) as u64;
         }
+        let Some(able) = (worker..workers).chain(0..worker).find(|worker| !machine.lacks_a_block(*worker)) else {
+            break;
+        };
+        worker = able;
         let (first, second) = phase.entry(random, &machine, worker, done >= close_from);
         assert_eq!(machine.enter(first, second), 0);
         schedule.push(first, second);
@@ -121,10 +163,14 @@ fn schedule_closed(random: &mut Random, making: Making, workers: u64, length: us
     schedule
 }
 
-/// Acts in turn until no worker is busy, so that the contents can be seen. The workers take turns: one may wait for another.
+/// Acts in turn until no worker is busy, so that the contents can be seen. The workers take turns: one may wait for another. Only those
+/// that find no block free are left as they are; nobody waits for them.
 pub fn end_all_calls(schedule: &mut Schedule, machine: &mut Machine) {
     while let Some(round) = busy(machine) {
         for worker in round {
+            if machine.lacks_a_block(worker) {
+                continue;
+            }
             let first = 16 * worker + 8;
             assert_eq!(machine.enter(first, 0), 0);
             schedule.push(first, 0);
@@ -133,16 +179,20 @@ pub fn end_all_calls(schedule: &mut Schedule, machine: &mut Machine) {
 }
 
 fn busy(machine: &Machine) -> Option<Vec<u64>> {
-    let busy: Vec<u64> = (0..machine.workers() as u64).filter(|worker| machine.busy(*worker)).collect();
+    let acts = |worker: &u64| machine.busy(*worker) && !machine.lacks_a_block(*worker);
+    let busy: Vec<u64> = (0..machine.workers() as u64).filter(acts).collect();
     (!busy.is_empty()).then_some(busy)
 }
 
 /// An entry that is refused for any reason but the reading, and perhaps some more that must not be run. Once in a while one that
 /// can't be read stands anywhere, and nothing is run.
 fn refused_end(random: &mut Random, schedule: &mut Schedule, machine: &mut Machine) {
+    if let Some(worker) = (0..schedule.workers).find(|worker| machine.lacks_a_block(*worker)) {
+        return schedule.push(16 * worker + 8, 0);
+    }
     loop {
         let (first, second) = any_entry(random, schedule.workers);
-        if Entry::decode(first % 16, second).is_none() {
+        if Entry::decode(schedule.making.queue(), first % 16, second).is_none() {
             continue;
         }
         // An entry that happens to be accepted is kept.
@@ -179,6 +229,7 @@ pub fn refused_whole(queue: Queue, random: &mut Random) -> Schedule {
             Making::Bounded { capacity: random.pick(&[0, 1, 2, 257, 1024, 1025, u64::MAX]), edition }
         }
         Queue::Single => Making::Single,
+        Queue::Unbounded => Making::Unbounded,
     };
     let workers = random.pick(&[0, 1, 2, 16, 17, 64, u64::MAX]);
     let mut schedule = Schedule::new(making, workers);

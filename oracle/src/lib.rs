@@ -1,9 +1,9 @@
 //! The judge of the port: the unmodified sources of concurrent-queue 2.5.0, run one action at a time.
 //!
-//! `bounded.rs` and `single.rs` are byte-for-byte copies. Everything they import is given a stand-in of the same shape here and in
-//! `sync`: the atomics and cells stop before each action, so that a schedule decides who goes next (`stage`, `coroutine`). Each
-//! source is included by a module of its own, `ring` and `one_slot`, which names its words and places (`source`). `machine`
-//! adds what the port adds (workers, meter, refusals) and `schedule` the text that the port's `replay` prints.
+//! `bounded.rs`, `single.rs` and `unbounded.rs` are byte-for-byte copies. Everything they import is given a stand-in of the same shape
+//! here, in `sync` and in `pool`: the atomics, cells and boxes stop before each action, so that a schedule decides who goes next (`stage`,
+//! `coroutine`). Each source is included by a module of its own, `ring`, `one_slot` and `blocks`, which names its words and places
+//! (`source`). `machine` adds what the port adds (workers, meter, refusals) and `schedule` the text that the port's `replay` prints.
 
 // The port's words have 64 bits; the source's have the size of a pointer.
 #[cfg(not(target_pointer_width = "64"))]
@@ -13,8 +13,10 @@ extern crate alloc;
 // The source imports `CachePadded` from this crate; ours stands below.
 extern crate self as crossbeam_utils;
 
+mod blocks;
 mod coroutine;
 mod one_slot;
+mod pool;
 mod ring;
 mod source;
 mod sync;
@@ -34,6 +36,24 @@ pub mod state;
 pub mod tally;
 
 use std::ops::{Deref, DerefMut};
+
+/// As in the crate's lib.rs: makes the given function const if the given condition is true.
+macro_rules! const_fn {
+    (
+        const_if: #[cfg($($cfg:tt)+)];
+        $(#[$($attr:tt)*])*
+        $vis:vis const fn $($rest:tt)*
+    ) => {
+        #[cfg($($cfg)+)]
+        $(#[$($attr)*])*
+        $vis const fn $($rest)*
+        #[cfg(not($($cfg)+))]
+        $(#[$($attr)*])*
+        $vis fn $($rest)*
+    };
+}
+
+pub(crate) use const_fn;
 
 /// Stands for `crossbeam_utils::CachePadded`. Padding is about speed alone.
 pub struct CachePadded<T>(T);

@@ -1,7 +1,8 @@
 //! The fixed list: schedules and the output of each, for tests that have no Rust at hand.
 
+use crate::call::code::{CLOSE, IS_CLOSED, IS_EMPTY, IS_FULL, LEN, POP, PUSH};
 use crate::interleaved::{self, refused_whole};
-use crate::machine::Machine;
+use crate::machine::{Machine, Refusal};
 use crate::queue::{Facts, Making, Queue};
 use crate::random::Random;
 use crate::schedule::{join, run, Schedule, Show, SEPARATOR};
@@ -14,23 +15,33 @@ pub fn list(queue: Queue, seed: u64) -> (String, String) {
     let mut schedules = match queue {
         Queue::Bounded { edition } => ring(&mut random, edition),
         Queue::Single => one_slot(&mut random),
+        Queue::Unbounded => blocks(&mut random),
     };
     schedules.extend((0..8).map(|_| refused_whole(queue, &mut random)));
     let mut tally = Tally::new(queue);
     let mut out = judged(&schedules, &mut tally);
     // Rare places are left to chance, but not whether they come.
-    while !tally.complete() {
-        let more = interleaved::schedule(&mut random, smallest(queue), 3, 150);
+    while !tally.complete(left_out(queue)) {
+        let more = interleaved::schedule(&mut random, smallest(queue), 3, 0, 150);
         out += &judged(std::slice::from_ref(&more), &mut tally);
         schedules.push(more);
     }
     (header(queue, seed) + &join(&schedules) + &footer(&tally), out)
 }
 
+/// Refusals that a schedule can meet but that are not in the list: 23 needs all blocks taken, which takes 11,000 entries.
+fn left_out(queue: Queue) -> &'static [Refusal] {
+    match queue {
+        Queue::Bounded { .. } | Queue::Single => &[],
+        Queue::Unbounded => &[23],
+    }
+}
+
 fn smallest(queue: Queue) -> Making {
     match queue {
         Queue::Bounded { edition } => Making::Bounded { capacity: 1, edition },
         Queue::Single => Making::Single,
+        Queue::Unbounded => Making::Unbounded,
     }
 }
 
@@ -57,10 +68,27 @@ fn one_slot(random: &mut Random) -> Vec<Schedule> {
     schedules
 }
 
+fn blocks(random: &mut Random) -> Vec<Schedule> {
+    let mut schedules =
+        vec![first_block(), first_block_raced(), one_block_after_another(), end_of_a_block(), last_reader()];
+    schedules.extend([0, 1, 16, 17].map(|workers| Schedule::new(Making::Unbounded, workers)));
+    schedules.extend(refusals(Making::Unbounded));
+    let more: [&[(u64, u64)]; 2] = [
+        &[(1, 5)],                                                         // 9: no force_push
+        &[(0, 5), (8, 0), (8, 0), (8, 0), (8, 0), (8, 0), (9, 0), (9, 0)], // a lost exchange, then 8
+    ];
+    schedules.extend(more.map(|entries| of_entries(Making::Unbounded, entries)));
+    schedules.push(Schedule { making: Making::Unbounded, workers: 0, words: vec![8] });
+    schedules.extend((0..2).flat_map(|_| any(random, Making::Unbounded)));
+    // From items in most of a block on, so that its end is passed.
+    schedules.extend([2, 3, 16].map(|workers| interleaved::schedule(random, Making::Unbounded, workers, 28, 400)));
+    schedules
+}
+
 /// A random schedule of calls one after another, and three of interleaved acts.
 fn any(random: &mut Random, making: Making) -> Vec<Schedule> {
     let mut schedules = vec![sequential::schedule(random, making, 40)];
-    schedules.extend([2, 3, 16].map(|workers| interleaved::schedule(random, making, workers, 150)));
+    schedules.extend([2, 3, 16].map(|workers| interleaved::schedule(random, making, workers, 0, 150)));
     schedules
 }
 
@@ -71,12 +99,14 @@ fn judged(schedules: &[Schedule], tally: &mut Tally) -> String {
 fn header(queue: Queue, seed: u64) -> String {
     let Facts { name, list, begins_with, .. } = queue.facts();
     let option = if queue == Queue::RING { String::new() } else { queue.options() + " " };
+    let left_out =
+        if left_out(queue).is_empty() { "" } else { "# Nor is 23: all blocks are taken after some 11,000 entries.\n" };
     format!(
         "# The fixed list, made by `judge list {option}--seed {seed}`: the unmodified {name}.rs of concurrent-queue 2.5.0, run one
 # action at a time, gave the outputs in {list}.out. Schedules stand in replay's input format ({begins_with}, then pairs;
 # '#' starts a comment) and are separated by a line with a single percent sign; each output is followed by such a line.
 # Not in the list: refusal 6 but after a refused making, 7 (it needs 4,294,967,295 acts) and 10 (a schedule has no buffer).
-"
+{left_out}"
     )
 }
 
@@ -109,6 +139,13 @@ impl Writer {
     fn entry(&mut self, first: u64, item: u64) {
         assert_eq!(self.machine.enter(first, item), 0);
         self.schedule.push(first, item);
+    }
+
+    /// Acts to the answer.
+    fn end(&mut self, worker: u64) {
+        while self.machine.busy(worker) {
+            self.acts(worker, 1);
+        }
     }
 
     fn acts(&mut self, worker: u64, count: usize) {
@@ -155,6 +192,103 @@ fn one_slot_runs() -> Vec<Schedule> {
     vec![whole.schedule, odd.schedule, held.schedule]
 }
 
+const LOOKS: [(u64, u64); 4] = [(LEN, 0), (IS_EMPTY, 0), (IS_FULL, 0), (IS_CLOSED, 0)];
+
+/// The first push installs a block; empty again, closed, and the answers then.
+fn first_block() -> Schedule {
+    let mut writer = Writer::new(Making::Unbounded, 1);
+    for call in [(POP, 0), (PUSH, 5), (PUSH, 6), (POP, 0), (POP, 0), (POP, 0), (PUSH, 7), (CLOSE, 0)] {
+        writer.calls(&[call]);
+        writer.calls(&LOOKS);
+    }
+    writer.calls(&[(CLOSE, 0), (PUSH, 8), (POP, 0), (POP, 0)]);
+    writer.schedule
+}
+
+/// Three pushes take a first block. Worker 0 installs its own; worker 1 passes it before head has the block, so that worker 3's pop finds
+/// none; worker 2 finds the queue closed. The blocks not installed go back.
+fn first_block_raced() -> Schedule {
+    let mut writer = Writer::new(Making::Unbounded, 5);
+    for worker in 0..3 {
+        writer.entry(16 * worker + PUSH, 5 + worker);
+        writer.acts(worker, 3);
+    }
+    writer.acts(0, 1);
+    writer.acts(1, 6);
+    writer.entry(3 * 16 + POP, 0);
+    writer.acts(3, 3);
+    writer.acts(0, 1);
+    writer.calls(&[(4 * 16 + CLOSE, 0)]);
+    for worker in [2, 0, 1, 3] {
+        writer.end(worker);
+    }
+    writer.schedule
+}
+
+/// So many items in that three blocks are taken, and all but one out, which frees two; and some more, with blocks that were freed.
+fn one_block_after_another() -> Schedule {
+    let mut writer = Writer::new(Making::Unbounded, 1);
+    for items in [63, 40] {
+        (0..items).for_each(|item| writer.calls(&[(PUSH, 100 + item)]));
+        writer.calls(&LOOKS);
+        (1..items).for_each(|_| writer.calls(&[(POP, 0)]));
+        writer.calls(&LOOKS);
+    }
+    writer.schedule
+}
+
+/// Worker 0 has won a block's last slot and not yet moved tail past its end: len and is_empty look on, and worker 1, with a block set aside
+/// for nothing, waits. Then the same at head, where worker 2 waits for the next block and for the value, and worker 3 for head; worker 4
+/// looks on where both stand at the end.
+fn end_of_a_block() -> Schedule {
+    let mut writer = Writer::new(Making::Unbounded, 5);
+    (0..30).for_each(|item| writer.calls(&[(PUSH, 100 + item)]));
+    for worker in 0..2 {
+        writer.entry(16 * worker + PUSH, 130 + worker);
+        writer.acts(worker, 3);
+    }
+    writer.acts(0, 1);
+    writer.calls(&[(2 * 16 + LEN, 0), (2 * 16 + IS_EMPTY, 0)]);
+    writer.acts(1, 5);
+    writer.acts(0, 1);
+    writer.acts(1, 2);
+    (0..30).for_each(|_| writer.calls(&[(2 * 16 + POP, 0)]));
+    for worker in 2..4 {
+        writer.entry(16 * worker + POP, 0);
+        writer.acts(worker, 3);
+    }
+    writer.acts(2, 3);
+    writer.acts(3, 4);
+    writer.calls(&LOOKS.map(|(code, item)| (4 * 16 + code, item)));
+    writer.acts(0, 1);
+    writer.acts(2, 1);
+    writer.acts(0, 1);
+    writer.acts(2, 5);
+    (0..4).for_each(|worker| writer.end(worker));
+    writer.schedule
+}
+
+/// Readers are still at slots 3, 7 and 29 when the last slot's reader, worker 0, begins to destroy the block. The one at 3 goes on where
+/// worker 0 stopped; the one at 7 is done just before it would be asked to; the one at 29 frees the block.
+fn last_reader() -> Schedule {
+    let mut writer = Writer::new(Making::Unbounded, 4);
+    (0..33).for_each(|item| writer.calls(&[(PUSH, 100 + item)]));
+    for slot in 0..30 {
+        match [3, 7, 29].iter().position(|late| *late == slot) {
+            None => writer.calls(&[(POP, 0)]),
+            Some(late) => {
+                let worker = 1 + late as u64;
+                writer.entry(16 * worker + POP, 0);
+                writer.acts(worker, 5);
+            }
+        }
+    }
+    writer.calls(&[(POP, 0)]);
+    writer.acts(1, 5);
+    [2, 1, 3].into_iter().for_each(|worker| writer.end(worker));
+    writer.schedule
+}
+
 /// Each refusal of an entry by itself, the order where two would apply, and an odd number of words.
 fn refusals(making: Making) -> Vec<Schedule> {
     let refused: [&[(u64, u64)]; 19] = [
@@ -179,8 +313,15 @@ fn refusals(making: Making) -> Vec<Schedule> {
         &[(0, 5), (8, 0), (0, 6), (8, 0)],         // nothing is run after a refusal
     ];
     let odd = [vec![0], vec![0, 5, 8], vec![10, 0, 8]];
-    let words = |entries: &[(u64, u64)]| entries.iter().flat_map(|(first, second)| [*first, *second]).collect();
-    refused.map(words).into_iter().chain(odd).map(|words| Schedule { making, workers: 1, words }).collect()
+    let mut all: Vec<Schedule> = refused.map(|entries| of_entries(making, entries)).into();
+    all.extend(odd.map(|words| Schedule { making, workers: 1, words }));
+    all
+}
+
+fn of_entries(making: Making, entries: &[(u64, u64)]) -> Schedule {
+    let mut schedule = Schedule::new(making, 1);
+    entries.iter().for_each(|(first, second)| schedule.push(*first, *second));
+    schedule
 }
 
 /// A queue looked at after each call while it fills, is closed, and empties.

@@ -3,7 +3,7 @@
 
 use crate::call::{Call, Entry};
 use crate::coroutine::Coroutine;
-use crate::queue::Making;
+use crate::queue::{Making, Queue};
 use crate::source::{items_dropped, Seen, Source};
 use crate::stage::{self, Action, Pending, Said, Word};
 use crate::state::{Kind, State};
@@ -47,6 +47,7 @@ pub struct Losses {
 }
 
 pub struct Machine {
+    kind: Queue,
     queue: *mut dyn Source,
     workers: Vec<Worker>,
     meter: u64,
@@ -58,6 +59,7 @@ impl Machine {
     pub fn make(making: Making, workers: u64) -> Result<Machine, Refusal> {
         let source = making.source(workers)?;
         Ok(Machine {
+            kind: making.queue(),
             queue: Box::into_raw(source),
             workers: (0..workers).map(|_| Worker::new()).collect(),
             meter: 0,
@@ -111,6 +113,11 @@ impl Machine {
         self.worker(worker)?.busy.map(|busy| busy.pending.action)
     }
 
+    /// Whether the next act of a worker would be refused by 23.
+    pub fn lacks_a_block(&self, worker: u64) -> bool {
+        self.pending(worker) == Some(Action::Take) && self.source().none_free()
+    }
+
     fn worker(&self, worker: u64) -> Option<&Worker> {
         self.workers.get(usize::try_from(worker).ok()?)
     }
@@ -119,7 +126,7 @@ impl Machine {
     /// here: from a fresh machine the source never comes to a broken one.
     pub fn enter(&mut self, first: u64, second: u64) -> Refusal {
         let worker = first / 16;
-        let done = match Entry::decode(first % 16, second) {
+        let done = match Entry::decode(self.kind, first % 16, second) {
             None => Err(9),
             Some(_) if self.worker(worker).is_none() => Err(3),
             Some(Entry::Begin(call)) => self.begin(worker as usize, call),
@@ -137,7 +144,7 @@ impl Machine {
         }
         self.workers[worker].losses = Losses::default();
         CALL.set(Some((call, self.queue)));
-        self.workers[worker].coroutine.resume();
+        self.resume(worker);
         self.settle(worker, call, Seen::default());
         Ok(())
     }
@@ -152,15 +159,23 @@ impl Machine {
         if lose && !matches!(pending.action, Action::WeakExchange(..)) {
             return Err(8);
         }
+        if self.lacks_a_block(worker as u64) {
+            return Err(23);
+        }
         let place = self.workers[worker].state.kind;
         self.meter += 1;
         stage::let_lose(lose);
-        self.workers[worker].coroutine.resume();
+        self.resume(worker);
         self.count_act(worker, place, pending.action, lose, &seen);
         self.count_stock(pending.action, &seen);
-        seen.note(pending, stage::met());
+        self.source().note(&mut seen, pending, stage::met());
         self.settle(worker, call, seen);
         Ok(())
+    }
+
+    fn resume(&self, worker: usize) {
+        self.source().enter();
+        self.workers[worker].coroutine.resume();
     }
 
     /// Records where a worker came to rest: before its next action, or with its call's answer.
@@ -212,16 +227,23 @@ impl Machine {
 
     /// What the source's `Drop` meets, or refusal 4. The queue is gone afterwards, so this comes last.
     pub fn contents(self) -> Result<Vec<u64>, Refusal> {
-        if (0..self.workers.len()).any(|worker| self.busy(worker as u64)) {
+        if self.any_busy() {
             return Err(4);
         }
         Ok(items_dropped(|| drop(self)))
+    }
+
+    fn any_busy(&self) -> bool {
+        self.workers.iter().any(|worker| worker.busy.is_some())
     }
 }
 
 impl Drop for Machine {
     /// A worker may still stand in a call. Its stack is given up as it is: it holds numbers and nothing to be freed.
     fn drop(&mut self) {
+        if self.any_busy() {
+            self.source().abandon();
+        }
         // SAFETY: made by `Box::into_raw`, and no worker runs again.
         drop(unsafe { Box::from_raw(self.queue) });
     }
@@ -256,7 +278,9 @@ extern "C" fn serve() -> ! {
 #[cfg(test)]
 mod tests {
     use super::*;
+    use crate::call::code::FORCE_PUSH;
     use crate::random::Random;
+    use crate::state::NONE;
 
     /// No run reaches the meter's limit, so it is set: 5, 7, 8 in this order, and a call may still begin.
     #[test]
@@ -264,6 +288,7 @@ mod tests {
         for (making, after) in [
             (Making::Bounded { capacity: 1, edition: 1 }, Kind::P2Push.with(&[0, 5])),
             (Making::Single, Kind::A2.with(&[5])),
+            (Making::Unbounded, Kind::U2.with(&[NONE, 0, 5])),
         ] {
             let mut machine = Machine::make(making, 2).unwrap_or_else(|_| panic!("refused"));
             machine.meter = METER_LIMIT - 1;
@@ -281,19 +306,23 @@ mod tests {
     fn stepped_and_direct_calls_agree() {
         let mut random = Random::new(3);
         let rings = [1, 2].map(|edition| [1, 2, 3, 8, 256, 1024].map(|capacity| Making::Bounded { capacity, edition }));
-        for making in rings.into_iter().flatten().chain([Making::Single]) {
+        for making in rings.into_iter().flatten().chain([Making::Single, Making::Unbounded]) {
             let mut machine = Machine::make(making, 1).unwrap_or_else(|_| panic!("refused"));
             let direct = making.source(1).unwrap_or_else(|_| panic!("refused"));
             for round in 0..5000 {
                 let codes: &[u64] =
                     if round < 4900 { &[0, 0, 1, 2, 2, 3, 4, 5, 7] } else { &[0, 1, 2, 2, 3, 4, 5, 6, 7] };
                 let code = random.pick(codes);
+                if making == Making::Unbounded && code == FORCE_PUSH {
+                    continue;
+                }
                 let item = if code < 2 { random.item() } else { 0 };
                 let call = Call::decode(code, item).expect("a call");
                 assert_eq!(machine.enter(code, item), 0);
                 while machine.busy(0) {
                     assert_eq!(machine.enter(8, 0), 0);
                 }
+                direct.enter();
                 assert_eq!(machine.state(0), Some(direct.answer(call)));
                 assert_eq!(written(machine.source()), written(&*direct));
             }

@@ -13,7 +13,7 @@ use std::time::Instant;
 use std::{env, fs};
 
 const USAGE: &str =
-    "Each command takes --queue bounded|single, bounded unless told, and for that one --edition N, 1 unless told, and, but for list, --losses and --stock.
+    "Each command takes --queue bounded|single|unbounded, bounded unless told, and for bounded --edition N, 1 unless told, and, but for list, --losses and --stock.
 judge expect FILE|- [--quiet] [--many]
 judge sequential --calls N --seed S [--module CMD [--many]] [--batch ENTRIES] [--save DIR]
 judge interleaved --acts N --seed S [--closing] [--module CMD [--many]] [--batch ENTRIES] [--save DIR]

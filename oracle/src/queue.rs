@@ -1,5 +1,6 @@
 //! The crate's queues, and what the runs must know of each.
 
+use crate::blocks::{self, Blocks};
 use crate::machine::Refusal;
 use crate::one_slot::{self, OneSlot};
 use crate::random::Random;
@@ -11,6 +12,7 @@ use crate::state::Kind;
 pub enum Queue {
     Bounded { edition: u64 },
     Single,
+    Unbounded,
 }
 
 /// What differs from queue to queue beside the source itself.
@@ -38,7 +40,7 @@ pub struct Facts {
 impl Queue {
     /// The source's ring, without request 6.
     pub const RING: Queue = Queue::Bounded { edition: 1 };
-    pub const ALL: [Queue; 3] = [Queue::RING, Queue::Bounded { edition: 2 }, Queue::Single];
+    pub const ALL: [Queue; 4] = [Queue::RING, Queue::Bounded { edition: 2 }, Queue::Single, Queue::Unbounded];
 
     pub fn named(name: &str) -> Option<Queue> {
         Queue::ALL.into_iter().find(|queue| queue.facts().name == name)
@@ -48,6 +50,7 @@ impl Queue {
         match self {
             Queue::Bounded { .. } => &ring::FACTS,
             Queue::Single => &one_slot::FACTS,
+            Queue::Unbounded => &blocks::FACTS,
         }
     }
 
@@ -71,6 +74,7 @@ impl Queue {
 pub enum Making {
     Bounded { capacity: u64, edition: u64 },
     Single,
+    Unbounded,
 }
 
 const SLOTS_MOST: u64 = 1024;
@@ -82,6 +86,7 @@ impl Making {
         match self {
             Making::Bounded { edition, .. } => Queue::Bounded { edition },
             Making::Single => Queue::Single,
+            Making::Unbounded => Queue::Unbounded,
         }
     }
 
@@ -96,6 +101,7 @@ impl Making {
         match self {
             Making::Bounded { capacity, edition } => Ok(Box::new(Ring::new(capacity as usize, edition).ok_or(18_u64)?)),
             Making::Single => Ok(Box::new(OneSlot::new())),
+            Making::Unbounded => Ok(Box::new(Blocks::new())),
         }
     }
 
@@ -104,6 +110,7 @@ impl Making {
         match queue {
             Queue::Bounded { edition } => Making::Bounded { capacity: random.pick(&CAPACITIES), edition },
             Queue::Single => Making::Single,
+            Queue::Unbounded => Making::Unbounded,
         }
     }
 
@@ -112,14 +119,16 @@ impl Making {
         match queue {
             Queue::Bounded { edition } => Making::Bounded { capacity: random.pick(&CAPACITIES[..4]), edition },
             Queue::Single => Making::Single,
+            Queue::Unbounded => Making::Unbounded,
         }
     }
 
-    /// How many items it takes, about, to fill the queue.
+    /// How many items it takes to fill the queue; two blocks of the unbounded one.
     pub fn room(self) -> usize {
         match self {
             Making::Bounded { capacity, .. } => capacity as usize,
             Making::Single => 1,
+            Making::Unbounded => 62,
         }
     }
 }

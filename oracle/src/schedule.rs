@@ -32,6 +32,7 @@ impl Schedule {
         let making = match queue {
             Queue::Bounded { edition } => Making::Bounded { capacity: need("capacity")?, edition },
             Queue::Single => Making::Single,
+            Queue::Unbounded => Making::Unbounded,
         };
         let workers = need("number of workers")?;
         let words = numbers.collect::<Result<_, _>>()?;
@@ -46,7 +47,7 @@ impl Schedule {
     pub fn text(&self) -> String {
         let mut text = match self.making {
             Making::Bounded { capacity, .. } => format!("{capacity} "),
-            Making::Single => String::new(),
+            Making::Single | Making::Unbounded => String::new(),
         };
         text += &format!("{}\n", self.workers);
         for entry in self.words.chunks(2) {
@@ -148,7 +149,7 @@ fn refused_whole(schedule: &Schedule) -> Option<(usize, Refusal)> {
     if schedule.words.len() % 2 == 1 {
         return Some((0, 11));
     }
-    let unreadable = |(first, second): (u64, u64)| Entry::decode(first % 16, second).is_none();
+    let unreadable = |(first, second): (u64, u64)| Entry::decode(schedule.making.queue(), first % 16, second).is_none();
     schedule.entries().position(unreadable).map(|place| (place, 9))
 }
 

@@ -1,6 +1,7 @@
 //! Random calls one after another, each run to its end before the next begins.
 
 use crate::drive::Run;
+use crate::interleaved::mix_for;
 use crate::machine::Machine;
 use crate::queue::Making;
 use crate::random::Random;
@@ -39,7 +40,7 @@ pub fn schedule(random: &mut Random, making: Making, calls: usize) -> Schedule {
     let (mut mix, mut left) = (MIXES[0], 0);
     for done in 0..calls {
         if left == 0 {
-            mix = random.pick(&MIXES);
+            mix = mix_for(making.queue(), random.pick(&MIXES));
             left = 1 + random.below(2 * making.room() + 10);
         }
         left -= 1;

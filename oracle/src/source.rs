@@ -3,13 +3,18 @@
 
 use crate::call::Call;
 use crate::stage::{Action, Met, Pending, Word};
-use crate::state::{Kind, State};
+use crate::state::{Kind, State, NONE};
 use crate::{ForcePushError, PopError, PushError};
 use std::cell::RefCell;
 
 pub trait Source {
     /// Makes a call of the source.
     fn answer(&self, call: Call) -> State;
+
+    /// Keeps what a worker's own action gave it.
+    fn note(&self, seen: &mut Seen, done: Pending, met: Met) {
+        seen.note(done, met);
+    }
 
     /// The name of the place where a call stands: which action of the source is pending, and which words the worker's earlier
     /// actions gave it. There is no table of transitions; an action that no place stands for ends the judge.
@@ -24,6 +29,17 @@ pub trait Source {
 
     /// The lines before the contents.
     fn write_slots(&self, out: &mut String);
+
+    /// Called before the source runs.
+    fn enter(&self) {}
+
+    /// Whether a call that takes a block finds none: refusal 23.
+    fn none_free(&self) -> bool {
+        false
+    }
+
+    /// Called before the end of a queue that a call still uses. `Drop` may run only if nothing can go wrong in it.
+    fn abandon(&self) {}
 }
 
 /// An item. Its end is noted while `MET_BY_DROP` holds a list: so the source's `Drop` tells what it meets.
@@ -103,9 +119,32 @@ pub struct Seen {
     pub head: Option<u64>,
     /// The value of the slot just before it accessed it.
     pub value: u64,
-    /// The word whose exchange it won.
+    /// The word whose exchange it won, and what it became by that.
     pub won: Option<Word>,
+    pub won_new: u64,
     pub last: Option<Pending>,
+    pub blocks: SeenBlocks,
+}
+
+/// Blocks that a worker of the unbounded queue knows; `NONE` where it knows none.
+#[derive(Clone, Copy)]
+pub struct SeenBlocks {
+    /// The last block of tail and of head that a load gave it; of tail also the first block, once it has installed that.
+    pub of_tail: u64,
+    pub of_head: u64,
+    /// The block set aside, up to the store that links it.
+    pub aside: u64,
+    /// The block that it took as the first one but could not install.
+    pub lost: u64,
+    /// The block after that of head, and the one after that.
+    pub next: u64,
+    pub after_next: u64,
+}
+
+impl Default for SeenBlocks {
+    fn default() -> Self {
+        SeenBlocks { of_tail: NONE, of_head: NONE, aside: NONE, lost: NONE, next: NONE, after_next: NONE }
+    }
 }
 
 impl Seen {
@@ -113,7 +152,10 @@ impl Seen {
     pub fn note(&mut self, done: Pending, met: Met) {
         let found = met.found as u64;
         match done.action {
-            Action::WeakExchange(word, ..) | Action::Exchange(word, ..) if met.won => self.won = Some(word),
+            Action::WeakExchange(word, _, new) | Action::Exchange(word, _, new) if met.won => {
+                self.won = Some(word);
+                self.won_new = new as u64;
+            }
             Action::Load(word) | Action::WeakExchange(word, ..) | Action::Exchange(word, ..) => self.given(word, found),
             Action::Value(_) => self.value = found,
             _ => {}
@@ -125,6 +167,8 @@ impl Seen {
         match word {
             Word::Tail => self.tail = Some(found),
             Word::Head => self.head = Some(found),
+            Word::TailBlock => self.blocks.of_tail = found,
+            Word::HeadBlock => self.blocks.of_head = found,
             _ => {}
         }
     }

@@ -17,9 +17,14 @@ pub enum Word {
     Stamp(usize),
     /// The one word of the one-slot queue.
     State,
+    // Of the unbounded queue: head and tail are the indices; slots are counted through all blocks of the pool.
+    HeadBlock,
+    TailBlock,
+    Next(usize),
+    SlotState(usize),
 }
 
-/// One action of the source.
+/// One action of the source. What stands in a word that names a block is the block's number.
 #[derive(Clone, Copy, Debug, PartialEq, Eq)]
 pub enum Action {
     Load(Word),
@@ -32,6 +37,11 @@ pub enum Action {
     FetchAdd(Word, usize),
     /// Read, write or replace the value of this slot.
     Value(usize),
+    /// Take a block, or free this one.
+    Take,
+    Free(usize),
+    /// An act in which the source does nothing to what is shared.
+    Nothing,
 }
 
 /// An action not yet done, and the line of the source that does it.

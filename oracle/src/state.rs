@@ -1,5 +1,6 @@
 //! Where a worker stands, as `replay` prints it: a place with the words held there, or idle with the last answer.
 
+use crate::pool::NO_BLOCK;
 use std::fmt;
 
 macro_rules! kinds {
@@ -17,7 +18,7 @@ macro_rules! kinds {
     };
 }
 
-// Kind, and how it is printed; `#` stands for a number.
+// Kind, and how it is printed; `#` stands for a number, `@` for a block or none.
 kinds! {
     ANSWERS {
         None "idle:none",
@@ -69,6 +70,43 @@ kinds! {
         C3 "C3(#)",
     }
 
+    UNBOUNDED {
+        U1 "U1(@,#)",
+        U2 "U2(@,#,#)",
+        U3 "U3(#,@,#)",
+        U4 "U4(@,#,#)",
+        U5 "U5(@,#,@,#)",
+        U6 "U6(@,#,@,#)",
+        U7 "U7(@,#,@,#)",
+        U8 "U8(@,#,#)",
+        U9 "U9(@,#,@,#)",
+        U10 "U10(@,#,@,#)",
+        U11 "U11(@,#,@,#)",
+        U12 "U12(@,#,@,#)",
+        U13 "U13(@,#,@)",
+        U14Pushed "U14(@,pushed)",
+        U14Closed "U14(@,closed(#))",
+        V1 "V1",
+        V2 "V2(#)",
+        V3 "V3(#,@)",
+        V4 "V4(#,@,#)",
+        V5 "V5(#)",
+        V6 "V6(#,@,#)",
+        V7 "V7(#,@,#,@)",
+        V8 "V8(#,@,@,#)",
+        V9 "V9(#,@,#)",
+        V10 "V10(#,@)",
+        V11 "V11(#,@)",
+        V12 "V12(#,@,#)",
+        V13 "V13(@,#,#)",
+        V14 "V14(@,#,#)",
+        V15 "V15(@,#)",
+    }
+
+    NEVER_REACHED {
+        U15 "U15(@,@,#)",
+    }
+
     LOOKERS {
         Len1 "len1",
         Len2 "len2(#)",
@@ -83,16 +121,31 @@ kinds! {
 }
 
 /// The most words that stand in one place.
-const MOST_WORDS: usize = 2;
+const MOST_WORDS: usize = 4;
 
 /// How many words a text has.
 const fn words(text: &str) -> usize {
     let (mut at, mut count) = (0, 0);
     while at < text.len() {
-        count += (text.as_bytes()[at] == b'#') as usize;
+        count += matches!(text.as_bytes()[at], b'#' | b'@') as usize;
         at += 1;
     }
     count
+}
+
+/// The word for no block.
+pub const NONE: u64 = NO_BLOCK as u64;
+
+/// A block's number as it is printed.
+pub struct ShownBlock(pub u64);
+
+impl fmt::Display for ShownBlock {
+    fn fmt(&self, f: &mut fmt::Formatter<'_>) -> fmt::Result {
+        match self.0 {
+            NONE => f.write_str("-"),
+            number => fmt::Display::fmt(&number, f),
+        }
+    }
 }
 
 impl Kind {
@@ -100,9 +153,12 @@ impl Kind {
         Kind::TEXTS[self as usize]
     }
 
-    /// The text without its words.
+    /// The text without its words; with them if there is more in the brackets.
     pub fn name(self) -> &'static str {
-        self.text().split('(').next().expect("a split has a first part")
+        match self.text().split_once('(') {
+            Some((name, words)) if !words.contains(char::is_alphabetic) => name,
+            _ => self.text(),
+        }
     }
 
     /// The kind with no word, or with those that the table above has room for.
@@ -127,11 +183,15 @@ pub struct State {
 
 impl fmt::Display for State {
     fn fmt(&self, f: &mut fmt::Formatter<'_>) -> fmt::Result {
-        let parts = self.kind.text().split('#');
-        let words = self.words.iter().take(Kind::WORDS[self.kind as usize]).map(Some).chain([None]);
-        for (part, word) in parts.zip(words) {
-            f.write_str(part)?;
-            word.map_or(Ok(()), |word| fmt::Display::fmt(word, f))?;
+        let mut words = self.words.iter();
+        for part in self.kind.text().split_inclusive(['#', '@']) {
+            if let Some(text) = part.strip_suffix('#') {
+                write!(f, "{text}{}", words.next().expect("counted by `with`"))?;
+            } else if let Some(text) = part.strip_suffix('@') {
+                write!(f, "{text}{}", ShownBlock(*words.next().expect("counted by `with`")))?;
+            } else {
+                f.write_str(part)?;
+            }
         }
         Ok(())
     }

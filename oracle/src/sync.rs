@@ -1,39 +1,106 @@
 //! Stand-ins for what the sources import from the crate's sync.rs. Each shared word and each slot's value has a name, which the
-//! judge gives it as soon as the queue is made, and each action on one asks `stage` first. `peek` is the judge's look: no action.
+//! judge gives it as soon as the queue or the block is made, and each action on one asks `stage` first. `peek` is the judge's look: no
+//! action.
 
 pub mod prelude {}
 
 pub mod atomic {
     use super::Name;
+    use crate::pool;
     use crate::stage::{self, Action, Word};
     use std::cell::Cell;
 
     pub use std::sync::atomic::Ordering;
 
-    pub struct AtomicUsize {
+    pub type AtomicUsize = Atomic<usize>;
+    pub type AtomicPtr<T> = Atomic<*mut T>;
+
+    pub struct Atomic<V> {
         pub name: Name<Word>,
-        word: Cell<usize>,
+        word: Cell<V>,
     }
 
-    impl AtomicUsize {
-        pub const fn new(value: usize) -> Self {
-            AtomicUsize { name: Name::none(), word: Cell::new(value) }
+    /// What stands in a shared word, as the judge names it: a number, or the block that a pointer points to.
+    pub trait Shown: Copy + PartialEq {
+        fn shown(self) -> usize;
+    }
+
+    impl Shown for usize {
+        fn shown(self) -> usize {
+            self
+        }
+    }
+
+    impl<T> Shown for *mut T {
+        fn shown(self) -> usize {
+            pool::number_of(self.cast())
+        }
+    }
+
+    impl<V> Atomic<V> {
+        pub const fn new(value: V) -> Self {
+            Atomic { name: Name::none(), word: Cell::new(value) }
         }
 
+        /// Only `Drop` uses this, with the queue to itself: no action.
+        pub fn with_mut<R>(&mut self, f: impl FnOnce(&mut V) -> R) -> R {
+            f(self.word.get_mut())
+        }
+    }
+
+    impl<V: Shown> Atomic<V> {
         pub fn peek(&self) -> u64 {
-            self.word.get() as u64
+            self.word.get().shown() as u64
         }
 
         #[track_caller]
-        pub fn load(&self, _: Ordering) -> usize {
+        pub fn load(&self, _: Ordering) -> V {
             self.change(Action::Load, |found| found)
         }
 
         #[track_caller]
-        pub fn store(&self, value: usize, _: Ordering) {
-            self.change(|word| Action::Store(word, value), |_| value);
+        pub fn store(&self, value: V, _: Ordering) {
+            self.change(|word| Action::Store(word, value.shown()), |_| value);
         }
 
+        /// Fails when the words differ.
+        #[track_caller]
+        pub fn compare_exchange(&self, expected: V, new: V, _: Ordering, _: Ordering) -> Result<V, V> {
+            stage::before(|| Action::Exchange(self.name.get(), expected.shown(), new.shown()));
+            self.exchange(expected, new, false)
+        }
+
+        /// Fails when the words differ, and also when the schedule says so.
+        #[track_caller]
+        pub fn compare_exchange_weak(&self, expected: V, new: V, _: Ordering, _: Ordering) -> Result<V, V> {
+            let lose = stage::before(|| Action::WeakExchange(self.name.get(), expected.shown(), new.shown()));
+            self.exchange(expected, new, lose)
+        }
+
+        /// An action that gives the word found and leaves what `becomes` makes of it.
+        #[track_caller]
+        fn change(&self, action: impl FnOnce(Word) -> Action, becomes: impl FnOnce(V) -> V) -> V {
+            stage::before(|| action(self.name.get()));
+            let found = self.word.get();
+            self.word.set(becomes(found));
+            stage::after(found.shown(), false);
+            found
+        }
+
+        fn exchange(&self, expected: V, new: V, lose: bool) -> Result<V, V> {
+            let found = self.word.get();
+            let won = found == expected && !lose;
+            stage::after(found.shown(), won);
+            if won {
+                self.word.set(new);
+                Ok(found)
+            } else {
+                Err(found)
+            }
+        }
+    }
+
+    impl AtomicUsize {
         #[track_caller]
         pub fn fetch_or(&self, bits: usize, _: Ordering) -> usize {
             self.change(|word| Action::FetchOr(word, bits), |found| found | bits)
@@ -47,53 +114,6 @@ pub mod atomic {
         #[track_caller]
         pub fn fetch_add(&self, number: usize, _: Ordering) -> usize {
             self.change(|word| Action::FetchAdd(word, number), |found| found.wrapping_add(number))
-        }
-
-        /// Fails when the words differ.
-        #[track_caller]
-        pub fn compare_exchange(&self, expected: usize, new: usize, _: Ordering, _: Ordering) -> Result<usize, usize> {
-            stage::before(|| Action::Exchange(self.name.get(), expected, new));
-            self.exchange(expected, new, false)
-        }
-
-        /// Fails when the words differ, and also when the schedule says so.
-        #[track_caller]
-        pub fn compare_exchange_weak(
-            &self,
-            expected: usize,
-            new: usize,
-            _: Ordering,
-            _: Ordering,
-        ) -> Result<usize, usize> {
-            let lose = stage::before(|| Action::WeakExchange(self.name.get(), expected, new));
-            self.exchange(expected, new, lose)
-        }
-
-        /// Only `Drop` uses this, with the queue to itself: no action.
-        pub fn with_mut<R>(&mut self, f: impl FnOnce(&mut usize) -> R) -> R {
-            f(self.word.get_mut())
-        }
-
-        /// An action that gives the word found and leaves what `becomes` makes of it.
-        #[track_caller]
-        fn change(&self, action: impl FnOnce(Word) -> Action, becomes: impl FnOnce(usize) -> usize) -> usize {
-            stage::before(|| action(self.name.get()));
-            let found = self.word.get();
-            self.word.set(becomes(found));
-            stage::after(found, false);
-            found
-        }
-
-        fn exchange(&self, expected: usize, new: usize, lose: bool) -> Result<usize, usize> {
-            let found = self.word.get();
-            let won = found == expected && !lose;
-            stage::after(found, won);
-            if won {
-                self.word.set(new);
-                Ok(found)
-            } else {
-                Err(found)
-            }
         }
     }
 }
@@ -143,6 +163,11 @@ impl<N: Copy> Name<N> {
 
     pub fn set(&self, name: N) {
         self.0.set(Some(name));
+    }
+
+    /// The word is gone until it is named anew: an action on it ends the judge.
+    pub fn clear(&self) {
+        self.0.set(None);
     }
 
     fn get(&self) -> N {

@@ -18,7 +18,7 @@ pub enum Ending {
 const ENDINGS: [&str; 4] = ["won", "lost by the words", "lost by the schedule", "lost by both"];
 const KINDS: usize = Kind::COUNT;
 /// No refusal has a higher number.
-const REFUSALS: usize = 19;
+const REFUSALS: usize = 24;
 
 #[derive(Clone)]
 pub struct Tally {
@@ -82,15 +82,15 @@ impl Tally {
         self.refusals[refusal as usize]
     }
 
-    /// Whether every place, every answer of every call, every ending of every exchange and every refusal was seen, and some
-    /// item among the contents.
-    pub fn complete(&self) -> bool {
+    /// Whether every place, every answer of every call, every ending of every exchange and every refusal but these was seen, and
+    /// some item among the contents.
+    pub fn complete(&self, but: &[u64]) -> bool {
         let facts = self.queue.facts();
         let seen = |counts: &[u64]| counts.iter().filter(|times| **times > 0).count();
         self.queue.places().all(|kind| self.times_at(kind) > 0)
             && seen(self.answers.as_flattened()) == facts.answers
             && seen(self.exchanges.as_flattened()) == 4 * facts.weak.len() + 2 * facts.strong.len()
-            && facts.refusals.iter().all(|refusal| self.times_refused(*refusal) > 0)
+            && facts.refusals.iter().all(|refusal| self.times_refused(*refusal) > 0 || but.contains(refusal))
             && self.items_met > 0
             && (!matches!(self.queue, Queue::Bounded { .. }) || self.closes_met > 0)
     }

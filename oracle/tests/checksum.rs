@@ -2,6 +2,7 @@
 
 const BOUNDED: &str = "f161cc0e03f59cc764a44dc0782f7fcef7325fc328dfc8cb8c7fd608fc259cc8";
 const SINGLE: &str = "610671ffb6f3b3bc9d375b99f4e004c61eece74caa29c2a3af6977d4764185f4";
+const UNBOUNDED: &str = "e90ea841f3f1eac5503b1c3cd2949de64956fc6a164ca65150c6c2bba02d0e16";
 
 #[test]
 fn sources_are_unmodified() {
@@ -9,6 +10,8 @@ fn sources_are_unmodified() {
     assert_eq!(include_str!("../src/bounded.rs.sha256"), format!("{BOUNDED}  bounded.rs\n"));
     assert_eq!(sha256(include_bytes!("../src/single.rs")), SINGLE);
     assert_eq!(include_str!("../src/single.rs.sha256"), format!("{SINGLE}  single.rs\n"));
+    assert_eq!(sha256(include_bytes!("../src/unbounded.rs")), UNBOUNDED);
+    assert_eq!(include_str!("../src/unbounded.rs.sha256"), format!("{UNBOUNDED}  unbounded.rs\n"));
 }
 
 #[test]

@@ -53,6 +53,7 @@ fn the_lists_are_the_judges() {
     let lists = [
         (Queue::RING, include_str!("../list/list.in"), include_str!("../list/list.out")),
         (Queue::Single, include_str!("../list/single.in"), include_str!("../list/single.out")),
+        (Queue::Unbounded, include_str!("../list/unbounded.in"), include_str!("../list/unbounded.out")),
     ];
     for (queue, input, output) in lists {
         assert!(list::list(queue, 8) == (input.into(), output.into()), "the list of {queue:?} differs");

@@ -9,7 +9,8 @@ use oracle::tally::Tally;
 
 fn short_run(queue: Queue) -> Tally {
     let mut run = Run::new(queue, None, 1000, "differences".into());
-    interleaved::drive(&mut run, 1_000_000, 7, true).unwrap();
+    // Short schedules meet more refusals; the ends of a block are reached by long ones.
+    interleaved::drive(&mut run, 1_000_000, 7, queue != Queue::Unbounded).unwrap();
     run.tally
 }
 
@@ -23,7 +24,7 @@ fn every_place_answer_and_refusal() {
         for refusal in queue.facts().refusals {
             assert!(tally.times_refused(*refusal) > 0, "refusal {refusal} was not given");
         }
-        assert!(tally.complete(), "{tally}");
+        assert!(tally.complete(&[]), "{tally}");
     }
 }
 

@@ -59,7 +59,7 @@ fn refused_entry_ends_the_run() {
 #[test]
 fn order_of_refusals() {
     let refusal = |entries: &str| {
-        let outputs = [(Queue::RING, "1 1"), (Queue::Single, "1")].map(|(queue, making)| {
+        let outputs = [(Queue::RING, "1 1"), (Queue::Single, "1"), (Queue::Unbounded, "1")].map(|(queue, making)| {
             let output = text(queue, &format!("{making} {entries}"), true);
             output.lines().nth(1).unwrap().split(' ').nth(1).unwrap().to_string()
         });
@@ -134,6 +134,7 @@ fn texts_of_many() {
     assert_eq!(split("a\n%\nb\n%\n"), ["a\n", "b\n"]);
     assert!(Schedule::parse(Queue::RING, "1").is_err());
     assert!(Schedule::parse(Queue::Single, "").is_err());
+    assert!(Schedule::parse(Queue::Unbounded, "").is_err());
     for queue in Queue::ALL {
         assert!(Schedule::parse(queue, "1 1 x").is_err());
         assert!(Schedule::parse(queue, "1 1 -1").is_err());
@@ -153,4 +154,20 @@ fn one_slot() {
     assert_eq!(single("1 0 5 8 0 8 0 8 0"), format!("{pushed}value 5\ncontents 5\n"));
     assert_eq!(single("1 0 5 8 0 8 0 8 0 184 0 8 0"), format!("{pushed}4 3 s=2 m=3 w11=-\nvalue 5\ncontents 5\n"));
     assert_eq!(text(Queue::Single, "1 0 5 8 0 8 0 9 0", true), "made 0\n3 8 s=3 m=2\nvalue 5\ncontents refused 4\n");
+}
+
+#[test]
+fn blocks() {
+    let unbounded = |input: &str| text(Queue::Unbounded, input, false);
+    assert_eq!(unbounded("1"), "made 0\ncontents\n");
+    assert_eq!(text(Queue::Unbounded, "1", true), "made 0\n0 0 h=0 hb=- t=0 tb=- m=0\ncontents\n");
+    let blank = "made 2\n0 6 h=0 hb=- t=0 tb=- m=0\ncontents refused 6\n";
+    assert_eq!(["0", "17", "0 0 5 8"].map(unbounded), [blank; 3]);
+    assert_eq!(unbounded("1 0 5 8"), "made 0\n0 11 h=0 hb=- t=0 tb=- m=0\ncontents\n");
+    let unread = "made 0\n0 9 h=0 hb=- t=0 tb=- m=0\ncontents\n";
+    assert_eq!(["1 1 5", "1 17 5"].map(unbounded), [unread; 2], "code 1 is 9, before 3");
+    assert_eq!(unbounded("1 0 5 1 5"), "made 0\n1 9 h=0 hb=- t=0 tb=- m=0\ncontents\n", "9 is of the whole: nothing is run");
+    let pushed = text(Queue::Unbounded, &format!("1 0 5{}", " 8 0".repeat(8)), true);
+    let block = format!("block 0 next=- (1,5){}", " (0,0)".repeat(30));
+    assert_eq!(pushed, format!("made 0\n9 0 h=0 hb=0 t=2 tb=0 m=8\n{block}\ncontents 5\n"));
 }

@@ -168,11 +168,7 @@ run-among m s =
     found AllRead = from-among m 0 s
     found (UnreadableAt k) = refl
 
--- ---- 9 is the refusal of two words that can't be read, and of no others
-pub turn-unread : (m : Machine) (a b : ℕ) → entryOf a b ≡ Unreadable → turnOf m a b .refusal ≡ 9
-unfolding turnOfBy refused
-turn-unread m a b h = ap (λ (x : Entry). turn m x .refusal) h
-
+-- ---- 9 is the refusal of two words that can't be read alone
 carried-low : (m : Machine) (w : ℕ) (p : Place) (v : Verdict) → Sense (m .meter) (viewOf p .busy) v → carried m w p v .refusal ≤ 8
 unfolding refused accepted
 carried-low m w p (Refuse k) h = h .1

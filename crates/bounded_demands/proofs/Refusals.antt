@@ -36,7 +36,7 @@ use Rattle.bounded_runs.proofs.Turns.{move-busy}
 use Rattle.bounded.proofs.Steps.{turn-unchanged}
 use Rattle.bounded.specs.Bounded as face
 use Rattle.bounded_demands.specs.Demands.{RefusedUnchanged, ListFirst, StaysUnbroken, OnlyOne}
-use Rattle.bounded_demands.proofs.Numbers.{picked, turn-unread, only-unread}
+use Rattle.bounded_demands.proofs.Numbers.{picked, only-unread}
 
 -- ---- one answer
 one : {A : Type 0} (d x y : A) → x ≡ d → y ≡ d → x ≡ y
@@ -132,7 +132,6 @@ ring-queue =
       machine-is = ran-machine;
       kept = turn-kept;
       reading = entryOf;
-      unread = turn-unread;
       only-unread = only-unread;
     }
 

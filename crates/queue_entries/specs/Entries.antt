@@ -39,6 +39,10 @@ unfoldable pub entryOf : ℕ → ℕ → Entry
 entryOf first item =
     cond (strayOf (first % 16) item) Unreadable (orderOf (first / 16) (first % 16) item)
 
+-- As a queue reads them that has no call of this code.
+unfoldable pub entryBut : ℕ → ℕ → ℕ → Entry
+entryBut barred first item = cond (eqb (first % 16) barred) Unreadable (entryOf first item)
+
 -- Of a worker that is busy or idle, whose next action is a weak exchange or not.
 -- 4: begin on a busy worker. 5: act of an idle worker. 7: act with the meter at its last number or above.
 -- 8: code 9 where the next action is no weak exchange.

@@ -1,7 +1,7 @@
 // What every queue's schedules share: document 01, "Schedules", the order of an entry's refusals, and the limits on workers and meter.
 ghost use mathlib.Core.Path.{_≡_};
 ghost use Rattle.queue_entries.specs.Limits.{inLimits};
-ghost use Rattle.queue_entries.specs.Entries.{callOf, strayOf, entryOf, verdictFor};
+ghost use Rattle.queue_entries.specs.Entries.{callOf, strayOf, entryOf, entryBut, verdictFor};
 ghost use Rattle.queue_entries.specs.Schedules.{searchBy};
 
 // The most workers, and the meter's last number.
@@ -91,18 +91,36 @@ pub enum Finding {
     UnreadableAt(usize),
 }
 
-pub fn search(schedule: &[u64]) -> Finding
-    ensures { λ r. ⌜ r ≡ searchBy entryOf 0 (now (schedule .entry)) ⌝ }
+// As a queue reads them that has no call of this code.
+pub fn entry_but(barred: u64, first: u64, second: u64) -> Entry
+    ensures { λ r. ⌜ r ≡ entryBut barred first second ⌝ }
+{
+    if first % 16 == barred {
+        return Entry::Unreadable;
+    }
+    entry_of(first, second)
+}
+
+pub fn search_but(barred: u64, schedule: &[u64]) -> Finding
+    ensures { λ r. ⌜ r ≡ searchBy (entryBut barred) 0 (now (schedule .entry)) ⌝ }
 {
     let n = schedule.len() / 2;
     let mut i = 0;
     while i < n {
-        let Entry::Asks(worker, order) = entry_of(schedule[2 * i], schedule[2 * i + 1]) else {
+        let Entry::Asks(worker, order) = entry_but(barred, schedule[2 * i], schedule[2 * i + 1])
+        else {
             return Finding::UnreadableAt(i);
         };
         i += 1;
     }
     Finding::AllRead
+}
+
+// No code is 16: every call is there.
+pub fn search(schedule: &[u64]) -> Finding
+    ensures { λ r. ⌜ r ≡ searchBy entryOf 0 (now (schedule .entry)) ⌝ }
+{
+    search_but(16, schedule)
 }
 
 // What becomes of an entry's worker: a refusal, a call begun, or an act.

@@ -5,3 +5,5 @@ pub mod Verdicts
 pub mod Loops
 pub mod Histories
 pub mod Alone
+pub mod Splits
+pub mod Upd

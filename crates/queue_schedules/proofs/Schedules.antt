@@ -38,9 +38,8 @@ pub record Queue (M D R : Type 0) : Type 0 where
   pub machine-is : (k i : ℕ) (m : M) → machineIn (ran k i m) ≡ m
   -- a refused entry changes nothing
   pub kept : (m : M) (a b : ℕ) → (refusal (turn m a b) ≡ 0 → ⊥) → machine (turn m a b) ≡ m
-  -- 9 is the refusal of two words that can't be read, and of no others
+  -- 9 is the refusal of two words that can't be read alone
   pub reading : ℕ → ℕ → Entry
-  pub unread : (m : M) (a b : ℕ) → reading a b ≡ Unreadable → refusal (turn m a b) ≡ 9
   pub only-unread : (m : M) (a b : ℕ) → refusal (turn m a b) ≡ 9 → reading a b ≡ Unreadable
 
 module _ {M D R : Type 0} (q : Queue M D R) where
@@ -252,15 +251,15 @@ module _ {M D R : Type 0} (q : Queue M D R) where
             ∙ ap (q .machineIn) (sym (schedule-read m (take (2 * k) s) e (even-part k s o) (readable-part (q .reading) s k (read-search (q .reading) s 0 h)))))
 
     -- one entry by itself
-    pub schedule-one : (m : M) (a b : ℕ) → broken m ≡ false
+    pub schedule-one : (m : M) (a b : ℕ) → broken m ≡ false → (q .reading a b ≡ Unreadable → q .refusal (q .turn m a b) ≡ 9)
         → (q .refusalIn (scheduleIn m (a ∷ b ∷ [])) ≡ q .refusal (q .turn m a b)) × (q .machineIn (scheduleIn m (a ∷ b ∷ [])) ≡ next m a b)
-    schedule-one m a b e = find (searchBy (q .reading) 0 (a ∷ b ∷ [])) refl
+    schedule-one m a b e nine = find (searchBy (q .reading) 0 (a ∷ b ∷ [])) refl
       where
         One : R → Type 0
         One r = (q .refusalIn r ≡ q .refusal (q .turn m a b)) × (q .machineIn r ≡ next m a b)
 
         by-9 : (k : ℕ) → q .reading a b ≡ Unreadable → One (q .ran 9 k m)
-        by-9 k u = (q .refusal-is 9 k m ∙ sym (q .unread m a b u), q .machine-is 9 k m ∙ sym (q .kept m a b (λ z. omega (arith, q .unread m a b u))))
+        by-9 k u = (q .refusal-is 9 k m ∙ sym (nine u), q .machine-is 9 k m ∙ sym (q .kept m a b (λ z. omega (arith, nine u))))
 
         go : (c : Bool) → taken m a b ≡ c → One (runIn m 0 (a ∷ b ∷ []))
         go true t =

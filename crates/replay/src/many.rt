@@ -1,11 +1,6 @@
 // One schedule, or one after another: each is read once to see that it can be run, and once more to run it.
-use crate::queue::Run;
-use replay_input::source::Reading;
 use replay_options::Options;
 use replay_survey::Survey;
-use replay_survey::Whole;
-
-const STRIDE: u64 = 1000000;
 
 // The program's status.
 pub const RAN: u8 = 0;
@@ -13,112 +8,6 @@ pub const RAN: u8 = 0;
 pub const REFUSED: u8 = 1;
 
 pub const UNREADABLE: u8 = 2;
-
-fn progress(before: u64, after: u64) {
-    if before / STRIDE != after / STRIDE {
-        if libc::isatty(libc::STDERR_FILENO) == 1 {
-            replay_input::say::progress(after);
-        }
-    }
-}
-
-// A reading, the run of what was read, and whether a number is left over: 1 or 0.
-struct Playing {
-    reading: Reading,
-    run: Run,
-    left: usize,
-}
-
-fn goes_on(p: Playing, o: Options) -> bool {
-    let r = p.reading;
-    if r.event == text_numbers::NOTHING {
-        crate::queue::refusal(p.run, o) == 0
-    } else {
-        false
-    }
-}
-
-// One piece of the schedule.
-fn play_some(run: Run, o: Options, whole: Whole, list: &[u64], n: usize, out: &mut [u8]) -> Run {
-    let before = crate::queue::place(run, o);
-    let after = crate::queue::pairs(run, o, whole, list, n, out);
-    progress(before, crate::queue::place(after, o));
-    after
-}
-
-fn read_and_play(
-    p: Playing,
-    o: Options,
-    fd: i32,
-    whole: Whole,
-    bytes: &mut [u8],
-    list: &mut [u64],
-    out: &mut [u8],
-) -> Playing {
-    let before = p.reading;
-    let run = p.run;
-    let r = replay_input::source::turn(fd, o.many, before, bytes, list, p.left);
-    let after = play_some(run, o, whole, list, r.count, out);
-    let left = replay_input::source::carry(list, r.count);
-    Playing {
-        reading: r,
-        run: after,
-        left: left,
-    }
-}
-
-fn play_in(
-    begin: Playing,
-    o: Options,
-    fd: i32,
-    whole: Whole,
-    bytes: &mut [u8],
-    list: &mut [u64],
-    out: &mut [u8],
-) -> Run {
-    let mut p = begin;
-    let mut turns = u64::MAX;
-    while turns > 0 && goes_on(p, o) {
-        turns -= 1;
-        p = read_and_play(p, o, fd, whole, bytes, list, out);
-    }
-    let run = p.run;
-    run
-}
-
-fn play_begin(o: Options, offset: u64, line: u64, at: usize) -> Playing {
-    Playing {
-        reading: replay_input::source::start(offset, line),
-        run: crate::queue::start(at),
-        left: crate::queue::before(o),
-    }
-}
-
-// Where the text to be written goes on, and whether the schedule was refused.
-struct Played {
-    at: usize,
-    refused: bool,
-}
-
-fn play(
-    o: Options,
-    fd: i32,
-    offset: u64,
-    line: u64,
-    whole: Whole,
-    out: &mut [u8],
-    at: usize,
-) -> Played {
-    let mut bytes = [0u8; replay_input::source::BYTES];
-    // the number before the first, where one is put there
-    let mut list = [1u64; replay_input::source::NUMBERS];
-    let begin = play_begin(o, offset, line, at);
-    let run = play_in(begin, o, fd, whole, &mut bytes, &mut list, out);
-    Played {
-        at: crate::queue::finish(run, o, out),
-        refused: crate::queue::refusal(run, o) != 0,
-    }
-}
 
 // Where the next schedule begins, where the text to be written goes on, and the status so far.
 struct Next {
@@ -163,7 +52,14 @@ fn after(s: Survey, at: usize, status: u8) -> Next {
 }
 
 fn surveyed(o: Options, fd: i32, from: Next) -> Survey {
-    replay_survey::surveyed(fd, o.many, crate::queue::before(o), from.offset, from.line)
+    replay_survey::surveyed(
+        fd,
+        o.many,
+        crate::queue::before(o),
+        crate::queue::barred(o),
+        from.offset,
+        from.line,
+    )
 }
 
 // Read once, and not run.
@@ -185,15 +81,9 @@ fn one(o: Options, fd: i32, name: &[u8], from: Next, out: &mut [u8]) -> Next {
     if replay_survey::is_sound(s, name) {} else {
         return stop();
     }
-    let p = play(
-        o,
-        fd,
-        from.offset,
-        from.line,
-        replay_survey::refused_whole(s),
-        out,
-        from.at,
-    );
+    let begun = replay_input::source::begun(from.offset, from.line, crate::queue::before(o));
+    let whole = replay_survey::refused_whole(s);
+    let p = crate::queue::play(o, fd, begun, whole, out, from.at);
     after(s, p.at, worse(from.status, p.refused))
 }
 

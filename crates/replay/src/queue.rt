@@ -1,11 +1,8 @@
-// A schedule under way, of the queue that the options name.
+// The queue that the options name: what a schedule of it has before its first number, and how it is run.
+use replay_input::source::Reading;
 use replay_options::Options;
+use replay_survey::Played;
 use replay_survey::Whole;
-
-pub struct Run {
-    pub bounded: replay_bounded::play::Run,
-    pub single: replay_single::play::Run,
-}
 
 fn asked(o: Options) -> replay_single::play::Asked {
     replay_single::play::Asked {
@@ -15,54 +12,36 @@ fn asked(o: Options) -> replay_single::play::Asked {
     }
 }
 
-fn is_single(o: Options) -> bool {
-    o.queue == replay_options::SINGLE
-}
-
-pub fn start(at: usize) -> Run {
-    Run {
-        bounded: replay_bounded::play::start(at),
-        single: replay_single::play::start(at),
-    }
-}
-
-pub fn place(r: Run, o: Options) -> u64 {
-    let b = r.bounded;
-    let s = r.single;
-    if is_single(o) { s.place } else { b.place }
-}
-
-pub fn refusal(r: Run, o: Options) -> u64 {
-    let b = r.bounded;
-    let s = r.single;
-    if is_single(o) { s.refusal } else { b.refusal }
-}
-
-// The pairs among the first n numbers of the list.
-pub fn pairs(r: Run, o: Options, whole: Whole, list: &[u64], n: usize, out: &mut [u8]) -> Run {
-    let b = r.bounded;
-    let s = r.single;
-    if is_single(o) {
-        return Run {
-            bounded: b,
-            single: replay_single::play::pairs(s, asked(o), whole, list, n, out),
-        };
-    }
-    Run {
-        bounded: replay_bounded::play::pairs(b, o, whole, list, n, out),
-        single: s,
-    }
-}
-
-// What stands at the end.
-pub fn finish(r: Run, o: Options, out: &mut [u8]) -> usize {
-    if is_single(o) {
-        return replay_single::play::finish(r.single, asked(o), out);
-    }
-    replay_bounded::play::finish(r.bounded, o, out)
-}
-
-// A schedule of the one-slot queue has no capacity; one is put before it, so that both are read alike.
+// A schedule of the other queues has no capacity; one is put before it, so that all are read alike.
 pub fn before(o: Options) -> usize {
-    if is_single(o) { 1 } else { 0 }
+    if o.queue == replay_options::BOUNDED {
+        0
+    } else {
+        1
+    }
+}
+
+// The unbounded queue has no force_push: code 1.
+pub fn barred(o: Options) -> u64 {
+    if o.queue == replay_options::UNBOUNDED {
+        1
+    } else {
+        16
+    }
+}
+
+pub fn play(
+    o: Options,
+    fd: i32,
+    begun: Reading,
+    whole: Whole,
+    out: &mut [u8],
+    at: usize,
+) -> Played {
+    let queue = o.queue;
+    match queue {
+        replay_options::SINGLE => replay_single::play::play(asked(o), fd, begun, whole, out, at),
+        replay_options::UNBOUNDED => replay_unbounded::play::play(o, fd, begun, whole, out, at),
+        _ => replay_bounded::play::play(o, fd, begun, whole, out, at),
+    }
 }

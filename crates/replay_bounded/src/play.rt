@@ -4,7 +4,9 @@ use bounded_machine::Machine;
 use bounded_places::Answer;
 use bounded_places::Place;
 use bounded_places::Worker;
+use replay_input::source::Reading;
 use replay_options::Options;
+use replay_survey::Played;
 use replay_survey::Whole;
 
 pub struct Run {
@@ -20,7 +22,7 @@ pub struct Run {
     pub summary: Summary,
 }
 
-pub fn start(at: usize) -> Run {
+fn start(at: usize) -> Run {
     Run {
         machine: bounded_machine::blank(),
         made: false,
@@ -244,7 +246,7 @@ fn first_pairs(r: Run, o: Options, whole: Whole, list: &[u64], out: &mut [u8]) -
 }
 
 // The pairs among the first n numbers of the list.
-pub fn pairs(r: Run, o: Options, whole: Whole, list: &[u64], n: usize, out: &mut [u8]) -> Run {
+fn pairs(r: Run, o: Options, whole: Whole, list: &[u64], n: usize, out: &mut [u8]) -> Run {
     let even = n - n % 2;
     if list.len() < even {
         return r;
@@ -299,9 +301,92 @@ fn tell_end(s: Summary, o: Options, out: &mut [u8], at: usize) -> usize {
 }
 
 // What stands at the end.
-pub fn finish(r: Run, o: Options, out: &mut [u8]) -> usize {
+fn finish(r: Run, o: Options, out: &mut [u8]) -> usize {
     let p = tell_whole(r, o.quiet, out);
     let q = bounded_text_machine::text::slots(out, p, r.machine);
     let t = contents(out, q, r.machine);
     tell_end(r.summary, o, out, t)
+}
+
+// A schedule under way: where its text is read, and what was run of it.
+struct Playing {
+    reading: Reading,
+    run: Run,
+}
+
+fn goes_on(p: Playing) -> bool {
+    let reading = p.reading;
+    let run = p.run;
+    replay_input::source::goes_on(reading.event, run.refusal)
+}
+
+// One piece of the schedule.
+fn some(r: Run, o: Options, whole: Whole, list: &[u64], n: usize, out: &mut [u8]) -> Run {
+    let before = r.place;
+    let after = pairs(r, o, whole, list, n, out);
+    replay_input::say::progress(before, after.place);
+    after
+}
+
+fn read_and_run(
+    p: Playing,
+    o: Options,
+    fd: i32,
+    whole: Whole,
+    bytes: &mut [u8],
+    list: &mut [u64],
+    out: &mut [u8],
+) -> Playing {
+    let before = p.reading;
+    let run = p.run;
+    let reading = replay_input::source::next(fd, o.many, before, bytes, list);
+    let after = some(run, o, whole, list, reading.count, out);
+    Playing {
+        reading: reading,
+        run: after,
+    }
+}
+
+fn all(
+    begin: Playing,
+    o: Options,
+    fd: i32,
+    whole: Whole,
+    bytes: &mut [u8],
+    list: &mut [u64],
+    out: &mut [u8],
+) -> Run {
+    let mut p = begin;
+    let mut turns = u64::MAX;
+    while turns > 0 && goes_on(p) {
+        turns -= 1;
+        p = read_and_run(p, o, fd, whole, bytes, list, out);
+    }
+    let run = p.run;
+    run
+}
+
+fn begin(begun: Reading, at: usize) -> Playing {
+    Playing {
+        reading: begun,
+        run: start(at),
+    }
+}
+
+// A schedule, read piece by piece and run to its end or to its first refusal.
+pub fn play(
+    o: Options,
+    fd: i32,
+    begun: Reading,
+    whole: Whole,
+    out: &mut [u8],
+    at: usize,
+) -> Played {
+    let mut bytes = [0u8; replay_input::source::BYTES];
+    let mut list = [1u64; replay_input::source::NUMBERS];
+    let run = all(begin(begun, at), o, fd, whole, &mut bytes, &mut list, out);
+    Played {
+        at: finish(run, o, out),
+        refused: run.refusal != 0,
+    }
 }

@@ -73,8 +73,15 @@ pub fn is_sound(program: &[u8], name: &[u8], r: Reading, numbers: u64) -> bool {
     true
 }
 
-pub fn progress(entries: u64) {
-    let mut text = [0u8; 64];
-    let p = text_output::form(&mut text, 0, b"# entries\n", &[entries]);
-    out(&text, p);
+const STRIDE: u64 = 1000000;
+
+// Entries run before a piece and after it: told to a terminal, now and then.
+pub fn progress(before: u64, after: u64) {
+    if before / STRIDE != after / STRIDE {
+        if libc::isatty(libc::STDERR_FILENO) == 1 {
+            let mut text = [0u8; 64];
+            let p = text_output::form(&mut text, 0, b"# entries\n", &[after]);
+            out(&text, p);
+        }
+    }
 }

@@ -106,6 +106,27 @@ pub fn carry(list: &mut [u64], count: usize) -> usize {
     0
 }
 
+// Of a schedule that is read to be run: so many numbers, none or one, stand in the list before its first.
+pub fn begun(offset: u64, line: u64, before: usize) -> Reading {
+    let mut r = start(offset, line);
+    r.count = before;
+    r
+}
+
+// The next piece, after the number that the last one left over.
+pub fn next(fd: i32, many: bool, r: Reading, bytes: &mut [u8], list: &mut [u64]) -> Reading {
+    let left = carry(list, r.count);
+    turn(fd, many, r, bytes, list, left)
+}
+
+// After a piece that this event ended, and which was run to its end or refused.
+pub fn goes_on(event: u64, refusal: u64) -> bool {
+    if event == text_numbers::NOTHING {
+        return refusal == 0;
+    }
+    false
+}
+
 // How a copy goes on.
 const MORE: u8 = 0;
 

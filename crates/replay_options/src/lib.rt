@@ -5,6 +5,8 @@ pub const BOUNDED: u8 = 0;
 
 pub const SINGLE: u8 = 1;
 
+pub const UNBOUNDED: u8 = 2;
+
 pub struct Options {
     pub queue: u8,
     // the number of the argument --queue while its value is wanted; 0: it is not
@@ -23,6 +25,8 @@ pub struct Options {
     // the number of the argument --stock; 0: there is none
     pub stock_at: usize,
     pub summary: bool,
+    // the number of the argument --summary
+    pub summary_at: usize,
     pub many: bool,
     // the input is a tape, and no text
     pub tape: bool,
@@ -62,6 +66,7 @@ fn none() -> Options {
         stock: false,
         stock_at: 0,
         summary: false,
+        summary_at: 0,
         many: false,
         tape: false,
         help: false,
@@ -98,6 +103,10 @@ fn with_queue(before: Options, i: usize, word: &[u8]) -> Options {
     }
     if equal(word, b"single") {
         o.queue = SINGLE;
+        return o;
+    }
+    if equal(word, b"unbounded") {
+        o.queue = UNBOUNDED;
         return o;
     }
     o.wrong = i;
@@ -156,6 +165,7 @@ fn with_word(before: Options, i: usize, word: &[u8]) -> Options {
     }
     if equal(word, b"--summary") {
         o.summary = true;
+        o.summary_at = i;
         return o;
     }
     if equal(word, b"--many") {
@@ -209,6 +219,9 @@ pub fn read() -> Options {
     if o.stock && o.queue != BOUNDED {
         o.wrong = o.stock_at;
     }
+    if o.queue == UNBOUNDED && o.summary {
+        o.wrong = o.summary_at;
+    }
     o
 }
 
@@ -257,6 +270,9 @@ pub fn help() {
         \n\
         \x20 --queue single   the one-slot queue (bounded unless told): no capacity, the first number is that of the workers;\n\
         \x20             lines are PLACE R s=STATE m=M wN=S, and at the end: value V, contents\n\
+        \x20 --queue unbounded   a pool of 64 blocks of 31 slots: no capacity, the same; lines are\n\
+        \x20             PLACE R h=H hb=B t=T tb=B m=M wN=S, and at the end: block B next=N (state,value) .. for each taken block, contents;\n\
+        \x20             code 1 is refusal 9, and 23: no block is free; it has no --summary\n\
         \x20 --edition 2      the ring whose force_push keeps a close (1 unless told)\n\
         \x20 --quiet     no line for each entry, one for the whole\n\
         \x20 --losses    after each entry's worker lost=D,S: the exchanges that its present call, or its last one, lost because\n\

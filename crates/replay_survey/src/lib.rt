@@ -4,6 +4,8 @@ use replay_input::source::Reading;
 
 pub struct Survey {
     pub reading: Reading,
+    // the code of a call that the queue has not; 16: it has all
+    pub barred: u64,
     // the pairs so far, of which the first makes the machine, and whether a number is left over: 1 or 0
     pub pairs: u64,
     pub left: usize,
@@ -16,6 +18,12 @@ pub struct Survey {
 pub struct Whole {
     pub refusal: u64,
     pub place: u64,
+}
+
+// A schedule that was run: where the text to be written goes on, and whether it was refused.
+pub struct Played {
+    pub at: usize,
+    pub refused: bool,
 }
 
 // The k-th entry among those after so many pairs.
@@ -42,7 +50,7 @@ fn searched(s: Survey, list: &[u64]) -> Survey {
     if s.unread {
         return after;
     }
-    match queue_entries::search(entries_of(s.pairs, list)) {
+    match queue_entries::search_but(s.barred, entries_of(s.pairs, list)) {
         Finding::UnreadableAt(k) => {
             after.unread = true;
             after.place = place_of(s.pairs, k as u64);
@@ -84,11 +92,12 @@ fn survey_in(fd: i32, many: bool, begin: Survey, bytes: &mut [u8], list: &mut [u
 }
 
 // Of the schedule that begins at this offset and line; so many numbers, each 1, are put before it: none or one.
-pub fn surveyed(fd: i32, many: bool, before: usize, offset: u64, line: u64) -> Survey {
+pub fn surveyed(fd: i32, many: bool, before: usize, barred: u64, offset: u64, line: u64) -> Survey {
     let mut bytes = [0u8; replay_input::source::BYTES];
     let mut list = [1u64; replay_input::source::NUMBERS];
     let begin = Survey {
         reading: replay_input::source::start(offset, line),
+        barred: barred,
         pairs: 0,
         left: before,
         unread: false,

@@ -21,7 +21,7 @@ use Rattle.single_machine.specs.Broken.{brokenOf, idleFrom}
 use Rattle.single_machine.specs.Contents.{contentsOf, countIn, contentsRefusal, written, capacityOf}
 use Rattle.single_machine.specs.Run.{ran, runOf}
 use Rattle.single_machine.specs.Turn.{turnOf}
-use Rattle.single_machine.proofs.Turns.{single-queue, ran-refusal, ran-machine}
+use Rattle.single_machine.proofs.Turns.{single-queue, ran-refusal, ran-machine, turn-of-unread}
 use Rattle.single.specs.Single.{makeOf, stepOf, beginOf, actOf}
 
 -- ---- making
@@ -96,7 +96,7 @@ one-entry m first second r e = ap whole e ∙ go (brokenOf m) refl
         let s = schedule-broken single-queue brokenOf m (first ∷ second ∷ []) q in
         ap whole s ∙ rw (ran-refusal 6 0 m, ran-machine 6 0 m, q) refl
     go false q =
-        let s = schedule-one single-queue brokenOf m first second q in
+        let s = schedule-one single-queue brokenOf m first second q (turn-of-unread m first second) in
         let d = turnOf m first second in
         rw q (ap (λ (k : ℕ). record { refusal = k; machine = runOf m (first ∷ second ∷ []) .machine }) (s .0)
         ∙ ap (λ (x : Machine). record { refusal = d .refusal; machine = x }) (s .1))

@@ -104,7 +104,6 @@ single-queue =
       machine-is = ran-machine;
       kept = turn-of-kept;
       reading = entryOf;
-      unread = turn-of-unread;
       only-unread = only-unread;
     }
 

@@ -1,4 +1,3 @@
-pub mod Splits
 pub mod Log
 pub mod Words
 pub mod Effects

@@ -11,7 +11,7 @@ use Rattle.single_places.specs.Places.{viewOf}
 use Rattle.single_machine.specs.declared.Event.{Event}
 use Rattle.single_demands.specs.Notions.{Every, AtEach, accessOf, itemOf, isRead, Holds, HandsOut, Unread, Latest, Stands, Came, Took, waitsAfter, waitingFrom, waiting, isClose, closedBy}
 use Rattle.single_demands.specs.Demands.{OnceOut, ReadsLatest}
-use Rattle.single_proof_demand2.proofs.Splits.{cons-first, no-cons, no-split, Order, earlier, same, later, order, at-lower}
+use Rattle.queue_schedules.proofs.Splits.{cons-first, no-cons, no-split, Order, earlier, same, later, order, at-lower}
 
 -- ---- acts one by one
 module _ (P : Event → Type 0) where

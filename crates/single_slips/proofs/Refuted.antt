@@ -28,7 +28,7 @@ use Rattle.single_machine.specs.Turn.{begun, stored, actedBy, turnOfBy}
 use Rattle.single_machine.specs.Run.{ran}
 use Rattle.single_machine.specs.History.{event}
 use Rattle.single_demands.specs.Notions.{Allowed, actsOf, InHand, Popping, poppingC2, poppingC3, Latest, Came, popped, holdsC3, waitingFrom, closedBy, looks-len, looks-empty}
-use Rattle.single_proof_demand2.proofs.Splits.{no-cons}
+use Rattle.queue_schedules.proofs.Splits.{no-cons}
 use Rattle.single_slips.specs.Slips.{slipped, unwritten, readsAfterUnlock, displacesItsOwn, alwaysFull, emptyUnclosed, popWaits, pushWaits, lenUnlocked, emptyIsZero, forceKeepsItsWord, popKeepsItsWord, staysLocked, neverLetsGo}
 use Rattle.single_slips.specs.Refuted.{Trial, reached, past, does, Refuted, onePush, pushPop, pushPeek, twoPops, forceDisplaces, popReadsLate, popOfNothing, forceOfNothing, popAfterClose, popBesidePop, pushBesidePop, pushBegun, lenBesidePush, emptyAfterClose, pushOnFull, forceOnFull, popOfClosed, popAfterPush, popInHand}
 use Rattle.single_slips.proofs.Ways.{busyAt, anyIn, heldBy, holds-got, standing, runsFrom, never-written, not-latest, never-got, never-took, nothing-stands, plain-runs, acting, quiet, popping-busy, nobody, no-hand, always, late, at-once, busyAlong, holds-on}

@@ -27,7 +27,7 @@ use Rattle.single_demands.specs.Notions.{Definition, Acts, OtherHand, Popping, 
 use Rattle.single_demands.specs.Foretold.{foretold}
 use Rattle.single_demands.specs.Demands.{EndsAlone}
 use Rattle.single_proof_demand2.proofs.Effects.{Hand, free, putting, put, swapping, swapped, taking, took, handOf, holding, hand-is, holding-busy}
-use Rattle.single_proof_demand2.proofs.Splits.{no-cons}
+use Rattle.queue_schedules.proofs.Splits.{no-cons}
 use Rattle.single_proof_demand2.proofs.Log.{waiting-more, every-in}
 
 abbrev pub busyAt : Machine → ℕ → Bool

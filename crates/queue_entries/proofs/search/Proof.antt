@@ -1,110 +1,19 @@
-use Prim.Native.Nat.{_+_, _*_, _/_, _-_, _≤_}
-use mathlib.Core.Path.{_≡_}
-use lib.ListN.{length, drop}
-use native.Mathlib.Omega.{arith}
+use mathlib.Core.Path.{_∙_}
+use Rattle.queue_entries.proofs.Searching.{search-all}
 use borrow.Author.Needs.{needs}
-use Rattle.queue_entries.specs.Entries.{entryOf}
-use Rattle.queue_entries.specs.Schedules.{searchBy}
-use Rattle.queue_entries.proofs.Searching.{search-stops, search-goes, search-ends}
 use Rattle.queue_entries.proofs.search.Statement.{statement}
 use Rattle.queue_entries.proofs.search.Tie as tie
 use Rattle.queue_entries.proofs.search.Reads as reads
 use Rattle.queue_entries.proofs.search.Lts as lts
-use Rattle.queue_entries.proofs.entry_of.Reads as entry-of-reads
+use Rattle.queue_entries.proofs.search_but.Reads as search-but-reads
 
-abbrev Inv-loop : tie.InvT-loop
-Inv-loop schedule n i₀ i = (i ≤ n) × (n ≡ length schedule / 2) × (searchBy entryOf i (drop (2 * i) schedule) ≡ searchBy entryOf 0 schedule)
+-- src/lib.rt:122:5
+search-but-requires : tie.Need-search-but-requires
+search-but-requires c κs = search needs
 
-abbrev μ-loop : tie.MeasureT-loop
-μ-loop schedule n i₀ i = n - i
-
--- src/lib.rt:99:5
-loop-holds : tie.Need-loop-holds Inv-loop μ-loop
-loop-holds c = search needs
-
--- src/lib.rt:100:60
-mul-entry-of : tie.Need-mul-entry-of Inv-loop μ-loop
-mul-entry-of c = search needs
-
--- src/lib.rt:100:51
-mul-entry-of-2 : tie.Need-mul-entry-of-2 Inv-loop μ-loop
-mul-entry-of-2 c = search needs
-
--- src/lib.rt:100:51
-shared-slice-read-entry-of : tie.Need-shared-slice-read-entry-of Inv-loop μ-loop
-shared-slice-read-entry-of c = search needs
-
--- src/lib.rt:100:77
-mul-entry-of-3 : tie.Need-mul-entry-of-3 Inv-loop μ-loop
-mul-entry-of-3 c = search needs
-
--- src/lib.rt:100:77
-add-entry-of : tie.Need-add-entry-of Inv-loop μ-loop
-add-entry-of c = search needs
-
--- src/lib.rt:100:68
-mul-entry-of-4 : tie.Need-mul-entry-of-4 Inv-loop μ-loop
-mul-entry-of-4 c = search needs
-
--- src/lib.rt:100:68
-shared-slice-read-entry-of-2 : tie.Need-shared-slice-read-entry-of-2 Inv-loop μ-loop
-shared-slice-read-entry-of-2 c = search needs
-
--- src/lib.rt:100:42
-entry-of-requires : tie.Need-entry-of-requires Inv-loop μ-loop
-entry-of-requires c κs = search needs
-
--- src/lib.rt:100:25
-enum-known-worker : tie.Need-enum-known-worker Inv-loop μ-loop
-enum-known-worker c = search needs
-
--- src/lib.rt:101:13
-enum-told : tie.Need-enum-told Inv-loop μ-loop
-enum-told c = search needs
-
--- src/lib.rt:101:13
-returns : tie.Need-returns Inv-loop μ-loop
-returns c = let l = c .before .before .before .before .before .before .loop in
-    let e = c .before .before .entry-of in
-    search-stops _ _ _ _ (l .inv .2) (l .inv .1) (c .before .before .before .before .before .loop-test .taken) (e .result) (e .ensures) (search needs)
-
--- src/lib.rt:103:9
-add-i : tie.Need-add-i Inv-loop μ-loop
-add-i c = search needs
-
--- src/lib.rt:99:5
-loop-less : tie.Need-loop-less Inv-loop μ-loop
-loop-less c = search needs
-
--- src/lib.rt:99:5
-loop-again : tie.Need-loop-again Inv-loop μ-loop
-loop-again c = let l = c .before .before .before .before .before .before .before .loop in
-    let e = c .before .before .before .entry-of in
-    (search needs, l .inv .1, search-goes _ _ _ _ (l .inv .2) (l .inv .1) (c .before .before .before .before .before .before .loop-test .taken) (e .result) (e .ensures) (c .before .worker .given .0 .0) (c .before .worker .given .0 .1 .0) (search needs))
-
--- src/lib.rt:94:1
-returns-2 : tie.Need-returns-2 Inv-loop μ-loop
-returns-2 c = search-ends _ _ _ _ (c .before .loop .inv .2) (c .before .loop .inv .1) (c .loop-test .left)
+-- src/lib.rt:119:1
+returns : tie.Need-returns
+returns c = c .search-but .ensures ∙ search-all _ 0
 
 pub search-spec : {M : Type 1} → statement M
-search-spec =
-    tie.close
-    (tie.spec
-    Inv-loop
-    μ-loop
-    loop-holds
-    mul-entry-of
-    mul-entry-of-2
-    shared-slice-read-entry-of
-    mul-entry-of-3
-    add-entry-of
-    mul-entry-of-4
-    shared-slice-read-entry-of-2
-    entry-of-requires
-    enum-known-worker
-    enum-told
-    returns
-    add-i
-    loop-less
-    loop-again
-    returns-2)
+search-spec = tie.close (tie.spec search-but-requires returns)

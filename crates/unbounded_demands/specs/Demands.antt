@@ -1,0 +1,182 @@
+-- The statements of request 12, all of them, in its words. The notions (history, claim, hand ..) are defined in Notions.antt.
+use Prim.Native.Nat.{ℕ, _+_, _*_, _%_, _≤_, _<_}
+use mathlib.Core.Bool.{Bool, true, false, cond}
+use mathlib.Core.List.{List, [], _∷_, _++_}
+use mathlib.Core.Logic.{_⊎_}
+use mathlib.Core.Path.{_≡_}
+use lib.ListN.{length, take}
+use Rattle.queue_entries.specs.declared.Told.{Told}
+use Rattle.queue_entries.specs.Told.{told}
+use Rattle.queue_entries.specs.declared.Entry.the-variants.{Unreadable}
+use Rattle.queue_entries.specs.Entries.{entryOf}
+use Rattle.queue_schedules.specs.Reading.{Readable}
+use Rattle.unbounded_words.specs.declared.Index.{Index}
+use Rattle.unbounded_words.specs.declared.Pointer.{Pointer}
+use Rattle.unbounded_words.specs.declared.Pointer.the-variants.{None, To}
+use Rattle.unbounded_words.specs.Words.{sizes}
+use Rattle.unbounded_places.specs.declared.Answer.{Answer}
+use Rattle.unbounded_places.specs.declared.Place.the-variants.{Idle}
+use Rattle.unbounded_places.specs.Places.{viewOf}
+use Rattle.unbounded_acts.specs.Acts.{WRITE, has}
+use Rattle.unbounded_machine.specs.declared.Machine.{Machine}
+use Rattle.unbounded_machine.specs.declared.Event.{Event}
+use Rattle.unbounded_machine.specs.declared.Did.{Did}
+use Rattle.unbounded_machine.specs.declared.Ran.{Ran}
+use Rattle.unbounded_machine.specs.Machine.{blank, freshOf, placeOf, blockAt, live}
+use Rattle.unbounded_machine.specs.Broken.{brokenOf, allIdle, usesFit}
+use Rattle.unbounded_machine.specs.Contents.{countIn, contentsOf, contentsRefusal, written}
+use Rattle.unbounded_machine.specs.Turn.{entryHere, lowestFree}
+use Rattle.unbounded_machine.specs.Run.{ran, runFrom, runOf}
+use Rattle.unbounded_machine.specs.History.{eventsOf}
+use Rattle.unbounded.specs.declared.Bound.{Bound}
+use Rattle.unbounded.specs.Unbounded.{makeOf, stepOf, beginOf, actOf, capacityOf}
+use Rattle.unbounded_demands.specs.Notions.{Definition, Allowed, machineAfter, actsOf, Acts, Asking, Pushing, Popping, Reads, valueAt, stateAt, takingsOf, freeingsOf, signOf, HandsOut, itemsOf, takersOf, LatestIn, ItemIn, waiting, Fifo, position, Truth, chained}
+
+-- ==== 1. Any machine, entry or schedule handed in gets an answer or a numbered refusal; a refused step changes nothing.
+-- That each gets an answer is what the functions of crate unbounded promise: none has a `requires`, and each answer is equal to a
+-- definition. What follows speaks of these definitions.
+
+-- A refused step changes nothing, in the machine or in a lent buffer.
+pub record RefusedUnchanged : Type 0 where
+  -- refusal 2 returns the blank machine
+  pub make : (workers : ℕ) → (makeOf sizes workers .refusal ≡ 0 → ⊥) → makeOf sizes workers .machine ≡ blank sizes
+  pub step : (m : Machine) (first second : ℕ) → (stepOf sizes m first second .refusal ≡ 0 → ⊥) → stepOf sizes m first second .machine ≡ m
+  pub begin : (m : Machine) (first second : ℕ) → (beginOf sizes m first second .refusal ≡ 0 → ⊥) → beginOf sizes m first second .machine ≡ m
+  pub act : (m : Machine) (first second : ℕ) → (actOf sizes m first second .refusal ≡ 0 → ⊥) → actOf sizes m first second .machine ≡ m
+  -- a schedule that is refused at a place leaves what the entries before that place leave: they stand, and no more
+  pub run : (m : Machine) (s : List ℕ) → (runOf sizes m s .refusal ≡ 0 → ⊥) → (runOf sizes m s .refusal ≡ 9 → ⊥)
+      → runOf sizes m s .machine ≡ runOf sizes m (take (2 * runOf sizes m s .place) s) .machine
+  -- but one with an entry that can't be read leaves the machine as it was
+  pub unread : (m : Machine) (s : List ℕ) → runOf sizes m s .refusal ≡ 9 → runOf sizes m s .machine ≡ m
+  pub contents : (m : Machine) (buffer : List ℕ) → (contentsRefusal sizes m (length buffer) ≡ 0 → ⊥) → written sizes m buffer ≡ buffer
+
+-- The list is checked first (document 02, item 7): of a machine that is not broken and a schedule of whole entries.
+pub record ListFirst : Type 0 where
+  -- the first entry that can't be read is reported, and nothing is run; k entries stand before it, and each of them can be read
+  pub stops : (m : Machine) (before : List ℕ) (k first second : ℕ) (rest : List ℕ) → brokenOf sizes m ≡ false → length (before ++ first ∷ second ∷ rest) % 2 ≡ 0
+      → length before ≡ 2 * k → Readable entryHere before → entryHere first second ≡ Unreadable → runOf sizes m (before ++ first ∷ second ∷ rest) ≡ ran 9 k m
+  -- a schedule that can be read is run, entry by entry
+  pub runs : (m : Machine) (s : List ℕ) → brokenOf sizes m ≡ false → length s % 2 ≡ 0 → Readable entryHere s → runOf sizes m s ≡ runFrom sizes m 0 s
+
+-- A refusal is one of 2 to 11 or 23.
+abbrev pub Known : ℕ → Type 0
+Known n = (n ≤ 11) ⊎ (n ≡ 23)
+
+pub record Numbered : Type 0 where
+  pub make : (workers : ℕ) → Known (makeOf sizes workers .refusal)
+  pub step : (m : Machine) (first second : ℕ) → Known (stepOf sizes m first second .refusal)
+  pub begin : (m : Machine) (first second : ℕ) → Known (beginOf sizes m first second .refusal)
+  pub act : (m : Machine) (first second : ℕ) → Known (actOf sizes m first second .refusal)
+  pub run : (m : Machine) (s : List ℕ) → Known (runOf sizes m s .refusal)
+  pub contents : (m : Machine) (room : ℕ) → Known (contentsRefusal sizes m room)
+
+-- Only one answer meets a promise: of the whole answer, the machine and the lent buffer.
+pub record OnlyOne : Type 0 where
+  pub make : (workers : ℕ) (x y : Did) → x ≡ makeOf sizes workers → y ≡ makeOf sizes workers → x ≡ y
+  pub step : (m : Machine) (first second : ℕ) (x y : Did) → x ≡ stepOf sizes m first second → y ≡ stepOf sizes m first second → x ≡ y
+  pub begin : (m : Machine) (first second : ℕ) (x y : Did) → x ≡ beginOf sizes m first second → y ≡ beginOf sizes m first second → x ≡ y
+  pub act : (m : Machine) (first second : ℕ) (x y : Did) → x ≡ actOf sizes m first second → y ≡ actOf sizes m first second → x ≡ y
+  pub run : (m : Machine) (s : List ℕ) (x y : Ran) → x ≡ runOf sizes m s → y ≡ runOf sizes m s → x ≡ y
+  pub contents : (m : Machine) (before : List ℕ) (x y : Told) (a b : List ℕ)
+      → (x ≡ told (contentsRefusal sizes m (length before)) (countIn sizes m)) × (a ≡ written sizes m before)
+      → (y ≡ told (contentsRefusal sizes m (length before)) (countIn sizes m)) × (b ≡ written sizes m before) → (x ≡ y) × (a ≡ b)
+  pub capacity : (m : Machine) (x y : Bound) → x ≡ capacityOf sizes m → y ≡ capacityOf sizes m → x ≡ y
+  pub broken : (m : Machine) (x y : Bool) → x ≡ brokenOf sizes m → y ≡ brokenOf sizes m → x ≡ y
+
+-- ==== 2. Under every schedule from a fresh machine. Said of the machine m that entries reach, and of the acts h behind it.
+
+-- The claim rule: a value handed out is the item of the tail claim that has the number of its worker's latest head claim.
+abbrev pub ClaimRule : List Event → Type 0
+ClaimRule h =
+    (earlier later : List Event) (act : Event) (v : ℕ) → h ≡ earlier ++ act ∷ later → signOf (act .after) ≡ HandsOut v
+    → (k : ℕ) × LatestIn (takersOf earlier) (act .worker) k × ItemIn earlier k v
+
+-- No two of these answers share that number.
+abbrev pub OnceOut : List Event → Type 0
+OnceOut h =
+    (earlier between later : List Event) (act again : Event) (v u k : ℕ) → h ≡ earlier ++ act ∷ between ++ again ∷ later
+    → signOf (act .after) ≡ HandsOut v → signOf (again .after) ≡ HandsOut u
+    → LatestIn (takersOf earlier) (act .worker) k → LatestIn (takersOf (earlier ++ act ∷ between)) (again .worker) k → ⊥
+
+-- No slot is in two hands: neither two pushes nor two pops are at one position; and where a push and a pop are, the pop has not read.
+abbrev pub OneHand : Machine → Type 0
+OneHand m =
+    ((v w : ℕ) (t u : Index) → Pushing (placeOf (m .workers) v) t → Pushing (placeOf (m .workers) w) u → position t ≡ position u → v ≡ w)
+    × ((v w : ℕ) (t u : Index) → Popping (placeOf (m .workers) v) t → Popping (placeOf (m .workers) w) u → position t ≡ position u → v ≡ w)
+    × ((v w : ℕ) (t u : Index) (b : Pointer) → Pushing (placeOf (m .workers) v) t → Reads (placeOf (m .workers) w) b u → position t ≡ position u → ⊥)
+
+-- V11 reads only a value that was written for the claim that its worker has taken: it is that claim's item, and WRITE is set.
+abbrev pub ReadsWritten : Definition → Machine → List Event → Type 0
+ReadsWritten d m h =
+    (w : ℕ) (b : Pointer) (t : Index) → Reads (placeOf (m .workers) w) b t
+    → (k : ℕ) × LatestIn (takersOf h) w k × ItemIn h k (valueAt (d .sizes) m b t) × (has WRITE (stateAt (d .sizes) m b t) ≡ true)
+
+-- No act touches a free block.
+abbrev pub NoneFree : Definition → Machine → Type 0
+NoneFree d m = (w : ℕ) → usesFit (d .sizes) (m .blocks) (viewOf (d .sizes) (placeOf (m .workers) w) .uses) ≡ true
+
+-- Empty and Closed are true at the load that decided them. (Push decides at its load of tail index; where a block is set aside, it answers later.)
+abbrev pub AnswersTrue : Definition → Machine → Type 0
+AnswersTrue d m =
+    (w : ℕ) (next : Machine) (a : Answer) → Acts d m w next → placeOf (next .workers) w ≡ Idle a → Truth (m .ends) a
+
+-- A block is freed once for each taking: of every block there were as many takings as freeings, and one more exactly while it is taken.
+abbrev pub FreedOnce : Definition → Machine → List Event → Type 0
+FreedOnce d m h = (k : ℕ) → k < d .sizes .blocks → takingsOf k h ≡ freeingsOf (d .sizes) k h + cond (live (d .sizes) (m .blocks) k) 1 0
+
+-- With all idle the taken blocks are those from head's to tail's: those that head's block leads to by next, of which tail's is the last.
+abbrev pub TakenChained : Definition → Machine → Type 0
+TakenChained d m =
+    allIdle (d .sizes) (m .workers) ≡ true
+    → ((k : ℕ) → k < d .sizes .blocks → live (d .sizes) (m .blocks) k ≡ chained (d .sizes .blocks) (m .blocks) (m .ends .front) k)
+    × ((b : ℕ) → m .ends .back ≡ To b → (chained (d .sizes .blocks) (m .blocks) (m .ends .front) b ≡ true) × (blockAt (m .blocks) b .next ≡ None))
+
+-- With all idle contents are, in order, the items of the claims not yet taken.
+abbrev pub ContentsWait : Definition → Machine → List Event → Type 0
+ContentsWait d m h = allIdle (d .sizes) (m .workers) ≡ true → contentsOf (d .sizes) m ≡ waiting h
+
+pub record Demand2 (d : Definition) (workers : ℕ) (m : Machine) (h : List Event) : Type 0 where
+  pub team : m .count ≡ workers
+  pub meter : m .meter ≡ length h
+  -- No machine so reached is broken.
+  pub unbroken : brokenOf (d .sizes) m ≡ false
+  pub claim-rule : ClaimRule h
+  pub once-out : OnceOut h
+  pub one-hand : OneHand m
+  pub reads : ReadsWritten d m h
+  pub none-free : NoneFree d m
+  pub answers : AnswersTrue d m
+  pub freed-once : FreedOnce d m h
+  pub chained : TakenChained d m
+  pub contents : ContentsWait d m h
+  pub fifo : Fifo h (waiting h)
+
+-- Every number of workers, every schedule.
+abbrev pub UnderEverySchedule : Definition → Type 0
+UnderEverySchedule d =
+    (workers : ℕ) → Allowed workers → (s : List ℕ) → Demand2 d workers (machineAfter d workers s) (actsOf d workers s)
+
+-- Each act is the one action that the source takes there: of entries that are accepted, each is one turn of the definition, on the machine and on the
+-- history; and a schedule of whole entries is run so.
+abbrev pub ActByAct : Definition → Type 0
+ActByAct d =
+    (m : Machine) (s : List ℕ) (first second : ℕ) → length s % 2 ≡ 0 → d .run m 0 s .refusal ≡ 0
+    → d .turn (d .run m 0 s .machine) first second .refusal ≡ 0
+    → (d .run m 0 (s ++ first ∷ second ∷ []) .machine ≡ d .turn (d .run m 0 s .machine) first second .machine)
+    × (d .history m (s ++ first ∷ second ∷ [])
+    ≡ d .history m s ++ eventsOf (d .run m 0 s .machine) (entryOf first second) (d .turn (d .run m 0 s .machine) first second .machine))
+
+abbrev pub WholeSchedules : Definition → Type 0
+WholeSchedules d =
+    (workers : ℕ) → Allowed workers → (s : List ℕ)
+    → (length s % 2 ≡ 0 → Readable entryHere s → runOf (d .sizes) (freshOf (d .sizes) workers) s ≡ d .run (freshOf (d .sizes) workers) 0 s)
+    × (length s % 2 ≡ 1 → runOf (d .sizes) (freshOf (d .sizes) workers) s .machine ≡ freshOf (d .sizes) workers)
+
+-- Refusal 23 is given exactly when a call needs a block and none is free: of an act that is not refused before. It leaves all unchanged (demand 1), so
+-- the same act goes on once one is free.
+abbrev pub NoBlock : Definition → Type 0
+NoBlock d =
+    (m : Machine) (w first second : ℕ) → brokenOf (d .sizes) m ≡ false → Asking d m w first second
+    → ((d .turn m first second .refusal ≡ 23) → (viewOf (d .sizes) (placeOf (m .workers) w) .takes ≡ true) × (lowestFree (d .sizes) (m .blocks) ≡ d .sizes .blocks))
+    × ((viewOf (d .sizes) (placeOf (m .workers) w) .takes ≡ true) → lowestFree (d .sizes) (m .blocks) ≡ d .sizes .blocks → d .turn m first second .refusal ≡ 23)
+    × ((viewOf (d .sizes) (placeOf (m .workers) w) .takes ≡ true) → lowestFree (d .sizes) (m .blocks) < d .sizes .blocks → d .turn m first second .refusal ≡ 0)

@@ -1,0 +1,3 @@
+pub mod Notions
+pub mod Demands
+pub mod Runs

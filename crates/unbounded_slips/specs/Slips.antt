@@ -1,0 +1,158 @@
+-- Slips in the table, each with one row changed, on blocks of two slots; and definitions that are wrong beside the table.
+use Prim.Native.Nat.{ℕ, _+_}
+use mathlib.Core.Bool.{Bool, cond}
+use mathlib.Core.List.{List}
+use mathlib.Core.Path.{_≡_}
+use lib.Dec.{eqb}
+use Rattle.unbounded_words.specs.declared.Pointer.the-variants.{None}
+use Rattle.unbounded_words.specs.Words.{Sizes, sizes, later, same, samePosition, noneOf}
+use Rattle.unbounded_places.specs.declared.Answer.the-variants.{Closed, Popped, Empty}
+use Rattle.unbounded_places.specs.declared.Place.the-variants.{Idle, U1, U2, U3, U4, U5, U6, U7, U8, U9, U10, U11, U12, U13, U14, U15, V1, V2, V3, V4, V5, V6, V7, V8, V9, V10, V11, V12, V13, V14, V15, Len1, Len2, Len3, Empty1, Empty2, Full1, Close1, IsClosed1}
+use Rattle.unbounded_acts.specs.declared.Acted.{Acted}
+use Rattle.unbounded_acts.specs.Acts.{leave, backTo, claimed, takeOr, destroyFrom, actOf}
+use Rattle.unbounded_machine.specs.declared.Machine.{Machine}
+use Rattle.unbounded_machine.specs.Turn.{Table, turnWith}
+use Rattle.unbounded_machine.specs.Run.{ran, runWith}
+use Rattle.unbounded_machine.specs.History.{historyWith}
+use Rattle.unbounded_demands.specs.Notions.{Definition, definition}
+use Rattle.unbounded_demands.specs.Demands.{UnderEverySchedule, ActByAct, WholeSchedules, NoBlock}
+use Rattle.unbounded_demands.specs.Runs.{short}
+
+-- ---- the slips
+
+abbrev pub none : ℕ
+none = 0
+
+-- U6 is left out: a won U5 goes on at U7, and head's block is never stored
+abbrev pub noHeadBlock : ℕ
+noHeadBlock = 1
+
+-- U7 wins and does not move tail
+abbrev pub tailUnmoved : ℕ
+tailUnmoved = 2
+
+-- a lost U7 answers Closed at U8 without looking for the mark
+abbrev pub closedUnseen : ℕ
+closedUnseen = 3
+
+-- U11 does not store next
+abbrev pub untied : ℕ
+untied = 4
+
+-- U12 writes nothing
+abbrev pub unwritten : ℕ
+unwritten = 5
+
+-- U14 answers and keeps the block set aside
+abbrev pub asideKept : ℕ
+asideKept = 6
+
+-- V3 answers Empty whatever tail is
+abbrev pub emptyUnseen : ℕ
+emptyUnseen = 7
+
+-- V3 hands out 0 where the queue is empty
+abbrev pub handsOutAgain : ℕ
+handsOutAgain = 8
+
+-- V3 takes also where the queue is empty
+abbrev pub takesUnseen : ℕ
+takesUnseen = 9
+
+-- V10 goes to V11 whatever the state is
+abbrev pub readsEarly : ℕ
+readsEarly = 10
+
+-- V13 goes on past a slot that is not read
+abbrev pub skipsReader : ℕ
+skipsReader = 11
+
+-- V15 answers and frees nothing
+abbrev pub keepsBlock : ℕ
+keepsBlock = 12
+
+-- The row of the table, but for this slip.
+abbrev but : ℕ → ℕ → Acted → Acted → Acted
+but n slip wrong right = cond (eqb n slip) wrong right
+
+-- The table with slip number n.
+abbrev pub actWith : ℕ → Table
+actWith m z e k g s (Idle a) lose = actOf z e k g s (Idle a) lose
+actWith m z e k g s (U1 n x) lose = actOf z e k g s (U1 n x) lose
+actWith m z e k g s (U2 n t x) lose = actOf z e k g s (U2 n t x) lose
+actWith m z e k g s (U3 t b x) lose = actOf z e k g s (U3 t b x) lose
+actWith m z e k g s (U4 n t x) lose = actOf z e k g s (U4 n t x) lose
+actWith m z e k g s (U5 n t new x) lose = but m noHeadBlock (cond (noneOf (e .back)) (leave (backTo e new) g s (U7 n t new x)) (actOf z e k g s (U5 n t new x) lose)) (actOf z e k g s (U5 n t new x) lose)
+actWith m z e k g s (U6 n t new x) lose = actOf z e k g s (U6 n t new x) lose
+actWith m z e k g s (U7 n t b x) lose = but m tailUnmoved (cond (same (e .tail) t) (cond lose (actOf z e k g s (U7 n t b x) lose) (leave e g s (claimed z n t b x))) (actOf z e k g s (U7 n t b x) lose)) (actOf z e k g s (U7 n t b x) lose)
+actWith m z e k g s (U8 n t x) lose = but m closedUnseen (leave e g s (Idle (Closed x))) (actOf z e k g s (U8 n t x) lose)
+actWith m z e k g s (U9 n t b x) lose = actOf z e k g s (U9 n t b x) lose
+actWith m z e k g s (U10 n t b x) lose = actOf z e k g s (U10 n t b x) lose
+actWith m z e k g s (U11 n t b x) lose = but m untied (leave e g s (U12 None t b x)) (actOf z e k g s (U11 n t b x) lose)
+actWith m z e k g s (U12 n t b x) lose = but m unwritten (leave e g s (U13 n t b)) (actOf z e k g s (U12 n t b x) lose)
+actWith m z e k g s (U13 n t b) lose = actOf z e k g s (U13 n t b) lose
+actWith m z e k g s (U14 n a) lose = but m asideKept (leave e g s (Idle a)) (actOf z e k g s (U14 n a) lose)
+actWith m z e k g s (U15 n new x) lose = actOf z e k g s (U15 n new x) lose
+actWith m z e k g s V1 lose = actOf z e k g s V1 lose
+actWith m z e k g s (V2 h) lose = actOf z e k g s (V2 h) lose
+actWith m z e k g s (V3 h b) lose =
+    but m emptyUnseen (leave e g s (Idle Empty))
+    (but m handsOutAgain (cond (samePosition h (e .tail)) (leave e g s (Idle (Popped 0))) (actOf z e k g s (V3 h b) lose))
+    (but m takesUnseen (leave e g s (takeOr h b (later h))) (actOf z e k g s (V3 h b) lose)))
+actWith m z e k g s (V4 h b new) lose = actOf z e k g s (V4 h b new) lose
+actWith m z e k g s (V5 h) lose = actOf z e k g s (V5 h) lose
+actWith m z e k g s (V6 h b new) lose = actOf z e k g s (V6 h b new) lose
+actWith m z e k g s (V7 h b new next) lose = actOf z e k g s (V7 h b new next) lose
+actWith m z e k g s (V8 h b next i) lose = actOf z e k g s (V8 h b next i) lose
+actWith m z e k g s (V9 h b i) lose = actOf z e k g s (V9 h b i) lose
+actWith m z e k g s (V10 h b) lose = but m readsEarly (leave e g s (V11 h b)) (actOf z e k g s (V10 h b) lose)
+actWith m z e k g s (V11 h b) lose = actOf z e k g s (V11 h b) lose
+actWith m z e k g s (V12 h b v) lose = actOf z e k g s (V12 h b v) lose
+actWith m z e k g s (V13 b i v) lose = but m skipsReader (leave e g s (destroyFrom z b (i + 1) v)) (actOf z e k g s (V13 b i v) lose)
+actWith m z e k g s (V14 b i v) lose = actOf z e k g s (V14 b i v) lose
+actWith m z e k g s (V15 b v) lose = but m keepsBlock (leave e g s (Idle (Popped v))) (actOf z e k g s (V15 b v) lose)
+actWith m z e k g s Len1 lose = actOf z e k g s Len1 lose
+actWith m z e k g s (Len2 t) lose = actOf z e k g s (Len2 t) lose
+actWith m z e k g s (Len3 t h) lose = actOf z e k g s (Len3 t h) lose
+actWith m z e k g s Empty1 lose = actOf z e k g s Empty1 lose
+actWith m z e k g s (Empty2 h) lose = actOf z e k g s (Empty2 h) lose
+actWith m z e k g s Full1 lose = actOf z e k g s Full1 lose
+actWith m z e k g s Close1 lose = actOf z e k g s Close1 lose
+actWith m z e k g s IsClosed1 lose = actOf z e k g s IsClosed1 lose
+
+-- ---- the machine with a slip
+
+abbrev pub slipped : ℕ → Definition
+slipped m = definition short (actWith m)
+
+-- Two definitions that are wrong beside the table: one runs no entry of a schedule, one never takes the last block of the pool.
+abbrev pub deaf : Definition
+deaf = record { sizes = short; turn = turnWith short actOf; run = λ m place s. ran 0 place m; history = historyWith (turnWith short actOf) }
+
+abbrev pub oneFewer : Sizes
+oneFewer = record { lap = 3; slots = 2; blocks = 1 }
+
+abbrev pub stingy : Definition
+stingy =
+    record {
+      sizes = short;
+      turn = turnWith oneFewer actOf;
+      run = runWith (turnWith oneFewer actOf);
+      history = historyWith (turnWith oneFewer actOf);
+    }
+
+-- ---- what stands
+
+-- The slip that is planted: none. The must-fail edits of this crate plant one here, or give another definition.
+abbrev pub planted : ℕ
+planted = none
+
+abbrev pub given : Definition
+given = definition sizes (actWith planted)
+
+-- It is request 12's, and so the statements stand.
+abbrev pub Faithful : Type 0
+Faithful = given ≡ definition sizes actOf
+
+abbrev pub Stands : Type 0
+Stands = UnderEverySchedule given × ActByAct given × WholeSchedules given × NoBlock given
