@@ -1,4 +1,4 @@
-"""A second reading of document 01, the scope paper, with items 6 and 8 of document 02: its machine, row by row. tests/tables holds the programs' tables against it.
+"""A second reading of document 01, the scope paper, with items 4, 6, 8 and 9 of document 02: its machine, row by row. tests/tables holds the programs' tables against it.
 
 It is written from the document and from none of the crates, so that a row misread there is not misread alike here. Places, calls,
 answers and refusals have the document's names and numbers; where it names no places, a call's loads are numbered. What the ring shares
@@ -8,7 +8,7 @@ with the other queues is read in paper_entries.py.
 from dataclasses import dataclass, replace
 from typing import NamedTuple, Optional
 
-from paper_entries import MOST_METER, MOST_WORKERS, Entries, busy, busy_past_the_count, out_of_limits
+from paper_entries import ACT_CODES, MOST_METER, MOST_WORKERS, Entries, busy, busy_past_the_count, out_of_limits
 
 WIDE = 2**64
 MOST_SLOTS = 1024
@@ -325,6 +325,65 @@ def stock(machine):
     ring = machine.ring
     unread = sum(worker.place in ('O4', 'F7', 'F8') for worker in machine.workers)
     return claims(ring, unmarked(ring, ring.tail)) - claims(ring, ring.head) + unread
+
+
+# Why a call goes back (document 02, item 9): looked up in the history, the acts so far.
+
+class Act(NamedTuple):
+    """Whose act it is, all workers' records as it found them, and its own worker's as it left it."""
+    number: int
+    found: list
+    left: Worker
+
+    def of(self):
+        return self.found[self.number]
+
+    def way(self):
+        return self.of().place, self.left.place
+
+
+BACK = (('P2', 'P1'), ('P3', 'P2'), ('P6', 'P1'), ('F6', 'P1'), ('O2', 'O1'), ('O3', 'O2'), ('O6', 'O1'), ('len3', 'len1'))
+CLAIMS = {'tail': (('P3', 'P4'), ('F7', 'F8')), 'head': (('O3', 'O4'), ('F6', 'F7'))}
+OWN_AND_OTHER_END = {'push': ('tail', 'head'), 'force_push': ('tail', 'head'), 'pop': ('head', 'tail'), 'len': ('tail', 'head')}
+LOADS_OR_FINDS = (('P1', 'P2'), ('P3', 'P2'), ('O1', 'O2'), ('O3', 'O2'), ('len1', 'len2'))
+STAMP_LOADS = ('P2', 'O2')
+IN_HAND = ('P4', 'P5', 'F7', 'F8', 'F9', 'O4', 'O5')
+CAUSES = ('schedule', 'own-end', 'other-end', 'hand')
+
+
+def moved(end, act):
+    return act.way() in CLAIMS[end]
+
+
+def marked_by(end, act):
+    # "Mark set in tail: closed. In head it is never set."
+    return end == 'tail' and act.of().call == 'close' and act.left.answer == ('Yes',)
+
+
+def another_in_hand(act):
+    return any(worker.place in IN_HAND for number, worker in enumerate(act.found) if number != act.number)
+
+
+def place_of_last(history, number, fits):
+    return next(i for i in reversed(range(len(history))) if history[i].number == number and fits(history[i]))
+
+
+def causes(history):
+    """Those that hold of the history's last act, which goes back; None if it does not."""
+    act = history[-1]
+    if act.way() not in BACK:
+        return None
+    call = act.of().call
+    own, other = OWN_AND_OTHER_END[call]
+    before = history[:-1]
+    given = place_of_last(before, act.number, lambda a: a.way() in LOADS_OR_FINDS)
+    hold = {'own-end': any(moved(own, a) or marked_by(own, a) for a in before[given + 1:])}
+    if call != 'len':
+        loaded = place_of_last(history, act.number, lambda a: a.of().place in STAMP_LOADS)
+        hold['schedule'] = act.left.failed > act.of().failed
+        hold['other-end'] = any(moved(other, a) for a in history[loaded + 1:])
+        hold['hand'] = another_in_hand(history[loaded])
+    return [cause for cause in CAUSES if hold.get(cause)]
 
 
 # "Broken", under Eleven ways to be turned away

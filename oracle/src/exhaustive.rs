@@ -120,7 +120,7 @@ fn compact(run: &mut Run, preload: Preload, calls: &[u64]) -> Result<(), String>
     while let Some(path) = open.pop_front() {
         let (schedule, machine) = walked(preload, calls, &path);
         run.add(schedule)?;
-        if seen.insert(snapshot(&machine)) {
+        if seen.insert(snapshot(&machine, run.show.causes)) {
             open.extend(options(&machine).iter().map(|option| [path.as_slice(), &[*option]].concat()));
         }
     }
@@ -174,11 +174,13 @@ fn options(machine: &Machine) -> Vec<u64> {
     options
 }
 
-/// All but the meter, which no act looks at below its limit, and what workers have lost, which none looks at.
-fn snapshot(machine: &Machine) -> String {
+/// All but the meter, which no act looks at below its limit, and what workers have lost, which none looks at; where causes are shown,
+/// also what they would be told by.
+fn snapshot(machine: &Machine, causes: bool) -> String {
     let states: Vec<_> = (0..machine.workers() as u64).filter_map(|worker| machine.state(worker)).collect();
+    let told_by: Vec<_> = (0..machine.workers()).filter(|_| causes).map(|worker| machine.would_be(worker)).collect();
     let mut shown = String::new();
     machine.source().write_words(&mut shown);
     machine.source().write_slots(&mut shown);
-    format!("{shown} {states:?}")
+    format!("{shown} {states:?} {told_by:?}")
 }

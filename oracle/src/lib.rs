@@ -22,6 +22,7 @@ mod source;
 mod sync;
 
 pub mod call;
+pub mod causes;
 pub mod drive;
 pub mod exhaustive;
 pub mod interleaved;

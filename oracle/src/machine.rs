@@ -2,6 +2,7 @@
 //! document says; what an act does, which place comes next and what a call answers is the source's doing.
 
 use crate::call::{Call, Entry};
+use crate::causes::{Causes, Watch};
 use crate::coroutine::Coroutine;
 use crate::queue::{Making, Queue};
 use crate::source::{items_dropped, Seen, Source};
@@ -52,6 +53,8 @@ pub struct Machine {
     workers: Vec<Worker>,
     meter: u64,
     stock: u64,
+    watch: Watch,
+    because: Option<Causes>,
     pub tally: Tally,
 }
 
@@ -64,6 +67,8 @@ impl Machine {
             workers: (0..workers).map(|_| Worker::new()).collect(),
             meter: 0,
             stock: 0,
+            watch: Watch::new(workers as usize),
+            because: None,
             tally: Tally::new(making.queue()),
         })
     }
@@ -88,6 +93,16 @@ impl Machine {
     /// The items claimed at tail whose value is not yet read out.
     pub fn stock(&self) -> u64 {
         self.stock
+    }
+
+    /// Why the last entry's act went back, if it was one that did.
+    pub fn because(&self) -> Option<Causes> {
+        self.because
+    }
+
+    /// The causes that there would be if a busy worker went back without an exchange.
+    pub fn would_be(&self, worker: usize) -> Option<Causes> {
+        self.workers[worker].busy.map(|busy| self.watch.causes(worker, busy.call))
     }
 
     pub fn workers(&self) -> usize {
@@ -126,6 +141,7 @@ impl Machine {
     /// here: from a fresh machine the source never comes to a broken one.
     pub fn enter(&mut self, first: u64, second: u64) -> Refusal {
         let worker = first / 16;
+        self.because = None;
         let done = match Entry::decode(self.kind, first % 16, second) {
             None => Err(9),
             Some(_) if self.worker(worker).is_none() => Err(3),
@@ -168,14 +184,24 @@ impl Machine {
         self.resume(worker);
         self.count_act(worker, place, pending.action, lose, &seen);
         self.count_stock(pending.action, &seen);
+        let causes = self.watch.act(worker, call, pending.action, stage::met());
         self.source().note(&mut seen, pending, stage::met());
         self.settle(worker, call, seen);
+        self.count_back(worker, place, causes);
         Ok(())
     }
 
     fn resume(&self, worker: usize) {
         self.source().enter();
         self.workers[worker].coroutine.resume();
+    }
+
+    /// A call goes back if the place it comes to is an earlier one.
+    fn count_back(&mut self, worker: usize, from: Kind, causes: Causes) {
+        if self.workers[worker].busy.is_some() && self.workers[worker].state.kind < from {
+            self.because = Some(causes);
+            self.tally.backs.count(from, causes);
+        }
     }
 
     /// Records where a worker came to rest: before its next action, or with its call's answer.

@@ -13,7 +13,7 @@ use std::time::Instant;
 use std::{env, fs};
 
 const USAGE: &str =
-    "Each command takes --queue bounded|single|unbounded, bounded unless told, and for bounded --edition N, 1 unless told, and, but for list, --losses and --stock.
+    "Each command takes --queue bounded|single|unbounded, bounded unless told, and for bounded --edition N, 1 unless told, and, but for list, --causes, --losses and --stock.
 judge expect FILE|- [--quiet] [--many]
 judge sequential --calls N --seed S [--module CMD [--many]] [--batch ENTRIES] [--save DIR]
 judge interleaved --acts N --seed S [--closing] [--module CMD [--many]] [--batch ENTRIES] [--save DIR]
@@ -66,7 +66,7 @@ impl Options {
         while let Some(argument) = arguments.next() {
             match argument.strip_prefix("--") {
                 None => options.plain.push(argument),
-                Some(flag @ ("quiet" | "many" | "compact" | "closing" | "losses" | "stock")) => {
+                Some(flag @ ("quiet" | "many" | "compact" | "closing" | "causes" | "losses" | "stock")) => {
                     options.flags.push(flag.into());
                 }
                 Some(
@@ -105,10 +105,15 @@ impl Options {
     }
 
     fn show(&self) -> Result<Show, String> {
-        let asked = ["losses", "stock"].into_iter().find(|name| self.flag(name));
+        let asked = ["causes", "losses", "stock"].into_iter().find(|name| self.flag(name));
         match (self.queue()?, asked) {
-            (Queue::Single, Some(name)) => Err(format!("--{name} is of the ring alone\n{USAGE}")),
-            _ => Ok(Show { quiet: self.flag("quiet"), losses: self.flag("losses"), stock: self.flag("stock") }),
+            (Queue::Bounded { .. }, _) | (_, None) => Ok(Show {
+                quiet: self.flag("quiet"),
+                causes: self.flag("causes"),
+                losses: self.flag("losses"),
+                stock: self.flag("stock"),
+            }),
+            (_, Some(name)) => Err(format!("--{name} is of the ring alone\n{USAGE}")),
         }
     }
 
@@ -158,6 +163,9 @@ fn driven(options: &Options, drive: impl FnOnce(&mut Run) -> Result<(), String>)
     let result = drive(&mut run);
     let seconds = start.elapsed().as_secs_f64();
     print!("{}", run.tally);
+    if run.show.causes {
+        print!("{}", run.tally.backs);
+    }
     println!("{:.1} s, {:.0} acts a second", seconds, run.tally.acts as f64 / seconds);
     result?;
     println!("{compared}");

@@ -100,6 +100,8 @@ pub fn join<'a>(schedules: impl IntoIterator<Item = &'a Schedule>) -> String {
 pub struct Show {
     /// No line for each, one for the whole.
     pub quiet: bool,
+    /// The causes where a call goes back.
+    pub causes: bool,
     /// The worker's losses after each.
     pub losses: bool,
     /// The stock after each.
@@ -160,6 +162,9 @@ fn run_entries(machine: &mut Machine, schedule: &Schedule, show: Show, out: &mut
         if !show.quiet {
             report(out, place, refusal, machine);
             worker(out, machine, first / 16);
+            if let Some(causes) = machine.because().filter(|_| show.causes) {
+                let _ = write!(out, " because={causes}");
+            }
             if show.losses {
                 losses(out, machine, first / 16);
             }

@@ -5,8 +5,8 @@ use std::fmt;
 
 macro_rules! kinds {
     ($($group:ident { $($kind:ident $text:literal,)* })*) => {
-        /// The kind of a place or answer.
-        #[derive(Clone, Copy, Debug, PartialEq, Eq)]
+        /// The kind of a place or answer. A call's places stand in the order of document 01.
+        #[derive(Clone, Copy, Debug, PartialEq, Eq, PartialOrd)]
         pub enum Kind { $($($kind,)*)* }
 
         impl Kind {

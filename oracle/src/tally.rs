@@ -1,6 +1,7 @@
 //! How often each place, answer, refusal and ending of an exchange was seen.
 
 use crate::call::Call;
+use crate::causes::Backs;
 use crate::queue::Queue;
 use crate::state::Kind;
 use std::fmt;
@@ -35,6 +36,8 @@ pub struct Tally {
     pub contents_refused: [u64; REFUSALS],
     /// Items that `Drop` met.
     pub items_met: u64,
+    /// Not among what the fixed lists tell of themselves, nor shown with the rest.
+    pub backs: Backs,
 }
 
 impl Tally {
@@ -50,6 +53,7 @@ impl Tally {
             refusals: [0; REFUSALS],
             contents_refused: [0; REFUSALS],
             items_met: 0,
+            backs: Backs::new(),
         }
     }
 
@@ -100,6 +104,7 @@ impl Tally {
         self.acts += other.acts;
         self.closes_met += other.closes_met;
         self.items_met += other.items_met;
+        self.backs.add(&other.backs);
         add_all(&mut self.places, &other.places);
         add_all(self.answers.as_flattened_mut(), other.answers.as_flattened());
         add_all(self.exchanges.as_flattened_mut(), other.exchanges.as_flattened());

@@ -1,4 +1,4 @@
-//! Document 01's eight runs on paper, and what requests 4, 6 and 8 have of them. All numbers are the documents'.
+//! Document 01's eight runs on paper, and what requests 4, 6, 8 and 9 have of them. All numbers are the documents'.
 
 use oracle::machine::{Losses, Machine};
 use oracle::queue::Making;
@@ -67,6 +67,21 @@ impl Bench {
         (differed, failed)
     }
 
+    /// Why the last act went back.
+    fn because(&self) -> Option<String> {
+        self.0.because().map(|causes| causes.to_string())
+    }
+
+    /// One act that goes back: the state after it, and why.
+    fn back(&mut self, worker: u64) -> (String, String) {
+        (self.act(worker), self.because().expect("goes back"))
+    }
+
+    /// One act whose weak exchange fails; the state after it, and why it went back.
+    fn fail_back(&mut self, worker: u64) -> (String, String) {
+        (self.fail(worker), self.because().expect("goes back"))
+    }
+
     /// Acts to the answer, and how many.
     fn end(&mut self, worker: u64) -> (String, u64) {
         let before = self.0.meter();
@@ -91,6 +106,10 @@ impl Bench {
 
     fn contents(self) -> Vec<u64> {
         self.0.contents().unwrap_or_else(|refusal| panic!("refused {refusal}"))
+    }
+
+    fn acts<const ACTS: usize>(&mut self, worker: u64) -> [String; ACTS] {
+        std::array::from_fn(|_| self.act(worker))
     }
 
     /// The stock after each of the worker's next acts.
@@ -280,6 +299,128 @@ fn losses_by_kind() {
     assert_eq!([bench.lost(0), bench.lost(1)], [(0, 1), (1, 0)]);
     assert_eq!(bench.end(1).0, "idle:empty");
     assert_eq!(bench.lost(1), (1, 0));
+}
+
+fn pair(state: &str, causes: &str) -> (String, String) {
+    (state.into(), causes.into())
+}
+
+/// Request 9, the first cause: of a worker alone, at P3, F6 and O3.
+#[test]
+fn back_by_the_schedule() {
+    let mut bench = Bench::new(1, 1);
+    bench.begin(0, PUSH, 7);
+    assert_eq!(bench.acts(0), ["P2:push(0,7)", "P3:push(0,7)"]);
+    assert_eq!(bench.because(), None);
+    assert_eq!(bench.fail_back(0), pair("P2:push(0,7)", "schedule"));
+    assert_eq!(bench.act(0), "P3:push(0,7)");
+    assert_eq!(bench.because(), None);
+    assert_eq!(bench.end(0).0, "idle:pushed");
+    bench.begin(0, FORCE_PUSH, 8);
+    assert_eq!(bench.acts(0), ["P2:force(4,8)", "F6(4,8)"]);
+    assert_eq!(bench.fail_back(0), pair("P1:force(8)", "schedule"));
+    assert_eq!(bench.end(0).0, "idle:displaced(7)");
+    bench.begin(0, POP, 0);
+    assert_eq!(bench.acts(0), ["O2(4)", "O3(4)"]);
+    assert_eq!(bench.fail_back(0), pair("O2(4)", "schedule"));
+}
+
+/// The second: since the word was loaded or found, not since the begin; where both losses apply it is not the schedule's.
+#[test]
+fn back_by_its_own_end() {
+    let mut bench = Bench::new(2, 3);
+    for (code, item, stands, found) in [(PUSH, 7, "P3:push(0,7)", "P2:push(1,7)"), (POP, 0, "O3(0)", "O2(1)")] {
+        for worker in 0..3 {
+            bench.begin(worker, code, item);
+            assert_eq!(bench.acts::<2>(worker)[1], stands);
+        }
+        bench.act(1);
+        assert_eq!(bench.because(), None);
+        assert_eq!(bench.back(0), pair(found, "own-end"));
+        assert_eq!(bench.fail_back(2), pair(found, "own-end"));
+        // Worker 1 has slot 0 in hand at this load of a stamp; the end moved before the word was found.
+        bench.act(0);
+        assert_eq!(bench.fail_back(0), pair(found, "schedule,hand"));
+        for worker in [1, 0, 2] {
+            bench.end(worker);
+        }
+    }
+}
+
+/// The same of len, by a claim and by a close that answers yes; no other cause counts.
+#[test]
+fn back_in_len() {
+    let mut bench = Bench::new(1, 2);
+    bench.begin(1, PUSH, 7);
+    assert_eq!(bench.acts(1), ["P2:push(0,7)", "P3:push(0,7)"]);
+    bench.begin(0, LEN, 0);
+    assert_eq!(bench.act(0), "len2(0)");
+    assert_eq!(bench.act(1), "P4(0,7)");
+    assert_eq!(bench.act(0), "len3(0,0)");
+    assert_eq!(bench.back(0), pair("len1", "own-end"));
+    assert_eq!(bench.act(0), "len2(4)");
+    assert_eq!(bench.end(1).0, "idle:pushed");
+    assert_eq!(bench.call(1, CLOSE, 0), "idle:yes");
+    assert_eq!(bench.act(0), "len3(4,0)");
+    assert_eq!(bench.back(0), pair("len1", "own-end"));
+    assert_eq!(bench.act(0), "len2(6)");
+    assert_eq!(bench.call(1, CLOSE, 0), "idle:no");
+    assert_eq!(bench.acts(0), ["len3(6,0)", "idle:len(1)"]);
+    assert_eq!(bench.because(), None);
+}
+
+/// The third: since the last load of a stamp. A slot that came into a hand later is not the fourth.
+#[test]
+fn back_by_the_other_end() {
+    let mut bench = Bench::new(1, 2);
+    bench.begin(0, POP, 0);
+    assert_eq!(bench.acts(0), ["O2(0)", "O6(0)"]);
+    bench.begin(1, PUSH, 7);
+    assert_eq!(bench.acts(1), ["P2:push(0,7)", "P3:push(0,7)", "P4(0,7)"]);
+    assert_eq!(bench.back(0), pair("O1", "other-end"));
+    bench.end(1);
+    assert_eq!(bench.end(0).0, "idle:popped(7)");
+
+    assert_eq!(bench.call(1, PUSH, 7), "idle:pushed");
+    for (code, stands, back) in [(PUSH, "P6(8,8)", "P1:push(8)"), (FORCE_PUSH, "F6(12,8)", "P1:force(8)")] {
+        bench.begin(0, code, 8);
+        bench.act(0);
+        assert_eq!(bench.act(0), stands);
+        bench.begin(1, POP, 0);
+        bench.acts::<3>(1);
+        assert_eq!(bench.back(0), pair(back, "other-end"));
+        // The fourth: a hand at the load, although it has let go since.
+        bench.act(0);
+        assert_eq!(bench.act(0), stands);
+        bench.end(1);
+        assert_eq!(bench.back(0), pair(back, "hand"));
+        assert_eq!(bench.end(0).0, "idle:pushed");
+    }
+}
+
+/// The fourth in a pop, as in run G. A close in between is no mark of head.
+#[test]
+fn back_by_a_hand() {
+    let mut bench = Bench::new(1, 3);
+    assert_eq!(bench.call(0, PUSH, 7), "idle:pushed");
+    bench.begin(0, FORCE_PUSH, 8);
+    assert_eq!(bench.acts(0), ["P2:force(4,8)", "F6(4,8)", "F7(4,8)"]);
+    bench.begin(1, POP, 0);
+    assert_eq!(bench.act(1), "O2(4)");
+    assert_eq!(bench.call(2, CLOSE, 0), "idle:yes");
+    assert_eq!(bench.back(1), pair("O1", "hand"));
+}
+
+/// Two at once: a tail that is a lap old, lost at F6.
+#[test]
+fn back_by_both_ends() {
+    let mut bench = Bench::new(1, 2);
+    assert_eq!(bench.call(0, PUSH, 7), "idle:pushed");
+    bench.begin(0, FORCE_PUSH, 9);
+    assert_eq!(bench.acts(0), ["P2:force(4,9)", "F6(4,9)"]);
+    assert_eq!(bench.call(1, POP, 0), "idle:popped(7)");
+    assert_eq!(bench.call(1, PUSH, 8), "idle:pushed");
+    assert_eq!(bench.fail_back(0), pair("P1:force(9)", "own-end,other-end"));
 }
 
 #[test]

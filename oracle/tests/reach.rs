@@ -1,6 +1,7 @@
-//! What short random runs reach, and that each shared word has its right name.
+//! What short random runs reach, that each retry in them has a cause, and that each shared word has its right name.
 
 use oracle::drive::Run;
+use oracle::exhaustive::{self, Extent};
 use oracle::interleaved;
 use oracle::machine::Machine;
 use oracle::queue::{Making, Queue};
@@ -25,6 +26,23 @@ fn every_place_answer_and_refusal() {
             assert!(tally.times_refused(*refusal) > 0, "refusal {refusal} was not given");
         }
         assert!(tally.complete(&[]), "{tally}");
+    }
+}
+
+/// Request 9, of random runs and of every schedule of two calls.
+#[test]
+fn every_retry_has_a_cause() {
+    for edition in [1, 2] {
+        let mut run = Run::new(Queue::Bounded { edition }, None, 1000, "differences".into());
+        run.show.causes = true;
+        interleaved::drive(&mut run, 500_000, 9, true).unwrap();
+        interleaved::drive(&mut run, 1_000_000, 9, false).unwrap();
+        exhaustive::drive(&mut run, Extent::Compact).unwrap();
+        let backs = &run.tally.backs;
+        assert_eq!(backs.times("none"), 0, "{backs}");
+        for cause in ["schedule", "own-end", "other-end", "hand"] {
+            assert!(backs.times(cause) > 0, "{cause} did not occur");
+        }
     }
 }
 

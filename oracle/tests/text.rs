@@ -1,5 +1,6 @@
 //! The text that `replay` must print, in the cases that are not entries of an accepted schedule.
 
+use oracle::causes::Causes;
 use oracle::queue::Queue;
 use oracle::schedule::{run, split, Schedule, Show};
 use oracle::tally::Tally;
@@ -111,7 +112,7 @@ fn stock() {
 /// Request 8: after the worker and before the stock, refused or not, of no other line, and of no worker that there is not.
 #[test]
 fn losses() {
-    let lost = |input, quiet, stock| shown(Queue::RING, input, Show { quiet, losses: true, stock });
+    let lost = |input, quiet, stock| shown(Queue::RING, input, Show { quiet, losses: true, stock, ..Show::default() });
     let input = "2 2 16 6 24 0 24 0 25 0 176 0";
     let lines = [
         "0 0 h=0 t=0 m=0 w1=P1:push(6) lost=0,0 stock=0",
@@ -126,6 +127,31 @@ fn losses() {
     for input in [input, "0 1 0 5", "1 1 0 5 8"] {
         assert_eq!(lost(input, true, false), quiet(input));
     }
+}
+
+/// Request 9: where a call goes back, before the losses and the stock, and nowhere else.
+#[test]
+fn causes() {
+    let caused =
+        |input, quiet, more| shown(Queue::RING, input, Show { quiet, causes: true, losses: more, stock: more });
+    let input = "2 2 16 6 24 0 24 0 25 0 0 5 25 0";
+    let lines = [
+        "0 0 h=0 t=0 m=0 w1=P1:push(6) lost=0,0 stock=0",
+        "1 0 h=0 t=0 m=1 w1=P2:push(0,6) lost=0,0 stock=0",
+        "2 0 h=0 t=0 m=2 w1=P3:push(0,6) lost=0,0 stock=0",
+        "3 0 h=0 t=0 m=3 w1=P2:push(0,6) because=schedule lost=0,1 stock=0",
+        "4 0 h=0 t=0 m=3 w0=P1:push(5) lost=0,0 stock=0",
+        "5 8 h=0 t=0 m=3 w1=P2:push(0,6) lost=0,1 stock=0",
+    ];
+    let all = format!("made 0\n{}\nslots (0,0) (1,0)\ncontents refused 4\n", lines.join("\n"));
+    assert_eq!(caused(input, false, true), all);
+    assert_eq!(printed(input), caused(input, false, false).replace(" because=schedule", ""));
+    for input in [input, "0 1 0 5", "1 1 0 5 8"] {
+        assert_eq!(caused(input, true, false), quiet(input));
+    }
+    assert_eq!(Causes::default().to_string(), "none");
+    let every = Causes { schedule: true, own_end: true, other_end: true, hand: true };
+    assert_eq!(every.to_string(), "schedule,own-end,other-end,hand");
 }
 
 #[test]

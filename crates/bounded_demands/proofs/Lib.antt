@@ -5,3 +5,4 @@ pub mod Attained
 pub mod Foretold
 pub mod CaseF
 pub mod Shelves
+pub mod Retries

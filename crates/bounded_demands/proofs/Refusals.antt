@@ -56,6 +56,8 @@ only-one = record {
   reads = (λ p. one _);
   tally = (λ t p q. one _);
   stock = (λ t. one _);
+  kept = one _;
+  named = (λ ws w p q l. one _);
 }
 
 -- ---- unchanged

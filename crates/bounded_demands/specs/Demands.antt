@@ -6,7 +6,7 @@ use mathlib.Core.Bool.{Bool, true, false}
 use mathlib.Core.List.{List, [], _∷_, _++_, map}
 use mathlib.Core.Path.{_≡_}
 use lib.ListN.{length, take}
-use Rattle.queue_entries.specs.Limits.{meterMost}
+use Rattle.queue_entries.specs.Limits.{workersMost, meterMost}
 use Rattle.queue_entries.specs.declared.Call.{Call}
 use Rattle.queue_entries.specs.declared.Told.{Told}
 use Rattle.queue_entries.specs.Told.{told}
@@ -21,7 +21,7 @@ use Rattle.bounded_places.specs.declared.Loss.{Loss}
 use Rattle.bounded_places.specs.declared.Loss.the-variants as loss
 use Rattle.bounded_places.specs.declared.Loss.the-variants.{ByWords, BySchedule}
 use Rattle.bounded_places.specs.declared.Place.{Place}
-use Rattle.bounded_places.specs.declared.Place.the-variants.{Idle, Empty2, Full2}
+use Rattle.bounded_places.specs.declared.Place.the-variants.{Idle, Empty2, Full2, Len3}
 use Rattle.bounded_places.specs.Places as places
 use Rattle.bounded_machine.specs.declared.Machine.{Machine}
 use Rattle.bounded_machine.specs.declared.Event.{Event}
@@ -36,6 +36,12 @@ use Rattle.bounded_machine.specs.Contents.{countIn, contentsOf, contentsRefusal
 use Rattle.bounded_machine.specs.Turn.{byWords, bySchedule}
 use Rattle.bounded_machine.specs.Run.{ran, runFrom, runOf}
 use Rattle.bounded_machine.specs.History.{eventsOf, movedOf, readsAt, stockOf, untakenOf}
+use Rattle.bounded_causes.specs.declared.Deed.{Deed}
+use Rattle.bounded_causes.specs.declared.Causes.{Causes}
+use Rattle.bounded_causes.specs.declared.Watches.{Watches}
+use Rattle.bounded_causes.specs.declared.Named.{Named}
+use Rattle.bounded_causes.specs.Causes as causes
+use Rattle.bounded_causes.specs.Causes.{watchOf, namedOf}
 use Rattle.bounded.specs.Bounded.{makeOf, stepOf, beginOf, actOf}
 use Rattle.bounded_stock.specs.Stock.{talliedOf}
 use Rattle.bounded_demands.specs.Notions.{Definition, Allowed, machineAfter, actsOf, Acts, acts, InHand, HandsOut, Reads, Truth, itemsOf, takersOf, LatestIn, ItemIn, WrittenIn, CallClaim, tally, waiting, unreadBy, lesser, Exchanges, lostIn, struck, Fifo, Plain, valueAt, queueAnswer, LenAnswers, mostOf, OtherHand, passed, ownActs, LetsGo, has, ClosesYes, NoClaims, ClaimsOn}
@@ -43,6 +49,8 @@ use Rattle.bounded_demands.specs.Foretold.{foretold, Telling, toldIn, te
 use Rattle.bounded_demands.specs.Eight.{closedF, caseF}
 use Rattle.bounded_demands.specs.Attained.{Case, seenIn, attained, exactly}
 use Rattle.bounded_demands.specs.Shelves.{Shelf, stockAtMost, fullest}
+use Rattle.bounded_demands.specs.Notions.{goesBack, WayBack, watches, causesIn, Caused, otherHand, deed, DoneSince, LatestBy, Tells, Alone, goingsBack}
+use Rattle.bounded_demands.specs.Retries.{Retry, retries, lastIn, backBy, onlyOwn}
 
 -- ==== 1. Any machine, entry or schedule handed in gets an answer or a numbered refusal; a refused step changes nothing.
 -- That each gets an answer is what the functions of crate bounded promise: none has a `requires`, and each answer is equal to a
@@ -103,6 +111,8 @@ pub record OnlyOne : Type 0 where
   pub reads : (p : Place) (x y : Bool) → x ≡ readsAt p → y ≡ readsAt p → x ≡ y
   pub tally : (t : Tally) (p q : Place) (x y : Tally) → x ≡ talliedOf t p q → y ≡ talliedOf t p q → x ≡ y
   pub stock : (t : Tally) (x y : ℕ) → x ≡ stockOf t → y ≡ stockOf t → x ≡ y
+  pub kept : (x y : Watches) → x ≡ causes.start → y ≡ causes.start → x ≡ y
+  pub named : (ws : Watches) (w : ℕ) (p q : Place) (l : Loss) (x y : Named) → x ≡ namedOf ws w p q l → y ≡ namedOf ws w p q l → x ≡ y
 
 -- ==== 2. Under every schedule from a fresh machine. Said of the machine m that entries reach, and of the acts h behind it.
 
@@ -389,3 +399,57 @@ pub record CaseF (d : Definition) : Type 0 where
   pub still-claims : ClaimsOn (actsOf d 1 2 2 caseF)
   pub forgets : OnceClosed d (machineAfter d 1 2 1 closedF) → ⊥
   pub yes-again : YesOnce (actsOf d 1 2 1 (caseF ++ 22 ∷ 0 ∷ acts 1 1)) → ⊥
+
+-- ==== Every retry has a cause (document 02, item 9). Of any way to name the causes of an act that comes after others, so that slips can be said of it; it is met
+-- by `causesIn`.
+
+-- At every act that goes back one of the four holds,
+abbrev pub RetriesCaused : (List Event → Event → Causes) → List Event → Type 0
+RetriesCaused name h =
+    (earlier later : List Event) (act : Event) → h ≡ earlier ++ act ∷ later → goesBack act ≡ true → Caused (name earlier act)
+
+-- and at one of len it is its own end: "For len only the second counts."
+abbrev pub LenByOwnEnd : (List Event → Event → Causes) → List Event → Type 0
+LenByOwnEnd name h =
+    (earlier later : List Event) (act : Event) (t u : Stamp) → h ≡ earlier ++ act ∷ later → goesBack act ≡ true → act .before ≡ Len3 t u
+    → name earlier act ≡ onlyOwn
+
+abbrev pub EveryRetryHasACause : Definition → (List Event → Event → Causes) → Type 0
+EveryRetryHasACause d name =
+    (capacity workers edition : ℕ) → Allowed capacity workers edition → (s : List ℕ)
+    → RetriesCaused name (actsOf d capacity workers edition s) × LenByOwnEnd name (actsOf d capacity workers edition s)
+
+-- An act goes back exactly where it is one of the eight ways back.
+abbrev pub WaysBack : List Event → Type 0
+WaysBack h = (earlier later : List Event) (act : Event) → h ≡ earlier ++ act ∷ later → Tells (goesBack act) (WayBack (act .before) (act .after))
+
+abbrev pub EightWaysBack : Definition → Type 0
+EightWaysBack d = (capacity workers edition : ℕ) → Allowed capacity workers edition → (s : List ℕ) → WaysBack (actsOf d capacity workers edition s)
+
+-- Each of the four is needed, in both editions: at the last act of each schedule of the table, which goes back, its cause holds and no other.
+abbrev pub EachNeeded : (List Event → Event → Causes) → ℕ → Type 0
+EachNeeded name edition = map (lastIn name edition) retries ≡ map (λ (r : Retry). backBy (r .causes)) retries
+
+-- Alone, and with no exchange that the schedule makes fail, a worker goes back at most once while no other has a slot in hand.
+abbrev pub BackOnce : List Event → Type 0
+BackOnce h =
+    (earlier alone later : List Event) (w : ℕ) → h ≡ earlier ++ alone ++ later → Alone w alone → otherHand w earlier ≡ false → goingsBack alone ≤ 1
+
+abbrev pub AloneBackOnce : Definition → Type 0
+AloneBackOnce d = (capacity workers edition : ℕ) → Allowed capacity workers edition → (s : List ℕ) → BackOnce (actsOf d capacity workers edition s)
+
+-- What is kept of worker w after these acts is what they say: of each end, whether it was claimed, and of tail whether it was marked, since w loaded or found a word, and since its
+-- last stamp load; whether at that load another had a slot in hand; and whether w's latest act left it with one.
+pub record Kept (h : List Event) (w : ℕ) : Type 0 where
+  pub word-tail : Tells (watchOf (watches h .each) w .word .tail) (DoneSince (λ (d : Deed). d .tail) (λ (d : Deed). d .word) w h)
+  pub word-head : Tells (watchOf (watches h .each) w .word .head) (DoneSince (λ (d : Deed). d .head) (λ (d : Deed). d .word) w h)
+  pub word-mark : Tells (watchOf (watches h .each) w .word .mark) (DoneSince (λ (d : Deed). d .mark) (λ (d : Deed). d .word) w h)
+  pub stamp-tail : Tells (watchOf (watches h .each) w .stamp .tail) (DoneSince (λ (d : Deed). d .tail) (λ (d : Deed). d .stamp) w h)
+  pub stamp-head : Tells (watchOf (watches h .each) w .stamp .head) (DoneSince (λ (d : Deed). d .head) (λ (d : Deed). d .stamp) w h)
+  pub others : Tells (watchOf (watches h .each) w .others) (LatestBy (λ (d : Deed). d .stamp) w (λ earlier act. otherHand w earlier ≡ true) h)
+  pub hand : Tells (watchOf (watches h .each) w .hand) (LatestBy (λ (d : Deed). true) w (λ earlier act. deed act .hand ≡ true) h)
+
+-- Of every history, one act more is what `name_causes` of crate bounded_causes makes of it, and what is kept is so.
+pub record KeptAsSaid : Type 0 where
+  pub more : (h : List Event) (e : Event) → watches (h ++ e ∷ []) ≡ namedOf (watches h) (e .worker) (e .before) (e .after) (e .loss) .watches
+  pub so : (h : List Event) (w : ℕ) → w < workersMost → Kept h w

@@ -4,3 +4,4 @@ pub mod Eight
 pub mod Foretold
 pub mod Attained
 pub mod Shelves
+pub mod Retries

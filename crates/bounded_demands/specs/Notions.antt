@@ -24,6 +24,7 @@ use Rattle.bounded_places.specs.declared.Kind.the-variants.{Push, Force}
 use Rattle.bounded_places.specs.declared.Answer.{Answer}
 use Rattle.bounded_places.specs.declared.Answer.the-variants.{Nothing, Pushed, Full, Closed, Displaced, Popped, Empty, PopClosed, Len, Yes, No}
 use Rattle.bounded_places.specs.declared.Loss.{Loss}
+use Rattle.bounded_places.specs.declared.Loss.the-variants.{BySchedule}
 use Rattle.bounded_places.specs.declared.Place.{Place}
 use Rattle.bounded_places.specs.declared.Place.the-variants.{Idle, P1, P2, P3, P4, P5, P6, F6, F7, F8, F9, O1, O2, O3, O4, O5, O6, Len1, Len2, Len3, Empty1, Empty2, Full1, Full2, Close1, IsClosed1}
 use Rattle.bounded_places.specs.declared.Worker.{Worker}
@@ -40,6 +41,11 @@ use Rattle.bounded_machine.specs.Machine.{slot, machineOf, freshOf, placeOf, ac
 use Rattle.bounded_machine.specs.Turn.{Table, beginner, turnOfBy}
 use Rattle.bounded_machine.specs.Run.{runWith}
 use Rattle.bounded_machine.specs.History.{historyWith, movedOf, untallied, tallyOf, stockOf}
+use Rattle.bounded_causes.specs.declared.Deed.{Deed}
+use Rattle.bounded_causes.specs.declared.Watches.{Watches}
+use Rattle.bounded_causes.specs.declared.Causes.{Causes}
+use Rattle.bounded_causes.specs.Causes as causes
+use Rattle.bounded_causes.specs.Causes.{standOf, goesBackOf, deedOf, othersHold, namedOf}
 
 -- ---- definitions and schedules
 
@@ -460,3 +466,85 @@ pub record ClaimsOn (h : List Event) : Type 0 where
   pub is : h ≡ earlier ++ close ∷ between ++ claim ∷ later
   pub yes : ClosesYes close
   pub claims : movedOf (claim .after) ≡ Tail
+
+-- ---- why a call goes back
+
+-- The act goes back to an earlier place of its call.
+abbrev pub goesBack : Event → Bool
+goesBack e = goesBackOf (standOf (e .before)) (standOf (e .after))
+
+-- The ways back in document 01's tables and in len.
+pub data WayBack : Place → Place → Type 0 where
+  p2-p1 : {k : Kind} {t : Stamp} {x : ℕ} → WayBack (P2 k t x) (P1 k x)
+  p3-p2 : {k : Kind} {t found : Stamp} {x : ℕ} → WayBack (P3 k t x) (P2 k found x)
+  p6-p1 : {t : Stamp} {x : ℕ} → WayBack (P6 t x) (P1 Push x)
+  f6-p1 : {t : Stamp} {x : ℕ} → WayBack (F6 t x) (P1 Force x)
+  o2-o1 : {h : Stamp} → WayBack (O2 h) O1
+  o3-o2 : {h found : Stamp} → WayBack (O3 h) (O2 found)
+  o6-o1 : {h : Stamp} → WayBack (O6 h) O1
+  len3-len1 : {t h : Stamp} → WayBack (Len3 t h) Len1
+
+-- What is kept of all workers, act by act, none before the first (crates/bounded_causes/specs/Causes.antt).
+unfoldable pub watchesFrom : Watches → List Event → Watches
+watchesFrom ws [] = ws
+watchesFrom ws (e ∷ h) = watchesFrom (namedOf ws (e .worker) (e .before) (e .after) (e .loss) .watches) h
+
+abbrev pub watches : List Event → Watches
+watches h = watchesFrom causes.start h
+
+-- The causes that hold of an act after these.
+abbrev pub causesIn : List Event → Event → Causes
+causesIn earlier e = namedOf (watches earlier) (e .worker) (e .before) (e .after) (e .loss) .causes
+
+-- One of the four holds.
+pub data Caused (c : Causes) : Type 0 where
+  by-schedule : c .schedule ≡ true → Caused c
+  by-own-end : c .own ≡ true → Caused c
+  by-other-end : c .other ≡ true → Caused c
+  by-hand : c .hand ≡ true → Caused c
+
+-- After these acts a worker other than w has a slot in hand.
+abbrev pub otherHand : ℕ → List Event → Bool
+otherHand w h = othersHold (watches h .each) w
+
+-- What an act did, as far as causes go: claims, the mark, loads, a slot in hand.
+abbrev pub deed : Event → Deed
+deed e = deedOf (standOf (e .before)) (standOf (e .after)) (movedOf (e .after))
+
+-- No act of w among these did such.
+abbrev pub NoneBy : (Deed → Bool) → ℕ → List Event → Type 0
+NoneBy such w [] = Unit {0}
+NoneBy such w (e ∷ h) = (e .worker ≡ w → such (deed e) ≡ false) × NoneBy such w h
+
+-- Among these an act did this, and neither it nor a later one is w's that did such.
+pub record DoneSince (this such : Deed → Bool) (w : ℕ) (h : List Event) : Type 0 where
+  pub earlier : List Event
+  pub act : Event
+  pub later : List Event
+  pub is : h ≡ earlier ++ act ∷ later
+  pub so : this (deed act) ≡ true
+  pub since : NoneBy such w (act ∷ later)
+
+-- Of w's acts that did such the latest, with what holds of it and of those before it.
+pub record LatestBy (such : Deed → Bool) (w : ℕ) (so : List Event → Event → Type 0) (h : List Event) : Type 0 where
+  pub earlier : List Event
+  pub act : Event
+  pub later : List Event
+  pub is : h ≡ earlier ++ act ∷ later
+  pub by : act .worker ≡ w
+  pub did : such (deed act) ≡ true
+  pub holds : so earlier act
+  pub last : NoneBy such w later
+
+-- It is true exactly where this holds.
+abbrev pub Tells : Bool → Type 0 → Type 0
+Tells b P = (b ≡ true → P) × (P → b ≡ true)
+
+-- All of these acts are w's, and the schedule made none of its exchanges fail.
+abbrev pub Alone : ℕ → List Event → Type 0
+Alone w [] = Unit {0}
+Alone w (e ∷ h) = (e .worker ≡ w) × (e .loss ≢ BySchedule) × Alone w h
+
+unfoldable pub goingsBack : List Event → ℕ
+goingsBack [] = 0
+goingsBack (e ∷ h) = cond (goesBack e) 1 0 + goingsBack h

@@ -18,6 +18,12 @@ use Rattle.bounded_proof_demand2.proofs.Losses.{ends-told, losses}
 use Rattle.bounded_proof_demand2.proofs.Aside.{counts-aside}
 use Rattle.bounded_proof_demand2.proofs.Closing.{close-holds, closed-is-last}
 use Rattle.bounded_proof_demand3.proofs.Demand3.{demand3}
+use Rattle.bounded_demands.specs.Notions.{causesIn}
+use Rattle.bounded_demands.specs.Demands.{EveryRetryHasACause, EightWaysBack, EachNeeded, AloneBackOnce, KeptAsSaid}
+use Rattle.bounded_demands.proofs.Retries.{each-needed}
+use Rattle.bounded_proof_causes.proofs.Causes.{every-retry, eight-ways}
+use Rattle.bounded_proof_causes.proofs.Alone.{alone-back-once}
+use Rattle.bounded_proof_causes.proofs.Said.{kept-as-said}
 
 -- 1. Any machine, entry or schedule handed in gets an answer or a numbered refusal (the functions of crate bounded have no
 -- `requires`); a refused step changes nothing; only one answer meets a promise.
@@ -49,3 +55,7 @@ losses-counted = (ends-told, losses, counts-aside)
 -- A close that holds: edition 2; what follows a pop's Closed, in both editions; case F.
 pub close-that-holds : CloseHolds document01 × ClosedIsLast document01 × CaseF document01
 close-that-holds = (close-holds, closed-is-last, case-f)
+
+-- Every retry has a cause, in both editions; each of the four is needed; alone a worker goes back at most once; and what is kept for naming them is what the history says.
+pub retries-caused : EveryRetryHasACause document01 causesIn × EightWaysBack document01 × EachNeeded causesIn 1 × EachNeeded causesIn 2 × AloneBackOnce document01 × KeptAsSaid
+retries-caused = (every-retry, eight-ways, each-needed .0, each-needed .1, alone-back-once, kept-as-said)

@@ -96,7 +96,7 @@ fn counted(
     before: Worker,
     after: Worker,
 ) -> Summary {
-    if !o.summary && !o.stock {
+    if !o.summary && !o.causes && !o.stock {
         return s;
     }
     if refusal != 0 {
@@ -105,7 +105,18 @@ fn counted(
     if first % 16 < 8 {
         return crate::summary::begun(s);
     }
-    crate::summary::acted(s, before, after)
+    let acted = crate::summary::acted(s, before, after);
+    if o.causes {
+        return crate::summary::reasoned(acted, first / 16, before, after);
+    }
+    acted
+}
+
+fn causes_if(asked: bool, out: &mut [u8], at: usize, s: Summary) -> usize {
+    if asked {
+        return crate::because::tell(out, at, s.because);
+    }
+    at
 }
 
 // lost=D,S; "-" where there is no such worker
@@ -144,10 +155,11 @@ fn line_unless(
     }
     let stands = after.place;
     let p = bounded_text_machine::text::entry_of(out, at, place, refusal, w, numbers, stands);
-    let q = losses_if(o.losses, out, p, w < numbers[6], after);
-    let r = stock_if(o.stock, out, q, s);
-    let t = text_output::byte(out, r, b'\n');
-    text_output::settle(out, t)
+    let q = causes_if(o.causes, out, p, s);
+    let r = losses_if(o.losses, out, q, w < numbers[6], after);
+    let t = stock_if(o.stock, out, r, s);
+    let u = text_output::byte(out, t, b'\n');
+    text_output::settle(out, u)
 }
 
 fn next_place(place: u64, refusal: u64) -> u64 {
@@ -275,15 +287,23 @@ fn contents(out: &mut [u8], at: usize, m: Machine) -> usize {
     bounded_text_machine::text::told(out, at, b"contents", &items, t)
 }
 
+fn tell_causes(s: Summary, asked: bool, out: &mut [u8], at: usize) -> usize {
+    if asked {
+        return crate::because::tell_counts(out, at, s.because);
+    }
+    at
+}
+
 fn tell_summary(s: Summary, o: Options, out: &mut [u8], at: usize) -> usize {
     if !o.summary {
         return at;
     }
     let p = crate::summary::tell(out, at, s);
+    let q = tell_causes(s, o.causes, out, p);
     if o.losses {
-        return crate::summary::tell_losses(out, p, s);
+        return crate::summary::tell_losses(out, q, s);
     }
-    p
+    q
 }
 
 // What follows the output of one of many.

@@ -1,4 +1,5 @@
 // What a run came to: counts over its entries.
+use crate::because::Because;
 use bounded_machine::Tally;
 use bounded_places::Worker;
 use bounded_text_places::code::Coded;
@@ -13,6 +14,7 @@ pub struct Summary {
     // exchanges lost because the words differed, and by the schedule
     pub differed: u64,
     pub failed: u64,
+    pub because: Because,
     // of the answers, in the order of their numbers below
     pub answers: [u64; 11],
 }
@@ -30,6 +32,7 @@ pub fn none() -> Summary {
         },
         differed: 0,
         failed: 0,
+        because: crate::because::none(),
         answers: [0u64; 11],
     }
 }
@@ -71,6 +74,7 @@ fn on(total: u64, before: u64, after: u64) -> u64 {
 pub fn acted(s: Summary, before: Worker, after: Worker) -> Summary {
     let tally = s.tally;
     let answers = s.answers;
+    let because = s.because;
     let stood = before.place;
     let stands = after.place;
     let tallied = bounded_stock::tally(tally, stood, stands);
@@ -87,19 +91,32 @@ pub fn acted(s: Summary, before: Worker, after: Worker) -> Summary {
         tally: tallied,
         differed: on(s.differed, before.differed, after.differed),
         failed: on(s.failed, before.failed, after.failed),
+        because: because,
         answers: counted,
     }
 }
 
+// Where causes are asked too: why the act of worker w went back.
+pub fn reasoned(s: Summary, w: u64, before: Worker, after: Worker) -> Summary {
+    let b = s.because;
+    let mut t = s;
+    t.because = crate::because::acted(b, w, before, after);
+    t
+}
+
 pub fn begun(s: Summary) -> Summary {
+    let b = s.because;
     let mut t = s;
     t.entries = up(s.entries);
+    t.because = crate::because::passed(b);
     t
 }
 
 pub fn refused(s: Summary) -> Summary {
+    let b = s.because;
     let mut t = s;
     t.refusals = up(s.refusals);
+    t.because = crate::because::passed(b);
     t
 }
 

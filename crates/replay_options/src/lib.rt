@@ -18,6 +18,9 @@ pub struct Options {
     // its value is wanted
     pub numbering: bool,
     pub quiet: bool,
+    pub causes: bool,
+    // the number of the argument --causes; 0: there is none
+    pub causes_at: usize,
     pub losses: bool,
     // the number of the argument --losses; 0: there is none
     pub losses_at: usize,
@@ -61,6 +64,8 @@ fn none() -> Options {
         edition_at: 0,
         numbering: false,
         quiet: false,
+        causes: false,
+        causes_at: 0,
         losses: false,
         losses_at: 0,
         stock: false,
@@ -153,6 +158,11 @@ fn with_word(before: Options, i: usize, word: &[u8]) -> Options {
         o.quiet = true;
         return o;
     }
+    if equal(word, b"--causes") {
+        o.causes = true;
+        o.causes_at = i;
+        return o;
+    }
     if equal(word, b"--losses") {
         o.losses = true;
         o.losses_at = i;
@@ -204,7 +214,7 @@ fn arguments() -> Options {
     o
 }
 
-// An option that is still without its value at the end is of no use; nor is an edition, losses or a stock of a queue that has none.
+// An option that is still without its value at the end is of no use; nor is an edition, causes, losses or a stock of a queue that has none.
 pub fn read() -> Options {
     let mut o = arguments();
     if o.naming != 0 {
@@ -212,6 +222,9 @@ pub fn read() -> Options {
     }
     if o.numbering || (o.edition_at != 0 && o.queue != BOUNDED) {
         o.wrong = o.edition_at;
+    }
+    if o.causes && o.queue != BOUNDED {
+        o.wrong = o.causes_at;
     }
     if o.losses && o.queue != BOUNDED {
         o.wrong = o.losses_at;
@@ -250,7 +263,7 @@ pub fn tell(o: Options, status: u8) {
 pub fn help() {
     io::write_all(
         libc::STDOUT_FILENO,
-        b"replay [--queue NAME] [--edition N] [--quiet] [--losses] [--stock] [--summary] [--many] [--tape] [FILE]\n\
+        b"replay [--queue NAME] [--edition N] [--quiet] [--causes] [--losses] [--stock] [--summary] [--many] [--tape] [FILE]\n\
         \n\
         Runs a schedule on the stamped ring, or on another queue. It is read from FILE, or from standard input: unsigned decimal\n\
         numbers separated by white space. The first is the capacity (1 to 1024), the second the number of\n\
@@ -275,10 +288,13 @@ pub fn help() {
         \x20             code 1 is refusal 9, and 23: no block is free; it has no --summary\n\
         \x20 --edition 2      the ring whose force_push keeps a close (1 unless told)\n\
         \x20 --quiet     no line for each entry, one for the whole\n\
+        \x20 --causes    after the worker, where its act goes back to an earlier place, because=LIST: schedule (which made its\n\
+        \x20             exchange fail), own-end (moved or marked since its word was loaded or found), other-end (moved since\n\
+        \x20             the last stamp load), hand (another worker had a slot in hand at that load)\n\
         \x20 --losses    after each entry's worker lost=D,S: the exchanges that its present call, or its last one, lost because\n\
         \x20             the words differed, and by the schedule; - where there is no such worker\n\
         \x20 --stock     at the end of each entry's line stock=N: the items claimed at tail whose value is not yet read out\n\
-        \x20 --summary   then counts of acts, answers, claims, refusals and retries; with --losses of lost exchanges\n\
+        \x20 --summary   then counts of acts, answers, claims, refusals and retries; with --causes of each cause, with --losses of lost exchanges\n\
         \x20 --many      several schedules, separated by a line with a single %; a line % follows each output\n\
         \x20 --tape      FILE is a schedule tape (see tape --help); a tape that is refused is told in one line, and nothing is run\n",
     );

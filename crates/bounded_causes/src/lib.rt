@@ -1,0 +1,414 @@
+// Why a call goes back to an earlier place, kept along a run: document 02's item 9.
+ghost use mathlib.Core.Path.{_≡_};
+ghost use mathlib.Core.Bool.{true, false, cond};
+ghost use Rattle.bounded_causes.specs.Causes.{saysYes, idle, works, holds, looks, standOf, goesBackOf, claimsTail, claimsHead, deedOf, untouched, sinceWith, ownAct, otherAct, watchWith, start, watchOf, othersHold, watchedOf, ownIn, otherIn, scheduled, causesOf, namedOf};
+use bounded_machine::Moved;
+use bounded_places::Answer;
+use bounded_places::Loss;
+use bounded_places::Place;
+
+// What going back asks of a place.
+pub struct Stand {
+    // the call's own end
+    pub end: Moved,
+    // the call loads stamps
+    pub stamps: bool,
+    // how far the call is; 0 is idle
+    pub far: u64,
+    // a slot is in hand
+    pub hand: bool,
+    // close's act is next
+    pub close: bool,
+    // idle, having answered yes
+    pub yes: bool,
+}
+
+// What an act did.
+pub struct Deed {
+    // a claim at tail, at head
+    pub tail: bool,
+    pub head: bool,
+    // the mark was set
+    pub mark: bool,
+    // it loaded or found the word that its call works with; it loaded a stamp
+    pub word: bool,
+    pub stamp: bool,
+    // it left a slot in hand
+    pub hand: bool,
+}
+
+// What was done to the ends since some act.
+pub struct Since {
+    pub tail: bool,
+    pub head: bool,
+    pub mark: bool,
+}
+
+// Of one worker.
+pub struct Watch {
+    // since it loaded or found the word that it works with
+    pub word: Since,
+    // since its last stamp load
+    pub stamp: Since,
+    // another had a slot in hand at that load
+    pub others: bool,
+    // its latest act left it with a slot in hand
+    pub hand: bool,
+}
+
+pub struct Watches {
+    pub each: [Watch; queue_entries::WORKERS],
+}
+
+pub struct Causes {
+    pub schedule: bool,
+    pub own: bool,
+    pub other: bool,
+    pub hand: bool,
+}
+
+pub struct Named {
+    pub watches: Watches,
+    pub back: bool,
+    pub causes: Causes,
+}
+
+fn says_yes(a: Answer) -> bool
+    ensures { λ r. ⌜ r ≡ saysYes a ⌝ }
+{
+    match a {
+        Answer::Nothing => false,
+        Answer::Pushed => false,
+        Answer::Full(_) => false,
+        Answer::Closed(_) => false,
+        Answer::Displaced(_) => false,
+        Answer::Popped(_) => false,
+        Answer::Empty => false,
+        Answer::PopClosed => false,
+        Answer::Len(_) => false,
+        Answer::Yes => true,
+        Answer::No => false,
+    }
+}
+
+fn idle(a: Answer) -> Stand
+    ensures { λ r. ⌜ r ≡ idle a ⌝ }
+{
+    Stand {
+        end: Moved::Neither,
+        stamps: false,
+        far: 0,
+        hand: false,
+        close: false,
+        yes: says_yes(a),
+    }
+}
+
+fn works(end: Moved, stamps: bool, far: u64) -> Stand
+    ensures { λ r. ⌜ r ≡ works end stamps far ⌝ }
+{
+    Stand {
+        end: end,
+        stamps: stamps,
+        far: far,
+        hand: false,
+        close: false,
+        yes: false,
+    }
+}
+
+fn holds(end: Moved, far: u64) -> Stand
+    ensures { λ r. ⌜ r ≡ holds end far ⌝ }
+{
+    Stand {
+        end: end,
+        stamps: true,
+        far: far,
+        hand: true,
+        close: false,
+        yes: false,
+    }
+}
+
+fn looks(close: bool, far: u64) -> Stand
+    ensures { λ r. ⌜ r ≡ looks close far ⌝ }
+{
+    Stand {
+        end: Moved::Neither,
+        stamps: false,
+        far: far,
+        hand: false,
+        close: close,
+        yes: false,
+    }
+}
+
+fn stand_of(p: Place) -> Stand
+    ensures { λ r. ⌜ r ≡ standOf p ⌝ }
+{
+    match p {
+        Place::Idle(a) => idle(a),
+        Place::P1(_, _) => works(Moved::Tail, true, 1),
+        Place::P2(_, _, _) => works(Moved::Tail, true, 2),
+        Place::P3(_, _, _) => works(Moved::Tail, true, 3),
+        Place::P4(_, _) => holds(Moved::Tail, 4),
+        Place::P5(_) => holds(Moved::Tail, 5),
+        Place::P6(_, _) => works(Moved::Tail, true, 3),
+        Place::F6(_, _) => works(Moved::Tail, true, 3),
+        Place::F7(_, _) => holds(Moved::Tail, 4),
+        Place::F8(_, _) => holds(Moved::Tail, 5),
+        Place::F9(_, _) => holds(Moved::Tail, 6),
+        Place::O1 => works(Moved::Head, true, 1),
+        Place::O2(_) => works(Moved::Head, true, 2),
+        Place::O3(_) => works(Moved::Head, true, 3),
+        Place::O4(_) => holds(Moved::Head, 4),
+        Place::O5(_, _) => holds(Moved::Head, 5),
+        Place::O6(_) => works(Moved::Head, true, 3),
+        Place::Len1 => works(Moved::Tail, false, 1),
+        Place::Len2(_) => works(Moved::Tail, false, 2),
+        Place::Len3(_, _) => works(Moved::Tail, false, 3),
+        Place::Empty1 => looks(false, 1),
+        Place::Empty2(_) => looks(false, 2),
+        Place::Full1 => looks(false, 1),
+        Place::Full2(_) => looks(false, 2),
+        Place::Close1 => looks(true, 1),
+        Place::IsClosed1 => looks(false, 1),
+    }
+}
+
+fn goes_back(s: Stand, t: Stand) -> bool
+    ensures { λ r. ⌜ r ≡ goesBackOf s t ⌝ }
+{
+    if t.far == 0 { false } else { t.far < s.far }
+}
+
+fn pick(first: bool, a: bool, b: bool) -> bool
+    ensures { λ r. ⌜ r ≡ cond first a b ⌝ }
+{
+    if first { a } else { b }
+}
+
+fn claims_tail(m: Moved) -> bool
+    ensures { λ r. ⌜ r ≡ claimsTail m ⌝ }
+{
+    match m {
+        Moved::Neither => false,
+        Moved::Tail => true,
+        Moved::Head => false,
+    }
+}
+
+fn claims_head(m: Moved) -> bool
+    ensures { λ r. ⌜ r ≡ claimsHead m ⌝ }
+{
+    match m {
+        Moved::Neither => false,
+        Moved::Tail => false,
+        Moved::Head => true,
+    }
+}
+
+fn deed_of(s: Stand, t: Stand, m: Moved) -> Deed
+    ensures { λ r. ⌜ r ≡ deedOf s t m ⌝ }
+{
+    Deed {
+        tail: claims_tail(m),
+        head: claims_head(m),
+        mark: pick(s.close, t.yes, false),
+        word: t.far == 2,
+        stamp: pick(s.stamps, s.far == 2, false),
+        hand: t.hand,
+    }
+}
+
+fn since_with(d: Deed, s: Since) -> Since
+    ensures { λ r. ⌜ r ≡ sinceWith d s ⌝ }
+{
+    Since {
+        tail: pick(d.tail, true, s.tail),
+        head: pick(d.head, true, s.head),
+        mark: pick(d.mark, true, s.mark),
+    }
+}
+
+fn since_act(fresh: bool, d: Deed, s: Since) -> Since
+    ensures { λ r. ⌜ r ≡ cond fresh untouched (sinceWith d s) ⌝ }
+{
+    if fresh {
+        Since {
+            tail: false,
+            head: false,
+            mark: false,
+        }
+    } else {
+        since_with(d, s)
+    }
+}
+
+fn own_act(others: bool, d: Deed, x: Watch) -> Watch
+    ensures { λ r. ⌜ r ≡ ownAct others d x ⌝ }
+{
+    let word = since_act(d.word, d, x.word);
+    let stamp = since_act(d.stamp, d, x.stamp);
+    Watch {
+        word: word,
+        stamp: stamp,
+        others: pick(d.stamp, others, x.others),
+        hand: d.hand,
+    }
+}
+
+fn other_act(d: Deed, x: Watch) -> Watch
+    ensures { λ r. ⌜ r ≡ otherAct d x ⌝ }
+{
+    let word = since_with(d, x.word);
+    let stamp = since_with(d, x.stamp);
+    Watch {
+        word: word,
+        stamp: stamp,
+        others: x.others,
+        hand: x.hand,
+    }
+}
+
+fn watch_with(own: bool, others: bool, d: Deed, x: Watch) -> Watch
+    ensures { λ r. ⌜ r ≡ watchWith own others d x ⌝ }
+{
+    if own {
+        own_act(others, d, x)
+    } else {
+        other_act(d, x)
+    }
+}
+
+pub fn start() -> Watches
+    ensures { λ r. ⌜ r ≡ start ⌝ }
+{
+    let none = Since {
+        tail: false,
+        head: false,
+        mark: false,
+    };
+    let each = [Watch {
+        word: none,
+        stamp: none,
+        others: false,
+        hand: false,
+    }; queue_entries::WORKERS];
+    Watches { each: each }
+}
+
+fn watch_of(xs: [Watch; queue_entries::WORKERS], w: u64) -> Watch
+    ensures { λ r. ⌜ r ≡ watchOf xs w ⌝ }
+{
+    if w < queue_entries::WORKERS as u64 {
+        return xs[w as usize];
+    }
+    let none = Since {
+        tail: false,
+        head: false,
+        mark: false,
+    };
+    Watch {
+        word: none,
+        stamp: none,
+        others: false,
+        hand: false,
+    }
+}
+
+fn others_hold(xs: [Watch; queue_entries::WORKERS], w: u64) -> bool
+    ensures { λ r. ⌜ r ≡ othersHold xs w ⌝ }
+{
+    let mut i = 0;
+    while i < queue_entries::WORKERS {
+        let x = xs[i];
+        if pick(i as u64 == w, true, !x.hand) {
+            i += 1;
+        } else {
+            return true;
+        }
+    }
+    false
+}
+
+fn watch_all(
+    xs: [Watch; queue_entries::WORKERS],
+    w: u64,
+    d: Deed,
+) -> [Watch; queue_entries::WORKERS]
+    ensures { λ r. ⌜ r ≡ watchedOf w d xs ⌝ }
+{
+    let others = others_hold(xs, w);
+    let mut now = xs;
+    let mut i = 0;
+    while i < queue_entries::WORKERS {
+        let x = xs[i];
+        now[i] = watch_with(i as u64 == w, others, d, x);
+        i += 1;
+    }
+    now
+}
+
+fn own_in(end: Moved, s: Since) -> bool
+    ensures { λ r. ⌜ r ≡ ownIn end s ⌝ }
+{
+    match end {
+        Moved::Neither => false,
+        Moved::Tail => pick(s.tail, true, s.mark),
+        Moved::Head => s.head,
+    }
+}
+
+fn other_in(end: Moved, s: Since) -> bool
+    ensures { λ r. ⌜ r ≡ otherIn end s ⌝ }
+{
+    match end {
+        Moved::Neither => false,
+        Moved::Tail => s.head,
+        Moved::Head => s.tail,
+    }
+}
+
+fn scheduled(l: Loss) -> bool
+    ensures { λ r. ⌜ r ≡ scheduled l ⌝ }
+{
+    match l {
+        Loss::Nothing => false,
+        Loss::ByWords => false,
+        Loss::BySchedule => true,
+    }
+}
+
+fn causes_of(s: Stand, x: Watch, y: Watch, l: Loss) -> Causes
+    ensures { λ r. ⌜ r ≡ causesOf s x y l ⌝ }
+{
+    let end = s.end;
+    let word = x.word;
+    let stamp = y.stamp;
+    Causes {
+        schedule: pick(s.stamps, scheduled(l), false),
+        own: own_in(end, word),
+        other: pick(s.stamps, other_in(end, stamp), false),
+        hand: pick(s.stamps, y.others, false),
+    }
+}
+
+// An act of worker w that led from one place to the other and lost this: what is then kept, whether it goes back, and the causes.
+pub fn name_causes(ws: Watches, w: u64, before: Place, after: Place, loss: Loss) -> Named
+    ensures { λ r. ⌜ r ≡ namedOf ws w before after loss ⌝ }
+{
+    let s = stand_of(before);
+    let t = stand_of(after);
+    let d = deed_of(s, t, bounded_stock::moved_by(after));
+    let xs = ws.each;
+    let ys = watch_all(xs, w, d);
+    let x = watch_of(xs, w);
+    let y = watch_of(ys, w);
+    let causes = causes_of(s, x, y, loss);
+    Named {
+        watches: Watches { each: ys },
+        back: goes_back(s, t),
+        causes: causes,
+    }
+}

@@ -1,0 +1,178 @@
+-- Alone, and with no exchange that the schedule makes fail, a worker goes back at most once while no other has a slot in hand.
+use mathlib.Core.Path.{_≡_, refl, sym, ap, _∙_, subst}
+use mathlib.Core.Logic.{_≢_}
+use mathlib.Core.Bool.{Bool, true, false, cond}
+use mathlib.Core.List.{List, [], _∷_, _++_, append-nil}
+use Prim.Native.Nat.{ℕ, _+_, _≤_, _<_}
+use native.Mathlib.Omega.{arith}
+use native.Mathlib.Decide.{ℕ-discrete}
+use lib.ListN.{length}
+use Rattle.queue_entries.specs.declared.Call.{Call}
+use Rattle.queue_entries.specs.declared.Entry.{Entry}
+use Rattle.bounded_places.specs.declared.Loss.the-variants.{BySchedule}
+use Rattle.bounded_places.specs.declared.Worker.{Worker}
+use Rattle.bounded_places.specs.Places.{viewOf, beginOf}
+use Rattle.bounded_machine.specs.declared.Machine.{Machine}
+use Rattle.bounded_machine.specs.declared.Event.{Event}
+use Rattle.bounded_machine.specs.Machine.{idler, freshOf}
+use Rattle.bounded_machine.specs.Turn.{beginner, begun}
+use Rattle.bounded_machine.specs.History.{lossAt}
+use Rattle.bounded_machine.proofs.Kept.{placed}
+use Rattle.bounded_causes.specs.declared.Watch.{Watch}
+use Rattle.bounded_causes.specs.Causes.{standOf, goesBackOf, watchOf, othersHold}
+use Rattle.bounded_demands.specs.Notions.{document01, goesBack, otherHand, Alone, goingsBack}
+use Rattle.bounded_demands.specs.Demands.{BackOnce, AloneBackOnce}
+use Rattle.bounded_proof_demand2.proofs.Turns.{Turned, began, did, stood}
+use Rattle.bounded_proof_demand2.proofs.Pictured.{Base}
+use Rattle.bounded_proof_demand2.proofs.Reached.{lapsOf, base-of, along}
+use Rattle.bounded_proof_causes.proofs.Rows.{Clean, begin-clean}
+use Rattle.bounded_proof_causes.proofs.Folds.{others-stay}
+use Rattle.bounded_proof_causes.proofs.Causes as causes
+use Rattle.bounded_proof_causes.proofs.Causes.{kept, Causing, causing-kept, fresh-causing}
+
+-- ---- lists that grow at their end
+
+nil-both : {A : Type 0} (before behind : List A) → [] ≡ before ++ behind → (before ≡ []) × (behind ≡ [])
+nil-both [] behind e = (refl, sym e)
+nil-both (b ∷ before) behind e = absurd (let q : _≡_ {A = ℕ} 0 1 = cc in omega arith)
+
+-- A list with one more at its end, cut in two: the last is in the first part or in the second.
+data Cut {A : Type 0} (xs : List A) (y : A) (before behind : List A) : Type 0 where
+  whole : before ≡ xs ++ y ∷ [] → behind ≡ [] → Cut xs y before behind
+  part : (left : List A) → behind ≡ left ++ y ∷ [] → xs ≡ before ++ left → Cut xs y before behind
+
+cut : {A : Type 0} (xs : List A) (y : A) (before behind : List A) → xs ++ y ∷ [] ≡ before ++ behind → Cut xs y before behind
+cut xs y [] behind e = part xs (sym e) refl
+cut [] y (b ∷ before) behind e =
+    let z = nil-both before behind cc in
+    let q : b ≡ y = cc in
+    whole (rw (z .0, q)) (z .1)
+cut {A} (x ∷ xs) y (b ∷ before) behind e = go (cut xs y before behind cc)
+  where
+    head-same : b ≡ x
+    head-same = cc
+
+    go : Cut xs y before behind → Cut (x ∷ xs) y (b ∷ before) behind
+    go (whole p q) = whole (rw (head-same, p)) q
+    go (part left p q) = part left p (rw (head-same, q))
+
+goings-end : (h : List Event) (e : Event) → goingsBack (h ++ e ∷ []) ≡ goingsBack h + cond (goesBack e) 1 0
+unfolding goingsBack
+goings-end [] e = omega arith
+goings-end (a ∷ h) e = omega (arith, goings-end h e)
+
+alone-end : (w : ℕ) (h : List Event) (e : Event) → Alone w (h ++ e ∷ []) → Alone w h × (e .worker ≡ w) × (e .loss ≢ BySchedule)
+alone-end w [] e a = (tt, a .0, a .1)
+alone-end w (x ∷ h) e a = let z = alone-end w h e (a .2) in ((a .0, a .1, z .0), z .1, z .2)
+
+-- ---- along a history
+
+-- After acts of w alone: the others still have no slot in hand, it has gone back at most once, and if it has then no cause is kept.
+abbrev Sole : Machine → List Event → ℕ → List Event → Type 0
+Sole m h w alone = (otherHand w h ≡ false) × (goingsBack alone ≤ 1) × (goingsBack alone ≡ 1 → Clean (watchOf (kept h) w) (stood m w))
+
+abbrev Soles : Machine → List Event → Type 0
+Soles m h = (earlier alone : List Event) (w : ℕ) → h ≡ earlier ++ alone → Alone w alone → otherHand w earlier ≡ false → Sole m h w alone
+
+no-acts : (m : Machine) (h : List Event) (w : ℕ) → otherHand w h ≡ false → Sole m h w []
+unfolding goingsBack
+no-acts m h w free = (free, omega arith, λ k. absurd (omega arith))
+
+module _ (c n workers : ℕ) (base : Base c n workers) where
+  record Once (m : Machine) (h : List Event) : Type 0 where
+    pub causing : Causing c n workers base m h
+    pub soles : Soles m h
+    pub once : BackOnce h
+
+  begun-soles : (m : Machine) (h : List Event) (w : ℕ) (q : Call) → Soles m h → Soles (begun m w (beginOf q)) h
+  unfolding begun
+  begun-soles m h w q o earlier alone v e a free =
+      let s = o earlier alone v e a free in
+      (s .0, s .1, λ k. placed (m .workers) w v (beginner (beginOf q)) idler (λ (z : Worker). Clean (watchOf (kept h) v) (z .place)) (λ i. begin-clean (watchOf (kept h) v) q) (s .2 k))
+
+  module _ (m : Machine) (h : List Event) (o : Once m h) (w : ℕ) (l : w < m .count) (lose : Bool) (busy : viewOf (stood m w) .busy ≡ true) where
+    abbrev next : Machine
+    next = causes.next c n workers base m h (o .causing) w l lose busy
+
+    abbrev new : Event
+    new = causes.new c n workers base m h (o .causing) w l lose busy
+
+    own : (left : List Event) → Sole m h w left → lossAt m w lose ≢ BySchedule → Sole next (h ++ new ∷ []) w (left ++ new ∷ [])
+    own left s un = let q = go (goesBack new) refl in (free, q .0, q .1)
+      where
+        goes : {b : Bool} → goesBack new ≡ b → goesBackOf (standOf (stood m w)) (standOf (causes.does c n workers base m h (o .causing) w l lose busy .place)) ≡ b
+        goes e = sym (causes.goes c n workers base m h (o .causing) w l lose busy) ∙ e
+
+        free : otherHand w (h ++ new ∷ []) ≡ false
+        free =
+            ap (λ (xs : List Watch). othersHold xs w) (causes.kept-next c n workers base m h (o .causing) w l lose busy)
+            ∙ others-stay w (causes.deed c n workers base m h (o .causing) w l lose busy) (kept h) (o .causing .long) (s .0)
+
+        there : Clean (causes.now c n workers base m h (o .causing) w l lose busy) (causes.does c n workers base m h (o .causing) w l lose busy .place)
+            → Clean (watchOf (kept (h ++ new ∷ [])) w) (stood next w)
+        there z =
+            subst (λ (y : Watch). Clean y (stood next w)) (sym (causes.own-next c n workers base m h (o .causing) w l lose busy))
+            (subst (Clean (causes.now c n workers base m h (o .causing) w l lose busy)) (sym (causes.went c n workers base m h (o .causing) w l lose busy)) z)
+
+        none : goesBack new ≡ true → Dec (goingsBack left ≡ 1) → goingsBack left ≡ 0
+        none b (yes k) = absurd (causes.its-row c n workers base m h (o .causing) w l lose busy .alone (goes b) (s .0) (s .2 k) un)
+        none b (no k) = omega (arith, s .1)
+
+        go : (b : Bool) → goesBack new ≡ b
+            → (goingsBack (left ++ new ∷ []) ≤ 1) × (goingsBack (left ++ new ∷ []) ≡ 1 → Clean (watchOf (kept (h ++ new ∷ [])) w) (stood next w))
+        go true b =
+            let up : goingsBack (left ++ new ∷ []) ≡ goingsBack left + 1 = goings-end left new ∙ ap (λ (z : Bool). goingsBack left + cond z 1 0) b in
+            (omega (arith, up, none b (ℕ-discrete (goingsBack left) 1)), λ k. there (causes.its-row c n workers base m h (o .causing) w l lose busy .cleaned (goes b)))
+        go false b =
+            let same : goingsBack (left ++ new ∷ []) ≡ goingsBack left + 0 = goings-end left new ∙ ap (λ (z : Bool). goingsBack left + cond z 1 0) b in
+            (omega (arith, same, s .1), λ k. there (causes.its-row c n workers base m h (o .causing) w l lose busy .clean (s .0) (s .2 (omega (arith, same)))))
+
+    soles-next : Soles next (h ++ new ∷ [])
+    soles-next earlier alone v e a free = go (cut h new earlier alone e)
+      where
+        go : Cut h new earlier alone → Sole next (h ++ new ∷ []) v alone
+        go (whole p q) = rw q (no-acts next (h ++ new ∷ []) v (subst (λ (z : List Event). otherHand v z ≡ false) p free))
+        go (part left p q) =
+            let z = alone-end v left new (subst (Alone v) p a) in
+            rw p
+            (subst (λ (u : ℕ). Sole next (h ++ new ∷ []) u (left ++ new ∷ [])) (z .1)
+            (own left (subst (λ (u : ℕ). Sole m h u left) (sym (z .1)) (o .soles earlier left v q (z .0) free)) (z .2)))
+
+    once-next : BackOnce (h ++ new ∷ [])
+    once-next earlier alone later v e a free = go (cut h new (earlier ++ alone) later e)
+      where
+        go : Cut h new (earlier ++ alone) later → goingsBack alone ≤ 1
+        go (whole p q) = soles-next earlier alone v (sym p) a free .1
+        go (part left p q) = o .once earlier alone left v q a free
+
+  once-kept : (m : Machine) (h : List Event) (en : Entry) (next-machine : Machine) (acts : List Event) → Once m h → Turned m en next-machine acts → Once next-machine (h ++ acts)
+  once-kept m h en next-machine acts o (began w q l idle) =
+      record {
+        causing = causing-kept c n workers base m h en next-machine acts (o .causing) (began w q l idle);
+        soles = rw (append-nil h) (begun-soles m h w q (o .soles));
+        once = rw (append-nil h) (o .once);
+      }
+  once-kept m h en next-machine acts o (did w lose l busy early) =
+      record {
+        causing = causing-kept c n workers base m h en next-machine acts (o .causing) (did w lose l busy early);
+        soles = soles-next m h o w l lose busy;
+        once = once-next m h o w l lose busy;
+      }
+
+pub alone-back-once : AloneBackOnce document01
+unfolding goingsBack
+alone-back-once capacity workers edition a s =
+    let n = lapsOf capacity in
+    let base = base-of capacity workers edition a in
+    let m = freshOf capacity workers edition in
+    along (Once capacity n workers base) (once-kept capacity n workers base) s m [] 0
+    (record {
+      causing = fresh-causing capacity workers edition a;
+      soles = λ earlier alone w e b free.
+          let z = nil-both earlier alone e in
+          subst (Sole m [] w) (sym (z .1)) (no-acts m [] w (subst (λ (y : List Event). otherHand w y ≡ false) (z .0) free));
+      once = λ earlier alone later w e b free.
+          let z = nil-both earlier alone (sym (nil-both (earlier ++ alone) later e .0)) in
+          subst (λ (y : List Event). goingsBack y ≤ 1) (sym (z .1)) (omega arith);
+    })
+    .once

@@ -1,0 +1,1 @@
+// Every retry has a cause, proved (proofs/). No code.
