@@ -4,6 +4,7 @@ use Prim.Native.Nat.{ℕ, _+_, _*_}
 use mathlib.Core.Bool.{false}
 use mathlib.Core.List.{List, [], _∷_, _++_}
 use mathlib.Core.Path.{_≡_}
+use Rattle.bounded_words.specs.declared.Width.the-variants.{SixtyFour}
 use Rattle.bounded_machine.specs.declared.Machine.{Machine}
 use Rattle.bounded_machine.specs.declared.Event.{Event}
 use Rattle.bounded_machine.specs.Broken.{brokenOf}
@@ -231,7 +232,7 @@ pub record Refuted : Type 0 where
   pub twice-counted : LossesBy (counting twice) popLoses → ⊥
   pub ended : LossesBy (counting forgotten) popEnds → ⊥
   pub begun-anew : LossesBy (counting unreset) popAgain → ⊥
-  pub told : EndTold toldBySchedule (reached (trial none 1 (pushLoses .schedule))) 1 → ⊥
+  pub told : EndTold SixtyFour toldBySchedule (reached (trial none 1 (pushLoses .schedule))) 1 → ⊥
   pub aside : CountsAside weary → ⊥
   -- a close that holds
   pub once-closed : OnceClosed (slipped forceForgets) (reached closedF) → ⊥
