@@ -9,7 +9,6 @@ use Rattle.bounded_machine.specs.declared.Machine.{Machine}
 use Rattle.bounded_machine.specs.Broken.{brokenOf}
 use Rattle.bounded_machine.specs.Run.{ran}
 use Rattle.bounded_widths.specs.declared.Machine as widths
-use Rattle.bounded_widths.specs.declared.Ran as widths-ran
 use Rattle.bounded_widths.specs.Widths.{widened, narrowed, narrowedRan}
 use Rattle.bounded_widths.proofs.Back.{back, again}
 use Rattle.bounded_demands.specs.Notions.{sixteen}

@@ -1,7 +1,7 @@
 -- Demand 1: refusals are numbered and change nothing, and only one answer meets a promise.
 use Prim.Native.Nat.{ℕ, _%_, _<_}
 use mathlib.Core.Path.{_≡_, refl, sym, _∙_}
-use mathlib.Core.Bool.{Bool, true, false, cond}
+use mathlib.Core.Bool.{true, false}
 use mathlib.Core.List.{List}
 use native.Mathlib.Omega.{arith}
 use native.Mathlib.Nat.{zero-mod}
@@ -23,7 +23,7 @@ use Rattle.bounded_words.specs.declared.Stamp.{Stamp}
 use Rattle.bounded_words.specs.declared.Fixed.{Fixed}
 use Rattle.bounded_words.specs.Words.{stamp, markOf, lapOf, fixedOf}
 use Rattle.bounded_words.proofs.Fits.{Plain, plain}
-use Rattle.bounded_places.specs.Places.{inside, beginOf}
+use Rattle.bounded_places.specs.Places.{inside}
 use Rattle.bounded_acts.specs.Acts.{actOf}
 use Rattle.bounded_machine.specs.declared.Machine.{Machine}
 use Rattle.bounded_machine.specs.declared.Did.{Did}

@@ -6,7 +6,6 @@ use mathlib.Core.List.{List, [], _∷_, _++_, append-nil}
 use Prim.Native.Nat.{ℕ, _+_, _≤_, _<_}
 use native.Mathlib.Omega.{arith}
 use native.Mathlib.Decide.{ℕ-discrete}
-use lib.ListN.{length}
 use Rattle.queue_entries.specs.declared.Call.{Call}
 use Rattle.queue_entries.specs.declared.Entry.{Entry}
 use Rattle.bounded_words.specs.declared.Width.{Width}

@@ -6,8 +6,7 @@ use mathlib.Core.List.{List, [], _∷_, _++_, append-nil}
 use Prim.Native.Nat.{ℕ, _+_, _*_, _%_, _<_}
 use native.Mathlib.Omega.{arith}
 use native.Mathlib.Decide.{ℕ-discrete}
-use lib.ListN.{length, getD, replicate, length-set, length-replicate}
-use lib.Seq.{getD-set-other}
+use lib.ListN.{length, getD, length-replicate}
 use Rattle.queue_entries.specs.Limits.{workersMost}
 use Rattle.queue_entries.specs.declared.Call.{Call}
 use Rattle.queue_entries.specs.declared.Entry.{Entry}
@@ -27,15 +26,13 @@ use Rattle.bounded_places.specs.Places.{viewOf, beginOf}
 use Rattle.bounded_acts.specs.declared.Acted.{Acted}
 use Rattle.bounded_machine.specs.declared.Machine.{Machine}
 use Rattle.bounded_machine.specs.declared.Event.{Event}
-use Rattle.bounded_machine.specs.declared.Moved.{Moved}
 use Rattle.bounded_machine.specs.Machine.{slot, idler, freshOf}
 use Rattle.bounded_machine.specs.Turn.{spotOf, beginner, recordAfter, begun, stored, acted, actedBy}
 use Rattle.bounded_machine.specs.History.{movedOf, lossAt}
 use Rattle.bounded_causes.specs.declared.Deed.{Deed}
 use Rattle.bounded_causes.specs.declared.Watch.{Watch}
 use Rattle.bounded_causes.specs.declared.Watches.{Watches}
-use Rattle.bounded_causes.specs.declared.Causes.{Causes}
-use Rattle.bounded_causes.specs.Causes.{standOf, goesBackOf, claimsTail, claimsHead, deedOf, ownAct, otherAct, unwatched, start, watchOf, othersHold, watchedOf, causesOf, namedOf}
+use Rattle.bounded_causes.specs.Causes.{standOf, goesBackOf, claimsTail, deedOf, ownAct, otherAct, unwatched, start, watchOf, othersHold, watchedOf, causesOf, namedOf}
 use Rattle.bounded_demands.specs.Notions.{ofWidth, document01, Allowed, KeepsWindow, InWindow, machineAfter, actsOf, goesBack, WayBack, watchesFrom, watches, causesIn, Caused, by-schedule, by-own-end, by-other-end, by-hand}
 use Rattle.bounded_demands.specs.Retries.{onlyOwn}
 use Rattle.bounded_demands.specs.Demands.{RetriesCaused, LenByOwnEnd, EveryRetryHasACause, WaysBack, EightWaysBack}
@@ -43,11 +40,9 @@ use Rattle.bounded_proof_invariant.proofs.Ring.{Mine, Shared}
 use Rattle.bounded_proof_invariant.proofs.Effects.{Effect, Still, Tailed, Taken, Grabbed, Forced, Fills, Swaps, Frees, Gives, Loose, after}
 use Rattle.bounded_proof_each_act.proofs.Stamps.{fixed, tailWord, word-slot, unmarked-tail}
 use Rattle.bounded_proof_each_act.proofs.Sight.{look, HandAt, told, endsOf, slotOf, Stands, Recent}
-use Rattle.bounded_proof_each_act.proofs.Steps.{Step}
 use Rattle.bounded_proof_demand2.proofs.Lists.{Last, Earlier, split-end}
 use Rattle.bounded_proof_demand2.proofs.Turns.{Turned, began, did, stood, eventOf}
 use Rattle.bounded_proof_demand2.proofs.Logged.{movedBy, shows}
-use Rattle.bounded_proof_demand2.proofs.Pictured as pictured
 use Rattle.bounded_proof_demand2.proofs.Pictured.{Base, Pictured, busy-counted, hand-busy, stepped, spot, spot-small, result, new-record, acted-stood}
 use Rattle.bounded_proof_demand2.proofs.Reached.{Reached, lapsOf, base-of, fresh-record, nil-split, along, recent-in, entered-in}
 use Rattle.bounded_proof_demand2.proofs.Always.{always}

@@ -1,5 +1,5 @@
 -- What each act of document 01's tables makes of what its worker knows, by the causes that are kept of it.
-use mathlib.Core.Path.{_≡_, refl, sym, ap, _∙_, subst}
+use mathlib.Core.Path.{_≡_, refl, sym, ap, _∙_}
 use mathlib.Core.Logic.{_≢_}
 use mathlib.Core.Bool.{Bool, true, false, cond, true≢false}
 use Prim.Native.Nat.{ℕ}
@@ -14,7 +14,6 @@ use Rattle.bounded_places.specs.declared.Slot.{Slot}
 use Rattle.bounded_places.specs.declared.Ends.{Ends}
 use Rattle.bounded_places.specs.declared.Kind.{Kind}
 use Rattle.bounded_places.specs.declared.Kind.the-variants.{Push, Force}
-use Rattle.bounded_places.specs.declared.Answer.the-variants as answer
 use Rattle.bounded_places.specs.declared.Answer.the-variants.{Pushed, Full, Closed, Displaced, Popped, Empty, PopClosed, Len, Yes, No}
 use Rattle.bounded_places.specs.declared.Exchange.{Exchange}
 use Rattle.bounded_places.specs.declared.Loss.{Loss}
@@ -27,7 +26,6 @@ use Rattle.bounded_acts.specs.Acts.{stay, losing, afterTail, endP3, endF6, endO
 use Rattle.bounded_machine.specs.declared.Moved.the-variants.{Tail, Head}
 use Rattle.bounded_machine.specs.History.{movedOf}
 use Rattle.bounded_machine.proofs.Kept.{either, exchanged}
-use Rattle.bounded_causes.specs.declared.Stand.{Stand}
 use Rattle.bounded_causes.specs.declared.Deed.{Deed}
 use Rattle.bounded_causes.specs.declared.Watch.{Watch}
 use Rattle.bounded_causes.specs.declared.Causes.{Causes}

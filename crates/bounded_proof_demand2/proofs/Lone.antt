@@ -2,7 +2,7 @@
 use mathlib.Core.Path.{_≡_, refl, sym, ap, _∙_, subst}
 use mathlib.Core.Logic.{_≢_}
 use mathlib.Core.Bool.{Bool, true, false, cond, true≢false}
-use mathlib.Core.List.{List, [], _∷_, _++_, append-nil}
+use mathlib.Core.List.{List, [], _∷_, _++_}
 use Prim.Native.Nat.{ℕ, _+_, _*_, _-_, _≤_, _<_}
 use native.Mathlib.Omega.{arith}
 use native.Mathlib.Nat.{mul-le-mul-right}
@@ -10,7 +10,6 @@ use native.Mathlib.Decide.{ℕ-discrete}
 use lib.ListN.{length, length-set}
 use lib.Seq.{getD-set-same, getD-set-other}
 use borrow.Author.Tests.{eq-eqb}
-use Rattle.queue_entries.specs.Limits.{workersMost}
 use Rattle.queue_entries.specs.declared.Call.{Call}
 use Rattle.queue_entries.specs.declared.Call.the-variants as call
 use Rattle.queue_entries.specs.declared.Entry.{Entry}
@@ -37,7 +36,7 @@ use Rattle.bounded_machine.specs.Machine.{idler, freshOf}
 use Rattle.bounded_machine.specs.Turn.{beginner, recordAfter, begun, acted, actedBy, stored, actAt}
 use Rattle.bounded_machine.specs.History.{movedOf, tallyOf}
 use Rattle.bounded_machine.proofs.Kept.{either, exchanged}
-use Rattle.bounded_demands.specs.Notions.{ofWidth, Allowed, tally, Holding, NoWord, NewWord, OldWord, holdingAt, holds, isNew, givesTo, sinceFrom, since, turnLength, InWindow}
+use Rattle.bounded_demands.specs.Notions.{ofWidth, tally, Holding, NoWord, NewWord, OldWord, holdingAt, holds, isNew, givesTo, since, turnLength}
 use Rattle.bounded_demands.specs.Demands.{AloneKeeps}
 use Rattle.bounded_proof_each_act.proofs.Stamps.{fixed}
 use Rattle.bounded_proof_demand2.proofs.Turns.{Turned, began, did, stood, eventOf}

@@ -5,7 +5,6 @@ use mathlib.Core.List.{List}
 use Prim.Native.Nat.{ℕ, _+_, _*_, _/_, _%_, _≤_, _<_}
 use native.Mathlib.Omega.{arith}
 use native.Mathlib.Nat.{mod-lt, mod-eq-of-lt, div-le-self, mul-le-mul-left}
-use lib.ListN.{getD}
 use Rattle.queue_entries.specs.Limits.{meterMost}
 use Rattle.bounded_words.specs.declared.Stamp.{Stamp}
 use Rattle.bounded_words.specs.declared.Fixed.{Fixed}
@@ -18,7 +17,6 @@ use Rattle.bounded_places.specs.declared.Slot.{Slot}
 use Rattle.bounded_places.specs.declared.Ends.{Ends}
 use Rattle.bounded_machine.specs.declared.Machine.{Machine}
 use Rattle.bounded_machine.specs.declared.Event.{Event}
-use Rattle.bounded_machine.specs.Machine.{slot}
 use Rattle.bounded_demands.specs.Notions.{Allowed, Words, Plain, claimWord, plainWord, tally}
 use Rattle.bounded_proof_invariant.proofs.Width.{word, word-is}
 use Rattle.bounded_proof_invariant.proofs.Ring.{number}

@@ -1,9 +1,8 @@
 -- In edition 2 a mark that is set stays, on any unbroken machine, reached or not: the tail that P3 exchanges is unmarked, and F7 keeps the mark.
 use mathlib.Core.Path.{_≡_, refl, sym, ap, _∙_}
-use mathlib.Core.Bool.{Bool, true, false, cond, true≢false}
-use mathlib.Core.List.{List, [], _∷_, _++_}
-use Prim.Native.Nat.{ℕ, _<_}
-use lib.Dec.{eqb}
+use mathlib.Core.Bool.{Bool, true, true≢false}
+use mathlib.Core.List.{List, [], _++_}
+use Prim.Native.Nat.{ℕ}
 use borrow.Author.Tests.{eq-eqb, eqb-true}
 use Rattle.queue_entries.specs.declared.Entry.{Entry}
 use Rattle.bounded_words.specs.declared.Stamp.{Stamp}
@@ -19,12 +18,12 @@ use Rattle.bounded_places.specs.declared.Answer.the-variants.{Full, Empty, PopC
 use Rattle.bounded_places.specs.declared.Exchange.{Exchange}
 use Rattle.bounded_places.specs.declared.Place.{Place}
 use Rattle.bounded_places.specs.declared.Place.the-variants.{Idle, P1, P2, P3, P4, P5, P6, F6, F7, F8, F9, O1, O2, O3, O4, O5, O6, Len1, Len2, Len3, Empty1, Empty2, Full1, Full2, Close1, IsClosed1}
-use Rattle.bounded_places.specs.Places.{viewOf, fitsOf, beginOf}
+use Rattle.bounded_places.specs.Places.{viewOf, fitsOf}
 use Rattle.bounded_acts.specs.declared.Acted.{Acted}
 use Rattle.bounded_acts.specs.Acts.{stay, losing, endP3, endF6, endO3, tailTo, headTo, forcedTail, fullAt, countOf, actOf}
 use Rattle.bounded_machine.specs.declared.Machine.{Machine}
 use Rattle.bounded_machine.specs.declared.Event.{Event}
-use Rattle.bounded_machine.specs.Turn.{begun, acted, actedBy, stored}
+use Rattle.bounded_machine.specs.Turn.{begun, actedBy, stored}
 use Rattle.bounded_machine.specs.Run.{runAt}
 use Rattle.bounded_machine.proofs.Kept.{either, exchanged, Unbroken, ruled-in, fits-plain, word-fits-in, begun-unbroken, acted-unbroken}
 use Rattle.bounded_proof_demand2.proofs.Turns.{Turned, began, did, stood, turned-fixed}

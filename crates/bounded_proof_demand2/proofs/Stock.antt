@@ -3,12 +3,11 @@ use mathlib.Core.Path.{_≡_, refl, sym, ap, _∙_, subst}
 use mathlib.Core.Logic.{_≢_, _⊎_, inl, inr}
 use mathlib.Core.Bool.{Bool, true, false, cond, true≢false}
 use mathlib.Core.List.{List, [], _∷_, _++_, append-nil}
-use Prim.Native.Nat.{ℕ, zero, suc, _+_, _-_, _*_, _%_, _≤_, _<_}
+use Prim.Native.Nat.{ℕ, zero, suc, _+_, _-_, _%_, _≤_, _<_}
 use native.Mathlib.Omega.{arith}
 use native.Mathlib.Nat.{mod-lt}
-use native.Mathlib.Decide.{ℕ-discrete}
 use lib.Dec.{leb}
-use lib.ListN.{length, getD, set, replicate}
+use lib.ListN.{length, set, replicate}
 use Rattle.queue_entries.specs.Limits.{workersMost}
 use Rattle.queue_entries.specs.declared.Call.{Call}
 use Rattle.queue_entries.specs.declared.Call.the-variants as call
@@ -22,7 +21,7 @@ use Rattle.bounded_places.specs.declared.Slot.{Slot}
 use Rattle.bounded_places.specs.declared.Ends.{Ends}
 use Rattle.bounded_places.specs.declared.Kind.{Kind}
 use Rattle.bounded_places.specs.declared.Kind.the-variants.{Push, Force}
-use Rattle.bounded_places.specs.declared.Answer.the-variants.{Nothing, Full, Closed, Empty, PopClosed, Len, Yes, No}
+use Rattle.bounded_places.specs.declared.Answer.the-variants.{Full, Closed, Empty, PopClosed, Len, Yes, No}
 use Rattle.bounded_places.specs.declared.Exchange.{Exchange}
 use Rattle.bounded_places.specs.declared.Place.{Place}
 use Rattle.bounded_places.specs.declared.Place.the-variants.{Idle, P1, P2, P3, P4, P5, P6, F6, F7, F8, F9, O1, O2, O3, O4, O5, O6, Len1, Len2, Len3, Empty1, Empty2, Full1, Full2, Close1, IsClosed1}
@@ -37,11 +36,10 @@ use Rattle.bounded_machine.specs.declared.Moved.the-variants.{Neither, Tail, He
 use Rattle.bounded_machine.specs.declared.Tally.{Tally}
 use Rattle.bounded_machine.specs.Machine.{placeOf, idler, idlers, freshOf}
 use Rattle.bounded_machine.specs.Broken.{allIdle}
-use Rattle.bounded_machine.specs.Contents.{contentsOf}
 use Rattle.bounded_machine.specs.Turn.{beginner, recordAfter, begun, stored, acted, actedBy}
 use Rattle.bounded_machine.specs.History.{movedOf, readsAt, untallied, tallyOf, stockOf, untakenOf}
 use Rattle.bounded_machine.proofs.Kept.{either, exchanged}
-use Rattle.bounded_demands.specs.Notions.{ofWidth, document01, Allowed, InWindow, KeepsWindow, machineAfter, actsOf, Reads, readO4, readF8, tailBy, headBy, tally, stock, unread, unreadBy, lesser}
+use Rattle.bounded_demands.specs.Notions.{ofWidth, document01, Allowed, InWindow, KeepsWindow, machineAfter, actsOf, Reads, readO4, readF8, tailBy, headBy, tally, stock, unread, unreadBy}
 use Rattle.bounded_demands.specs.Demands.{StockRises, StockFalls, StockStays, Stocked, StockUnderEverySchedule}
 use Rattle.bounded_proof_invariant.proofs.Ring.{Cell, Await, Hold, Hand, Mine, Shared}
 use Rattle.bounded_proof_each_act.proofs.Sight.{Age, look, Stands}

@@ -1,7 +1,7 @@
 -- A worker that alone is scheduled keeps its word young: no other claims, and after its own claim it tests no word.
 use mathlib.Core.Path.{_≡_, refl}
 use mathlib.Core.Bool.{Bool, cond, true≢false}
-use Prim.Native.Nat.{ℕ, _+_, _*_, _<_}
+use Prim.Native.Nat.{ℕ, _+_}
 use native.Mathlib.Omega.{arith}
 use lib.ListN.{length}
 use Rattle.bounded_words.specs.declared.Stamp.{Stamp}

@@ -21,7 +21,6 @@ use Rattle.bounded_places.specs.declared.Loss.{Loss}
 use Rattle.bounded_places.specs.declared.Loss.the-variants as loss
 use Rattle.bounded_places.specs.declared.Place.{Place}
 use Rattle.bounded_places.specs.declared.Place.the-variants.{Idle, P1, P2, P3, P4, P5, P6, F6, F7, F8, F9, O1, O2, O3, O4, O5, O6, Len1, Len2, Len3, Empty1, Empty2, Full1, Full2, Close1, IsClosed1}
-use Rattle.bounded_places.specs.declared.Held.the-variants as held
 use Rattle.bounded_places.specs.Places.{viewOf}
 use Rattle.bounded_acts.specs.declared.Acted.{Acted}
 use Rattle.bounded_acts.specs.Acts.{stay, losing, afterTail, endP3, endF6, endO3, tailTo, headTo, stampTo, valueTo, actOf, actP1, actP2, actP3, actP5, actP6, actF6, actF7, actF8, actF9, actO2, actO3, actO5, actO6, actLen3, actClose1, fullAt, yesNo, countOf}

@@ -4,23 +4,22 @@ use mathlib.Core.List.{List, [], append-nil}
 use Prim.Native.Nat.{ℕ, _+_, _*_, _%_, _≤_, _<_}
 use native.Mathlib.Omega.{arith}
 use native.Mathlib.Nat.{mod-lt, mod-eq-of-lt}
-use lib.ListN.{replicate, getD}
+use lib.ListN.{replicate}
 use Rattle.queue_entries.specs.Limits.{meterMost}
 use Rattle.queue_entries.specs.Schedules.{historyBy}
 use Rattle.bounded_words.specs.declared.Width.{Width}
 use Rattle.bounded_words.specs.Words.{stamp, markOf, fixedOf}
 use Rattle.bounded_places.specs.declared.Answer.the-variants.{Nothing}
-use Rattle.bounded_places.specs.declared.Ends.{Ends}
 use Rattle.bounded_places.specs.declared.Slot.{Slot}
 use Rattle.bounded_places.specs.declared.Place.the-variants.{Idle}
 use Rattle.bounded_machine.specs.declared.Machine.{Machine}
-use Rattle.bounded_machine.specs.Machine.{slot, idler, idlers, starts, freshSlots, machineOf, freshOf}
+use Rattle.bounded_machine.specs.Machine.{idler, idlers, freshSlots, machineOf, freshOf}
 use Rattle.bounded_machine.specs.declared.Event.{Event}
 use Rattle.bounded_machine.specs.History.{historyAt, untallied}
 use Rattle.bounded_demands.specs.Notions.{ofWidth, Allowed, actsOf, tally, rounds}
 use Rattle.bounded_demands.specs.Demands.{RoundsClaim}
 use Rattle.bounded_proof_invariant.proofs.Width.{word-first}
-use Rattle.bounded_proof_each_act.proofs.Stamps.{Ground, W}
+use Rattle.bounded_proof_each_act.proofs.Stamps.{Ground}
 use Rattle.bounded_proof_demand2.proofs.Reached.{lapsOf, base-of, fresh-long, fresh-at}
 use Rattle.bounded_proof_window.proofs.Rounds.{at, both, Awaiting, Rounds, goes-round}
 

@@ -1,13 +1,12 @@
 -- One worker that pushes and pops, again and again: what each round leaves, and what it claims.
 use mathlib.Core.Path.{_≡_, refl, sym, ap, _∙_, subst}
 use mathlib.Core.Logic.{_≢_}
-use mathlib.Core.Bool.{true, false, cond}
+use mathlib.Core.Bool.{true, false}
 use mathlib.Core.List.{List, [], _∷_, _++_}
 use Prim.Native.Nat.{ℕ, zero, suc, _+_, _*_, _%_, _≤_, _<_}
 use native.Mathlib.Omega.{arith}
 use native.Mathlib.Nat.{mod-lt, add-mod-right}
 use native.Mathlib.Decide.{ℕ-discrete}
-use lib.Dec.{eqb}
 use lib.ListN.{length, getD, set, length-set}
 use lib.Seq.{set-getD, getD-set-same, getD-set-other}
 use borrow.Author.Tests.{eq-eqb, lt-ltb}
@@ -26,7 +25,7 @@ use Rattle.bounded_places.specs.declared.Place.{Place}
 use Rattle.bounded_places.specs.declared.Place.the-variants.{Idle, P1, P2, P3, P4, P5, O1, O2, O3, O4, O5}
 use Rattle.bounded_places.specs.declared.Worker.{Worker}
 use Rattle.bounded_places.specs.Places.{viewOf}
-use Rattle.bounded_acts.specs.Acts.{stay, losing, exchangeOf, afterTail, tailTo, headTo, stampTo, valueTo, actOf}
+use Rattle.bounded_acts.specs.Acts.{stay, exchangeOf, afterTail, tailTo, headTo, stampTo, valueTo, actOf}
 use Rattle.bounded_machine.specs.declared.Machine.{Machine}
 use Rattle.bounded_machine.specs.declared.Event.{Event}
 use Rattle.bounded_machine.specs.declared.Tally.{Tally}
@@ -81,8 +80,7 @@ module _ (bits : Width) (f : Fixed) (others : List Worker) (count : ℕ) (some :
       → actOf bits f e (getD slots (spotOf f (viewOf p .held)) (slot 0 0)) p false ≡ stay u (getD slots (spotOf f (viewOf p .held)) (slot 0 0)) q → (rest : List ℕ)
       → Goes bits (at e slots p meter) (8 ∷ 0 ∷ rest) (at u slots q (meter + 1)) rest (moves e slots p q meter)
   looks-to e u slots p q meter busy early is rest =
-      subst (λ (l : List Slot). Goes bits (at e slots p meter) (8 ∷ 0 ∷ rest) (at u l q (meter + 1)) rest (moves e slots p q meter))
-      (set-getD slots (spotOf f (viewOf p .held)) (slot 0 0)) (acts-to e u slots _ p q meter busy early is rest)
+      ending bits (ap (λ (l : List Slot). at u l q (meter + 1)) (set-getD slots (spotOf f (viewOf p .held)) (slot 0 0))) (acts-to e u slots _ p q meter busy early is rest)
 
 same-self : (a b : Stamp) → a ≡ b → same a b ≡ true
 unfolding same

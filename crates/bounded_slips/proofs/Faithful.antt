@@ -1,5 +1,5 @@
 -- With no slip planted the tables are document 01's, row by row, and the demands stand.
-use mathlib.Core.Bool.{Bool, true}
+use mathlib.Core.Bool.{Bool}
 use mathlib.Core.Path.{_≡_, refl, sym, ap, subst}
 use Rattle.bounded_words.specs.declared.Fixed.{Fixed}
 use Rattle.bounded_words.specs.declared.Width.the-variants.{SixtyFour}
