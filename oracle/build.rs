@@ -1,18 +1,27 @@
-//! Makes edition 2's copy of bounded.rs: the source with src/edition_2.patch applied.
+//! Makes the copies of bounded.rs for edition 2 and for sixteen bits: the source with src/edition_2.patch, src/sixteen_bits.patch or both applied.
 
 use std::path::Path;
 use std::{env, fs};
 
 const SOURCE: &str = "src/bounded.rs";
-const PATCH: &str = "src/edition_2.patch";
+const EDITION_2: &str = "src/edition_2.patch";
+const SIXTEEN_BITS: &str = "src/sixteen_bits.patch";
 
 fn main() {
-    for file in ["build.rs", SOURCE, PATCH] {
+    for file in ["build.rs", SOURCE, EDITION_2, SIXTEEN_BITS] {
         println!("cargo::rerun-if-changed={file}");
     }
     let read = |file| fs::read_to_string(file).unwrap_or_else(|error| panic!("{file}: {error}"));
     let out = env::var_os("OUT_DIR").expect("cargo sets it");
-    fs::write(Path::new(&out).join("edition_2.rs"), patched(&read(SOURCE), &read(PATCH))).expect("cargo's own place");
+    let copies: [(&str, &[&str]); 3] = [
+        ("edition_2.rs", &[EDITION_2]),
+        ("sixteen_bits.rs", &[SIXTEEN_BITS]),
+        ("edition_2_sixteen_bits.rs", &[EDITION_2, SIXTEEN_BITS]),
+    ];
+    for (name, patches) in copies {
+        let copy = patches.iter().fold(read(SOURCE), |source, patch| patched(&source, &read(patch)));
+        fs::write(Path::new(&out).join(name), copy).expect("cargo's own place");
+    }
 }
 
 /// The source with a unified diff applied: what stays and what goes must stand in the source where the diff says.

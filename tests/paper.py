@@ -1,4 +1,4 @@
-"""A second reading of document 01, the scope paper, with items 4, 6, 8 and 9 of document 02: its machine, row by row. tests/tables holds the programs' tables against it.
+"""A second reading of document 01, the scope paper, with items 4, 6, 8, 9 and 14 of document 02: its machine, row by row. tests/tables holds the programs' tables against it.
 
 It is written from the document and from none of the crates, so that a row misread there is not misread alike here. Places, calls,
 answers and refusals have the document's names and numbers; where it names no places, a call's loads are numbered. What the ring shares
@@ -10,7 +10,7 @@ from typing import NamedTuple, Optional
 
 from paper_entries import ACT_CODES, MOST_METER, MOST_WORKERS, Entries, busy, busy_past_the_count, out_of_limits
 
-WIDE = 2**64
+WIDTHS = {64: 2**64, 16: 65_536}
 MOST_SLOTS = 1024
 MOST_EDITIONS = 2
 
@@ -41,11 +41,11 @@ def unmarked(ring, word):
 
 
 def plus_lap(ring, word):
-    return (word + ring.lap) % WIDE
+    return (word + ring.lap) % ring.wide
 
 
 def minus_lap(ring, word):
-    return (word - ring.lap) % WIDE
+    return (word - ring.lap) % ring.wide
 
 
 def next_of(ring, word):
@@ -61,6 +61,7 @@ class Slot(NamedTuple):
 
 @dataclass
 class Ring:
+    """wide: sums of stamps are modulo this number. It is no part of the machine, but of who runs it."""
     capacity: int
     mark: int
     lap: int
@@ -68,6 +69,7 @@ class Ring:
     head: int
     tail: int
     slots: list
+    wide: int
 
 
 @dataclass(frozen=True)
@@ -93,15 +95,15 @@ class Machine:
     meter: int
 
 
-def blank():
-    ring = Ring(capacity=0, mark=0, lap=0, edition=0, head=0, tail=0, slots=[Slot()] * MOST_SLOTS)
+def blank(bits=64):
+    ring = Ring(capacity=0, mark=0, lap=0, edition=0, head=0, tail=0, slots=[Slot()] * MOST_SLOTS, wide=WIDTHS[bits])
     return Machine(ring, workers=[Worker()] * MOST_WORKERS, count=0, meter=0)
 
 
-def fresh(capacity, count, edition):
+def fresh(capacity, count, edition, bits):
     slots = [Slot(stamp=i) if i < capacity else Slot() for i in range(MOST_SLOTS)]
-    ring = Ring(capacity, mark_of(capacity), lap_of(capacity), edition, head=0, tail=0, slots=slots)
-    return replace(blank(), ring=ring, count=count)
+    ring = Ring(capacity, mark_of(capacity), lap_of(capacity), edition, head=0, tail=0, slots=slots, wide=WIDTHS[bits])
+    return replace(blank(bits), ring=ring, count=count)
 
 
 def copy_of(machine):
@@ -321,10 +323,14 @@ def claims(ring, word):
     return word // ring.lap * ring.capacity + index(ring, word)
 
 
+def turn(ring):
+    return ring.capacity * ring.wide // ring.lap
+
+
 def stock(machine):
     ring = machine.ring
     unread = sum(worker.place in ('O4', 'F7', 'F8') for worker in machine.workers)
-    return claims(ring, unmarked(ring, ring.tail)) - claims(ring, ring.head) + unread
+    return (claims(ring, unmarked(ring, ring.tail)) - claims(ring, ring.head)) % turn(ring) + unread
 
 
 # Why a call goes back (document 02, item 9): looked up in the history, the acts so far.
@@ -419,14 +425,14 @@ def broken(machine):
     return losses_amiss(machine) or busy_past_the_count(machine)
 
 
-def make(capacity, count, edition):
+def make(capacity, count, edition, bits=64):
     if out_of_limits(capacity, MOST_SLOTS):
-        return 1, blank()
+        return 1, blank(bits)
     if out_of_limits(count, MOST_WORKERS):
-        return 2, blank()
+        return 2, blank(bits)
     if out_of_limits(edition, MOST_EDITIONS):
-        return 18, blank()
-    return 0, fresh(capacity, count, edition)
+        return 18, blank(bits)
+    return 0, fresh(capacity, count, edition, bits)
 
 
 def begun(call, item):

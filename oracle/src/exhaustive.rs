@@ -44,8 +44,8 @@ pub fn drive(run: &mut Run, extent: Extent) -> Result<(), String> {
 /// How the queue stands, and the codes of the calls, one for each worker.
 fn cases(queue: Queue) -> Vec<(Preload, Vec<u64>)> {
     match queue {
-        Queue::Bounded { edition } => {
-            let rings = [1, 2].map(|capacity| Making::Bounded { capacity, edition });
+        Queue::Bounded { .. } => {
+            let rings = [1, 2].map(|capacity| queue.making(capacity));
             rings.iter().flat_map(|ring| crossed(&preloads(*ring, &[0, 1]), &pairs())).collect()
         }
         Queue::Single => crossed(&preloads(Making::Single, &[1]), &threes()),

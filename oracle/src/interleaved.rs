@@ -124,7 +124,6 @@ pub fn schedule(random: &mut Random, making: Making, workers: u64, held: u64, le
     schedule_closed(random, making, workers, held, length, close_from)
 }
 
-/// From `close_from` on a call may be a close.
 fn schedule_closed(
     random: &mut Random,
     making: Making,
@@ -136,11 +135,24 @@ fn schedule_closed(
     let mut schedule = Schedule::new(making, workers);
     let mut machine = Machine::make(making, workers).expect("within the limits");
     (0..held).for_each(|item| whole_call(&mut schedule, &mut machine, 0, item));
-    let mut phase = Phase::new(random, &schedule);
+    mixed(random, &mut schedule, &mut machine, length, close_from);
+    if random.once_in(2) {
+        end_all_calls(&mut schedule, &mut machine);
+    }
+    if !random.once_in(4) {
+        refused_end(random, &mut schedule, &mut machine);
+    }
+    schedule
+}
+
+/// So many entries that are accepted; fewer if no worker finds a block. From `close_from` on a call may be a close.
+pub fn mixed(random: &mut Random, schedule: &mut Schedule, machine: &mut Machine, length: usize, close_from: usize) {
+    let workers = schedule.workers;
+    let mut phase = Phase::new(random, schedule);
     let mut worker = 0;
     for done in 0..length {
         if phase.left == 0 {
-            phase = Phase::new(random, &schedule);
+            phase = Phase::new(random, schedule);
         }
         phase.left -= 1;
         if random.once_in(phase.stay) {
@@ -150,17 +162,10 @@ fn schedule_closed(
             break;
         };
         worker = able;
-        let (first, second) = phase.entry(random, &machine, worker, done >= close_from);
+        let (first, second) = phase.entry(random, machine, worker, done >= close_from);
         assert_eq!(machine.enter(first, second), 0);
         schedule.push(first, second);
     }
-    if random.once_in(2) {
-        end_all_calls(&mut schedule, &mut machine);
-    }
-    if !random.once_in(4) {
-        refused_end(random, &mut schedule, &mut machine);
-    }
-    schedule
 }
 
 /// Acts in turn until no worker is busy, so that the contents can be seen. The workers take turns: one may wait for another. Only those
@@ -224,13 +229,7 @@ pub fn any_entry(random: &mut Random, workers: u64) -> (u64, u64) {
 
 /// A making refused, or an odd number of words, or both.
 pub fn refused_whole(queue: Queue, random: &mut Random) -> Schedule {
-    let making = match queue {
-        Queue::Bounded { edition } => {
-            Making::Bounded { capacity: random.pick(&[0, 1, 2, 257, 1024, 1025, u64::MAX]), edition }
-        }
-        Queue::Single => Making::Single,
-        Queue::Unbounded => Making::Unbounded,
-    };
+    let making = Making::among(queue, random, &[0, 1, 2, 257, 1024, 1025, u64::MAX]);
     let workers = random.pick(&[0, 1, 2, 16, 17, 64, u64::MAX]);
     let mut schedule = Schedule::new(making, workers);
     for _ in 0..random.below(3) {

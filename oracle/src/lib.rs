@@ -35,6 +35,7 @@ pub mod sequential;
 pub mod stage;
 pub mod state;
 pub mod tally;
+pub mod turns;
 
 use std::ops::{Deref, DerefMut};
 

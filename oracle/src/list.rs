@@ -13,7 +13,7 @@ use crate::tally::Tally;
 pub fn list(queue: Queue, seed: u64) -> (String, String) {
     let mut random = Random::new(seed);
     let mut schedules = match queue {
-        Queue::Bounded { edition } => ring(&mut random, edition),
+        Queue::Bounded { .. } => ring(&mut random, queue),
         Queue::Single => one_slot(&mut random),
         Queue::Unbounded => blocks(&mut random),
     };
@@ -22,7 +22,7 @@ pub fn list(queue: Queue, seed: u64) -> (String, String) {
     let mut out = judged(&schedules, &mut tally);
     // Rare places are left to chance, but not whether they come.
     while !tally.complete(left_out(queue)) {
-        let more = interleaved::schedule(&mut random, smallest(queue), 3, 0, 150);
+        let more = interleaved::schedule(&mut random, queue.making(1), 3, 0, 150);
         out += &judged(std::slice::from_ref(&more), &mut tally);
         schedules.push(more);
     }
@@ -37,16 +37,8 @@ fn left_out(queue: Queue) -> &'static [Refusal] {
     }
 }
 
-fn smallest(queue: Queue) -> Making {
-    match queue {
-        Queue::Bounded { edition } => Making::Bounded { capacity: 1, edition },
-        Queue::Single => Making::Single,
-        Queue::Unbounded => Making::Unbounded,
-    }
-}
-
-fn ring(random: &mut Random, edition: u64) -> Vec<Schedule> {
-    let of = |capacity| Making::Bounded { capacity, edition };
+fn ring(random: &mut Random, queue: Queue) -> Vec<Schedule> {
+    let of = |capacity| queue.making(capacity);
     let mut schedules = runs_on_paper(of);
     let limits = [(0, 1), (1025, 1), (1, 1), (1024, 16), (1, 0), (1, 17), (0, 0), (1025, 17)];
     schedules.extend(limits.map(|(capacity, workers)| Schedule::new(of(capacity), workers)));

@@ -246,7 +246,7 @@ impl Machine {
         match action {
             Action::WeakExchange(Word::Tail, ..) if stage::met().won => self.stock += 1,
             Action::Store(Word::Tail, _) | Action::FetchAdd(Word::Tail, _) => self.stock += 1,
-            Action::Value(_) if seen.won == Some(Word::Head) => self.stock -= 1,
+            Action::Value(_) if seen.won == Some(Word::Head) => self.stock = self.stock.wrapping_sub(1),
             _ => {}
         }
     }
@@ -312,7 +312,7 @@ mod tests {
     #[test]
     fn meter_at_its_limit() {
         for (making, after) in [
-            (Making::Bounded { capacity: 1, edition: 1 }, Kind::P2Push.with(&[0, 5])),
+            (Queue::RING.making(1), Kind::P2Push.with(&[0, 5])),
             (Making::Single, Kind::A2.with(&[5])),
             (Making::Unbounded, Kind::U2.with(&[NONE, 0, 5])),
         ] {
@@ -331,8 +331,13 @@ mod tests {
     #[test]
     fn stepped_and_direct_calls_agree() {
         let mut random = Random::new(3);
-        let rings = [1, 2].map(|edition| [1, 2, 3, 8, 256, 1024].map(|capacity| Making::Bounded { capacity, edition }));
-        for making in rings.into_iter().flatten().chain([Making::Single, Making::Unbounded]) {
+        let capacities = |queue: Queue| match queue {
+            Queue::Bounded { .. } => &[1, 2, 3, 8, 256, 1024][..],
+            Queue::Single | Queue::Unbounded => &[0],
+        };
+        for making in
+            Queue::ALL.iter().flat_map(|queue| capacities(*queue).iter().map(|capacity| queue.making(*capacity)))
+        {
             let mut machine = Machine::make(making, 1).unwrap_or_else(|_| panic!("refused"));
             let direct = making.source(1).unwrap_or_else(|_| panic!("refused"));
             for round in 0..5000 {

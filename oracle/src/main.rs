@@ -2,10 +2,10 @@
 
 use oracle::drive::{first_difference, Module, Run};
 use oracle::exhaustive::Extent;
-use oracle::queue::Queue;
+use oracle::queue::{Bits, Queue};
 use oracle::schedule::{run, split, Schedule, Show, SEPARATOR};
 use oracle::tally::Tally;
-use oracle::{exhaustive, interleaved, list, sequential};
+use oracle::{exhaustive, interleaved, list, sequential, turns};
 use std::io::Read;
 use std::path::Path;
 use std::process::ExitCode;
@@ -13,10 +13,11 @@ use std::time::Instant;
 use std::{env, fs};
 
 const USAGE: &str =
-    "Each command takes --queue bounded|single|unbounded, bounded unless told, and for bounded --edition N, 1 unless told, and, but for list, --causes, --losses and --stock.
+    "Each command takes --queue bounded|single|unbounded, bounded unless told, and for bounded --edition N, 1 unless told, --bits 16|64, 64 unless told, and, but for list, --causes, --losses and --stock.
 judge expect FILE|- [--quiet] [--many]
 judge sequential --calls N --seed S [--module CMD [--many]] [--batch ENTRIES] [--save DIR]
 judge interleaved --acts N --seed S [--closing] [--module CMD [--many]] [--batch ENTRIES] [--save DIR]
+judge turns --turns N --seed S --bits 16 [--capacity N] [--module CMD [--many]] [--batch ENTRIES] [--save DIR]
 judge exhaustive [--compact | --depth ACTS] [--module CMD [--many]] [--batch ENTRIES] [--save DIR]
 judge list --seed S [--to DIR]
 judge check-against FILE.out FILE.in";
@@ -43,6 +44,10 @@ fn command(arguments: &[String]) -> Result<(), String> {
         "interleaved" => driven(&options, |run| {
             let closing = options.flag("closing");
             interleaved::drive(run, options.number("acts")?, options.number("seed")?, closing)
+        }),
+        "turns" => driven(&options, |run| {
+            let capacities = options.number_or("capacity", 1)?..=options.number_or("capacity", 4)?;
+            turns::drive(run, options.number("turns")?, options.number("seed")?, capacities)
         }),
         "exhaustive" => driven(&options, |run| exhaustive::drive(run, extent(&options)?)),
         "list" => write_list(&options),
@@ -71,7 +76,7 @@ impl Options {
                 }
                 Some(
                     name @ ("calls" | "acts" | "seed" | "module" | "batch" | "save" | "to" | "depth" | "queue"
-                    | "edition"),
+                    | "edition" | "bits" | "turns" | "capacity"),
                 ) => {
                     let value = arguments.next().ok_or(format!("--{name} needs a value"))?;
                     options.values.push((name.into(), value));
@@ -98,9 +103,21 @@ impl Options {
     fn queue(&self) -> Result<Queue, String> {
         let name = self.value("queue").unwrap_or("bounded");
         match Queue::named(name).ok_or(format!("--queue: no such queue: {name}\n{USAGE}"))? {
-            Queue::Bounded { edition } => Ok(Queue::Bounded { edition: self.number_or("edition", edition)? }),
-            other if self.value("edition").is_some() => Err(format!("--edition: {other:?} has none\n{USAGE}")),
-            other => Ok(other),
+            Queue::Bounded { edition, .. } => {
+                Ok(Queue::Bounded { edition: self.number_or("edition", edition)?, bits: self.bits()? })
+            }
+            other => match ["edition", "bits"].into_iter().find(|name| self.value(name).is_some()) {
+                Some(name) => Err(format!("--{name}: {other:?} has none\n{USAGE}")),
+                None => Ok(other),
+            },
+        }
+    }
+
+    fn bits(&self) -> Result<Bits, String> {
+        match self.value("bits") {
+            None | Some("64") => Ok(Bits::SixtyFour),
+            Some("16") => Ok(Bits::Sixteen),
+            Some(other) => Err(format!("--bits: no such width: {other}\n{USAGE}")),
         }
     }
 

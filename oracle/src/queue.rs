@@ -10,9 +10,16 @@ use crate::state::Kind;
 
 #[derive(Clone, Copy, Debug, PartialEq, Eq)]
 pub enum Queue {
-    Bounded { edition: u64 },
+    Bounded { edition: u64, bits: Bits },
     Single,
     Unbounded,
+}
+
+/// How wide a ring's head, tail and stamps are.
+#[derive(Clone, Copy, Debug, PartialEq, Eq)]
+pub enum Bits {
+    Sixteen,
+    SixtyFour,
 }
 
 /// What differs from queue to queue beside the source itself.
@@ -38,9 +45,20 @@ pub struct Facts {
 }
 
 impl Queue {
-    /// The source's ring, without request 6.
-    pub const RING: Queue = Queue::Bounded { edition: 1 };
-    pub const ALL: [Queue; 4] = [Queue::RING, Queue::Bounded { edition: 2 }, Queue::Single, Queue::Unbounded];
+    /// The source's ring, without requests 6 and 14.
+    pub const RING: Queue = Queue::ring(1, Bits::SixtyFour);
+    pub const ALL: [Queue; 6] = [
+        Queue::RING,
+        Queue::ring(2, Bits::SixtyFour),
+        Queue::ring(1, Bits::Sixteen),
+        Queue::ring(2, Bits::Sixteen),
+        Queue::Single,
+        Queue::Unbounded,
+    ];
+
+    pub const fn ring(edition: u64, bits: Bits) -> Queue {
+        Queue::Bounded { edition, bits }
+    }
 
     pub fn named(name: &str) -> Option<Queue> {
         Queue::ALL.into_iter().find(|queue| queue.facts().name == name)
@@ -59,8 +77,18 @@ impl Queue {
         let name = format!("--queue {}", self.facts().name);
         match self {
             Queue::RING => String::new(),
-            Queue::Bounded { edition } => format!("{name} --edition {edition}"),
+            Queue::Bounded { edition, bits: Bits::SixtyFour } => format!("{name} --edition {edition}"),
+            Queue::Bounded { edition, bits: Bits::Sixteen } => format!("{name} --edition {edition} --bits 16"),
             _ => name,
+        }
+    }
+
+    /// A making of this queue; the capacity is a ring's.
+    pub fn making(self, capacity: u64) -> Making {
+        match self {
+            Queue::Bounded { edition, bits } => Making::Bounded { capacity, edition, bits },
+            Queue::Single => Making::Single,
+            Queue::Unbounded => Making::Unbounded,
         }
     }
 
@@ -72,7 +100,7 @@ impl Queue {
 /// What a machine is made of, beside its workers.
 #[derive(Clone, Copy, Debug, PartialEq, Eq)]
 pub enum Making {
-    Bounded { capacity: u64, edition: u64 },
+    Bounded { capacity: u64, edition: u64, bits: Bits },
     Single,
     Unbounded,
 }
@@ -84,7 +112,7 @@ pub const CAPACITIES: [u64; 13] = [1, 2, 3, 4, 5, 7, 8, 255, 256, 257, 512, 1023
 impl Making {
     pub fn queue(self) -> Queue {
         match self {
-            Making::Bounded { edition, .. } => Queue::Bounded { edition },
+            Making::Bounded { edition, bits, .. } => Queue::Bounded { edition, bits },
             Making::Single => Queue::Single,
             Making::Unbounded => Queue::Unbounded,
         }
@@ -99,7 +127,9 @@ impl Making {
             return Err(2);
         }
         match self {
-            Making::Bounded { capacity, edition } => Ok(Box::new(Ring::new(capacity as usize, edition).ok_or(18_u64)?)),
+            Making::Bounded { capacity, edition, bits } => {
+                Ok(Box::new(Ring::new(capacity as usize, edition, bits).ok_or(18_u64)?))
+            }
             Making::Single => Ok(Box::new(OneSlot::new())),
             Making::Unbounded => Ok(Box::new(Blocks::new())),
         }
@@ -107,19 +137,19 @@ impl Making {
 
     /// A making that is not refused.
     pub fn random(queue: Queue, random: &mut Random) -> Making {
-        match queue {
-            Queue::Bounded { edition } => Making::Bounded { capacity: random.pick(&CAPACITIES), edition },
-            Queue::Single => Making::Single,
-            Queue::Unbounded => Making::Unbounded,
-        }
+        Making::among(queue, random, &CAPACITIES)
     }
 
     /// One that a few calls fill.
     pub fn small(queue: Queue, random: &mut Random) -> Making {
+        Making::among(queue, random, &CAPACITIES[..4])
+    }
+
+    /// A ring has one of these capacities.
+    pub fn among(queue: Queue, random: &mut Random, capacities: &[u64]) -> Making {
         match queue {
-            Queue::Bounded { edition } => Making::Bounded { capacity: random.pick(&CAPACITIES[..4]), edition },
-            Queue::Single => Making::Single,
-            Queue::Unbounded => Making::Unbounded,
+            Queue::Bounded { .. } => queue.making(random.pick(capacities)),
+            Queue::Single | Queue::Unbounded => queue.making(0),
         }
     }
 

@@ -1,11 +1,11 @@
-//! The ring: bounded.rs, and edition 2's copy of it (`edition_2.patch`, applied when the judge is built).
+//! The ring: bounded.rs, and the copies of it for edition 2 and for sixteen bits (`edition_2.patch`, `sixteen_bits.patch`, applied when the judge is built).
 
 use crate::call::Call;
-use crate::queue::Facts;
+use crate::queue::{Bits, Facts};
 use crate::source::{agree, Item, Seen, Source};
 use crate::stage::{Action, Pending, Word};
 use crate::state::{Kind, State};
-use crate::sync::atomic::AtomicUsize;
+use crate::sync::atomic::Watched;
 use crate::sync::cell::UnsafeCell;
 use std::fmt::Write;
 use std::mem::MaybeUninit;
@@ -13,9 +13,9 @@ use std::mem::MaybeUninit;
 /// A ring's calls, and the judge's window on its private words.
 trait Bounded {
     fn call(&self, call: Call) -> State;
-    fn head(&self) -> &AtomicUsize;
-    fn tail(&self) -> &AtomicUsize;
-    fn stamp(&self, slot: usize) -> &AtomicUsize;
+    fn head(&self) -> &dyn Watched;
+    fn tail(&self) -> &dyn Watched;
+    fn stamp(&self, slot: usize) -> &dyn Watched;
     fn value(&self, slot: usize) -> &UnsafeCell<MaybeUninit<Item>>;
 }
 
@@ -36,15 +36,15 @@ macro_rules! bounded {
                 }
             }
 
-            fn head(&self) -> &AtomicUsize {
-                &self.head
+            fn head(&self) -> &dyn super::Watched {
+                &*self.head
             }
 
-            fn tail(&self) -> &AtomicUsize {
-                &self.tail
+            fn tail(&self) -> &dyn super::Watched {
+                &*self.tail
             }
 
-            fn stamp(&self, slot: usize) -> &AtomicUsize {
+            fn stamp(&self, slot: usize) -> &dyn super::Watched {
                 &self.buffer[slot].stamp
             }
 
@@ -64,6 +64,18 @@ mod edition_1 {
 #[allow(dead_code)]
 mod edition_2 {
     include!(concat!(env!("OUT_DIR"), "/edition_2.rs"));
+    bounded!();
+}
+
+#[allow(dead_code)]
+mod sixteen_bits {
+    include!(concat!(env!("OUT_DIR"), "/sixteen_bits.rs"));
+    bounded!();
+}
+
+#[allow(dead_code)]
+mod edition_2_sixteen_bits {
+    include!(concat!(env!("OUT_DIR"), "/edition_2_sixteen_bits.rs"));
     bounded!();
 }
 
@@ -88,16 +100,18 @@ pub struct Ring {
 
 impl Ring {
     /// None if there is no such edition.
-    pub fn new(capacity: usize, edition: u64) -> Option<Ring> {
-        let queue: Box<dyn Bounded> = match edition {
-            1 => Box::new(edition_1::Bounded::new(capacity)),
-            2 => Box::new(edition_2::Bounded::new(capacity)),
+    pub fn new(capacity: usize, edition: u64, bits: Bits) -> Option<Ring> {
+        let queue: Box<dyn Bounded> = match (edition, bits) {
+            (1, Bits::SixtyFour) => Box::new(edition_1::Bounded::new(capacity)),
+            (2, Bits::SixtyFour) => Box::new(edition_2::Bounded::new(capacity)),
+            (1, Bits::Sixteen) => Box::new(sixteen_bits::Bounded::new(capacity)),
+            (2, Bits::Sixteen) => Box::new(edition_2_sixteen_bits::Bounded::new(capacity)),
             _ => return None,
         };
-        queue.head().name.set(Word::Head);
-        queue.tail().name.set(Word::Tail);
+        queue.head().give_name(Word::Head);
+        queue.tail().give_name(Word::Tail);
         for slot in 0..capacity {
-            queue.stamp(slot).name.set(Word::Stamp(slot));
+            queue.stamp(slot).give_name(Word::Stamp(slot));
             queue.value(slot).name.set(slot);
         }
         Some(Ring { queue, capacity })

@@ -30,9 +30,8 @@ impl Schedule {
             .map(|word| word.parse::<u64>().map_err(|_| format!("not an unsigned 64-bit number: {word}")));
         let mut need = |what| numbers.next().unwrap_or_else(|| Err(format!("no {what}")));
         let making = match queue {
-            Queue::Bounded { edition } => Making::Bounded { capacity: need("capacity")?, edition },
-            Queue::Single => Making::Single,
-            Queue::Unbounded => Making::Unbounded,
+            Queue::Bounded { .. } => queue.making(need("capacity")?),
+            Queue::Single | Queue::Unbounded => queue.making(0),
         };
         let workers = need("number of workers")?;
         let words = numbers.collect::<Result<_, _>>()?;

@@ -9,10 +9,12 @@ pub mod atomic {
     use crate::pool;
     use crate::stage::{self, Action, Word};
     use std::cell::Cell;
+    use std::ops::{BitAnd, BitOr};
 
     pub use std::sync::atomic::Ordering;
 
     pub type AtomicUsize = Atomic<usize>;
+    pub type AtomicU16 = Atomic<u16>;
     pub type AtomicPtr<T> = Atomic<*mut T>;
 
     pub struct Atomic<V> {
@@ -34,6 +36,45 @@ pub mod atomic {
     impl<T> Shown for *mut T {
         fn shown(self) -> usize {
             pool::number_of(self.cast())
+        }
+    }
+
+    impl Shown for u16 {
+        fn shown(self) -> usize {
+            self.into()
+        }
+    }
+
+    /// A word that is a number; sums are modulo its width.
+    pub trait Number: Shown + BitAnd<Output = Self> + BitOr<Output = Self> {
+        fn plus(self, number: Self) -> Self;
+    }
+
+    impl Number for usize {
+        fn plus(self, number: usize) -> usize {
+            self.wrapping_add(number)
+        }
+    }
+
+    impl Number for u16 {
+        fn plus(self, number: u16) -> u16 {
+            self.wrapping_add(number)
+        }
+    }
+
+    /// The judge's side of a word, whatever its width.
+    pub trait Watched {
+        fn give_name(&self, name: Word);
+        fn peek(&self) -> u64;
+    }
+
+    impl<V: Shown> Watched for Atomic<V> {
+        fn give_name(&self, name: Word) {
+            self.name.set(name);
+        }
+
+        fn peek(&self) -> u64 {
+            Atomic::peek(self)
         }
     }
 
@@ -100,20 +141,20 @@ pub mod atomic {
         }
     }
 
-    impl AtomicUsize {
+    impl<V: Number> Atomic<V> {
         #[track_caller]
-        pub fn fetch_or(&self, bits: usize, _: Ordering) -> usize {
-            self.change(|word| Action::FetchOr(word, bits), |found| found | bits)
+        pub fn fetch_or(&self, bits: V, _: Ordering) -> V {
+            self.change(|word| Action::FetchOr(word, bits.shown()), |found| found | bits)
         }
 
         #[track_caller]
-        pub fn fetch_and(&self, bits: usize, _: Ordering) -> usize {
-            self.change(|word| Action::FetchAnd(word, bits), |found| found & bits)
+        pub fn fetch_and(&self, bits: V, _: Ordering) -> V {
+            self.change(|word| Action::FetchAnd(word, bits.shown()), |found| found & bits)
         }
 
         #[track_caller]
-        pub fn fetch_add(&self, number: usize, _: Ordering) -> usize {
-            self.change(|word| Action::FetchAdd(word, number), |found| found.wrapping_add(number))
+        pub fn fetch_add(&self, number: V, _: Ordering) -> V {
+            self.change(|word| Action::FetchAdd(word, number.shown()), |found| found.plus(number))
         }
     }
 }

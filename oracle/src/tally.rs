@@ -133,7 +133,7 @@ impl fmt::Display for Tally {
                 writeln!(f, "exchange {} {ending} {times}", kind.name())?;
             }
         }
-        if let Queue::Bounded { edition } = self.queue {
+        if let Queue::Bounded { edition, .. } = self.queue {
             writeln!(f, "closes {} at F7 {}", if edition == 1 { "lost" } else { "kept" }, self.closes_met)?;
         }
         for (refusal, times) in self.refusals.iter().enumerate().skip(1).filter(|(_, times)| **times > 0) {

@@ -1,7 +1,7 @@
 //! Document 01's eight runs on paper, and what requests 4, 6, 8 and 9 have of them. All numbers are the documents'.
 
 use oracle::machine::{Losses, Machine};
-use oracle::queue::Making;
+use oracle::queue::{Bits, Queue};
 use oracle::stage::{Action, Word};
 use oracle::state::Kind;
 
@@ -10,6 +10,7 @@ const FORCE_PUSH: u64 = 1;
 const POP: u64 = 2;
 const LEN: u64 = 3;
 const IS_EMPTY: u64 = 4;
+const IS_FULL: u64 = 5;
 const CLOSE: u64 = 6;
 const IS_CLOSED: u64 = 7;
 const ACT: u64 = 8;
@@ -18,7 +19,7 @@ const FAIL: u64 = 9;
 struct Bench(Machine);
 
 fn made_in(edition: u64, capacity: u64, workers: u64) -> Result<Machine, u64> {
-    Machine::make(Making::Bounded { capacity, edition }, workers)
+    Machine::make(Queue::ring(edition, Bits::SixtyFour).making(capacity), workers)
 }
 
 fn made(capacity: u64, workers: u64) -> Result<Machine, u64> {
@@ -421,6 +422,41 @@ fn back_by_both_ends() {
     assert_eq!(bench.call(1, POP, 0), "idle:popped(7)");
     assert_eq!(bench.call(1, PUSH, 8), "idle:pushed");
     assert_eq!(bench.fail_back(0), pair("P1:force(9)", "own-end,other-end"));
+}
+
+/// Request 14: after a turn, capacity x 65,536 / lap claims, the words are what they were; at 64 bits they go on.
+#[test]
+fn a_turn_of_sixteen_bits() {
+    for (capacity, turn) in [(1, 16_384), (2, 16_384), (3, 24_576), (256, 16_384), (1024, 16_384)] {
+        for edition in [1, 2] {
+            for (bits, after) in [(Bits::Sixteen, 0), (Bits::SixtyFour, 65_536)] {
+                let mut bench = Bench::of(Machine::make(Queue::ring(edition, bits).making(capacity), 1));
+                for item in 0..turn {
+                    assert_eq!(bench.call(0, FORCE_PUSH, item), "idle:pushed");
+                    assert_eq!(bench.call(0, POP, 0), format!("idle:popped({item})"));
+                }
+                assert_eq!((bench.ends(), bench.stamp(0)), ((after, after), after));
+            }
+        }
+    }
+}
+
+/// At the last lap of sixteen bits: next(t), t - lap and h + lap begin anew.
+#[test]
+fn last_lap_of_sixteen_bits() {
+    let mut bench = Bench::of(Machine::make(Queue::ring(1, Bits::Sixteen).making(1), 1));
+    assert_eq!(bench.call(0, PUSH, 1), "idle:pushed");
+    (2..=16_383).for_each(|item| drop(bench.call(0, FORCE_PUSH, item)));
+    assert_eq!((bench.ends(), bench.stamp(0)), ((65_528, 65_532), 65_529));
+    assert_eq!(bench.call(0, FORCE_PUSH, 16_384), "idle:displaced(16383)");
+    assert_eq!((bench.ends(), bench.stamp(0)), ((65_532, 0), 65_533));
+    assert_eq!(bench.call(0, IS_FULL, 0), "idle:yes");
+    assert_eq!(bench.call(0, PUSH, 5), "idle:full(5)");
+    assert_eq!(bench.call(0, FORCE_PUSH, 5), "idle:displaced(16384)");
+    assert_eq!((bench.ends(), bench.stamp(0)), ((0, 4), 1));
+    assert_eq!(bench.call(0, CLOSE, 0), "idle:yes");
+    assert_eq!(bench.ends(), (0, 6));
+    assert_eq!(bench.contents(), [5]);
 }
 
 #[test]

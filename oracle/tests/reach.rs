@@ -2,11 +2,11 @@
 
 use oracle::drive::Run;
 use oracle::exhaustive::{self, Extent};
-use oracle::interleaved;
 use oracle::machine::Machine;
-use oracle::queue::{Making, Queue};
+use oracle::queue::{Bits, Queue};
 use oracle::stage::{Action, Word};
 use oracle::tally::Tally;
+use oracle::{interleaved, turns};
 
 fn short_run(queue: Queue) -> Tally {
     let mut run = Run::new(queue, None, 1000, "differences".into());
@@ -33,7 +33,7 @@ fn every_place_answer_and_refusal() {
 #[test]
 fn every_retry_has_a_cause() {
     for edition in [1, 2] {
-        let mut run = Run::new(Queue::Bounded { edition }, None, 1000, "differences".into());
+        let mut run = Run::new(Queue::ring(edition, Bits::SixtyFour), None, 1000, "differences".into());
         run.show.causes = true;
         interleaved::drive(&mut run, 500_000, 9, true).unwrap();
         interleaved::drive(&mut run, 1_000_000, 9, false).unwrap();
@@ -46,11 +46,25 @@ fn every_retry_has_a_cause() {
     }
 }
 
+/// Request 9 at sixteen bits, through three turns within request 14's window.
+#[test]
+fn every_retry_has_a_cause_within_the_window() {
+    for edition in [1, 2] {
+        let mut run = Run::new(Queue::ring(edition, Bits::Sixteen), None, 1000, "differences".into());
+        run.show.causes = true;
+        turns::drive(&mut run, 3, 9, 1..=4).unwrap();
+        let backs = &run.tally.backs;
+        assert_eq!(backs.times("none"), 0, "{backs}");
+        for cause in ["schedule", "own-end", "other-end", "hand"] {
+            assert!(backs.times(cause) > 0, "{cause} did not occur");
+        }
+    }
+}
+
 /// A call's first actions show that words have their right names.
 #[test]
 fn words_have_their_names() {
-    let mut machine =
-        Machine::make(Making::Bounded { capacity: 3, edition: 1 }, 4).unwrap_or_else(|_| panic!("refused"));
+    let mut machine = Machine::make(Queue::RING.making(3), 4).unwrap_or_else(|_| panic!("refused"));
     for (worker, code, first) in [(0, 0, Word::Tail), (1, 2, Word::Head), (2, 4, Word::Head), (3, 5, Word::Tail)] {
         assert_eq!(machine.enter(16 * worker + code, 0), 0);
         assert_eq!(machine.pending(worker), Some(Action::Load(first)));

@@ -1,4 +1,4 @@
-// The public face: what a user calls. Each function takes anything and answers, or refuses with document 01's number.
+// The public face, of 64 bits: what a user calls. Each function takes anything and answers, or refuses with document 01's number.
 ghost use mathlib.Core.Path.{_≡_};
 ghost use lib.ListN.{length};
 ghost use Rattle.bounded_machine.specs.Broken.{brokenOf};
@@ -9,6 +9,7 @@ ghost use Rattle.bounded.specs.Bounded.{makeOf, stepOf, beginOf, actOf};
 use bounded_machine::Did;
 use bounded_machine::Machine;
 use bounded_machine::Ran;
+use bounded_words::Width;
 use queue_entries::Told;
 
 // A fresh machine, or refusal 1, 2 or 18 with the blank one.
@@ -72,46 +73,26 @@ pub fn contents(m: Machine, buffer: &mut [u64]) -> Told
 pub fn run(m: Machine, schedule: &[u64]) -> Ran
     ensures { λ r. ⌜ r ≡ runOf m (now (schedule .entry)) ⌝ }
 {
-    bounded_runs::run(m, schedule)
+    bounded_runs::run(Width::SixtyFour, m, schedule)
 }
 
 // One entry of a schedule, by its two words.
 pub fn step(m: Machine, first: u64, second: u64) -> Did
     ensures { λ r. ⌜ r ≡ stepOf m first second ⌝ }
 {
-    let entry = [first, second];
-    let r = run(m, &entry);
-    let after = r.machine;
-    Did {
-        refusal: r.refusal,
-        machine: after,
-    }
+    bounded_steps::step(Width::SixtyFour, m, first, second)
 }
 
 // One entry that begins a call; another's code can't be read here: refusal 9.
 pub fn begin(m: Machine, first: u64, second: u64) -> Did
     ensures { λ r. ⌜ r ≡ beginOf m first second ⌝ }
 {
-    if bounded_machine::broken(m) {
-        return bounded_machine::refuse(m, 6);
-    }
-    if first % 16 < 8 {
-        step(m, first, second)
-    } else {
-        bounded_machine::refuse(m, 9)
-    }
+    bounded_steps::begin(Width::SixtyFour, m, first, second)
 }
 
 // One entry that acts; another's code can't be read here: refusal 9.
 pub fn act(m: Machine, first: u64, second: u64) -> Did
     ensures { λ r. ⌜ r ≡ actOf m first second ⌝ }
 {
-    if bounded_machine::broken(m) {
-        return bounded_machine::refuse(m, 6);
-    }
-    if first % 16 < 8 {
-        bounded_machine::refuse(m, 9)
-    } else {
-        step(m, first, second)
-    }
+    bounded_steps::act(Width::SixtyFour, m, first, second)
 }

@@ -5,6 +5,7 @@ use mathlib.Core.Bool.{Bool, true, false}
 use Rattle.queue_entries.proofs.Pick.{along, yes, no, below, above, equal, other}
 use Rattle.bounded_words.specs.declared.Stamp.{Stamp}
 use Rattle.bounded_words.specs.declared.Fixed.{Fixed}
+use Rattle.bounded_words.specs.declared.Width.{Width}
 use Rattle.bounded_words.specs.Words.{Indexed, same, unmarkedOf, markedOf, minus, nextOf, withMark}
 use Rattle.bounded_places.specs.declared.Slot.{Slot}
 use Rattle.bounded_places.specs.declared.Ends.{Ends}
@@ -31,39 +32,39 @@ places e s p p′ r q h = q ∙ ap (λ (x : Place). stay e s x) h
 pub ruleset parts = (ends, slots, places)
 
 -- ---- an exchange, by how it ended: y is what the code was answered, z what the definition says
-module _ (f : Fixed) (e : Ends) (s : Slot) (t : Stamp) (y z : Exchange) (q : y ≡ z) where
+module _ (bits : Width) (f : Fixed) (e : Ends) (s : Slot) (t : Stamp) (y z : Exchange) (q : y ≡ z) where
   module _ (k : Kind) (x : ℕ) where
-    pub p3-won : (e′ : Ends) (r : Acted) → y ≡ Won → e′ ≡ tailTo e (nextOf f t) → r ≡ stay e′ s (P4 t x) → r ≡ endP3 f e s k t x z
-    p3-won e′ r h g w = w ∙ ap (λ (d : Ends). stay d s (P4 t x)) g ∙ ap (endP3 f e s k t x) (sym h ∙ q)
+    pub p3-won : (e′ : Ends) (r : Acted) → y ≡ Won → e′ ≡ tailTo e (nextOf bits f t) → r ≡ stay e′ s (P4 t x) → r ≡ endP3 bits f e s k t x z
+    p3-won e′ r h g w = w ∙ ap (λ (d : Ends). stay d s (P4 t x)) g ∙ ap (endP3 bits f e s k t x) (sym h ∙ q)
 
-    pub p3-differed : (w : Stamp) (p : Place) (r : Acted) → y ≡ Differed w → p ≡ afterTail f k w x → r ≡ losing e s p ByWords → r ≡ endP3 f e s k t x z
-    p3-differed w p r h g d = d ∙ ap (λ (v : Place). losing e s v ByWords) g ∙ ap (endP3 f e s k t x) (sym h ∙ q)
+    pub p3-differed : (w : Stamp) (p : Place) (r : Acted) → y ≡ Differed w → p ≡ afterTail f k w x → r ≡ losing e s p ByWords → r ≡ endP3 bits f e s k t x z
+    p3-differed w p r h g d = d ∙ ap (λ (v : Place). losing e s v ByWords) g ∙ ap (endP3 bits f e s k t x) (sym h ∙ q)
 
-    pub p3-failed : (r : Acted) → y ≡ Failed → r ≡ losing e s (P2 k t x) BySchedule → r ≡ endP3 f e s k t x z
-    p3-failed r h d = d ∙ ap (endP3 f e s k t x) (sym h ∙ q)
+    pub p3-failed : (r : Acted) → y ≡ Failed → r ≡ losing e s (P2 k t x) BySchedule → r ≡ endP3 bits f e s k t x z
+    p3-failed r h d = d ∙ ap (endP3 bits f e s k t x) (sym h ∙ q)
 
-  pub o3-won : (e′ : Ends) (r : Acted) → y ≡ Won → e′ ≡ headTo e (nextOf f t) → r ≡ stay e′ s (O4 t) → r ≡ endO3 f e s t z
-  o3-won e′ r h g w = w ∙ ap (λ (d : Ends). stay d s (O4 t)) g ∙ ap (endO3 f e s t) (sym h ∙ q)
+  pub o3-won : (e′ : Ends) (r : Acted) → y ≡ Won → e′ ≡ headTo e (nextOf bits f t) → r ≡ stay e′ s (O4 t) → r ≡ endO3 bits f e s t z
+  o3-won e′ r h g w = w ∙ ap (λ (d : Ends). stay d s (O4 t)) g ∙ ap (endO3 bits f e s t) (sym h ∙ q)
 
-  pub o3-differed : (w : Stamp) (r : Acted) → y ≡ Differed w → r ≡ losing e s (O2 w) ByWords → r ≡ endO3 f e s t z
-  o3-differed w r h d = d ∙ ap (endO3 f e s t) (sym h ∙ q)
+  pub o3-differed : (w : Stamp) (r : Acted) → y ≡ Differed w → r ≡ losing e s (O2 w) ByWords → r ≡ endO3 bits f e s t z
+  o3-differed w r h d = d ∙ ap (endO3 bits f e s t) (sym h ∙ q)
 
-  pub o3-failed : (r : Acted) → y ≡ Failed → r ≡ losing e s (O2 t) BySchedule → r ≡ endO3 f e s t z
-  o3-failed r h d = d ∙ ap (endO3 f e s t) (sym h ∙ q)
+  pub o3-failed : (r : Acted) → y ≡ Failed → r ≡ losing e s (O2 t) BySchedule → r ≡ endO3 bits f e s t z
+  o3-failed r h d = d ∙ ap (endO3 bits f e s t) (sym h ∙ q)
 
 -- F6 makes the word that it expects
-module _ (f : Fixed) (e : Ends) (s : Slot) (t : Stamp) (x : ℕ) (lose : Bool) (y : Exchange) (w : Stamp) (g : w ≡ minus t (f .lap)) (q : y ≡ exchangeOf (e .head) w lose) where
-  step : y ≡ exchangeOf (e .head) (minus t (f .lap)) lose
+module _ (bits : Width) (f : Fixed) (e : Ends) (s : Slot) (t : Stamp) (x : ℕ) (lose : Bool) (y : Exchange) (w : Stamp) (g : w ≡ minus bits t (f .lap)) (q : y ≡ exchangeOf (e .head) w lose) where
+  step : y ≡ exchangeOf (e .head) (minus bits t (f .lap)) lose
   step = q ∙ ap (λ (v : Stamp). exchangeOf (e .head) v lose) g
 
-  pub f6-won : (e′ : Ends) (r : Acted) → y ≡ Won → e′ ≡ headTo e (minus (nextOf f t) (f .lap)) → r ≡ stay e′ s (F7 t x) → r ≡ actF6 f e s t x lose
-  f6-won e′ r h k d = d ∙ ap (λ (v : Ends). stay v s (F7 t x)) k ∙ ap (endF6 f e s t x) (sym h ∙ step)
+  pub f6-won : (e′ : Ends) (r : Acted) → y ≡ Won → e′ ≡ headTo e (minus bits (nextOf bits f t) (f .lap)) → r ≡ stay e′ s (F7 t x) → r ≡ actF6 bits f e s t x lose
+  f6-won e′ r h k d = d ∙ ap (λ (v : Ends). stay v s (F7 t x)) k ∙ ap (endF6 bits f e s t x) (sym h ∙ step)
 
-  pub f6-differed : (v : Stamp) (r : Acted) → y ≡ Differed v → r ≡ losing e s (P1 Force x) ByWords → r ≡ actF6 f e s t x lose
-  f6-differed v r h d = d ∙ ap (endF6 f e s t x) (sym h ∙ step)
+  pub f6-differed : (v : Stamp) (r : Acted) → y ≡ Differed v → r ≡ losing e s (P1 Force x) ByWords → r ≡ actF6 bits f e s t x lose
+  f6-differed v r h d = d ∙ ap (endF6 bits f e s t x) (sym h ∙ step)
 
-  pub f6-failed : (r : Acted) → y ≡ Failed → r ≡ losing e s (P1 Force x) BySchedule → r ≡ actF6 f e s t x lose
-  f6-failed r h d = d ∙ ap (endF6 f e s t x) (sym h ∙ step)
+  pub f6-failed : (r : Acted) → y ≡ Failed → r ≡ losing e s (P1 Force x) BySchedule → r ≡ actF6 bits f e s t x lose
+  f6-failed r h d = d ∙ ap (endF6 bits f e s t x) (sym h ∙ step)
 
 pub ruleset exchanges = (p3-won, p3-differed, p3-failed, f6-won, f6-differed, f6-failed, o3-won, o3-differed, o3-failed)
 
@@ -84,19 +85,19 @@ unfolding stampTo
 stamp-is s w v h = ap (stampTo s) h
 
 -- what F7 stores, by the way that the code took
-module _ (f : Fixed) (tail t w : Stamp) (e : w ≡ nextOf f t) where
-  pub forced-first : (f .edition ≡ 2 → ⊥) → w ≡ forcedTail f tail t
+module _ (bits : Width) (f : Fixed) (tail t w : Stamp) (e : w ≡ nextOf bits f t) where
+  pub forced-first : (f .edition ≡ 2 → ⊥) → w ≡ forcedTail bits f tail t
   unfolding forcedTail
   forced-first h = other (f .edition) 2 _ _ _ h e
 
   module _ (h : f .edition ≡ 2) (b : Bool) (m : b ≡ markedOf f tail) where
-    pub forced-clear : b ≡ false → w ≡ forcedTail f tail t
+    pub forced-clear : b ≡ false → w ≡ forcedTail bits f tail t
     unfolding forcedTail
     forced-clear k = equal (f .edition) 2 _ _ _ h (no _ b _ _ _ m k e)
 
-    pub forced-marked : (r : Stamp) → b ≡ true → r ≡ withMark f w → r ≡ forcedTail f tail t
+    pub forced-marked : (r : Stamp) → b ≡ true → r ≡ withMark bits f w → r ≡ forcedTail bits f tail t
     unfolding forcedTail
-    forced-marked r k q = equal (f .edition) 2 _ _ _ h (yes _ b _ _ _ m k (q ∙ ap (withMark f) e))
+    forced-marked r k q = equal (f .edition) 2 _ _ _ h (yes _ b _ _ _ m k (q ∙ ap (withMark bits f) e))
 
 -- the answer that a looker gives
 pub told-yes : (e : Ends) (s : Slot) (b : Bool) (r : Acted) → b ≡ true → r ≡ stay e s (Idle Yes) → r ≡ stay e s (Idle (yesNo b))

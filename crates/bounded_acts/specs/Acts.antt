@@ -5,6 +5,7 @@ use mathlib.Core.Path.{_≡_}
 use lib.Dec.{ltb, eqb}
 use Rattle.bounded_words.specs.declared.Stamp.{Stamp}
 use Rattle.bounded_words.specs.declared.Fixed.{Fixed}
+use Rattle.bounded_words.specs.declared.Width.{Width}
 use Rattle.bounded_words.specs.Words.{plus, minus, indexOf, markedOf, unmarkedOf, withMark, nextOf, same, onePast, lapBehind, lapBehindOnePast, Fair}
 use Rattle.bounded_places.specs.declared.Slot.{Slot}
 use Rattle.bounded_places.specs.declared.Ends.{Ends}
@@ -61,70 +62,70 @@ fullAt Push t x = P6 t x
 fullAt Force t x = F6 t x
 
 -- P2 | load stamp s of slot at index(t) | s = t: P3; s + lap = t + 1: P6 (push) or F6 (force); else P1
-abbrev pub actP2 : Fixed → Ends → Slot → Kind → Stamp → ℕ → Acted
-actP2 f e s k t x =
+abbrev pub actP2 : Width → Fixed → Ends → Slot → Kind → Stamp → ℕ → Acted
+actP2 bits f e s k t x =
     cond (same (s .stamp) t) (stay e s (P3 k t x))
-    (cond (lapBehindOnePast f (s .stamp) t) (stay e s (fullAt k t x)) (stay e s (P1 k x)))
+    (cond (lapBehindOnePast bits f (s .stamp) t) (stay e s (fullAt k t x)) (stay e s (P1 k x)))
 
 -- P3 | weak exchange tail t to next(t) | won: P4; lost: t is the word found; marked: Closed, else P2
-abbrev pub endP3 : Fixed → Ends → Slot → Kind → Stamp → ℕ → Exchange → Acted
-endP3 f e s k t x Won = stay (tailTo e (nextOf f t)) s (P4 t x)
-endP3 f e s k t x (Differed found) = losing e s (afterTail f k found x) ByWords
-endP3 f e s k t x Failed = losing e s (P2 k t x) BySchedule
+abbrev pub endP3 : Width → Fixed → Ends → Slot → Kind → Stamp → ℕ → Exchange → Acted
+endP3 bits f e s k t x Won = stay (tailTo e (nextOf bits f t)) s (P4 t x)
+endP3 bits f e s k t x (Differed found) = losing e s (afterTail f k found x) ByWords
+endP3 bits f e s k t x Failed = losing e s (P2 k t x) BySchedule
 
-abbrev pub actP3 : Fixed → Ends → Slot → Kind → Stamp → ℕ → Bool → Acted
-actP3 f e s k t x lose = endP3 f e s k t x (exchangeOf (e .tail) t lose)
+abbrev pub actP3 : Width → Fixed → Ends → Slot → Kind → Stamp → ℕ → Bool → Acted
+actP3 bits f e s k t x lose = endP3 bits f e s k t x (exchangeOf (e .tail) t lose)
 
 -- P5 | stamp becomes t + 1 | Pushed
-abbrev pub actP5 : Ends → Slot → Stamp → Acted
-actP5 e s t = stay e (stampTo s (plus t 1)) (Idle Pushed)
+abbrev pub actP5 : Width → Ends → Slot → Stamp → Acted
+actP5 bits e s t = stay e (stampTo s (plus bits t 1)) (Idle Pushed)
 
 -- P6 | load head h | h + lap = t: Full, else P1
-abbrev pub actP6 : Fixed → Ends → Slot → Stamp → ℕ → Acted
-actP6 f e s t x = cond (lapBehind f (e .head) t) (stay e s (Idle (Full x))) (stay e s (P1 Push x))
+abbrev pub actP6 : Width → Fixed → Ends → Slot → Stamp → ℕ → Acted
+actP6 bits f e s t x = cond (lapBehind bits f (e .head) t) (stay e s (Idle (Full x))) (stay e s (P1 Push x))
 
 -- F6 | weak exchange head t - lap to next(t) - lap | won: F7, lost: P1
-abbrev pub endF6 : Fixed → Ends → Slot → Stamp → ℕ → Exchange → Acted
-endF6 f e s t x Won = stay (headTo e (minus (nextOf f t) (f .lap))) s (F7 t x)
-endF6 f e s t x (Differed found) = losing e s (P1 Force x) ByWords
-endF6 f e s t x Failed = losing e s (P1 Force x) BySchedule
+abbrev pub endF6 : Width → Fixed → Ends → Slot → Stamp → ℕ → Exchange → Acted
+endF6 bits f e s t x Won = stay (headTo e (minus bits (nextOf bits f t) (f .lap))) s (F7 t x)
+endF6 bits f e s t x (Differed found) = losing e s (P1 Force x) ByWords
+endF6 bits f e s t x Failed = losing e s (P1 Force x) BySchedule
 
-abbrev pub actF6 : Fixed → Ends → Slot → Stamp → ℕ → Bool → Acted
-actF6 f e s t x lose = endF6 f e s t x (exchangeOf (e .head) (minus t (f .lap)) lose)
+abbrev pub actF6 : Width → Fixed → Ends → Slot → Stamp → ℕ → Bool → Acted
+actF6 bits f e s t x lose = endF6 bits f e s t x (exchangeOf (e .head) (minus bits t (f .lap)) lose)
 
 -- F7 makes tail next(t); in edition 2 it keeps tail's mark.
-unfoldable pub forcedTail : Fixed → Stamp → Stamp → Stamp
-forcedTail f tail t =
-    cond (eqb (f .edition) 2) (cond (markedOf f tail) (withMark f (nextOf f t)) (nextOf f t)) (nextOf f t)
+unfoldable pub forcedTail : Width → Fixed → Stamp → Stamp → Stamp
+forcedTail bits f tail t =
+    cond (eqb (f .edition) 2) (cond (markedOf f tail) (withMark bits f (nextOf bits f t)) (nextOf bits f t)) (nextOf bits f t)
 
 -- F7 | store next(t) in tail | F8
-abbrev pub actF7 : Fixed → Ends → Slot → Stamp → ℕ → Acted
-actF7 f e s t x = stay (tailTo e (forcedTail f (e .tail) t)) s (F8 t x)
+abbrev pub actF7 : Width → Fixed → Ends → Slot → Stamp → ℕ → Acted
+actF7 bits f e s t x = stay (tailTo e (forcedTail bits f (e .tail) t)) s (F8 t x)
 
 -- F8 | read old value, write new | F9
 abbrev pub actF8 : Ends → Slot → Stamp → ℕ → Acted
 actF8 e s t x = stay e (valueTo s x) (F9 t (s .value))
 
 -- F9 | stamp becomes t + 1 | Displaced(old)
-abbrev pub actF9 : Ends → Slot → Stamp → ℕ → Acted
-actF9 e s t old = stay e (stampTo s (plus t 1)) (Idle (Displaced old))
+abbrev pub actF9 : Width → Ends → Slot → Stamp → ℕ → Acted
+actF9 bits e s t old = stay e (stampTo s (plus bits t 1)) (Idle (Displaced old))
 
 -- O2 | load stamp s at index(h) | s = h + 1: O3; s = h: O6; else O1
-abbrev pub actO2 : Ends → Slot → Stamp → Acted
-actO2 e s h = cond (onePast (s .stamp) h) (stay e s (O3 h)) (cond (same (s .stamp) h) (stay e s (O6 h)) (stay e s O1))
+abbrev pub actO2 : Width → Ends → Slot → Stamp → Acted
+actO2 bits e s h = cond (onePast bits (s .stamp) h) (stay e s (O3 h)) (cond (same (s .stamp) h) (stay e s (O6 h)) (stay e s O1))
 
 -- O3 | weak exchange head h to next(h) | won: O4; lost: h is the word found, O2
-abbrev pub endO3 : Fixed → Ends → Slot → Stamp → Exchange → Acted
-endO3 f e s h Won = stay (headTo e (nextOf f h)) s (O4 h)
-endO3 f e s h (Differed found) = losing e s (O2 found) ByWords
-endO3 f e s h Failed = losing e s (O2 h) BySchedule
+abbrev pub endO3 : Width → Fixed → Ends → Slot → Stamp → Exchange → Acted
+endO3 bits f e s h Won = stay (headTo e (nextOf bits f h)) s (O4 h)
+endO3 bits f e s h (Differed found) = losing e s (O2 found) ByWords
+endO3 bits f e s h Failed = losing e s (O2 h) BySchedule
 
-abbrev pub actO3 : Fixed → Ends → Slot → Stamp → Bool → Acted
-actO3 f e s h lose = endO3 f e s h (exchangeOf (e .head) h lose)
+abbrev pub actO3 : Width → Fixed → Ends → Slot → Stamp → Bool → Acted
+actO3 bits f e s h lose = endO3 bits f e s h (exchangeOf (e .head) h lose)
 
 -- O5 | stamp becomes h + lap | Popped(value)
-abbrev pub actO5 : Fixed → Ends → Slot → Stamp → ℕ → Acted
-actO5 f e s h v = stay e (stampTo s (plus h (f .lap))) (Idle (Popped v))
+abbrev pub actO5 : Width → Fixed → Ends → Slot → Stamp → ℕ → Acted
+actO5 bits f e s h v = stay e (stampTo s (plus bits h (f .lap))) (Idle (Popped v))
 
 -- O6 | load tail | unmarked part = h: Closed if marked, else Empty; otherwise O1
 abbrev pub actO6 : Fixed → Ends → Slot → Stamp → Acted
@@ -153,46 +154,46 @@ abbrev pub actEmpty2 : Fixed → Ends → Slot → Stamp → Acted
 actEmpty2 f e s h = stay e s (Idle (yesNo (same (unmarkedOf f (e .tail)) h)))
 
 -- `is_full`: tail, then head; yes if head + lap = unmarked tail.
-abbrev pub actFull2 : Fixed → Ends → Slot → Stamp → Acted
-actFull2 f e s t = stay e s (Idle (yesNo (lapBehind f (e .head) (unmarkedOf f t))))
+abbrev pub actFull2 : Width → Fixed → Ends → Slot → Stamp → Acted
+actFull2 bits f e s t = stay e s (Idle (yesNo (lapBehind bits f (e .head) (unmarkedOf f t))))
 
 -- `close`: one `fetch_or` of mark; yes if it was clear.
-abbrev pub actClose1 : Fixed → Ends → Slot → Acted
-actClose1 f e s =
-    cond (markedOf f (e .tail)) (stay e s (Idle No)) (stay (tailTo e (withMark f (e .tail))) s (Idle Yes))
+abbrev pub actClose1 : Width → Fixed → Ends → Slot → Acted
+actClose1 bits f e s =
+    cond (markedOf f (e .tail)) (stay e s (Idle No)) (stay (tailTo e (withMark bits f (e .tail))) s (Idle Yes))
 
 -- `is_closed`: one load of tail.
 abbrev pub actIsClosed1 : Fixed → Ends → Slot → Acted
 actIsClosed1 f e s = stay e s (Idle (yesNo (markedOf f (e .tail))))
 
 -- The act at a place, on the ends and on the slot at its worker's word. (An idle worker does not act: refusal 5.)
-abbrev pub actOf : Fixed → Ends → Slot → Place → Bool → Acted
-actOf f e s (Idle a) lose = stay e s (Idle a)
-actOf f e s (P1 k x) lose = actP1 f e s k x
-actOf f e s (P2 k t x) lose = actP2 f e s k t x
-actOf f e s (P3 k t x) lose = actP3 f e s k t x lose
-actOf f e s (P4 t x) lose = stay e (valueTo s x) (P5 t)
-actOf f e s (P5 t) lose = actP5 e s t
-actOf f e s (P6 t x) lose = actP6 f e s t x
-actOf f e s (F6 t x) lose = actF6 f e s t x lose
-actOf f e s (F7 t x) lose = actF7 f e s t x
-actOf f e s (F8 t x) lose = actF8 e s t x
-actOf f e s (F9 t old) lose = actF9 e s t old
-actOf f e s O1 lose = stay e s (O2 (e .head))
-actOf f e s (O2 h) lose = actO2 e s h
-actOf f e s (O3 h) lose = actO3 f e s h lose
-actOf f e s (O4 h) lose = stay e s (O5 h (s .value))
-actOf f e s (O5 h v) lose = actO5 f e s h v
-actOf f e s (O6 h) lose = actO6 f e s h
-actOf f e s Len1 lose = stay e s (Len2 (e .tail))
-actOf f e s (Len2 t) lose = stay e s (Len3 t (e .head))
-actOf f e s (Len3 t h) lose = actLen3 f e s t h
-actOf f e s Empty1 lose = stay e s (Empty2 (e .head))
-actOf f e s (Empty2 h) lose = actEmpty2 f e s h
-actOf f e s Full1 lose = stay e s (Full2 (e .tail))
-actOf f e s (Full2 t) lose = actFull2 f e s t
-actOf f e s Close1 lose = actClose1 f e s
-actOf f e s IsClosed1 lose = actIsClosed1 f e s
+abbrev pub actOf : Width → Fixed → Ends → Slot → Place → Bool → Acted
+actOf bits f e s (Idle a) lose = stay e s (Idle a)
+actOf bits f e s (P1 k x) lose = actP1 f e s k x
+actOf bits f e s (P2 k t x) lose = actP2 bits f e s k t x
+actOf bits f e s (P3 k t x) lose = actP3 bits f e s k t x lose
+actOf bits f e s (P4 t x) lose = stay e (valueTo s x) (P5 t)
+actOf bits f e s (P5 t) lose = actP5 bits e s t
+actOf bits f e s (P6 t x) lose = actP6 bits f e s t x
+actOf bits f e s (F6 t x) lose = actF6 bits f e s t x lose
+actOf bits f e s (F7 t x) lose = actF7 bits f e s t x
+actOf bits f e s (F8 t x) lose = actF8 e s t x
+actOf bits f e s (F9 t old) lose = actF9 bits e s t old
+actOf bits f e s O1 lose = stay e s (O2 (e .head))
+actOf bits f e s (O2 h) lose = actO2 bits e s h
+actOf bits f e s (O3 h) lose = actO3 bits f e s h lose
+actOf bits f e s (O4 h) lose = stay e s (O5 h (s .value))
+actOf bits f e s (O5 h v) lose = actO5 bits f e s h v
+actOf bits f e s (O6 h) lose = actO6 f e s h
+actOf bits f e s Len1 lose = stay e s (Len2 (e .tail))
+actOf bits f e s (Len2 t) lose = stay e s (Len3 t (e .head))
+actOf bits f e s (Len3 t h) lose = actLen3 f e s t h
+actOf bits f e s Empty1 lose = stay e s (Empty2 (e .head))
+actOf bits f e s (Empty2 h) lose = actEmpty2 f e s h
+actOf bits f e s Full1 lose = stay e s (Full2 (e .tail))
+actOf bits f e s (Full2 t) lose = actFull2 bits f e s t
+actOf bits f e s Close1 lose = actClose1 bits f e s
+actOf bits f e s IsClosed1 lose = actIsClosed1 f e s
 
 -- What `count` asks: indices below capacity.
 pub record Within (f : Fixed) (t h : Stamp) : Type 0 where

@@ -9,6 +9,7 @@ use bounded_places::Loss;
 use bounded_places::Place;
 use bounded_places::Slot;
 use bounded_words::Stamp;
+use bounded_words::Width;
 
 // What an act leaves: the two ends, the slot at its worker's word, the place its worker goes to, and what it lost.
 pub struct Acted {
@@ -57,10 +58,10 @@ pub fn exchange(found: Stamp, expected: Stamp, lose: bool) -> Exchange
 
 // The kinds of effect.
 
-pub fn stamp_to(s: Slot, w: Stamp, by: u64) -> Slot
-    ensures { λ r. ⌜ r ≡ stampTo s (plus w by) ⌝ }
+pub fn stamp_to(bits: Width, s: Slot, w: Stamp, by: u64) -> Slot
+    ensures { λ r. ⌜ r ≡ stampTo s (plus bits w by) ⌝ }
 {
-    let n = bounded_words::later(w, by);
+    let n = bounded_words::later(bits, w, by);
     Slot {
         stamp: n,
         value: s.value,

@@ -6,3 +6,5 @@ pub mod Foretold
 pub mod CaseF
 pub mod Shelves
 pub mod Retries
+pub mod Narrow
+pub mod Window

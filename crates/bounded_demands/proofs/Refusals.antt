@@ -1,7 +1,7 @@
 -- Demand 1: refusals are numbered and change nothing, and only one answer meets a promise.
 use Prim.Native.Nat.{ℕ, _%_, _<_}
 use mathlib.Core.Path.{_≡_, refl, sym, _∙_}
-use mathlib.Core.Bool.{Bool, true, false, cond}
+use mathlib.Core.Bool.{true, false}
 use mathlib.Core.List.{List}
 use native.Mathlib.Omega.{arith}
 use native.Mathlib.Nat.{zero-mod}
@@ -16,49 +16,60 @@ use Rattle.queue_entries.specs.Entries.{entryOf}
 use Rattle.queue_entries.specs.declared.Verdict.{Verdict}
 use Rattle.queue_entries.specs.declared.Verdict.the-variants.{Refuse, Start, Move}
 use Rattle.queue_schedules.proofs.Schedules.{Queue, schedule-first, schedule-read, schedule-kept, schedule-unread, schedule-keeps}
+use Rattle.bounded_words.specs.declared.Width.{Width}
+use Rattle.bounded_words.specs.declared.Width.the-variants.{SixtyFour}
 use Rattle.bounded_words.specs.Limits.{slotsMost, editionsMost}
 use Rattle.bounded_words.specs.declared.Stamp.{Stamp}
 use Rattle.bounded_words.specs.declared.Fixed.{Fixed}
 use Rattle.bounded_words.specs.Words.{stamp, markOf, lapOf, fixedOf}
 use Rattle.bounded_words.proofs.Fits.{Plain, plain}
-use Rattle.bounded_places.specs.Places.{inside, beginOf}
+use Rattle.bounded_places.specs.Places.{inside}
+use Rattle.bounded_acts.specs.Acts.{actOf}
 use Rattle.bounded_machine.specs.declared.Machine.{Machine}
 use Rattle.bounded_machine.specs.declared.Did.{Did}
 use Rattle.bounded_machine.specs.declared.Ran.{Ran}
 use Rattle.bounded_machine.specs.Machine.{starts, idler, idlers, recordOf, placeOf, freshOf, blank, refused, accepted}
 use Rattle.bounded_machine.specs.Broken.{byRule, endsFit, placeFits, recordFits, brokenOf}
 use Rattle.bounded_machine.specs.Contents.{contentsRefusal, written}
-use Rattle.bounded_machine.specs.Turn.{verdictOf, carried, turn, turnOf, turnOfBy, begun, acted}
-use Rattle.bounded_machine.specs.Run.{ran, runOf}
+use Rattle.bounded_machine.specs.Turn.{verdictOf, carried, turn, turnAt, turnOfBy}
+use Rattle.bounded_machine.specs.Run.{ran, runOfBy}
 use Rattle.bounded_machine.proofs.Laws.{ruled-of}
 use Rattle.bounded_machine.proofs.Kept.{ends-of, either, Unbroken, unbroken-of, of-unbroken, begun-unbroken, acted-unbroken}
 use Rattle.bounded_runs.proofs.Turns.{move-busy}
-use Rattle.bounded.proofs.Steps.{turn-unchanged}
+use Rattle.bounded_steps.specs.Steps.{stepOfBy, beginOfBy, actOfBy}
+use Rattle.bounded_steps.proofs.Steps.{turn-unchanged}
 use Rattle.bounded.specs.Bounded as face
-use Rattle.bounded_demands.specs.Demands.{RefusedUnchanged, ListFirst, StaysUnbroken, OnlyOne}
-use Rattle.bounded_demands.proofs.Numbers.{picked, only-unread}
+use Rattle.bounded_demands.specs.Notions.{Face, sixtyFour}
+use Rattle.bounded_demands.specs.Demands.{RefusedUnchanged, ListFirst, StaysUnbroken, OnlyOne, OnlyOneCount, Demand1}
+use Rattle.bounded_demands.proofs.Numbers.{picked, only-unread, numbered}
 
 -- ---- one answer
 one : {A : Type 0} (d x y : A) → x ≡ d → y ≡ d → x ≡ y
 one d x y p q = p ∙ sym q
 
-pub only-one : OnlyOne
-only-one = record {
-  make = (λ c w e. one (face.makeOf c w e));
-  step = (λ m a b. one (face.stepOf m a b));
-  begin = (λ m a b. one (face.beginOf m a b));
-  act = (λ m a b. one (face.actOf m a b));
-  run = (λ m s. one (runOf m s));
-  contents = (λ m before x y a b p q. (one _ x y (p .0) (q .0), one _ a b (p .1) (q .1)));
-  capacity = (λ m. one _);
-  broken = (λ m. one _);
-  moved = (λ p. one _);
-  reads = (λ p. one _);
-  tally = (λ t p q. one _);
-  stock = (λ t. one _);
-  kept = one _;
-  named = (λ ws w p q l. one _);
-}
+pub only-one : {M D R : Type 0} (f : Face M D R) → OnlyOne f
+only-one f =
+    record {
+      make = λ c w e. one (f .make c w e);
+      step = λ m a b. one (f .step m a b);
+      begin = λ m a b. one (f .begin m a b);
+      act = λ m a b. one (f .act m a b);
+      run = λ m s. one (f .run m s);
+      contents = λ m before x y a b p q. (one _ x y (p .0) (q .0), one _ a b (p .1) (q .1));
+      capacity = λ m. one _;
+      broken = λ m. one _;
+    }
+
+pub only-one-count : OnlyOneCount
+only-one-count =
+    record {
+      moved = λ p. one _;
+      reads = λ p. one _;
+      tally = λ t p q. one _;
+      stock = λ t. one _;
+      kept = one _;
+      named = λ ws w p q l. one _;
+    }
 
 -- ---- unchanged
 abbrev Kept : Machine → Did → Type 0
@@ -72,28 +83,28 @@ accepted-kept : (k m : Machine) → Kept k (accepted m)
 unfolding accepted
 accepted-kept k m h = absurd (h refl)
 
-pub turn-kept : (m : Machine) (a b : ℕ) → Kept m (turnOf m a b)
+pub turn-kept : (bits : Width) (m : Machine) (a b : ℕ) → Kept m (turnAt bits m a b)
 unfolding turnOfBy
-turn-kept m a b h = turn-unchanged m (entryOf a b) (ne-eqb _ _ h)
+turn-kept bits m a b h = turn-unchanged (actOf bits) m (entryOf a b) (ne-eqb _ _ h)
 
-module _ (m : Machine) (a b : ℕ) where
-  step-kept : Kept m (face.stepOf m a b)
-  unfolding face.stepOf
-  step-kept = picked (Kept m) (brokenOf m) (refused 6 m) (turnOf m a b) (refused-kept 6 m) (turn-kept m a b)
+module _ (bits : Width) (m : Machine) (a b : ℕ) where
+  pub step-kept : Kept m (stepOfBy (actOf bits) m a b)
+  unfolding stepOfBy
+  step-kept = picked (Kept m) (brokenOf m) (refused 6 m) (turnAt bits m a b) (refused-kept 6 m) (turn-kept bits m a b)
 
-  begin-kept : Kept m (face.beginOf m a b)
-  unfolding face.beginOf
+  pub begin-kept : Kept m (beginOfBy (actOf bits) m a b)
+  unfolding beginOfBy
   begin-kept =
       picked (Kept m) (brokenOf m) (refused 6 m) _ (refused-kept 6 m)
-      (picked (Kept m) (ltb (a % 16) 8) (turnOf m a b) (refused 9 m) (turn-kept m a b) (refused-kept 9 m))
+      (picked (Kept m) (ltb (a % 16) 8) (turnAt bits m a b) (refused 9 m) (turn-kept bits m a b) (refused-kept 9 m))
 
-  act-kept : Kept m (face.actOf m a b)
-  unfolding face.actOf
+  pub act-kept : Kept m (actOfBy (actOf bits) m a b)
+  unfolding actOfBy
   act-kept =
       picked (Kept m) (brokenOf m) (refused 6 m) _ (refused-kept 6 m)
-      (picked (Kept m) (ltb (a % 16) 8) (refused 9 m) (turnOf m a b) (refused-kept 9 m) (turn-kept m a b))
+      (picked (Kept m) (ltb (a % 16) 8) (refused 9 m) (turnAt bits m a b) (refused-kept 9 m) (turn-kept bits m a b))
 
-make-blank : (c w e : ℕ) → Kept blank (face.makeOf c w e)
+pub make-blank : (c w e : ℕ) → Kept blank (face.makeOf c w e)
 unfolding face.makeOf
 make-blank c w e =
     picked (Kept blank) (inLimits c slotsMost) _ (refused 1 blank)
@@ -102,7 +113,7 @@ make-blank c w e =
     (refused-kept 2 blank))
     (refused-kept 1 blank)
 
-contents-kept : (m : Machine) (buffer : List ℕ) → (contentsRefusal m (length buffer) ≡ 0 → ⊥) → written m buffer ≡ buffer
+pub contents-kept : (m : Machine) (buffer : List ℕ) → (contentsRefusal m (length buffer) ≡ 0 → ⊥) → written m buffer ≡ buffer
 unfolding written
 contents-kept m buffer h = simp (ne-eqb _ _ h)
 
@@ -119,12 +130,12 @@ pub ran-machine : (k i : ℕ) (m : Machine) → ran k i m .machine ≡ m
 unfolding ran
 ran-machine k i m = refl
 
-abbrev pub ring-queue : Queue Machine Did Ran
-ring-queue =
+abbrev pub ring-queue : Width → Queue Machine Did Ran
+ring-queue bits =
     record {
       refusal = λ d. d .refusal;
       machine = λ d. d .machine;
-      turn = turnOf;
+      turn = turnAt bits;
       ran = ran;
       refusalIn = λ r. r .refusal;
       placeIn = λ r. r .place;
@@ -132,49 +143,58 @@ ring-queue =
       refusal-is = ran-refusal;
       place-is = ran-place;
       machine-is = ran-machine;
-      kept = turn-kept;
+      kept = turn-kept bits;
       reading = entryOf;
-      only-unread = only-unread;
+      only-unread = only-unread bits;
     }
 
-pub list-first : ListFirst
+list-first : ListFirst sixtyFour
 list-first =
     record {
-      stops = schedule-first ring-queue brokenOf;
-      runs = λ m s e even. schedule-read ring-queue brokenOf m s e (λ o. omega arith);
+      stops = schedule-first (ring-queue SixtyFour) brokenOf;
+      runs = λ m s e even. schedule-read (ring-queue SixtyFour) brokenOf m s e (λ o. omega arith);
     }
 
-pub refused-unchanged : RefusedUnchanged
-refused-unchanged = record { make = make-blank; step = step-kept; begin = begin-kept; act = act-kept; run = schedule-kept ring-queue brokenOf; unread = schedule-unread ring-queue brokenOf; contents = contents-kept }
+refused-unchanged : RefusedUnchanged sixtyFour
+refused-unchanged =
+    record {
+      make = make-blank;
+      step = step-kept SixtyFour;
+      begin = begin-kept SixtyFour;
+      act = act-kept SixtyFour;
+      run = schedule-kept (ring-queue SixtyFour) brokenOf;
+      unread = schedule-unread (ring-queue SixtyFour) brokenOf;
+      contents = contents-kept;
+    }
 
 -- ---- unbroken
-module _ (m : Machine) (u : Unbroken m) where
-  carried-unbroken : (w : ℕ) → w < m .count → (o : Order) (v : Verdict) → v ≡ verdictOf (m .meter) (placeOf (m .workers) w) o → Unbroken (carried m w (placeOf (m .workers) w) v .machine)
+module _ (bits : Width) (m : Machine) (u : Unbroken m) where
+  carried-unbroken : (w : ℕ) → w < m .count → (o : Order) (v : Verdict) → v ≡ verdictOf (m .meter) (placeOf (m .workers) w) o → Unbroken (carried bits m w (placeOf (m .workers) w) v .machine)
   unfolding refused accepted
   carried-unbroken w l o (Refuse k) e = u
   carried-unbroken w l o (Start c) e = begun-unbroken m u w l c
-  carried-unbroken w l o (Move lose) e = acted-unbroken m u w l lose (move-busy (m .meter) (placeOf (m .workers) w) o (Move lose) e lose refl)
+  carried-unbroken w l o (Move lose) e = acted-unbroken m u w l bits lose (move-busy (m .meter) (placeOf (m .workers) w) o (Move lose) e lose refl)
 
-  turn-unbroken : (x : Entry) → Unbroken (turn m x .machine)
+  turn-unbroken : (x : Entry) → Unbroken (turn bits m x .machine)
   unfolding refused
   turn-unbroken Unreadable = u
   turn-unbroken (Asks w o) =
-      either (λ (d : Did). Unbroken (d .machine)) (ltb w (m .count)) (carried m w (placeOf (m .workers) w) (verdictOf (m .meter) (placeOf (m .workers) w) o)) (refused 3 m)
+      either (λ (d : Did). Unbroken (d .machine)) (ltb w (m .count)) (carried bits m w (placeOf (m .workers) w) (verdictOf (m .meter) (placeOf (m .workers) w) o)) (refused 3 m)
       (λ b. carried-unbroken w (ltb-true w (m .count) b) o (verdictOf (m .meter) (placeOf (m .workers) w) o) refl) (λ b. u)
 
-  turn-of-unbroken : (a b : ℕ) → Unbroken (turnOf m a b .machine)
+  pub turn-of-unbroken : (a b : ℕ) → Unbroken (turnAt bits m a b .machine)
   unfolding turnOfBy
   turn-of-unbroken a b = turn-unbroken (entryOf a b)
 
-pub step-unbroken : (m : Machine) (a b : ℕ) → brokenOf m ≡ false → brokenOf (face.stepOf m a b .machine) ≡ false
-unfolding face.stepOf refused
-step-unbroken m a b h =
-    picked (λ (d : Did). brokenOf (d .machine) ≡ false) (brokenOf m) (refused 6 m) (turnOf m a b) h
-    (of-unbroken (turnOf m a b .machine) (turn-of-unbroken m (unbroken-of m h) a b))
+pub step-unbroken : (bits : Width) (m : Machine) (a b : ℕ) → brokenOf m ≡ false → brokenOf (stepOfBy (actOf bits) m a b .machine) ≡ false
+unfolding stepOfBy refused
+step-unbroken bits m a b h =
+    picked (λ (d : Did). brokenOf (d .machine) ≡ false) (brokenOf m) (refused 6 m) (turnAt bits m a b) h
+    (of-unbroken (turnAt bits m a b .machine) (turn-of-unbroken bits m (unbroken-of m h) a b))
 
-pub run-unbroken : (m : Machine) (s : List ℕ) → brokenOf m ≡ false → brokenOf (runOf m s .machine) ≡ false
-run-unbroken m s h =
-    of-unbroken (runOf m s .machine) (schedule-keeps ring-queue brokenOf Unbroken (λ z a b u. turn-of-unbroken z u a b) m s (unbroken-of m h))
+pub run-unbroken : (bits : Width) (m : Machine) (s : List ℕ) → brokenOf m ≡ false → brokenOf (runOfBy (actOf bits) m s .machine) ≡ false
+run-unbroken bits m s h =
+    of-unbroken (runOfBy (actOf bits) m s .machine) (schedule-keeps (ring-queue bits) brokenOf Unbroken (λ z a b u. turn-of-unbroken bits z u a b) m s (unbroken-of m h))
 
 fixed-by-rule : (c e : ℕ) → byRule (fixedOf c e) ≡ true
 unfolding byRule
@@ -199,7 +219,7 @@ unfolding freshOf
 fresh-unbroken c w e hc hw he =
     record { capacity = hc; count = hw; edition = he; rule = fixed-by-rule c e; ends = starts-fit c e hc; records = idlers-fit (fixedOf c e) w }
 
-made-unbroken : (c w e : ℕ) → face.makeOf c w e .refusal ≡ 0 → brokenOf (face.makeOf c w e .machine) ≡ false
+pub made-unbroken : (c w e : ℕ) → face.makeOf c w e .refusal ≡ 0 → brokenOf (face.makeOf c w e .machine) ≡ false
 unfolding face.makeOf refused accepted
 made-unbroken c w e =
     either Made (inLimits c slotsMost) _ (refused 1 blank)
@@ -212,5 +232,15 @@ made-unbroken c w e =
     Made : Did → Type 0
     Made d = d .refusal ≡ 0 → brokenOf (d .machine) ≡ false
 
-pub stays-unbroken : StaysUnbroken
-stays-unbroken = record { step = step-unbroken; run = run-unbroken; made = made-unbroken }
+stays-unbroken : StaysUnbroken sixtyFour
+stays-unbroken = record { step = step-unbroken SixtyFour; run = run-unbroken SixtyFour; made = made-unbroken }
+
+pub demand1 : Demand1 sixtyFour
+demand1 =
+    record {
+      refused-unchanged = refused-unchanged;
+      numbered = numbered;
+      list-first = list-first;
+      stays-unbroken = stays-unbroken;
+      only-one = only-one sixtyFour;
+    }

@@ -1,7 +1,7 @@
 -- The demands of document 01, all of them, in its words. The notions (history, claim, hand, stock ..) are defined in Notions.antt.
 -- The proofs are gathered in crates/bounded_proof_all_demands/proofs/Headlines.antt; docs/PROMISES.md says in plain words what each says and
 -- what not.
-use Prim.Native.Nat.{ℕ, suc, _+_, _*_, _%_, _≤_, _<_}
+use Prim.Native.Nat.{ℕ, suc, _+_, _*_, _-_, _%_, _≤_, _<_}
 use mathlib.Core.Bool.{Bool, true, false}
 use mathlib.Core.List.{List, [], _∷_, _++_, map}
 use mathlib.Core.Path.{_≡_}
@@ -10,10 +10,13 @@ use Rattle.queue_entries.specs.Limits.{workersMost, meterMost}
 use Rattle.queue_entries.specs.declared.Call.{Call}
 use Rattle.queue_entries.specs.declared.Told.{Told}
 use Rattle.queue_entries.specs.Told.{told}
-use Rattle.queue_entries.specs.declared.Entry.the-variants.{Unreadable}
+use Rattle.queue_entries.specs.declared.Order.the-variants.{Act}
+use Rattle.queue_entries.specs.declared.Entry.the-variants.{Unreadable, Asks}
 use Rattle.queue_entries.specs.Entries.{entryOf}
 use Rattle.queue_schedules.specs.Reading.{Readable}
 use Rattle.bounded_words.specs.declared.Stamp.{Stamp}
+use Rattle.bounded_words.specs.declared.Width.{Width}
+use Rattle.bounded_words.specs.declared.Width.the-variants.{Sixteen}
 use Rattle.bounded_words.specs.Words.{fixedOf, indexOf, markedOf, unmarkedOf, lapBehind}
 use Rattle.bounded_places.specs.declared.Answer.{Answer}
 use Rattle.bounded_places.specs.declared.Answer.the-variants.{Yes, PopClosed}
@@ -23,18 +26,17 @@ use Rattle.bounded_places.specs.declared.Loss.the-variants.{ByWords, BySchedule
 use Rattle.bounded_places.specs.declared.Place.{Place}
 use Rattle.bounded_places.specs.declared.Place.the-variants.{Idle, Empty2, Full2, Len3}
 use Rattle.bounded_places.specs.Places as places
+use Rattle.bounded_acts.specs.Acts as tables
 use Rattle.bounded_machine.specs.declared.Machine.{Machine}
 use Rattle.bounded_machine.specs.declared.Event.{Event}
-use Rattle.bounded_machine.specs.declared.Did.{Did}
-use Rattle.bounded_machine.specs.declared.Ran.{Ran}
 use Rattle.bounded_machine.specs.declared.Moved.{Moved}
 use Rattle.bounded_machine.specs.declared.Moved.the-variants.{Tail}
 use Rattle.bounded_machine.specs.declared.Tally.{Tally}
-use Rattle.bounded_machine.specs.Machine.{blank, freshOf, recordOf, placeOf}
+use Rattle.bounded_machine.specs.Machine.{freshOf, recordOf, placeOf}
 use Rattle.bounded_machine.specs.Broken.{brokenOf, allIdle}
 use Rattle.bounded_machine.specs.Contents.{countIn, contentsOf, contentsRefusal, written, capacityRefusal, capacityOf}
 use Rattle.bounded_machine.specs.Turn.{byWords, bySchedule}
-use Rattle.bounded_machine.specs.Run.{ran, runFrom, runOf}
+use Rattle.bounded_machine.specs.Run.{runOfBy}
 use Rattle.bounded_machine.specs.History.{eventsOf, movedOf, readsAt, stockOf, untakenOf}
 use Rattle.bounded_causes.specs.declared.Deed.{Deed}
 use Rattle.bounded_causes.specs.declared.Causes.{Causes}
@@ -42,9 +44,11 @@ use Rattle.bounded_causes.specs.declared.Watches.{Watches}
 use Rattle.bounded_causes.specs.declared.Named.{Named}
 use Rattle.bounded_causes.specs.Causes as causes
 use Rattle.bounded_causes.specs.Causes.{watchOf, namedOf}
-use Rattle.bounded.specs.Bounded.{makeOf, stepOf, beginOf, actOf}
+use Rattle.bounded_widths.specs.declared.Machine as widths
+use Rattle.bounded_widths.specs.Widths.{widened, narrowed}
+use Rattle.bounded_narrow.specs.Narrow as narrow
 use Rattle.bounded_stock.specs.Stock.{talliedOf}
-use Rattle.bounded_demands.specs.Notions.{Definition, Allowed, machineAfter, actsOf, Acts, acts, InHand, HandsOut, Reads, Truth, itemsOf, takersOf, LatestIn, ItemIn, WrittenIn, CallClaim, tally, waiting, unreadBy, lesser, Exchanges, lostIn, struck, Fifo, Plain, valueAt, queueAnswer, LenAnswers, mostOf, OtherHand, passed, ownActs, LetsGo, has, ClosesYes, NoClaims, ClaimsOn}
+use Rattle.bounded_demands.specs.Notions.{Face, Definition, ofWidth, Allowed, machineAfter, actsOf, Acts, acts, InHand, HandsOut, Reads, Truth, itemsOf, takersOf, LatestIn, ItemIn, WrittenIn, CallClaim, tally, waiting, stock, unreadBy, lesser, Exchanges, lostIn, struck, Fifo, Words, Plain, since, turnLength, windowLength, KeepsWindow, rounds, sleepingPush, sleepingPop, valueAt, queueAnswer, LenAnswers, mostOf, OtherHand, passed, ownActs, LetsGo, has, ClosesYes, NoClaims, ClaimsOn}
 use Rattle.bounded_demands.specs.Foretold.{foretold, Telling, toldIn, tellings, asForetold}
 use Rattle.bounded_demands.specs.Eight.{closedF, caseF}
 use Rattle.bounded_demands.specs.Attained.{Case, seenIn, attained, exactly}
@@ -53,66 +57,77 @@ use Rattle.bounded_demands.specs.Notions.{goesBack, WayBack, watches, ca
 use Rattle.bounded_demands.specs.Retries.{Retry, retries, lastIn, backBy, onlyOwn}
 
 -- ==== 1. Any machine, entry or schedule handed in gets an answer or a numbered refusal; a refused step changes nothing.
--- That each gets an answer is what the functions of crate bounded promise: none has a `requires`, and each answer is equal to a
--- definition. What follows speaks of these definitions.
+-- That each gets an answer is what the functions of crates bounded and bounded_narrow promise: none has a `requires`, and each answer is equal to a
+-- definition. What follows speaks of these definitions, face by face (`Face` of Notions.antt).
 
 -- Demand 1: a refused step changes nothing, in the machine or in a lent buffer.
-pub record RefusedUnchanged : Type 0 where
+pub record RefusedUnchanged {M D R : Type 0} (f : Face M D R) : Type 0 where
   -- refusals 1, 2 and 18 return the blank machine
-  pub make : (capacity workers edition : ℕ) → (makeOf capacity workers edition .refusal ≡ 0 → ⊥) → makeOf capacity workers edition .machine ≡ blank
-  pub step : (m : Machine) (first second : ℕ) → (stepOf m first second .refusal ≡ 0 → ⊥) → stepOf m first second .machine ≡ m
-  pub begin : (m : Machine) (first second : ℕ) → (beginOf m first second .refusal ≡ 0 → ⊥) → beginOf m first second .machine ≡ m
-  pub act : (m : Machine) (first second : ℕ) → (actOf m first second .refusal ≡ 0 → ⊥) → actOf m first second .machine ≡ m
+  pub make : (capacity workers edition : ℕ) → (f .refusal (f .make capacity workers edition) ≡ 0 → ⊥) → f .left (f .make capacity workers edition) ≡ f .blank
+  pub step : (m : M) (first second : ℕ) → (f .refusal (f .step m first second) ≡ 0 → ⊥) → f .left (f .step m first second) ≡ m
+  pub begin : (m : M) (first second : ℕ) → (f .refusal (f .begin m first second) ≡ 0 → ⊥) → f .left (f .begin m first second) ≡ m
+  pub act : (m : M) (first second : ℕ) → (f .refusal (f .act m first second) ≡ 0 → ⊥) → f .left (f .act m first second) ≡ m
   -- a schedule that is refused at a place leaves what the entries before that place leave: they stand, and no more
-  pub run : (m : Machine) (s : List ℕ) → (runOf m s .refusal ≡ 0 → ⊥) → (runOf m s .refusal ≡ 9 → ⊥)
-      → runOf m s .machine ≡ runOf m (take (2 * runOf m s .place) s) .machine
+  pub run : (m : M) (s : List ℕ) → (f .refusalIn (f .run m s) ≡ 0 → ⊥) → (f .refusalIn (f .run m s) ≡ 9 → ⊥)
+      → f .leftIn (f .run m s) ≡ f .leftIn (f .run m (take (2 * f .placeIn (f .run m s)) s))
   -- but one with an entry that can't be read leaves the machine as it was
-  pub unread : (m : Machine) (s : List ℕ) → runOf m s .refusal ≡ 9 → runOf m s .machine ≡ m
-  pub contents : (m : Machine) (buffer : List ℕ) → (contentsRefusal m (length buffer) ≡ 0 → ⊥) → written m buffer ≡ buffer
+  pub unread : (m : M) (s : List ℕ) → f .refusalIn (f .run m s) ≡ 9 → f .leftIn (f .run m s) ≡ m
+  pub contents : (m : M) (buffer : List ℕ) → (contentsRefusal (f .wide m) (length buffer) ≡ 0 → ⊥) → written (f .wide m) buffer ≡ buffer
 
 -- Demand 1: the refusals that each function can give; 0 is none.
-pub record Numbered : Type 0 where
-  pub make : (capacity workers edition : ℕ) → has (0 ∷ 1 ∷ 2 ∷ 18 ∷ []) (makeOf capacity workers edition .refusal) ≡ true
-  pub step : (m : Machine) (first second : ℕ) → has (0 ∷ 3 ∷ 4 ∷ 5 ∷ 6 ∷ 7 ∷ 8 ∷ 9 ∷ []) (stepOf m first second .refusal) ≡ true
-  pub begin : (m : Machine) (first second : ℕ) → has (0 ∷ 3 ∷ 4 ∷ 6 ∷ 9 ∷ []) (beginOf m first second .refusal) ≡ true
-  pub act : (m : Machine) (first second : ℕ) → has (0 ∷ 3 ∷ 5 ∷ 6 ∷ 7 ∷ 8 ∷ 9 ∷ []) (actOf m first second .refusal) ≡ true
-  pub run : (m : Machine) (s : List ℕ) → has (0 ∷ 3 ∷ 4 ∷ 5 ∷ 6 ∷ 7 ∷ 8 ∷ 9 ∷ 11 ∷ []) (runOf m s .refusal) ≡ true
-  pub contents : (m : Machine) (room : ℕ) → has (0 ∷ 4 ∷ 6 ∷ 10 ∷ []) (contentsRefusal m room) ≡ true
-  pub capacity : (m : Machine) → has (0 ∷ 6 ∷ []) (capacityRefusal m) ≡ true
+pub record Numbered {M D R : Type 0} (f : Face M D R) : Type 0 where
+  pub make : (capacity workers edition : ℕ) → has (0 ∷ 1 ∷ 2 ∷ 18 ∷ []) (f .refusal (f .make capacity workers edition)) ≡ true
+  pub step : (m : M) (first second : ℕ) → has (0 ∷ 3 ∷ 4 ∷ 5 ∷ 6 ∷ 7 ∷ 8 ∷ 9 ∷ []) (f .refusal (f .step m first second)) ≡ true
+  pub begin : (m : M) (first second : ℕ) → has (0 ∷ 3 ∷ 4 ∷ 6 ∷ 9 ∷ []) (f .refusal (f .begin m first second)) ≡ true
+  pub act : (m : M) (first second : ℕ) → has (0 ∷ 3 ∷ 5 ∷ 6 ∷ 7 ∷ 8 ∷ 9 ∷ []) (f .refusal (f .act m first second)) ≡ true
+  pub run : (m : M) (s : List ℕ) → has (0 ∷ 3 ∷ 4 ∷ 5 ∷ 6 ∷ 7 ∷ 8 ∷ 9 ∷ 11 ∷ []) (f .refusalIn (f .run m s)) ≡ true
+  pub contents : (m : M) (room : ℕ) → has (0 ∷ 4 ∷ 6 ∷ 10 ∷ []) (contentsRefusal (f .wide m) room) ≡ true
+  pub capacity : (m : M) → has (0 ∷ 6 ∷ []) (capacityRefusal (f .wide m)) ≡ true
 
 -- The list is checked first (document 02, item 7): of a machine that is not broken and a schedule of whole entries.
-pub record ListFirst : Type 0 where
+pub record ListFirst {M D R : Type 0} (f : Face M D R) : Type 0 where
   -- the first entry that can't be read is reported, and nothing is run; k entries stand before it, and each of them can be read
-  pub stops : (m : Machine) (before : List ℕ) (k first second : ℕ) (rest : List ℕ) → brokenOf m ≡ false → length (before ++ first ∷ second ∷ rest) % 2 ≡ 0
-      → length before ≡ 2 * k → Readable entryOf before → entryOf first second ≡ Unreadable → runOf m (before ++ first ∷ second ∷ rest) ≡ ran 9 k m
+  pub stops : (m : M) (before : List ℕ) (k first second : ℕ) (rest : List ℕ) → brokenOf (f .wide m) ≡ false → length (before ++ first ∷ second ∷ rest) % 2 ≡ 0
+      → length before ≡ 2 * k → Readable entryOf before → entryOf first second ≡ Unreadable → f .run m (before ++ first ∷ second ∷ rest) ≡ f .ran 9 k m
   -- a schedule that can be read is run, entry by entry
-  pub runs : (m : Machine) (s : List ℕ) → brokenOf m ≡ false → length s % 2 ≡ 0 → Readable entryOf s → runOf m s ≡ runFrom m 0 s
+  pub runs : (m : M) (s : List ℕ) → brokenOf (f .wide m) ≡ false → length s % 2 ≡ 0 → Readable entryOf s → f .run m s ≡ f .entries m s
 
 -- No entry and no schedule breaks an unbroken machine, reached or not: so refusal 6 is tested once a schedule.
-pub record StaysUnbroken : Type 0 where
-  pub step : (m : Machine) (first second : ℕ) → brokenOf m ≡ false → brokenOf (stepOf m first second .machine) ≡ false
-  pub run : (m : Machine) (s : List ℕ) → brokenOf m ≡ false → brokenOf (runOf m s .machine) ≡ false
+pub record StaysUnbroken {M D R : Type 0} (f : Face M D R) : Type 0 where
+  pub step : (m : M) (first second : ℕ) → brokenOf (f .wide m) ≡ false → brokenOf (f .wide (f .left (f .step m first second))) ≡ false
+  pub run : (m : M) (s : List ℕ) → brokenOf (f .wide m) ≡ false → brokenOf (f .wide (f .leftIn (f .run m s))) ≡ false
   -- and a made machine is unbroken
-  pub made : (capacity workers edition : ℕ) → makeOf capacity workers edition .refusal ≡ 0 → brokenOf (makeOf capacity workers edition .machine) ≡ false
+  pub made : (capacity workers edition : ℕ) → f .refusal (f .make capacity workers edition) ≡ 0 → brokenOf (f .wide (f .left (f .make capacity workers edition))) ≡ false
 
 -- Only one answer meets a promise: of the whole answer, the machine and the lent buffer.
-pub record OnlyOne : Type 0 where
-  pub make : (capacity workers edition : ℕ) (x y : Did) → x ≡ makeOf capacity workers edition → y ≡ makeOf capacity workers edition → x ≡ y
-  pub step : (m : Machine) (first second : ℕ) (x y : Did) → x ≡ stepOf m first second → y ≡ stepOf m first second → x ≡ y
-  pub begin : (m : Machine) (first second : ℕ) (x y : Did) → x ≡ beginOf m first second → y ≡ beginOf m first second → x ≡ y
-  pub act : (m : Machine) (first second : ℕ) (x y : Did) → x ≡ actOf m first second → y ≡ actOf m first second → x ≡ y
-  pub run : (m : Machine) (s : List ℕ) (x y : Ran) → x ≡ runOf m s → y ≡ runOf m s → x ≡ y
-  pub contents : (m : Machine) (before : List ℕ) (x y : Told) (a b : List ℕ)
-      → (x ≡ told (contentsRefusal m (length before)) (countIn m)) × (a ≡ written m before)
-      → (y ≡ told (contentsRefusal m (length before)) (countIn m)) × (b ≡ written m before) → (x ≡ y) × (a ≡ b)
-  pub capacity : (m : Machine) (x y : Told) → x ≡ capacityOf m → y ≡ capacityOf m → x ≡ y
-  pub broken : (m : Machine) (x y : Bool) → x ≡ brokenOf m → y ≡ brokenOf m → x ≡ y
+pub record OnlyOne {M D R : Type 0} (f : Face M D R) : Type 0 where
+  pub make : (capacity workers edition : ℕ) (x y : D) → x ≡ f .make capacity workers edition → y ≡ f .make capacity workers edition → x ≡ y
+  pub step : (m : M) (first second : ℕ) (x y : D) → x ≡ f .step m first second → y ≡ f .step m first second → x ≡ y
+  pub begin : (m : M) (first second : ℕ) (x y : D) → x ≡ f .begin m first second → y ≡ f .begin m first second → x ≡ y
+  pub act : (m : M) (first second : ℕ) (x y : D) → x ≡ f .act m first second → y ≡ f .act m first second → x ≡ y
+  pub run : (m : M) (s : List ℕ) (x y : R) → x ≡ f .run m s → y ≡ f .run m s → x ≡ y
+  pub contents : (m : M) (before : List ℕ) (x y : Told) (a b : List ℕ)
+      → (x ≡ told (contentsRefusal (f .wide m) (length before)) (countIn (f .wide m))) × (a ≡ written (f .wide m) before)
+      → (y ≡ told (contentsRefusal (f .wide m) (length before)) (countIn (f .wide m))) × (b ≡ written (f .wide m) before) → (x ≡ y) × (a ≡ b)
+  pub capacity : (m : M) (x y : Told) → x ≡ capacityOf (f .wide m) → y ≡ capacityOf (f .wide m) → x ≡ y
+  pub broken : (m : M) (x y : Bool) → x ≡ brokenOf (f .wide m) → y ≡ brokenOf (f .wide m) → x ≡ y
+
+-- And of what is counted along a run for reports (crates bounded_stock and bounded_causes).
+pub record OnlyOneCount : Type 0 where
   pub moved : (p : Place) (x y : Moved) → x ≡ movedOf p → y ≡ movedOf p → x ≡ y
   pub reads : (p : Place) (x y : Bool) → x ≡ readsAt p → y ≡ readsAt p → x ≡ y
   pub tally : (t : Tally) (p q : Place) (x y : Tally) → x ≡ talliedOf t p q → y ≡ talliedOf t p q → x ≡ y
   pub stock : (t : Tally) (x y : ℕ) → x ≡ stockOf t → y ≡ stockOf t → x ≡ y
   pub kept : (x y : Watches) → x ≡ causes.start → y ≡ causes.start → x ≡ y
   pub named : (ws : Watches) (w : ℕ) (p q : Place) (l : Loss) (x y : Named) → x ≡ namedOf ws w p q l → y ≡ namedOf ws w p q l → x ≡ y
+
+-- Demand 1 of a face.
+pub record Demand1 {M D R : Type 0} (f : Face M D R) : Type 0 where
+  pub refused-unchanged : RefusedUnchanged f
+  pub numbered : Numbered f
+  pub list-first : ListFirst f
+  pub stays-unbroken : StaysUnbroken f
+  pub only-one : OnlyOne f
 
 -- ==== 2. Under every schedule from a fresh machine. Said of the machine m that entries reach, and of the acts h behind it.
 
@@ -145,7 +160,7 @@ ReadsWritten m h =
 abbrev pub AnswersTrue : Definition → Machine → Type 0
 AnswersTrue d m =
     (w : ℕ) (next : Machine) (a : Answer) → Acts d m w next → placeOf (next .workers) w ≡ Idle a
-    → Truth (m .ring .fixed) (m .ring .ends) a
+    → Truth (d .width) (m .ring .fixed) (m .ring .ends) a
 
 -- The claims not yet taken are `len`'s count of the words at every moment. With all workers idle the contents are, in order, their items.
 abbrev pub UntakenCounts : Machine → List Event → Type 0
@@ -166,16 +181,16 @@ EmptyTrue d m =
 abbrev pub FullTrue : Definition → Machine → Type 0
 FullTrue d m =
     (w : ℕ) (next : Machine) (t : Stamp) → placeOf (m .workers) w ≡ Full2 t → Acts d m w next → placeOf (next .workers) w ≡ Idle Yes
-    → lapBehind (m .ring .fixed) (m .ring .ends .head) (unmarkedOf (m .ring .fixed) (m .ring .ends .tail)) ≡ true
+    → lapBehind (d .width) (m .ring .fixed) (m .ring .ends .head) (unmarkedOf (m .ring .fixed) (m .ring .ends .tail)) ≡ true
 
 pub record Demand2 (d : Definition) (capacity workers edition : ℕ) (m : Machine) (h : List Event) : Type 0 where
   -- It is the machine that was made, and its meter counts the acts.
   pub made : m .ring .fixed ≡ fixedOf capacity edition
   pub team : m .count ≡ workers
   pub meter : m .meter ≡ length h
-  -- No machine so reached is broken, and no stamp wraps.
+  -- No machine so reached is broken, and its words are those of claims.
   pub unbroken : brokenOf m ≡ false
-  pub plain : Plain m h
+  pub words : Words (d .width) m h
   -- The lists of claims are as long as the tally says.
   pub tails : length (itemsOf h) ≡ tally h .tail .0
   pub heads : length (takersOf h) ≡ tally h .head .0
@@ -196,6 +211,12 @@ UnderEverySchedule d =
     (capacity workers edition : ℕ) → Allowed capacity workers edition → (s : List ℕ)
     → Demand2 d capacity workers edition (machineAfter d capacity workers edition s) (actsOf d capacity workers edition s)
 
+-- "The meter rises by one with each accepted act, so from a fresh machine no stamp wraps": of 64 bits.
+abbrev pub NothingWraps : Definition → Type 0
+NothingWraps d =
+    (capacity workers edition : ℕ) → Allowed capacity workers edition → (s : List ℕ)
+    → Plain (machineAfter d capacity workers edition s) (actsOf d capacity workers edition s)
+
 -- Each act is the one action that document 01 reads out of the source: of entries that are accepted, each is one turn of the
 -- definition, on the machine and on the history; and a schedule of whole entries is run so.
 abbrev pub ActByAct : Definition → Type 0
@@ -204,13 +225,13 @@ ActByAct d =
     → d .turn (d .run m 0 s .machine) first second .refusal ≡ 0
     → (d .run m 0 (s ++ first ∷ second ∷ []) .machine ≡ d .turn (d .run m 0 s .machine) first second .machine)
     × (d .history m (s ++ first ∷ second ∷ [])
-    ≡ d .history m s ++ eventsOf (d .run m 0 s .machine) (entryOf first second) (d .turn (d .run m 0 s .machine) first second .machine))
+    ≡ d .history m s ++ eventsOf (d .width) (d .run m 0 s .machine) (entryOf first second) (d .turn (d .run m 0 s .machine) first second .machine))
 
 abbrev pub WholeSchedules : Definition → Type 0
 WholeSchedules d =
     (capacity workers edition : ℕ) → Allowed capacity workers edition → (s : List ℕ)
-    → (length s % 2 ≡ 0 → Readable entryOf s → runOf (freshOf capacity workers edition) s ≡ d .run (freshOf capacity workers edition) 0 s)
-    × (length s % 2 ≡ 1 → runOf (freshOf capacity workers edition) s .machine ≡ freshOf capacity workers edition)
+    → (length s % 2 ≡ 0 → Readable entryOf s → runOfBy (tables.actOf (d .width)) (freshOf capacity workers edition) s ≡ d .run (freshOf capacity workers edition) 0 s)
+    × (length s % 2 ≡ 1 → runOfBy (tables.actOf (d .width)) (freshOf capacity workers edition) s .machine ≡ freshOf capacity workers edition)
 
 -- Beside the demand: `len`'s count is true at its head load.
 abbrev pub LenTrue : Definition → Type 0
@@ -231,8 +252,8 @@ pub record EndsAlone (d : Definition) (m : Machine) (h : List Event) (w most : �
   pub busy : places.viewOf (placeOf (d .run m 0 (acts w before) .machine .workers) w) .busy ≡ true
   pub answer : Answer
   pub ends : placeOf (d .run m 0 (acts w (suc before)) .machine .workers) w ≡ Idle answer
-  pub foretold-answer : answer ≡ foretold m w
-  pub true-then : Truth (m .ring .fixed) (d .run m 0 (acts w before) .machine .ring .ends) answer
+  pub foretold-answer : answer ≡ foretold (d .width) m w
+  pub true-then : Truth (d .width) (m .ring .fixed) (d .run m 0 (acts w before) .machine .ring .ends) answer
   -- a value handed out is the item of the tail claim that has the number of the call's head claim
   pub claim-rule : (v : ℕ) → HandsOut (Idle answer) v
       → (k : ℕ) × CallClaim (h ++ d .history m (acts w before)) w k × ItemIn (h ++ d .history m (acts w before)) k v
@@ -340,17 +361,17 @@ MostStock = map stockAtMost fullest ≡ map (λ (r : Shelf). r .capacity + lesse
 -- the events of a history have.
 
 -- Lost because the words differed, also where the schedule makes it fail; lost by the schedule; won; or no exchange.
-pub record EndTold (tell : Machine → ℕ → Bool → Loss) (m : Machine) (w : ℕ) : Type 0 where
-  pub differed : (found expected : Stamp) (lose : Bool) → Exchanges (m .ring .fixed) (m .ring .ends) (placeOf (m .workers) w) found expected
+pub record EndTold (bits : Width) (tell : Machine → ℕ → Bool → Loss) (m : Machine) (w : ℕ) : Type 0 where
+  pub differed : (found expected : Stamp) (lose : Bool) → Exchanges bits (m .ring .fixed) (m .ring .ends) (placeOf (m .workers) w) found expected
       → (found ≡ expected → ⊥) → tell m w lose ≡ ByWords
-  pub failed : (found expected : Stamp) → Exchanges (m .ring .fixed) (m .ring .ends) (placeOf (m .workers) w) found expected
+  pub failed : (found expected : Stamp) → Exchanges bits (m .ring .fixed) (m .ring .ends) (placeOf (m .workers) w) found expected
       → found ≡ expected → tell m w true ≡ BySchedule
-  pub won : (found expected : Stamp) → Exchanges (m .ring .fixed) (m .ring .ends) (placeOf (m .workers) w) found expected
+  pub won : (found expected : Stamp) → Exchanges bits (m .ring .fixed) (m .ring .ends) (placeOf (m .workers) w) found expected
       → found ≡ expected → tell m w false ≡ loss.Nothing
   pub none : (lose : Bool) → places.viewOf (placeOf (m .workers) w) .weak ≡ false → tell m w lose ≡ loss.Nothing
 
-abbrev pub EndsTold : (Machine → ℕ → Bool → Loss) → Type 0
-EndsTold tell = (m : Machine) (w : ℕ) → EndTold tell m w
+abbrev pub EndsTold : Width → (Machine → ℕ → Bool → Loss) → Type 0
+EndsTold bits tell = (m : Machine) (w : ℕ) → EndTold bits tell m w
 
 -- The counts of a worker are the numbers of its lost exchanges of each kind in its present call, or its last if it is idle.
 abbrev pub LossesCounted : Machine → List Event → Type 0
@@ -453,3 +474,53 @@ pub record Kept (h : List Event) (w : ℕ) : Type 0 where
 pub record KeptAsSaid : Type 0 where
   pub more : (h : List Event) (e : Event) → watches (h ++ e ∷ []) ≡ namedOf (watches h) (e .worker) (e .before) (e .after) (e .loss) .watches
   pub so : (h : List Event) (w : ℕ) → w < workersMost → Kept h w
+
+-- ==== Words that wrap (document 02, item 14). Of a schedule that keeps the window, all that is said above of every schedule of 64 bits, but that nothing
+-- wraps.
+
+pub record Within (d : Definition) (capacity workers edition : ℕ) (s : List ℕ) : Type 0 where
+  pub demand2 : Demand2 d capacity workers edition (machineAfter d capacity workers edition s) (actsOf d capacity workers edition s)
+  pub demand3 : Demand3 d (machineAfter d capacity workers edition s) (actsOf d capacity workers edition s)
+  -- where the window is kept between the two acts of `len`
+  pub len : (w n : ℕ) (a : LenAnswers d capacity workers edition s w n)
+      → KeepsWindow d (a .loaded) (actsOf d capacity workers edition s ++ eventsOf (d .width) (machineAfter d capacity workers edition s) (Asks w (Act (a .load .lose))) (a .loaded)) (a .rest)
+      → n ≡ untakenOf (tally (actsOf d capacity workers edition s))
+  pub stocked : Stocked stock capacity workers (machineAfter d capacity workers edition s) (actsOf d capacity workers edition s)
+  pub losses : LossesCounted (machineAfter d capacity workers edition s) (actsOf d capacity workers edition s)
+  pub once-closed : edition ≡ 2 → OnceClosed d (machineAfter d capacity workers edition s)
+  pub yes-once : edition ≡ 2 → YesOnce (actsOf d capacity workers edition s)
+  pub none-after : NoneAfterClosed (actsOf d capacity workers edition s)
+
+abbrev pub WithinTheWindow : Definition → Type 0
+WithinTheWindow d =
+    (capacity workers edition : ℕ) → Allowed capacity workers edition → (s : List ℕ) → KeepsWindow d (freshOf capacity workers edition) [] s
+    → Within d capacity workers edition s
+
+-- The window is met by something: one worker alone keeps it under every schedule, however many turns it makes.
+abbrev pub AloneKeeps : Definition → Type 0
+AloneKeeps d = (capacity edition : ℕ) → Allowed capacity 1 edition → (s : List ℕ) → KeepsWindow d (freshOf capacity 1 edition) [] s
+
+-- And it makes as many as it likes: so many pushes, each followed by a pop, are so many claims at either end, as far as the meter goes.
+abbrev pub RoundsClaim : Definition → Type 0
+RoundsClaim d =
+    (capacity edition : ℕ) → Allowed capacity 1 edition → (n : ℕ) → 10 * n ≤ meterMost
+    → (tally (actsOf d capacity 1 edition (rounds n)) .tail .0 ≡ n) × (tally (actsOf d capacity 1 edition (rounds n)) .head .0 ≡ n)
+
+-- It is not idle: a push that sleeps at P6 while a turn less one capacity is claimed at either end finds its word again and answers Full of an empty ring; and in edition 2 a pop that
+-- sleeps at O6 for a turn answers Closed with an item in, which is claimed after it.
+pub record NotIdle : Type 0 where
+  pub tails : tally (since 1 (actsOf (ofWidth Sixteen) 1 2 1 sleepingPush)) .tail .0 ≡ turnLength Sixteen (fixedOf 1 1) - 1
+  pub heads : tally (since 1 (actsOf (ofWidth Sixteen) 1 2 1 sleepingPush)) .head .0 ≡ turnLength Sixteen (fixedOf 1 1) - 1
+  pub untrue : AnswersTrue (ofWidth Sixteen) (machineAfter (ofWidth Sixteen) 1 2 1 sleepingPush) → ⊥
+  pub claimed-yet : NoneAfterClosed (actsOf (ofWidth Sixteen) 1 2 2 sleepingPop) → ⊥
+
+-- "(at capacity 256: 15,872)", and at 1,024, the largest since item 2.
+abbrev pub WindowLengths : Type 0
+WindowLengths = map (λ (c : ℕ). windowLength Sixteen (fixedOf c 1)) (256 ∷ 1024 ∷ []) ≡ 15872 ∷ 14336 ∷ []
+
+-- The face of sixteen bits keeps the one machine's numbers: none is lost, and from a fresh machine its schedules go where the definition goes.
+pub record SameNumbers : Type 0 where
+  pub back : (m : widths.Machine) → narrowed (widened m) ≡ m
+  pub again : (m : Machine) → widened (narrowed m) ≡ m
+  pub reaches : (capacity workers edition : ℕ) → Allowed capacity workers edition → (s : List ℕ) → length s % 2 ≡ 0 → Readable entryOf s
+      → widened (narrow.runOf (narrowed (freshOf capacity workers edition)) s .machine) ≡ machineAfter (ofWidth Sixteen) capacity workers edition s

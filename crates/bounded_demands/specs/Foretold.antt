@@ -5,6 +5,8 @@ use mathlib.Core.Bool.{cond}
 use mathlib.Core.List.{List, [], _∷_, _++_}
 use lib.ListN.{getD}
 use Rattle.bounded_words.specs.declared.Fixed.{Fixed}
+use Rattle.bounded_words.specs.declared.Width.{Width}
+use Rattle.bounded_words.specs.declared.Width.the-variants.{SixtyFour}
 use Rattle.bounded_words.specs.Words.{markedOf, unmarkedOf, minus, same, lapBehind}
 use Rattle.bounded_places.specs.declared.Ends.{Ends}
 use Rattle.bounded_places.specs.declared.Kind.{Kind}
@@ -26,10 +28,10 @@ abbrev pub fullAnswer : Kind → ℕ → ℕ → Answer
 fullAnswer Push x v = Full x
 fullAnswer Force x v = Displaced v
 
-module _ (f : Fixed) (e : Ends) (v : ℕ) where
+module _ (bits : Width) (f : Fixed) (e : Ends) (v : ℕ) where
   -- from the first load on, with v in the slot at head
   abbrev pub pushAnswer : Kind → ℕ → Answer
-  pushAnswer k x = cond (markedOf f (e .tail)) (Closed x) (cond (lapBehind f (e .head) (unmarkedOf f (e .tail))) (fullAnswer k x v) Pushed)
+  pushAnswer k x = cond (markedOf f (e .tail)) (Closed x) (cond (lapBehind bits f (e .head) (unmarkedOf f (e .tail))) (fullAnswer k x v) Pushed)
 
   abbrev pub popAnswer : Answer
   popAnswer = cond (same (unmarkedOf f (e .tail)) (e .head)) (cond (markedOf f (e .tail)) PopClosed Empty) (Popped v)
@@ -38,12 +40,12 @@ module _ (f : Fixed) (e : Ends) (v : ℕ) where
   abbrev pub foretoldOf : ℕ → Place → Answer
   foretoldOf u (Idle a) = a
   foretoldOf u (P1 k x) = pushAnswer k x
-  foretoldOf u (P2 k t x) = cond (lapBehind f (e .head) t) (fullAnswer k x v) (pushAnswer k x)
+  foretoldOf u (P2 k t x) = cond (lapBehind bits f (e .head) t) (fullAnswer k x v) (pushAnswer k x)
   foretoldOf u (P3 k t x) = pushAnswer k x
   foretoldOf u (P4 t x) = Pushed
   foretoldOf u (P5 t) = Pushed
-  foretoldOf u (P6 t x) = cond (lapBehind f (e .head) t) (Full x) (pushAnswer Push x)
-  foretoldOf u (F6 t x) = cond (same (e .head) (minus t (f .lap))) (Displaced v) (pushAnswer Force x)
+  foretoldOf u (P6 t x) = cond (lapBehind bits f (e .head) t) (Full x) (pushAnswer Push x)
+  foretoldOf u (F6 t x) = cond (same (e .head) (minus bits t (f .lap))) (Displaced v) (pushAnswer Force x)
   foretoldOf u (F7 t x) = Displaced u
   foretoldOf u (F8 t x) = Displaced u
   foretoldOf u (F9 t old) = Displaced old
@@ -58,8 +60,8 @@ module _ (f : Fixed) (e : Ends) (v : ℕ) where
   foretoldOf u (Len3 t h) = cond (same (e .tail) t) (Len (countOf f t h)) (Len (countOf f (e .tail) (e .head)))
   foretoldOf u Empty1 = yesNo (same (unmarkedOf f (e .tail)) (e .head))
   foretoldOf u (Empty2 h) = yesNo (same (unmarkedOf f (e .tail)) h)
-  foretoldOf u Full1 = yesNo (lapBehind f (e .head) (unmarkedOf f (e .tail)))
-  foretoldOf u (Full2 t) = yesNo (lapBehind f (e .head) (unmarkedOf f t))
+  foretoldOf u Full1 = yesNo (lapBehind bits f (e .head) (unmarkedOf f (e .tail)))
+  foretoldOf u (Full2 t) = yesNo (lapBehind bits f (e .head) (unmarkedOf f t))
   foretoldOf u Close1 = cond (markedOf f (e .tail)) No Yes
   foretoldOf u IsClosed1 = yesNo (markedOf f (e .tail))
 
@@ -68,9 +70,9 @@ abbrev pub ownValue : Machine → Place → ℕ
 ownValue m p = getD (m .ring .slots) (spotOf (m .ring .fixed) (viewOf p .held)) (slot 0 0) .value
 
 -- Of worker w's call on this machine.
-abbrev pub foretold : Machine → ℕ → Answer
-foretold m w =
-    foretoldOf (m .ring .fixed) (m .ring .ends) (valueAt m (m .ring .ends .head)) (ownValue m (placeOf (m .workers) w)) (placeOf (m .workers) w)
+abbrev pub foretold : Width → Machine → ℕ → Answer
+foretold bits m w =
+    foretoldOf bits (m .ring .fixed) (m .ring .ends) (valueAt m (m .ring .ends .head)) (ownValue m (placeOf (m .workers) w)) (placeOf (m .workers) w)
 
 -- ---- a table: capacity, a schedule from a fresh machine with two workers, and the answer of worker 0's call there
 pub record Telling : Type 0 where
@@ -87,7 +89,7 @@ pub record Told : Type 0 where
   pub ends-at : Place
 
 unfoldable pub toldBy : Machine → Told
-toldBy m = record { foretold-is = foretold m 0; ends-at = placeOf (runOf m (acts 0 7) .machine .workers) 0 }
+toldBy m = record { foretold-is = foretold SixtyFour m 0; ends-at = placeOf (runOf m (acts 0 7) .machine .workers) 0 }
 
 unfoldable pub toldIn : Telling → Told
 toldIn r = toldBy (runOf (freshOf (r .capacity) 2 1) (r .schedule) .machine)

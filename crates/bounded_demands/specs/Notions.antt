@@ -1,6 +1,6 @@
 -- The notions that the demands are said in: claim, hand, truth and the rest, of the machine's own struct, of the words of a schedule and
 -- of the history of its acts (history, tally of claims and stock: crates/bounded_machine/specs/History.antt). The demands are Demands.antt.
-use Prim.Native.Nat.{ℕ, zero, suc, _+_, _*_, _/_, _%_, _≤_, _<_}
+use Prim.Native.Nat.{ℕ, zero, suc, _+_, _*_, _-_, _/_, _%_, _≤_, _<_}
 use mathlib.Core.Bool.{Bool, true, false, cond}
 use mathlib.Core.List.{List, [], _∷_, _++_, map}
 use mathlib.Core.Path.{_≡_}
@@ -16,8 +16,10 @@ use Rattle.queue_entries.specs.declared.Entry.the-variants.{Unreadable, Asks}
 use Rattle.queue_entries.specs.Entries.{entryOf}
 use Rattle.bounded_words.specs.declared.Stamp.{Stamp}
 use Rattle.bounded_words.specs.declared.Fixed.{Fixed}
+use Rattle.bounded_words.specs.declared.Width.{Width}
+use Rattle.bounded_words.specs.declared.Width.the-variants.{Sixteen, SixtyFour}
 use Rattle.bounded_words.specs.Limits.{slotsMost, editionsMost, wide}
-use Rattle.bounded_words.specs.Words.{indexOf, markedOf, unmarkedOf, minus, lapBehind}
+use Rattle.bounded_words.specs.Words.{indexOf, markedOf, unmarkedOf, widthOf, minus, lapBehind}
 use Rattle.bounded_places.specs.declared.Ends.{Ends}
 use Rattle.bounded_places.specs.declared.Kind.{Kind}
 use Rattle.bounded_places.specs.declared.Kind.the-variants.{Push, Force}
@@ -37,15 +39,82 @@ use Rattle.bounded_machine.specs.declared.Event.{Event}
 use Rattle.bounded_machine.specs.declared.Moved.{Moved}
 use Rattle.bounded_machine.specs.declared.Moved.the-variants.{Neither, Tail, Head}
 use Rattle.bounded_machine.specs.declared.Tally.{Tally}
-use Rattle.bounded_machine.specs.Machine.{slot, machineOf, freshOf, placeOf, accepted}
+use Rattle.bounded_machine.specs.Machine.{slot, machineOf, freshOf, blank, placeOf, accepted}
 use Rattle.bounded_machine.specs.Turn.{Table, beginner, turnOfBy}
-use Rattle.bounded_machine.specs.Run.{runWith}
+use Rattle.bounded_machine.specs.Run.{ran, runWith, runAt, runFrom, runOf}
 use Rattle.bounded_machine.specs.History.{historyWith, movedOf, untallied, tallyOf, stockOf}
+use Rattle.bounded.specs.Bounded as bounded
+use Rattle.bounded_widths.specs.declared.Machine as widths
+use Rattle.bounded_widths.specs.declared.Did as widths-did
+use Rattle.bounded_widths.specs.declared.Ran as widths-ran
+use Rattle.bounded_widths.specs.Widths.{widened, narrowed, narrowedRan}
+use Rattle.bounded_narrow.specs.Narrow as narrow
 use Rattle.bounded_causes.specs.declared.Deed.{Deed}
 use Rattle.bounded_causes.specs.declared.Watches.{Watches}
 use Rattle.bounded_causes.specs.declared.Causes.{Causes}
 use Rattle.bounded_causes.specs.Causes as causes
 use Rattle.bounded_causes.specs.Causes.{standOf, goesBackOf, deedOf, othersHold, namedOf}
+
+-- ---- faces
+
+-- What a public face answers, of the machine M that it keeps and the answers D and R that it gives.
+pub record Face (M D R : Type 0) : Type 0 where
+  pub refusal : D → ℕ
+  pub left : D → M
+  pub refusalIn : R → ℕ
+  pub placeIn : R → ℕ
+  pub leftIn : R → M
+  pub ran : ℕ → ℕ → M → R
+  -- the one machine that it is
+  pub wide : M → Machine
+  pub blank : M
+  pub make : ℕ → ℕ → ℕ → D
+  pub step : M → ℕ → ℕ → D
+  pub begin : M → ℕ → ℕ → D
+  pub act : M → ℕ → ℕ → D
+  pub run : M → List ℕ → R
+  -- the entries of a schedule, one after another
+  pub entries : M → List ℕ → R
+
+-- Crate bounded's, of 64 bits.
+abbrev pub sixtyFour : Face Machine Did Ran
+sixtyFour =
+    record {
+      refusal = λ d. d .refusal;
+      left = λ d. d .machine;
+      refusalIn = λ r. r .refusal;
+      placeIn = λ r. r .place;
+      leftIn = λ r. r .machine;
+      ran = ran;
+      wide = λ m. m;
+      blank = blank;
+      make = bounded.makeOf;
+      step = bounded.stepOf;
+      begin = bounded.beginOf;
+      act = bounded.actOf;
+      run = runOf;
+      entries = λ m s. runFrom m 0 s;
+    }
+
+-- Crate bounded_narrow's, of sixteen.
+abbrev pub sixteen : Face widths.Machine widths-did.Did widths-ran.Ran
+sixteen =
+    record {
+      refusal = λ d. d .refusal;
+      left = λ d. d .machine;
+      refusalIn = λ r. r .refusal;
+      placeIn = λ r. r .place;
+      leftIn = λ r. r .machine;
+      ran = λ number place m. record { refusal = number; place = place; machine = m };
+      wide = widened;
+      blank = narrowed blank;
+      make = narrow.makeOf;
+      step = narrow.stepOf;
+      begin = narrow.beginOf;
+      act = narrow.actOf;
+      run = narrow.runOf;
+      entries = λ m s. narrowedRan (runAt Sixteen (widened m) 0 s);
+    }
 
 -- ---- definitions and schedules
 
@@ -53,16 +122,21 @@ use Rattle.bounded_causes.specs.Causes.{standOf, goesBackOf, deedOf, othersHold
 -- first refusal, and their acts, oldest first. The demands are said of any definition, so that crate bounded_slips can say them of
 -- one with a row changed; they are met by document 01's.
 pub record Definition : Type 0 where
+  -- how wide its words are
+  pub width : Width
   pub turn : Machine → ℕ → ℕ → Did
   pub run : Machine → ℕ → List ℕ → Ran
   pub history : Machine → List ℕ → List Event
 
--- By a table of what an act does at each place; document 01's table is `actOf`.
-abbrev pub byTable : Table → Definition
-byTable table = record { turn = turnOfBy table; run = runWith (turnOfBy table); history = historyWith (turnOfBy table) }
+-- By a table of what an act does at each place; the table of each width is `actOf`, and document 01's is that of 64 bits.
+abbrev pub byTable : Width → Table → Definition
+byTable bits table = record { width = bits; turn = turnOfBy table; run = runWith (turnOfBy table); history = historyWith bits (turnOfBy table) }
+
+abbrev pub ofWidth : Width → Definition
+ofWidth bits = byTable bits (actOf bits)
 
 abbrev pub document01 : Definition
-document01 = byTable actOf
+document01 = ofWidth SixtyFour
 
 -- Every capacity, number of workers and edition that making accepts.
 pub record Allowed (capacity workers edition : ℕ) : Type 0 where
@@ -126,18 +200,18 @@ pub data HandsOut : Place → ℕ → Type 0 where
   displaced : {v : ℕ} → HandsOut (Idle (Displaced v)) v
 
 -- "True is said of the words at that moment."
-abbrev pub Truth : Fixed → Ends → Answer → Type 0
-Truth f e Nothing = Unit {0}
-Truth f e Pushed = Unit {0}
-Truth f e (Full x) = lapBehind f (e .head) (unmarkedOf f (e .tail)) ≡ true
-Truth f e (Closed x) = markedOf f (e .tail) ≡ true
-Truth f e (Displaced v) = Unit {0}
-Truth f e (Popped v) = Unit {0}
-Truth f e Empty = (markedOf f (e .tail) ≡ false) × (e .tail ≡ e .head)
-Truth f e PopClosed = (markedOf f (e .tail) ≡ true) × (unmarkedOf f (e .tail) ≡ e .head)
-Truth f e (Len k) = Unit {0}
-Truth f e Yes = Unit {0}
-Truth f e No = Unit {0}
+abbrev pub Truth : Width → Fixed → Ends → Answer → Type 0
+Truth bits f e Nothing = Unit {0}
+Truth bits f e Pushed = Unit {0}
+Truth bits f e (Full x) = lapBehind bits f (e .head) (unmarkedOf f (e .tail)) ≡ true
+Truth bits f e (Closed x) = markedOf f (e .tail) ≡ true
+Truth bits f e (Displaced v) = Unit {0}
+Truth bits f e (Popped v) = Unit {0}
+Truth bits f e Empty = (markedOf f (e .tail) ≡ false) × (e .tail ≡ e .head)
+Truth bits f e PopClosed = (markedOf f (e .tail) ≡ true) × (unmarkedOf f (e .tail) ≡ e .head)
+Truth bits f e (Len k) = Unit {0}
+Truth bits f e Yes = Unit {0}
+Truth bits f e No = Unit {0}
 
 -- ---- claims of a history
 
@@ -282,10 +356,10 @@ lesser a b = cond (leb a b) a b
 -- ---- lost exchanges
 
 -- The act at this place is an exchange: the word of the end that it finds, and the word that it expects there.
-pub data Exchanges (f : Fixed) (e : Ends) : Place → Stamp → Stamp → Type 0 where
-  exchangeP3 : {k : Kind} {t : Stamp} {x : ℕ} → Exchanges f e (P3 k t x) (e .tail) t
-  exchangeF6 : {t : Stamp} {x : ℕ} → Exchanges f e (F6 t x) (e .head) (minus t (f .lap))
-  exchangeO3 : {h : Stamp} → Exchanges f e (O3 h) (e .head) h
+pub data Exchanges (bits : Width) (f : Fixed) (e : Ends) : Place → Stamp → Stamp → Type 0 where
+  exchangeP3 : {k : Kind} {t : Stamp} {x : ℕ} → Exchanges bits f e (P3 k t x) (e .tail) t
+  exchangeF6 : {t : Stamp} {x : ℕ} → Exchanges bits f e (F6 t x) (e .head) (minus bits t (f .lap))
+  exchangeO3 : {h : Stamp} → Exchanges bits f e (O3 h) (e .head) h
 
 -- Of one kind, a worker's lost exchanges: in its call under way, and in its last that has ended.
 pub record Lost : Type 0 where
@@ -328,11 +402,22 @@ pub data Fifo : List Event → List ℕ → Type 0 where
 
 -- ---- words
 
--- The word of claim number k, where nothing wraps.
+-- The word of claim number k, where nothing wraps, and of this width.
 abbrev pub plainWord : Fixed → ℕ → ℕ
 plainWord f k = k / f .capacity * f .lap + k % f .capacity
 
--- Head, tail and every stamp are such words of claims, and two laps more would still not wrap.
+abbrev pub claimWord : Width → Fixed → ℕ → ℕ
+claimWord bits f k = plainWord f k % widthOf bits
+
+-- Head, tail and every stamp are words of claims; a slot's claim is no more than a capacity from the ends.
+pub record Words (bits : Width) (m : Machine) (h : List Event) : Type 0 where
+  pub head : m .ring .ends .head .0 ≡ claimWord bits (m .ring .fixed) (tally h .head .0)
+  pub tail : unmarkedOf (m .ring .fixed) (m .ring .ends .tail) .0 ≡ claimWord bits (m .ring .fixed) (tally h .tail .0)
+  pub stamps : (i : ℕ) → i < m .ring .fixed .capacity
+      → (k : ℕ) × (full : Bool) × (getD (m .ring .slots) i (slot 0 0) .stamp .0 ≡ claimWord bits (m .ring .fixed) k + cond full 1 0)
+      × (k % m .ring .fixed .capacity ≡ i) × (k ≤ tally h .tail .0 + m .ring .fixed .capacity) × (tally h .head .0 ≤ k + m .ring .fixed .capacity)
+
+-- They are the words where nothing wraps, and two laps more would still not wrap.
 pub record Plain (m : Machine) (h : List Event) : Type 0 where
   pub head : m .ring .ends .head .0 ≡ plainWord (m .ring .fixed) (tally h .head .0)
   pub tail : unmarkedOf (m .ring .fixed) (m .ring .ends .tail) .0 ≡ plainWord (m .ring .fixed) (tally h .tail .0)
@@ -340,6 +425,95 @@ pub record Plain (m : Machine) (h : List Event) : Type 0 where
       → (k : ℕ) × (full : Bool) × (getD (m .ring .slots) i (slot 0 0) .stamp .0 ≡ plainWord (m .ring .fixed) k + cond full 1 0)
       × (k % m .ring .fixed .capacity ≡ i) × (k ≤ tally h .tail .0 + m .ring .fixed .capacity)
   pub room : plainWord (m .ring .fixed) (tally h .tail .0 + m .ring .fixed .capacity) + 2 * m .ring .fixed .lap < wide
+
+-- ---- the window (document 02, item 14)
+
+-- What a worker that comes to a place holds of the ends: no word; one that the act just gave it, by a load or an exchange that found it; or one from
+-- before. (len loads head while it holds a tail, which is the older.)
+pub data Holding : Type 0 where
+  NoWord NewWord OldWord : Holding
+
+abbrev pub holdingAt : Place → Holding
+holdingAt (Idle a) = NoWord
+holdingAt (P1 k x) = NoWord
+holdingAt (P2 k t x) = NewWord
+holdingAt (P3 k t x) = OldWord
+holdingAt (P4 t x) = OldWord
+holdingAt (P5 t) = OldWord
+holdingAt (P6 t x) = OldWord
+holdingAt (F6 t x) = OldWord
+holdingAt (F7 t x) = OldWord
+holdingAt (F8 t x) = OldWord
+holdingAt (F9 t old) = OldWord
+holdingAt O1 = NoWord
+holdingAt (O2 h) = NewWord
+holdingAt (O3 h) = OldWord
+holdingAt (O4 h) = OldWord
+holdingAt (O5 h v) = OldWord
+holdingAt (O6 h) = OldWord
+holdingAt Len1 = NoWord
+holdingAt (Len2 t) = NewWord
+holdingAt (Len3 t h) = OldWord
+holdingAt Empty1 = NoWord
+holdingAt (Empty2 h) = NewWord
+holdingAt Full1 = NoWord
+holdingAt (Full2 t) = NewWord
+holdingAt Close1 = NoWord
+holdingAt IsClosed1 = NoWord
+
+abbrev pub holds : Holding → Bool
+holds NoWord = false
+holds NewWord = true
+holds OldWord = true
+
+abbrev pub isNew : Holding → Bool
+isNew NoWord = false
+isNew NewWord = true
+isNew OldWord = false
+
+-- The act gave worker w a word of an end.
+abbrev pub givesTo : ℕ → Event → Bool
+givesTo w e = cond (eqb (e .worker) w) (isNew (holdingAt (e .after))) false
+
+-- The acts since the one that gave worker w the word that it holds.
+unfoldable pub sinceFrom : ℕ → List Event → List Event → List Event
+sinceFrom w acts [] = acts
+sinceFrom w acts (e ∷ h) = sinceFrom w (cond (givesTo w e) [] (acts ++ e ∷ [])) h
+
+abbrev pub since : ℕ → List Event → List Event
+since w h = sinceFrom w [] h
+
+-- "A turn is capacity × 65,536 / lap claims."
+abbrev pub turnLength : Width → Fixed → ℕ
+turnLength bits f = f .capacity * widthOf bits / f .lap
+
+-- "a turn less two capacities"
+abbrev pub windowLength : Width → Fixed → ℕ
+windowLength bits f = turnLength bits f - 2 * f .capacity
+
+-- "since the load or exchange that gave any word of an end a busy worker still holds, fewer claims were made at either end than a turn less two capacities"
+abbrev pub InWindow : Width → Machine → List Event → Type 0
+InWindow bits m h =
+    (w : ℕ) → holds (holdingAt (placeOf (m .workers) w)) ≡ true
+    → (tally (since w h) .tail .0 < windowLength bits (m .ring .fixed)) × (tally (since w h) .head .0 < windowLength bits (m .ring .fixed))
+
+-- Each beginning of these entries leaves a machine in the window; h are the acts before them.
+abbrev pub KeepsWindow : Definition → Machine → List Event → List ℕ → Type 0
+KeepsWindow d m h entries =
+    (before after : List ℕ) → entries ≡ before ++ after → InWindow (d .width) (d .run m 0 before .machine) (h ++ d .history m before)
+
+-- Worker 0 pushes and pops, so many times.
+unfoldable pub rounds : ℕ → List ℕ
+rounds zero = []
+rounds (suc n) = 0 ∷ 7 ∷ acts 0 5 ++ 2 ∷ 0 ∷ acts 0 5 ++ rounds n
+
+-- Capacity 1: while worker 0's pop has the slot in hand, and head is past it, worker 1's push loads tail and finds the stamp of a full ring; then worker 0 goes on for a turn less one.
+unfoldable pub sleepingPush : List ℕ
+sleepingPush = 0 ∷ 7 ∷ acts 0 5 ++ 2 ∷ 0 ∷ acts 0 3 ++ 16 ∷ 9 ∷ acts 1 2 ++ acts 0 2 ++ rounds 16383
+
+-- Capacity 1: worker 1's pop loads head and finds the stamp of an empty ring; worker 0 goes on for a turn less one, pushes and closes; worker 1 loads tail; worker 0 pops, up to its claim.
+unfoldable pub sleepingPop : List ℕ
+sleepingPop = 18 ∷ 0 ∷ acts 1 2 ++ (rounds 16383 ++ (0 ∷ 7 ∷ acts 0 5 ++ 6 ∷ 0 ∷ acts 0 1 ++ acts 1 1 ++ 2 ∷ 0 ∷ acts 0 3))
 
 -- the value of the slot at the index of a word
 abbrev pub valueAt : Machine → Stamp → ℕ

@@ -12,16 +12,17 @@ use bounded_places::Place;
 use bounded_places::Slot;
 use bounded_words::Fixed;
 use bounded_words::Stamp;
+use bounded_words::Width;
 
 // The word that F7 stores: "in edition 2 .. next(t) but keeps tail's mark, in one action".
-fn forced_tail(f: Fixed, tail: Stamp, t: Stamp) -> Stamp
+fn forced_tail(bits: Width, f: Fixed, tail: Stamp, t: Stamp) -> Stamp
     requires { ⌜ Fair f ⌝ }
-    ensures { λ r. ⌜ r ≡ forcedTail f tail t ⌝ }
+    ensures { λ r. ⌜ r ≡ forcedTail bits f tail t ⌝ }
 {
-    let w = bounded_words::next(f, t);
+    let w = bounded_words::next(bits, f, t);
     if f.edition == 2 {
         if bounded_words::marked(f, tail) {
-            bounded_words::with_mark(f, w)
+            bounded_words::with_mark(bits, f, w)
         } else {
             w
         }
@@ -30,37 +31,37 @@ fn forced_tail(f: Fixed, tail: Stamp, t: Stamp) -> Stamp
     }
 }
 
-fn tail_to_forced(f: Fixed, e: Ends, t: Stamp) -> Ends
+fn tail_to_forced(bits: Width, f: Fixed, e: Ends, t: Stamp) -> Ends
     requires { ⌜ Fair f ⌝ }
-    ensures { λ r. ⌜ r ≡ tailTo e (forcedTail f (e .tail) t) ⌝ }
+    ensures { λ r. ⌜ r ≡ tailTo e (forcedTail bits f (e .tail) t) ⌝ }
 {
     let h = e.head;
-    let w = forced_tail(f, e.tail, t);
+    let w = forced_tail(bits, f, e.tail, t);
     Ends { head: h, tail: w }
 }
 
-fn head_to_lap_before_next(f: Fixed, e: Ends, t: Stamp) -> Ends
+fn head_to_lap_before_next(bits: Width, f: Fixed, e: Ends, t: Stamp) -> Ends
     requires { ⌜ Fair f ⌝ }
-    ensures { λ r. ⌜ r ≡ headTo e (minus (nextOf f t) (f .lap)) ⌝ }
+    ensures { λ r. ⌜ r ≡ headTo e (minus bits (nextOf bits f t) (f .lap)) ⌝ }
 {
     let tail = e.tail;
-    let w = bounded_words::earlier(bounded_words::next(f, t), f.lap);
+    let w = bounded_words::earlier(bits, bounded_words::next(bits, f, t), f.lap);
     Ends {
         head: w,
         tail: tail,
     }
 }
 
-pub fn f6(f: Fixed, e: Ends, s: Slot, t: Stamp, item: u64, lose: bool) -> Acted
+pub fn f6(bits: Width, f: Fixed, e: Ends, s: Slot, t: Stamp, item: u64, lose: bool) -> Acted
     requires { ⌜ Fair f ⌝ }
-    ensures { λ r. ⌜ r ≡ actF6 f e s t item lose ⌝ }
+    ensures { λ r. ⌜ r ≡ actF6 bits f e s t item lose ⌝ }
 {
     let found = e.head;
-    let expected = bounded_words::earlier(t, f.lap);
+    let expected = bounded_words::earlier(bits, t, f.lap);
     let again = Place::P1(Kind::Force, item);
     match bounded_acts::exchange(found, expected, lose) {
         Exchange::Won => bounded_acts::stay(
-            head_to_lap_before_next(f, e, t),
+            head_to_lap_before_next(bits, f, e, t),
             s,
             Place::F7(t, item),
         ),
@@ -69,11 +70,11 @@ pub fn f6(f: Fixed, e: Ends, s: Slot, t: Stamp, item: u64, lose: bool) -> Acted
     }
 }
 
-pub fn f7(f: Fixed, e: Ends, s: Slot, t: Stamp, item: u64) -> Acted
+pub fn f7(bits: Width, f: Fixed, e: Ends, s: Slot, t: Stamp, item: u64) -> Acted
     requires { ⌜ Fair f ⌝ }
-    ensures { λ r. ⌜ r ≡ actF7 f e s t item ⌝ }
+    ensures { λ r. ⌜ r ≡ actF7 bits f e s t item ⌝ }
 {
-    bounded_acts::stay(tail_to_forced(f, e, t), s, Place::F8(t, item))
+    bounded_acts::stay(tail_to_forced(bits, f, e, t), s, Place::F8(t, item))
 }
 
 pub fn f8(e: Ends, s: Slot, t: Stamp, item: u64) -> Acted
@@ -83,12 +84,12 @@ pub fn f8(e: Ends, s: Slot, t: Stamp, item: u64) -> Acted
     bounded_acts::stay(e, bounded_acts::value_to(s, item), Place::F9(t, old))
 }
 
-pub fn f9(e: Ends, s: Slot, t: Stamp, old: u64) -> Acted
-    ensures { λ r. ⌜ r ≡ actF9 e s t old ⌝ }
+pub fn f9(bits: Width, e: Ends, s: Slot, t: Stamp, old: u64) -> Acted
+    ensures { λ r. ⌜ r ≡ actF9 bits e s t old ⌝ }
 {
     bounded_acts::stay(
         e,
-        bounded_acts::stamp_to(s, t, 1),
+        bounded_acts::stamp_to(bits, s, t, 1),
         Place::Idle(Answer::Displaced(old)),
     )
 }

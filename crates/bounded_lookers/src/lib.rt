@@ -10,6 +10,7 @@ use bounded_places::Place;
 use bounded_places::Slot;
 use bounded_words::Fixed;
 use bounded_words::Stamp;
+use bounded_words::Width;
 
 // A looker's answer.
 fn told(e: Ends, s: Slot, yes: bool) -> Acted
@@ -22,12 +23,12 @@ fn told(e: Ends, s: Slot, yes: bool) -> Acted
     }
 }
 
-fn tail_to_marked(f: Fixed, e: Ends) -> Ends
+fn tail_to_marked(bits: Width, f: Fixed, e: Ends) -> Ends
     requires { ⌜ Fair f ⌝ }
-    ensures { λ r. ⌜ r ≡ tailTo e (withMark f (e .tail)) ⌝ }
+    ensures { λ r. ⌜ r ≡ tailTo e (withMark bits f (e .tail)) ⌝ }
 {
     let h = e.head;
-    let w = bounded_words::with_mark(f, e.tail);
+    let w = bounded_words::with_mark(bits, f, e.tail);
     Ends { head: h, tail: w }
 }
 
@@ -71,23 +72,23 @@ pub fn empty2(f: Fixed, e: Ends, s: Slot, h: Stamp) -> Acted
     told(e, s, bounded_words::unmarked_is(f, t, h))
 }
 
-pub fn full2(f: Fixed, e: Ends, s: Slot, t: Stamp) -> Acted
+pub fn full2(bits: Width, f: Fixed, e: Ends, s: Slot, t: Stamp) -> Acted
     requires { ⌜ Fair f ⌝ }
-    ensures { λ r. ⌜ r ≡ actFull2 f e s t ⌝ }
+    ensures { λ r. ⌜ r ≡ actFull2 bits f e s t ⌝ }
 {
     let h = e.head;
-    told(e, s, bounded_words::lap_behind_unmarked(f, h, t))
+    told(e, s, bounded_words::lap_behind_unmarked(bits, f, h, t))
 }
 
-pub fn close1(f: Fixed, e: Ends, s: Slot) -> Acted
+pub fn close1(bits: Width, f: Fixed, e: Ends, s: Slot) -> Acted
     requires { ⌜ Fair f ⌝ }
-    ensures { λ r. ⌜ r ≡ actClose1 f e s ⌝ }
+    ensures { λ r. ⌜ r ≡ actClose1 bits f e s ⌝ }
 {
     let t = e.tail;
     if bounded_words::marked(f, t) {
         bounded_acts::stay(e, s, Place::Idle(Answer::No))
     } else {
-        bounded_acts::stay(tail_to_marked(f, e), s, Place::Idle(Answer::Yes))
+        bounded_acts::stay(tail_to_marked(bits, f, e), s, Place::Idle(Answer::Yes))
     }
 }
 

@@ -15,6 +15,7 @@ use Rattle.queue_entries.specs.declared.Call.the-variants as call
 use Rattle.queue_entries.proofs.Limits.{limit-most}
 use Rattle.bounded_words.specs.declared.Stamp.{Stamp}
 use Rattle.bounded_words.specs.declared.Fixed.{Fixed}
+use Rattle.bounded_words.specs.declared.Width.{Width}
 use Rattle.bounded_words.specs.Limits.{slotsMost, editionsMost}
 use Rattle.bounded_words.specs.Words.{markedOf, unmarkedOf, nextOf, plus, minus, withMark, same, onePast, lapBehind, lapBehindOnePast, Fair}
 use Rattle.bounded_words.proofs.Marks.{Ruled, fair}
@@ -189,7 +190,7 @@ module _ (f : Fixed) (r : Ruled f) where
   unfolding losing
   loses e s p l h k = record { ends = h; held = k }
 
-  module _ (e : Ends) (s : Slot) (h : endsFit f e ≡ true) where
+  module _ (bits : Width) (e : Ends) (s : Slot) (h : endsFit f e ≡ true) where
     plain-tail : markedOf f (e .tail) ≡ false → Plain f (e .tail)
     unfolding inside
     plain-tail k = record { unmarked = k; low = ltb-true _ _ (tail-inside f e h) }
@@ -205,19 +206,19 @@ module _ (f : Fixed) (r : Ruled f) where
     unfolding tailTo
     tail-goes w p q k = stays (tailTo e w) s p (ends-of f (tailTo e w) (head-plain f e h) q) k
 
-    next-inside : (t : Stamp) → Plain f t → inside f (nextOf f t) ≡ true
+    next-inside : (t : Stamp) → Plain f t → inside f (nextOf bits f t) ≡ true
     unfolding inside
-    next-inside t q = lt-ltb _ _ (next-plain f r t q .low)
+    next-inside t q = lt-ltb _ _ (next-plain f r bits t q .low)
 
-    marked-inside : (w : Stamp) → inside f w ≡ true → inside f (withMark f w) ≡ true
+    marked-inside : (w : Stamp) → inside f w ≡ true → inside f (withMark bits f w) ≡ true
     unfolding inside
-    marked-inside w q = lt-ltb _ _ (subst (λ (i : ℕ). i < f .capacity) (sym (mark-index f r w)) (ltb-true _ _ q))
+    marked-inside w q = lt-ltb _ _ (subst (λ (i : ℕ). i < f .capacity) (sym (mark-index f r bits w)) (ltb-true _ _ q))
 
-    forced-inside : (t : Stamp) → Plain f t → inside f (forcedTail f (e .tail) t) ≡ true
+    forced-inside : (t : Stamp) → Plain f t → inside f (forcedTail bits f (e .tail) t) ≡ true
     unfolding forcedTail
     forced-inside t q =
-        either In (eqb (f .edition) 2) (cond (markedOf f (e .tail)) (withMark f (nextOf f t)) (nextOf f t)) (nextOf f t)
-        (λ b. either In (markedOf f (e .tail)) (withMark f (nextOf f t)) (nextOf f t) (λ d. marked-inside (nextOf f t) (next-inside t q)) (λ d. next-inside t q))
+        either In (eqb (f .edition) 2) (cond (markedOf f (e .tail)) (withMark bits f (nextOf bits f t)) (nextOf bits f t)) (nextOf bits f t)
+        (λ b. either In (markedOf f (e .tail)) (withMark bits f (nextOf bits f t)) (nextOf bits f t) (λ d. marked-inside (nextOf bits f t) (next-inside t q)) (λ d. next-inside t q))
         (λ b. next-inside t q)
       where
         In : Stamp → Type 0
@@ -232,39 +233,39 @@ module _ (f : Fixed) (r : Ruled f) where
     full-fits Force t x q = q
 
     -- act by act: the new place holds t or h as before, or a word just loaded; an end moves to next
-    pub keeps : (p : Place) (lose : Bool) → fitsOf f (viewOf p .held) ≡ true → Ok (actOf f e s p lose)
+    pub keeps : (p : Place) (lose : Bool) → fitsOf f (viewOf p .held) ≡ true → Ok (actOf bits f e s p lose)
     keeps (Idle a) lose q = stays e s (Idle a) h refl
     keeps (P1 k x) lose q = stays e s (afterTail f k (e .tail) x) h (tail-fits k x)
     keeps (P2 k t x) lose q =
         either Ok (same (s .stamp) t) (stay e s (P3 k t x)) _ (λ b. stays e s (P3 k t x) h q)
-        (λ b. either Ok (lapBehindOnePast f (s .stamp) t) (stay e s (fullAt k t x)) (stay e s (P1 k x))
+        (λ b. either Ok (lapBehindOnePast bits f (s .stamp) t) (stay e s (fullAt k t x)) (stay e s (P1 k x))
         (λ d. stays e s (fullAt k t x) h (full-fits k t x q)) (λ d. stays e s (P1 k x) h refl))
     keeps (P3 k t x) lose q =
-        exchanged (λ (y : Exchange). Ok (endP3 f e s k t x y)) (e .tail) t lose (λ b d. loses e s (P2 k t x) loss.BySchedule h q)
-        (λ b d. tail-goes (nextOf f t) (P4 t x) (next-inside t (fits-plain f t q)) q)
+        exchanged (λ (y : Exchange). Ok (endP3 bits f e s k t x y)) (e .tail) t lose (λ b d. loses e s (P2 k t x) loss.BySchedule h q)
+        (λ b d. tail-goes (nextOf bits f t) (P4 t x) (next-inside t (fits-plain f t q)) q)
         (λ b. loses e s (afterTail f k (e .tail) x) loss.ByWords h (tail-fits k x))
     keeps (P4 t x) lose q = stays e (valueTo s x) (P5 t) h q
-    keeps (P5 t) lose q = stays e (stampTo s (plus t 1)) (Idle Pushed) h refl
+    keeps (P5 t) lose q = stays e (stampTo s (plus bits t 1)) (Idle Pushed) h refl
     keeps (P6 t x) lose q =
-        either Ok (lapBehind f (e .head) t) (stay e s (Idle (Full x))) (stay e s (P1 Push x))
+        either Ok (lapBehind bits f (e .head) t) (stay e s (Idle (Full x))) (stay e s (P1 Push x))
         (λ b. stays e s (Idle (Full x)) h refl) (λ b. stays e s (P1 Push x) h refl)
     keeps (F6 t x) lose q =
-        exchanged (λ (y : Exchange). Ok (endF6 f e s t x y)) (e .head) (minus t (f .lap)) lose (λ b d. loses e s (P1 Force x) loss.BySchedule h refl)
-        (λ b d. head-moves (minus (nextOf f t) (f .lap)) (F7 t x) (minus-plain f r (nextOf f t) (next-plain f r t (fits-plain f t q))) q)
+        exchanged (λ (y : Exchange). Ok (endF6 bits f e s t x y)) (e .head) (minus bits t (f .lap)) lose (λ b d. loses e s (P1 Force x) loss.BySchedule h refl)
+        (λ b d. head-moves (minus bits (nextOf bits f t) (f .lap)) (F7 t x) (minus-plain f r bits (nextOf bits f t) (next-plain f r bits t (fits-plain f t q))) q)
         (λ b. loses e s (P1 Force x) loss.ByWords h refl)
-    keeps (F7 t x) lose q = tail-goes (forcedTail f (e .tail) t) (F8 t x) (forced-inside t (fits-plain f t q)) q
+    keeps (F7 t x) lose q = tail-goes (forcedTail bits f (e .tail) t) (F8 t x) (forced-inside t (fits-plain f t q)) q
     keeps (F8 t x) lose q = stays e (valueTo s x) (F9 t (s .value)) h q
-    keeps (F9 t old) lose q = stays e (stampTo s (plus t 1)) (Idle (Displaced old)) h refl
+    keeps (F9 t old) lose q = stays e (stampTo s (plus bits t 1)) (Idle (Displaced old)) h refl
     keeps O1 lose q = stays e s (O2 (e .head)) h (plain-fits f (e .head) (head-plain f e h))
     keeps (O2 w) lose q =
-        either Ok (onePast (s .stamp) w) (stay e s (O3 w)) _ (λ b. stays e s (O3 w) h q)
+        either Ok (onePast bits (s .stamp) w) (stay e s (O3 w)) _ (λ b. stays e s (O3 w) h q)
         (λ b. either Ok (same (s .stamp) w) (stay e s (O6 w)) (stay e s O1) (λ d. stays e s (O6 w) h q) (λ d. stays e s O1 h refl))
     keeps (O3 w) lose q =
-        exchanged (λ (y : Exchange). Ok (endO3 f e s w y)) (e .head) w lose (λ b d. loses e s (O2 w) loss.BySchedule h q)
-        (λ b d. head-moves (nextOf f w) (O4 w) (next-plain f r w (fits-plain f w q)) q)
+        exchanged (λ (y : Exchange). Ok (endO3 bits f e s w y)) (e .head) w lose (λ b d. loses e s (O2 w) loss.BySchedule h q)
+        (λ b d. head-moves (nextOf bits f w) (O4 w) (next-plain f r bits w (fits-plain f w q)) q)
         (λ b. loses e s (O2 (e .head)) loss.ByWords h (plain-fits f (e .head) (head-plain f e h)))
     keeps (O4 w) lose q = stays e s (O5 w (s .value)) h q
-    keeps (O5 w v) lose q = stays e (stampTo s (plus w (f .lap))) (Idle (Popped v)) h refl
+    keeps (O5 w v) lose q = stays e (stampTo s (plus bits w (f .lap))) (Idle (Popped v)) h refl
     keeps (O6 w) lose q =
         either Ok (same (unmarkedOf f (e .tail)) w) _ (stay e s O1)
         (λ b. either Ok (markedOf f (e .tail)) (stay e s (Idle PopClosed)) (stay e s (Idle Empty))
@@ -278,10 +279,10 @@ module _ (f : Fixed) (r : Ruled f) where
     keeps Empty1 lose q = stays e s (Empty2 (e .head)) h refl
     keeps (Empty2 w) lose q = stays e s (Idle (yesNo (same (unmarkedOf f (e .tail)) w))) h refl
     keeps Full1 lose q = stays e s (Full2 (e .tail)) h refl
-    keeps (Full2 t) lose q = stays e s (Idle (yesNo (lapBehind f (e .head) (unmarkedOf f t)))) h refl
+    keeps (Full2 t) lose q = stays e s (Idle (yesNo (lapBehind bits f (e .head) (unmarkedOf f t)))) h refl
     keeps Close1 lose q =
-        either Ok (markedOf f (e .tail)) (stay e s (Idle No)) (stay (tailTo e (withMark f (e .tail))) s (Idle Yes))
-        (λ b. stays e s (Idle No) h refl) (λ b. tail-goes (withMark f (e .tail)) (Idle Yes) (marked-inside (e .tail) (tail-inside f e h)) refl)
+        either Ok (markedOf f (e .tail)) (stay e s (Idle No)) (stay (tailTo e (withMark bits f (e .tail))) s (Idle Yes))
+        (λ b. stays e s (Idle No) h refl) (λ b. tail-goes (withMark bits f (e .tail)) (Idle Yes) (marked-inside (e .tail) (tail-inside f e h)) refl)
     keeps IsClosed1 lose q = stays e s (Idle (yesNo (markedOf f (e .tail)))) h refl
 
 -- a call begins with no word loaded
@@ -377,7 +378,7 @@ module _ (m : Machine) (u : Unbroken m) (w : ℕ) (l : w < m .count) where
             (omega (arith, few-lost, one-lost (a .loss))) (omega (arith, few-lost, one-lost (a .loss))) (k .held);
       }
 
-  pub acted-unbroken : (lose : Bool) → viewOf (placeOf (m .workers) w) .busy ≡ true → Unbroken (acted m w (placeOf (m .workers) w) lose)
+  pub acted-unbroken : (bits : Width) (lose : Bool) → viewOf (placeOf (m .workers) w) .busy ≡ true → Unbroken (acted bits m w (placeOf (m .workers) w) lose)
   unfolding actedBy
-  acted-unbroken lose h =
-      stored-unbroken _ _ (keeps (m .ring .fixed) (ruled-in m u) (m .ring .ends) _ (u .ends) (placeOf (m .workers) w) lose (word-fits-in h))
+  acted-unbroken bits lose h =
+      stored-unbroken _ _ (keeps (m .ring .fixed) (ruled-in m u) bits (m .ring .ends) _ (u .ends) (placeOf (m .workers) w) lose (word-fits-in h))

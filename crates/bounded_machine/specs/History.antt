@@ -6,6 +6,8 @@ use Rattle.queue_entries.specs.declared.Order.the-variants.{Begin, Act}
 use Rattle.queue_entries.specs.declared.Entry.{Entry}
 use Rattle.queue_entries.specs.declared.Entry.the-variants.{Unreadable, Asks}
 use Rattle.queue_entries.specs.Schedules.{historyBy}
+use Rattle.bounded_words.specs.declared.Width.{Width}
+use Rattle.bounded_words.specs.declared.Width.the-variants.{SixtyFour}
 use Rattle.bounded_words.specs.Words.{claim}
 use Rattle.bounded_places.specs.declared.Loss.{Loss}
 use Rattle.bounded_places.specs.declared.Place.{Place}
@@ -18,27 +20,30 @@ use Rattle.bounded_machine.specs.declared.Moved.{Moved}
 use Rattle.bounded_machine.specs.declared.Moved.the-variants.{Neither, Tail, Head}
 use Rattle.bounded_machine.specs.declared.Tally.{Tally}
 use Rattle.bounded_machine.specs.Machine.{placeOf}
-use Rattle.bounded_machine.specs.Turn.{actAt, turnOf}
+use Rattle.bounded_machine.specs.Turn.{actAt, turnAt}
 
 -- An act: who acted, from which place, to which, and what it lost. Beginning a call is no act.
 abbrev pub event : ℕ → Place → Place → Loss → Event
 event w before after l = record { worker = w; before = before; after = after; loss = l }
 
--- What w's next act loses, by document 01's tables.
-abbrev pub lossAt : Machine → ℕ → Bool → Loss
-lossAt m w lose = actAt actOf m (placeOf (m .workers) w) lose .loss
+-- What w's next act loses, by the tables of this width.
+abbrev pub lossAt : Width → Machine → ℕ → Bool → Loss
+lossAt bits m w lose = actAt (actOf bits) m (placeOf (m .workers) w) lose .loss
 
-abbrev pub eventsOf : Machine → Entry → Machine → List Event
-eventsOf m Unreadable next = []
-eventsOf m (Asks w (Begin c)) next = []
-eventsOf m (Asks w (Act lose)) next = event w (placeOf (m .workers) w) (placeOf (next .workers) w) (lossAt m w lose) ∷ []
+abbrev pub eventsOf : Width → Machine → Entry → Machine → List Event
+eventsOf bits m Unreadable next = []
+eventsOf bits m (Asks w (Begin c)) next = []
+eventsOf bits m (Asks w (Act lose)) next = event w (placeOf (m .workers) w) (placeOf (next .workers) w) (lossAt bits m w lose) ∷ []
 
 -- The acts of a schedule's entries, up to the first that is refused, each entry by what it makes of a machine.
-abbrev pub historyWith : (Machine → ℕ → ℕ → Did) → Machine → List ℕ → List Event
-historyWith turn = historyBy (λ (d : Did). d .refusal) (λ (d : Did). d .machine) turn eventsOf
+abbrev pub historyWith : Width → (Machine → ℕ → ℕ → Did) → Machine → List ℕ → List Event
+historyWith bits turn = historyBy (λ (d : Did). d .refusal) (λ (d : Did). d .machine) turn (eventsOf bits)
+
+abbrev pub historyAt : Width → Machine → List ℕ → List Event
+historyAt bits = historyWith bits (turnAt bits)
 
 abbrev pub historyOf : Machine → List ℕ → List Event
-historyOf = historyWith turnOf
+historyOf = historyAt SixtyFour
 
 -- Tail claims are won P3 and F7; head claims are won O3 and F6. A won P3 goes to P4 and a won O3 to O4, F7 to F8, and a
 -- won F6 to F7; no other act goes there.

@@ -10,6 +10,8 @@ use Rattle.queue_entries.specs.Entries.{entryOf, verdictFor}
 use Rattle.queue_entries.specs.declared.Verdict.{Verdict}
 use Rattle.queue_entries.specs.declared.Verdict.the-variants.{Refuse, Start, Move}
 use Rattle.bounded_words.specs.declared.Fixed.{Fixed}
+use Rattle.bounded_words.specs.declared.Width.{Width}
+use Rattle.bounded_words.specs.declared.Width.the-variants.{SixtyFour}
 use Rattle.bounded_words.specs.Words.{indexOf}
 use Rattle.bounded_places.specs.declared.Slot.{Slot}
 use Rattle.bounded_places.specs.declared.Ends.{Ends}
@@ -65,7 +67,7 @@ unfoldable pub stored : Machine → ℕ → ℕ → Acted → Machine
 stored m w i a =
     machineOf (m .ring .fixed) (a .ends) (set (m .ring .slots) i (a .slot)) (set (m .workers) w (recordAfter (recordOf (m .workers) w) (a .place) (a .loss))) (m .count) (m .meter + 1)
 
--- What an act does at each place. Document 01's is `actOf`; crate bounded_slips has some with a slip.
+-- What an act does at each place. Document 01's is `actOf SixtyFour`, that of sixteen bits `actOf Sixteen`; crate bounded_slips has some with a slip.
 abbrev pub Table : Type 0
 Table = Fixed → Ends → Slot → Place → Bool → Acted
 
@@ -88,18 +90,21 @@ turnBy table m (Asks w o) =
     (carriedBy table m w (placeOf (m .workers) w) (verdictOf (m .meter) (placeOf (m .workers) w) o))
     (refused 3 m)
 
-abbrev pub acted : Machine → ℕ → Place → Bool → Machine
-acted = actedBy actOf
+abbrev pub acted : Width → Machine → ℕ → Place → Bool → Machine
+acted bits = actedBy (actOf bits)
 
-abbrev pub carried : Machine → ℕ → Place → Verdict → Did
-carried = carriedBy actOf
+abbrev pub carried : Width → Machine → ℕ → Place → Verdict → Did
+carried bits = carriedBy (actOf bits)
 
-abbrev pub turn : Machine → Entry → Did
-turn = turnBy actOf
+abbrev pub turn : Width → Machine → Entry → Did
+turn bits = turnBy (actOf bits)
 
--- The entry of two words, on a machine that is not broken.
+-- The entry of two words, on a machine that is not broken: by a table, of either width, and document 01's.
 unfoldable pub turnOfBy : Table → Machine → ℕ → ℕ → Did
 turnOfBy table m first second = turnBy table m (entryOf first second)
 
+abbrev pub turnAt : Width → Machine → ℕ → ℕ → Did
+turnAt bits = turnOfBy (actOf bits)
+
 abbrev pub turnOf : Machine → ℕ → ℕ → Did
-turnOf = turnOfBy actOf
+turnOf = turnAt SixtyFour

@@ -11,21 +11,22 @@ use bounded_places::Place;
 use bounded_places::Slot;
 use bounded_words::Fixed;
 use bounded_words::Stamp;
+use bounded_words::Width;
 
-fn head_to_next(f: Fixed, e: Ends, h: Stamp) -> Ends
+fn head_to_next(bits: Width, f: Fixed, e: Ends, h: Stamp) -> Ends
     requires { ⌜ Fair f ⌝ }
-    ensures { λ r. ⌜ r ≡ headTo e (nextOf f h) ⌝ }
+    ensures { λ r. ⌜ r ≡ headTo e (nextOf bits f h) ⌝ }
 {
     let t = e.tail;
-    let w = bounded_words::next(f, h);
+    let w = bounded_words::next(bits, f, h);
     Ends { head: w, tail: t }
 }
 
-pub fn o2(e: Ends, s: Slot, h: Stamp) -> Acted
-    ensures { λ r. ⌜ r ≡ actO2 e s h ⌝ }
+pub fn o2(bits: Width, e: Ends, s: Slot, h: Stamp) -> Acted
+    ensures { λ r. ⌜ r ≡ actO2 bits e s h ⌝ }
 {
     let seen = s.stamp;
-    if bounded_words::one_past(seen, h) {
+    if bounded_words::one_past(bits, seen, h) {
         return bounded_acts::stay(e, s, Place::O3(h));
     }
     if bounded_words::same_word(seen, h) {
@@ -35,23 +36,23 @@ pub fn o2(e: Ends, s: Slot, h: Stamp) -> Acted
     }
 }
 
-pub fn o3(f: Fixed, e: Ends, s: Slot, h: Stamp, lose: bool) -> Acted
+pub fn o3(bits: Width, f: Fixed, e: Ends, s: Slot, h: Stamp, lose: bool) -> Acted
     requires { ⌜ Fair f ⌝ }
-    ensures { λ r. ⌜ r ≡ actO3 f e s h lose ⌝ }
+    ensures { λ r. ⌜ r ≡ actO3 bits f e s h lose ⌝ }
 {
     match bounded_acts::exchange(e.head, h, lose) {
-        Exchange::Won => bounded_acts::stay(head_to_next(f, e, h), s, Place::O4(h)),
+        Exchange::Won => bounded_acts::stay(head_to_next(bits, f, e, h), s, Place::O4(h)),
         Exchange::Differed(found) => bounded_acts::losing(e, s, Place::O2(found), Loss::ByWords),
         Exchange::Failed => bounded_acts::losing(e, s, Place::O2(h), Loss::BySchedule),
     }
 }
 
-pub fn o5(f: Fixed, e: Ends, s: Slot, h: Stamp, value: u64) -> Acted
-    ensures { λ r. ⌜ r ≡ actO5 f e s h value ⌝ }
+pub fn o5(bits: Width, f: Fixed, e: Ends, s: Slot, h: Stamp, value: u64) -> Acted
+    ensures { λ r. ⌜ r ≡ actO5 bits f e s h value ⌝ }
 {
     bounded_acts::stay(
         e,
-        bounded_acts::stamp_to(s, h, f.lap),
+        bounded_acts::stamp_to(bits, s, h, f.lap),
         Place::Idle(Answer::Popped(value)),
     )
 }

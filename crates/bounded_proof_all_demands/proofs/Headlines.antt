@@ -1,23 +1,29 @@
 -- The demands of document 01, proved. What they say, in document 01's words, is crates/bounded_demands/specs/Demands.antt; the
 -- runs on paper are Eight.antt beside it.
+use Rattle.bounded_words.specs.declared.Width.the-variants.{Sixteen, SixtyFour}
 use Rattle.bounded_machine.specs.History.{lossAt}
-use Rattle.bounded_demands.specs.Notions.{document01, stock}
-use Rattle.bounded_demands.specs.Demands.{RefusedUnchanged, Numbered, ListFirst, StaysUnbroken, OnlyOne, UnderEverySchedule, ActByAct, WholeSchedules, LenTrue, ScheduledAlone, Attained, AsForetold, StockUnderEverySchedule, MostStock, EndsTold, LossesUnderEverySchedule, CountsAside, CloseHolds, ClosedIsLast, CaseF}
+use Rattle.bounded_demands.specs.Notions.{sixtyFour, sixteen, ofWidth, document01, stock}
+use Rattle.bounded_demands.specs.Demands.{Demand1, OnlyOneCount, UnderEverySchedule, NothingWraps, ActByAct, WholeSchedules, LenTrue, ScheduledAlone, Attained, AsForetold, StockUnderEverySchedule, MostStock, EndsTold, LossesUnderEverySchedule, CountsAside, CloseHolds, ClosedIsLast, CaseF, WithinTheWindow, AloneKeeps, RoundsClaim, NotIdle, WindowLengths, SameNumbers}
 use Rattle.bounded_demands.specs.Eight.{EightRuns}
-use Rattle.bounded_demands.proofs.Numbers.{numbered}
-use Rattle.bounded_demands.proofs.Refusals.{refused-unchanged, list-first, stays-unbroken, only-one}
+use Rattle.bounded_demands.proofs.Refusals.{demand1, only-one-count}
+use Rattle.bounded_demands.proofs.Narrow.{narrow-demand1}
+use Rattle.bounded_demands.proofs.Window.{window-lengths}
 use Rattle.bounded_demands.proofs.Attained.{numbers-attained}
 use Rattle.bounded_demands.proofs.Foretold.{as-foretold}
 use Rattle.bounded_demands.proofs.Shelves.{most-stock}
 use Rattle.bounded_demands.proofs.CaseF.{case-f}
 use Rattle.bounded_demands.proofs.Eight.{eight-runs}
-use Rattle.bounded_proof_demand2.proofs.Demand2.{demand2, act-by-act, whole-schedules}
+use Rattle.bounded_proof_demand2.proofs.Demand2.{demand2, nothing-wraps, act-by-act, whole-schedules}
+use Rattle.bounded_proof_demand2.proofs.Lone.{alone-keeps}
+use Rattle.bounded_proof_demand2.proofs.Short.{same-numbers}
+use Rattle.bounded_proof_window.proofs.Kept.{rounds-claim}
+use Rattle.bounded_proof_window.proofs.Asleep.{not-idle}
 use Rattle.bounded_proof_demand2.proofs.Lens.{len-true}
 use Rattle.bounded_proof_demand2.proofs.Stock.{stock-stands}
 use Rattle.bounded_proof_demand2.proofs.Losses.{ends-told, losses}
 use Rattle.bounded_proof_demand2.proofs.Aside.{counts-aside}
 use Rattle.bounded_proof_demand2.proofs.Closing.{close-holds, closed-is-last}
-use Rattle.bounded_proof_demand3.proofs.Demand3.{demand3}
+use Rattle.bounded_proof_demand3.proofs.Demand3.{demand3, within-the-window}
 use Rattle.bounded_demands.specs.Notions.{causesIn}
 use Rattle.bounded_demands.specs.Demands.{EveryRetryHasACause, EightWaysBack, EachNeeded, AloneBackOnce, KeptAsSaid}
 use Rattle.bounded_demands.proofs.Retries.{each-needed}
@@ -25,15 +31,15 @@ use Rattle.bounded_proof_causes.proofs.Causes.{every-retry, eight-ways}
 use Rattle.bounded_proof_causes.proofs.Alone.{alone-back-once}
 use Rattle.bounded_proof_causes.proofs.Said.{kept-as-said}
 
--- 1. Any machine, entry or schedule handed in gets an answer or a numbered refusal (the functions of crate bounded have no
+-- 1. Any machine, entry or schedule handed in gets an answer or a numbered refusal (the functions of crates bounded and bounded_narrow have no
 -- `requires`); a refused step changes nothing; only one answer meets a promise.
-pub demand-1 : RefusedUnchanged × Numbered × ListFirst × StaysUnbroken × OnlyOne
-demand-1 = (refused-unchanged, numbered, list-first, stays-unbroken, only-one)
+pub demand-1 : Demand1 sixtyFour × Demand1 sixteen × OnlyOneCount
+demand-1 = (demand1, narrow-demand1, only-one-count)
 
 -- 2. Under every schedule from a fresh machine: each act is the one action of document 01; the claim rule; no slot in two hands;
 -- Empty, Full and Closed true at the act that decided them; claims not taken and contents.
-pub demand-2 : UnderEverySchedule document01 × ActByAct document01 × WholeSchedules document01 × LenTrue document01
-demand-2 = (demand2, act-by-act, whole-schedules, len-true)
+pub demand-2 : UnderEverySchedule document01 × NothingWraps document01 × ActByAct document01 × WholeSchedules document01 × LenTrue document01
+demand-2 = (demand2, nothing-wraps, act-by-act SixtyFour, whole-schedules SixtyFour, len-true)
 
 -- 3. Alone, a call ends within seven acts with the right answer; a worker with a slot in hand lets go within three acts of its
 -- own; the numbers are attained, and the answers are those foretold.
@@ -49,8 +55,8 @@ pub stock-counted : StockUnderEverySchedule document01 stock × MostStock
 stock-counted = (stock-stands, most-stock)
 
 -- How an exchange ended: told by the words and the schedule; counted by each worker, both editions; and no answer goes by it.
-pub losses-counted : EndsTold lossAt × LossesUnderEverySchedule document01 × CountsAside document01
-losses-counted = (ends-told, losses, counts-aside)
+pub losses-counted : EndsTold SixtyFour (lossAt SixtyFour) × LossesUnderEverySchedule document01 × CountsAside document01
+losses-counted = (ends-told SixtyFour, losses SixtyFour, counts-aside SixtyFour)
 
 -- A close that holds: edition 2; what follows a pop's Closed, in both editions; case F.
 pub close-that-holds : CloseHolds document01 × ClosedIsLast document01 × CaseF document01
@@ -59,3 +65,11 @@ close-that-holds = (close-holds, closed-is-last, case-f)
 -- Every retry has a cause, in both editions; each of the four is needed; alone a worker goes back at most once; and what is kept for naming them is what the history says.
 pub retries-caused : EveryRetryHasACause document01 causesIn × EightWaysBack document01 × EachNeeded causesIn 1 × EachNeeded causesIn 2 × AloneBackOnce document01 × KeptAsSaid
 retries-caused = (every-retry, eight-ways, each-needed .0, each-needed .1, alone-back-once, kept-as-said)
+
+-- Words that wrap: of sixteen bits, as long as the window is kept, all of demands 2 and 3 with stock, losses and closing; and what needs no window.
+pub sixteen-bits : WithinTheWindow (ofWidth Sixteen) × ActByAct (ofWidth Sixteen) × WholeSchedules (ofWidth Sixteen) × EndsTold Sixteen (lossAt Sixteen) × CountsAside (ofWidth Sixteen) × SameNumbers
+sixteen-bits = (within-the-window Sixteen, act-by-act Sixteen, whole-schedules Sixteen, ends-told Sixteen, counts-aside Sixteen, same-numbers)
+
+-- The window: as long as document 02 says, met through any number of turns, and needed.
+pub window : WindowLengths × AloneKeeps (ofWidth Sixteen) × RoundsClaim (ofWidth Sixteen) × NotIdle
+window = (window-lengths, alone-keeps Sixteen, rounds-claim Sixteen, not-idle)

@@ -6,9 +6,11 @@ use mathlib.Core.List.{List, [], _∷_, _++_, append-nil}
 use Prim.Native.Nat.{ℕ, _+_, _≤_, _<_}
 use native.Mathlib.Omega.{arith}
 use native.Mathlib.Decide.{ℕ-discrete}
-use lib.ListN.{length}
 use Rattle.queue_entries.specs.declared.Call.{Call}
 use Rattle.queue_entries.specs.declared.Entry.{Entry}
+use Rattle.bounded_words.specs.declared.Width.{Width}
+use Rattle.bounded_words.specs.declared.Width.the-variants.{SixtyFour}
+use Rattle.bounded_words.specs.Words.{markOf}
 use Rattle.bounded_places.specs.declared.Loss.the-variants.{BySchedule}
 use Rattle.bounded_places.specs.declared.Worker.{Worker}
 use Rattle.bounded_places.specs.Places.{viewOf, beginOf}
@@ -20,11 +22,13 @@ use Rattle.bounded_machine.specs.History.{lossAt}
 use Rattle.bounded_machine.proofs.Kept.{placed}
 use Rattle.bounded_causes.specs.declared.Watch.{Watch}
 use Rattle.bounded_causes.specs.Causes.{standOf, goesBackOf, watchOf, othersHold}
-use Rattle.bounded_demands.specs.Notions.{document01, goesBack, otherHand, Alone, goingsBack}
+use Rattle.bounded_demands.specs.Notions.{document01, InWindow, goesBack, otherHand, Alone, goingsBack}
 use Rattle.bounded_demands.specs.Demands.{BackOnce, AloneBackOnce}
+use Rattle.bounded_proof_each_act.proofs.Sight.{look, Recent}
 use Rattle.bounded_proof_demand2.proofs.Turns.{Turned, began, did, stood}
 use Rattle.bounded_proof_demand2.proofs.Pictured.{Base}
-use Rattle.bounded_proof_demand2.proofs.Reached.{lapsOf, base-of, along}
+use Rattle.bounded_proof_demand2.proofs.Reached.{lapsOf, base-of, along, recent-in}
+use Rattle.bounded_proof_demand2.proofs.Always.{always}
 use Rattle.bounded_proof_causes.proofs.Rows.{Clean, begin-clean}
 use Rattle.bounded_proof_causes.proofs.Folds.{others-stay}
 use Rattle.bounded_proof_causes.proofs.Causes as causes
@@ -78,9 +82,9 @@ no-acts : (m : Machine) (h : List Event) (w : ℕ) → otherHand w h ≡ false �
 unfolding goingsBack
 no-acts m h w free = (free, omega arith, λ k. absurd (omega arith))
 
-module _ (c n workers : ℕ) (base : Base c n workers) where
+module _ (bits : Width) (c n workers : ℕ) (base : Base bits c n workers) where
   record Once (m : Machine) (h : List Event) : Type 0 where
-    pub causing : Causing c n workers base m h
+    pub causing : Causing bits c n workers base m h
     pub soles : Soles m h
     pub once : BackOnce h
 
@@ -90,42 +94,43 @@ module _ (c n workers : ℕ) (base : Base c n workers) where
       let s = o earlier alone v e a free in
       (s .0, s .1, λ k. placed (m .workers) w v (beginner (beginOf q)) idler (λ (z : Worker). Clean (watchOf (kept h) v) (z .place)) (λ i. begin-clean (watchOf (kept h) v) q) (s .2 k))
 
-  module _ (m : Machine) (h : List Event) (o : Once m h) (w : ℕ) (l : w < m .count) (lose : Bool) (busy : viewOf (stood m w) .busy ≡ true) where
+  module _ (m : Machine) (h : List Event) (o : Once m h) (w : ℕ) (l : w < m .count) (lose : Bool) (busy : viewOf (stood m w) .busy ≡ true)
+      (young : Recent c (markOf c) n (o .causing .behind .ring) (o .causing .behind .pictured .ages w) (look c (stood m w))) where
     abbrev next : Machine
-    next = causes.next c n workers base m h (o .causing) w l lose busy
+    next = causes.next bits c n workers base m h (o .causing) w l lose busy young
 
     abbrev new : Event
-    new = causes.new c n workers base m h (o .causing) w l lose busy
+    new = causes.new bits c n workers base m h (o .causing) w l lose busy young
 
-    own : (left : List Event) → Sole m h w left → lossAt m w lose ≢ BySchedule → Sole next (h ++ new ∷ []) w (left ++ new ∷ [])
+    own : (left : List Event) → Sole m h w left → lossAt bits m w lose ≢ BySchedule → Sole next (h ++ new ∷ []) w (left ++ new ∷ [])
     own left s un = let q = go (goesBack new) refl in (free, q .0, q .1)
       where
-        goes : {b : Bool} → goesBack new ≡ b → goesBackOf (standOf (stood m w)) (standOf (causes.does c n workers base m h (o .causing) w l lose busy .place)) ≡ b
-        goes e = sym (causes.goes c n workers base m h (o .causing) w l lose busy) ∙ e
+        goes : {b : Bool} → goesBack new ≡ b → goesBackOf (standOf (stood m w)) (standOf (causes.does bits c n workers base m h (o .causing) w l lose busy young .place)) ≡ b
+        goes e = sym (causes.goes bits c n workers base m h (o .causing) w l lose busy young) ∙ e
 
         free : otherHand w (h ++ new ∷ []) ≡ false
         free =
-            ap (λ (xs : List Watch). othersHold xs w) (causes.kept-next c n workers base m h (o .causing) w l lose busy)
-            ∙ others-stay w (causes.deed c n workers base m h (o .causing) w l lose busy) (kept h) (o .causing .long) (s .0)
+            ap (λ (xs : List Watch). othersHold xs w) (causes.kept-next bits c n workers base m h (o .causing) w l lose busy young)
+            ∙ others-stay w (causes.deed bits c n workers base m h (o .causing) w l lose busy young) (kept h) (o .causing .long) (s .0)
 
-        there : Clean (causes.now c n workers base m h (o .causing) w l lose busy) (causes.does c n workers base m h (o .causing) w l lose busy .place)
+        there : Clean (causes.now bits c n workers base m h (o .causing) w l lose busy young) (causes.does bits c n workers base m h (o .causing) w l lose busy young .place)
             → Clean (watchOf (kept (h ++ new ∷ [])) w) (stood next w)
         there z =
-            subst (λ (y : Watch). Clean y (stood next w)) (sym (causes.own-next c n workers base m h (o .causing) w l lose busy))
-            (subst (Clean (causes.now c n workers base m h (o .causing) w l lose busy)) (sym (causes.went c n workers base m h (o .causing) w l lose busy)) z)
+            subst (λ (y : Watch). Clean y (stood next w)) (sym (causes.own-next bits c n workers base m h (o .causing) w l lose busy young))
+            (subst (Clean (causes.now bits c n workers base m h (o .causing) w l lose busy young)) (sym (causes.went bits c n workers base m h (o .causing) w l lose busy young)) z)
 
         none : goesBack new ≡ true → Dec (goingsBack left ≡ 1) → goingsBack left ≡ 0
-        none b (yes k) = absurd (causes.its-row c n workers base m h (o .causing) w l lose busy .alone (goes b) (s .0) (s .2 k) un)
+        none b (yes k) = absurd (causes.its-row bits c n workers base m h (o .causing) w l lose busy young .alone (goes b) (s .0) (s .2 k) un)
         none b (no k) = omega (arith, s .1)
 
         go : (b : Bool) → goesBack new ≡ b
             → (goingsBack (left ++ new ∷ []) ≤ 1) × (goingsBack (left ++ new ∷ []) ≡ 1 → Clean (watchOf (kept (h ++ new ∷ [])) w) (stood next w))
         go true b =
             let up : goingsBack (left ++ new ∷ []) ≡ goingsBack left + 1 = goings-end left new ∙ ap (λ (z : Bool). goingsBack left + cond z 1 0) b in
-            (omega (arith, up, none b (ℕ-discrete (goingsBack left) 1)), λ k. there (causes.its-row c n workers base m h (o .causing) w l lose busy .cleaned (goes b)))
+            (omega (arith, up, none b (ℕ-discrete (goingsBack left) 1)), λ k. there (causes.its-row bits c n workers base m h (o .causing) w l lose busy young .cleaned (goes b)))
         go false b =
             let same : goingsBack (left ++ new ∷ []) ≡ goingsBack left + 0 = goings-end left new ∙ ap (λ (z : Bool). goingsBack left + cond z 1 0) b in
-            (omega (arith, same, s .1), λ k. there (causes.its-row c n workers base m h (o .causing) w l lose busy .clean (s .0) (s .2 (omega (arith, same)))))
+            (omega (arith, same, s .1), λ k. there (causes.its-row bits c n workers base m h (o .causing) w l lose busy young .clean (s .0) (s .2 (omega (arith, same)))))
 
     soles-next : Soles next (h ++ new ∷ [])
     soles-next earlier alone v e a free = go (cut h new earlier alone e)
@@ -145,29 +150,31 @@ module _ (c n workers : ℕ) (base : Base c n workers) where
         go (whole p q) = soles-next earlier alone v (sym p) a free .1
         go (part left p q) = o .once earlier alone left v q a free
 
-  once-kept : (m : Machine) (h : List Event) (en : Entry) (next-machine : Machine) (acts : List Event) → Once m h → Turned m en next-machine acts → Once next-machine (h ++ acts)
-  once-kept m h en next-machine acts o (began w q l idle) =
+  once-kept : (m : Machine) (h : List Event) (en : Entry) (next-machine : Machine) (acts : List Event) → Once m h → InWindow bits m h → Turned bits m en next-machine acts
+      → Once next-machine (h ++ acts)
+  once-kept m h en next-machine acts o window (began w q l idle) =
       record {
-        causing = causing-kept c n workers base m h en next-machine acts (o .causing) (began w q l idle);
+        causing = causing-kept bits c n workers base m h en next-machine acts (o .causing) window (began w q l idle);
         soles = rw (append-nil h) (begun-soles m h w q (o .soles));
         once = rw (append-nil h) (o .once);
       }
-  once-kept m h en next-machine acts o (did w lose l busy early) =
+  once-kept m h en next-machine acts o window (did w lose l busy early) =
+      let young = recent-in bits c n workers base m h (o .causing .behind) window w in
       record {
-        causing = causing-kept c n workers base m h en next-machine acts (o .causing) (did w lose l busy early);
-        soles = soles-next m h o w l lose busy;
-        once = once-next m h o w l lose busy;
+        causing = causing-kept bits c n workers base m h en next-machine acts (o .causing) window (did w lose l busy early);
+        soles = soles-next m h o w l lose busy young;
+        once = once-next m h o w l lose busy young;
       }
 
 pub alone-back-once : AloneBackOnce document01
 unfolding goingsBack
 alone-back-once capacity workers edition a s =
-    let n = lapsOf capacity in
-    let base = base-of capacity workers edition a in
+    let n = lapsOf SixtyFour capacity in
+    let base = base-of SixtyFour capacity workers edition a in
     let m = freshOf capacity workers edition in
-    along (Once capacity n workers base) (once-kept capacity n workers base) s m [] 0
+    along SixtyFour (InWindow SixtyFour) (Once SixtyFour capacity n workers base) (once-kept SixtyFour capacity n workers base) s m [] 0 (always capacity workers edition a s)
     (record {
-      causing = fresh-causing capacity workers edition a;
+      causing = fresh-causing SixtyFour capacity workers edition a;
       soles = λ earlier alone w e b free.
           let z = nil-both earlier alone e in
           subst (Sole m [] w) (sym (z .1)) (no-acts m [] w (subst (λ (y : List Event). otherHand w y ≡ false) (z .0) free));

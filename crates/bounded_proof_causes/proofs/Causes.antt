@@ -6,13 +6,14 @@ use mathlib.Core.List.{List, [], _∷_, _++_, append-nil}
 use Prim.Native.Nat.{ℕ, _+_, _*_, _%_, _<_}
 use native.Mathlib.Omega.{arith}
 use native.Mathlib.Decide.{ℕ-discrete}
-use lib.ListN.{length, getD, replicate, length-set, length-replicate}
-use lib.Seq.{getD-set-other}
+use lib.ListN.{length, getD, length-replicate}
 use Rattle.queue_entries.specs.Limits.{workersMost}
 use Rattle.queue_entries.specs.declared.Call.{Call}
 use Rattle.queue_entries.specs.declared.Entry.{Entry}
 use Rattle.bounded_words.specs.declared.Stamp.{Stamp}
 use Rattle.bounded_words.specs.declared.Fixed.{Fixed}
+use Rattle.bounded_words.specs.declared.Width.{Width}
+use Rattle.bounded_words.specs.declared.Width.the-variants.{SixtyFour}
 use Rattle.bounded_words.specs.Words.{markOf, unmarkedOf}
 use Rattle.bounded_places.specs.declared.Slot.{Slot}
 use Rattle.bounded_places.specs.declared.Ends.{Ends}
@@ -25,29 +26,26 @@ use Rattle.bounded_places.specs.Places.{viewOf, beginOf}
 use Rattle.bounded_acts.specs.declared.Acted.{Acted}
 use Rattle.bounded_machine.specs.declared.Machine.{Machine}
 use Rattle.bounded_machine.specs.declared.Event.{Event}
-use Rattle.bounded_machine.specs.declared.Moved.{Moved}
 use Rattle.bounded_machine.specs.Machine.{slot, idler, freshOf}
 use Rattle.bounded_machine.specs.Turn.{spotOf, beginner, recordAfter, begun, stored, acted, actedBy}
 use Rattle.bounded_machine.specs.History.{movedOf, lossAt}
 use Rattle.bounded_causes.specs.declared.Deed.{Deed}
 use Rattle.bounded_causes.specs.declared.Watch.{Watch}
 use Rattle.bounded_causes.specs.declared.Watches.{Watches}
-use Rattle.bounded_causes.specs.declared.Causes.{Causes}
-use Rattle.bounded_causes.specs.Causes.{standOf, goesBackOf, claimsTail, claimsHead, deedOf, ownAct, otherAct, unwatched, start, watchOf, othersHold, watchedOf, causesOf, namedOf}
-use Rattle.bounded_demands.specs.Notions.{document01, Allowed, machineAfter, actsOf, goesBack, WayBack, watchesFrom, watches, causesIn, Caused, by-schedule, by-own-end, by-other-end, by-hand}
+use Rattle.bounded_causes.specs.Causes.{standOf, goesBackOf, claimsTail, deedOf, ownAct, otherAct, unwatched, start, watchOf, othersHold, watchedOf, causesOf, namedOf}
+use Rattle.bounded_demands.specs.Notions.{ofWidth, document01, Allowed, KeepsWindow, InWindow, machineAfter, actsOf, goesBack, WayBack, watchesFrom, watches, causesIn, Caused, by-schedule, by-own-end, by-other-end, by-hand}
 use Rattle.bounded_demands.specs.Retries.{onlyOwn}
 use Rattle.bounded_demands.specs.Demands.{RetriesCaused, LenByOwnEnd, EveryRetryHasACause, WaysBack, EightWaysBack}
 use Rattle.bounded_proof_invariant.proofs.Ring.{Mine, Shared}
 use Rattle.bounded_proof_invariant.proofs.Effects.{Effect, Still, Tailed, Taken, Grabbed, Forced, Fills, Swaps, Frees, Gives, Loose, after}
 use Rattle.bounded_proof_each_act.proofs.Stamps.{fixed, tailWord, word-slot, unmarked-tail}
-use Rattle.bounded_proof_each_act.proofs.Sight.{look, HandAt, told, endsOf, slotOf, Stands}
-use Rattle.bounded_proof_each_act.proofs.Steps.{Step}
+use Rattle.bounded_proof_each_act.proofs.Sight.{look, HandAt, told, endsOf, slotOf, Stands, Recent}
 use Rattle.bounded_proof_demand2.proofs.Lists.{Last, Earlier, split-end}
 use Rattle.bounded_proof_demand2.proofs.Turns.{Turned, began, did, stood, eventOf}
 use Rattle.bounded_proof_demand2.proofs.Logged.{movedBy, shows}
-use Rattle.bounded_proof_demand2.proofs.Pictured as pictured
-use Rattle.bounded_proof_demand2.proofs.Pictured.{Base, Pictured, busy-counted, hand-busy, first-turn, stepped, spot, spot-small, result, new-record, acted-stood}
-use Rattle.bounded_proof_demand2.proofs.Reached.{Reached, lapsOf, base-of, fresh-record, nil-split, along, entered}
+use Rattle.bounded_proof_demand2.proofs.Pictured.{Base, Pictured, busy-counted, hand-busy, stepped, spot, spot-small, result, new-record, acted-stood}
+use Rattle.bounded_proof_demand2.proofs.Reached.{Reached, lapsOf, base-of, fresh-record, nil-split, along, recent-in, entered-in}
+use Rattle.bounded_proof_demand2.proofs.Always.{always}
 use Rattle.bounded_proof_demand2.proofs.Demand2.{fresh-reached}
 use Rattle.bounded_proof_causes.proofs.Found.{SeesTail, SeesHead, loose-of, sees-tail, sees-head}
 use Rattle.bounded_proof_causes.proofs.Rows as rows
@@ -78,12 +76,12 @@ len-only t u x y l (by-hand h) = absurd (true≢false (sym h))
 abbrev pub kept : List Event → List Watch
 kept h = watches h .each
 
-module _ (c n workers : ℕ) (base : Base c n workers) where
+module _ (bits : Width) (c n workers : ℕ) (base : Base bits c n workers) where
   pub record Causing (m : Machine) (h : List Event) : Type 0 where
     pub behind : Reached c n workers m h
     pub long : length (kept h) ≡ workersMost
     pub hands : (v : ℕ) → v < workersMost → watchOf (kept h) v .hand ≡ standOf (stood m v) .hand
-    pub knows : (v : ℕ) → v < workersMost → Knows (m .ring .fixed) (m .ring .ends) (watchOf (kept h) v) (stood m v)
+    pub knows : (v : ℕ) → v < workersMost → Knows bits (m .ring .fixed) (m .ring .ends) (watchOf (kept h) v) (stood m v)
     pub ways : WaysBack h
     pub caused : RetriesCaused causesIn h
     pub lens : LenByOwnEnd causesIn h
@@ -109,11 +107,11 @@ module _ (c n workers : ℕ) (base : Base c n workers) where
           placed-else (m .workers) w (beginner (beginOf q)) idler (λ (v : ℕ) (z : Worker). v < workersMost → watchOf (kept h) v .hand ≡ standOf (z .place) .hand) seat
           (λ b. o .hands w b ∙ idle-hand (stood m w) idle ∙ sym (begin-hand q)) (λ v ne. o .hands v)
 
-      begun-knows : (v : ℕ) → v < workersMost → Knows (m .ring .fixed) (m .ring .ends) (watchOf (kept h) v) (stood (begun m w (beginOf q)) v)
+      begun-knows : (v : ℕ) → v < workersMost → Knows bits (m .ring .fixed) (m .ring .ends) (watchOf (kept h) v) (stood (begun m w (beginOf q)) v)
       unfolding begun
       begun-knows =
-          placed-else (m .workers) w (beginner (beginOf q)) idler (λ (v : ℕ) (z : Worker). v < workersMost → Knows (m .ring .fixed) (m .ring .ends) (watchOf (kept h) v) (z .place)) seat
-          (λ b. begin-knows (m .ring .fixed) (m .ring .ends) (watchOf (kept h) w) q) (λ v ne. o .knows v)
+          placed-else (m .workers) w (beginner (beginOf q)) idler (λ (v : ℕ) (z : Worker). v < workersMost → Knows bits (m .ring .fixed) (m .ring .ends) (watchOf (kept h) v) (z .place)) seat
+          (λ b. begin-knows bits (m .ring .fixed) (m .ring .ends) (watchOf (kept h) w) q) (λ v ne. o .knows v)
 
       begun-causing : (en : Entry) → Reached c n workers (begun m w (beginOf q)) (h ++ []) → Causing (begun m w (beginOf q)) (h ++ [])
       unfolding begun
@@ -129,21 +127,21 @@ module _ (c n workers : ℕ) (base : Base c n workers) where
           }
 
     -- an act
-    module _ (lose : Bool) (busy : viewOf (stood m w) .busy ≡ true) where
+    module _ (lose : Bool) (busy : viewOf (stood m w) .busy ≡ true) (young : Recent c (markOf c) n (o .behind .ring) (o .behind .pictured .ages w) (look c (stood m w))) where
       abbrev pub at : ℕ
-      at = spot c n workers base ring m pic w l lose busy
+      at = spot bits c n workers base ring m pic w l lose busy
 
       abbrev pub here : Slot
       here = getD (m .ring .slots) at (slot 0 0)
 
       abbrev pub does : Acted
-      does = result c n workers base ring m pic w l lose busy
+      does = result bits c n workers base ring m pic w l lose busy
 
       abbrev pub next : Machine
-      next = acted m w (stood m w) lose
+      next = acted bits m w (stood m w) lose
 
       abbrev pub new : Event
-      new = eventOf m w lose next
+      new = eventOf bits m w lose next
 
       abbrev pub x : Watch
       x = watchOf (kept h) w
@@ -152,13 +150,13 @@ module _ (c n workers : ℕ) (base : Base c n workers) where
       others = othersHold (kept h) w
 
       abbrev pub now : Watch
-      now = rows.after (m .ring .fixed) (m .ring .ends) here x others (stood m w) (does .place)
+      now = rows.after bits (m .ring .fixed) (m .ring .ends) here x others (stood m w) (does .place)
 
       small : at < c
-      small = spot-small c n workers base ring m pic w l lose busy
+      small = spot-small bits c n workers base ring m pic w l lose busy
 
       pub went : stood next w ≡ does .place
-      went = acted-stood c n workers base ring m pic w l lose busy
+      went = acted-stood bits c n workers base ring m pic w l lose busy
 
       -- the slot of a stamp load is in nobody's hand, if no other has one
       loose : (HandAt (markOf c) (look c (stood m w)) at → ⊥) → others ≡ false → Loose (ring .cell at)
@@ -177,32 +175,32 @@ module _ (c n workers : ℕ) (base : Base c n workers) where
       at-word p t k e i j =
           sym j ∙ ap (λ (f : Fixed). t .0 % f .mark) (sym (pic .rule)) ∙ sym i ∙ ap (λ (z : Place). spotOf (m .ring .fixed) (viewOf z .held)) (sym e)
 
-      tails : (k : Kind) (t : Stamp) (y : ℕ) → stood m w ≡ P2 k t y → others ≡ false → SeesTail (m .ring .fixed) (m .ring .ends) here t
+      tails : (k : Kind) (t : Stamp) (y : ℕ) → stood m w ≡ P2 k t y → others ≡ false → SeesTail bits (m .ring .fixed) (m .ring .ends) here t
       tails k t y e none =
-          let z : Stands c (markOf c) n ring w (look c (P2 k t y)) = subst (λ (p : Place). Stands c (markOf c) n ring w (look c p)) e (pic .stands w) in
-          let i : z .0 % c ≡ at = at-word (P2 k t y) t (z .0) e refl (word-slot c (markOf c) n (base .ground) t (z .0) (z .1)) in
-          let late : ring .tail + 2 * c < z .0 + n * c = omega (arith, first-turn c n workers base ring m pic) in
+          let z : Stands c (markOf c) n ring w (pic .ages w) (look c (P2 k t y)) = subst (λ (p : Place). Stands c (markOf c) n ring w (pic .ages w) (look c p)) e (pic .stands w) in
+          let i : z .0 % c ≡ at = at-word (P2 k t y) t (z .0) e refl (word-slot bits c (markOf c) n (base .ground) t (z .0) (z .1)) in
+          let late : ring .tail + 2 * c < z .0 + n * c = omega (arith, subst (λ (p : Place). Recent c (markOf c) n ring (pic .ages w) (look c p)) e young refl .0, z .3) in
           let free = loose (λ a. true≢false (sym (subst (λ (p : Place). HandAt (markOf c) (look c p) at) e a .0))) none in
-          let seen = sees-tail c (markOf c) n (m .ring .fixed .edition) (base .ground) ring (pic .inv) at (z .0) (ring .val at) (pic .shut) i (z .2) late (ring .cell at) (pic .inv .cells at small) free in
-          subst (λ (f : Fixed). SeesTail f (m .ring .ends) here t) (sym (pic .rule))
-          (subst (λ (u : Ends). SeesTail (fixed c (markOf c) (m .ring .fixed .edition)) u here t) (sym (pic .ends))
-          (subst (λ (s : Slot). SeesTail (fixed c (markOf c) (m .ring .fixed .edition)) (endsOf c (markOf c) n ring (pic .shut)) s t) (sym (pic .slots at small))
-          (subst (SeesTail (fixed c (markOf c) (m .ring .fixed .edition)) (endsOf c (markOf c) n ring (pic .shut)) (slotOf c (markOf c) n (ring .cell at) (ring .val at))) (sym (z .1)) seen)))
+          let seen = sees-tail bits c (markOf c) n (m .ring .fixed .edition) (base .ground) ring (pic .inv) at (z .0) (ring .val at) (pic .shut) i (z .2) late (ring .cell at) (pic .inv .cells at small) free in
+          subst (λ (f : Fixed). SeesTail bits f (m .ring .ends) here t) (sym (pic .rule))
+          (subst (λ (u : Ends). SeesTail bits (fixed c (markOf c) (m .ring .fixed .edition)) u here t) (sym (pic .ends))
+          (subst (λ (s : Slot). SeesTail bits (fixed c (markOf c) (m .ring .fixed .edition)) (endsOf c (markOf c) n ring (pic .shut)) s t) (sym (pic .slots at small))
+          (subst (SeesTail bits (fixed c (markOf c) (m .ring .fixed .edition)) (endsOf c (markOf c) n ring (pic .shut)) (slotOf c (markOf c) n (ring .cell at) (ring .val at))) (sym (z .1)) seen)))
 
-      heads : (t : Stamp) → stood m w ≡ O2 t → others ≡ false → SeesHead (m .ring .fixed) (m .ring .ends) here t
+      heads : (t : Stamp) → stood m w ≡ O2 t → others ≡ false → SeesHead bits (m .ring .fixed) (m .ring .ends) here t
       heads t e none =
-          let z : Stands c (markOf c) n ring w (look c (O2 t)) = subst (λ (p : Place). Stands c (markOf c) n ring w (look c p)) e (pic .stands w) in
-          let i : z .0 % c ≡ at = at-word (O2 t) t (z .0) e refl (word-slot c (markOf c) n (base .ground) t (z .0) (z .1)) in
-          let late : ring .head + 2 * c < z .0 + n * c = omega (arith, first-turn c n workers base ring m pic, pic .inv .low) in
+          let z : Stands c (markOf c) n ring w (pic .ages w) (look c (O2 t)) = subst (λ (p : Place). Stands c (markOf c) n ring w (pic .ages w) (look c p)) e (pic .stands w) in
+          let i : z .0 % c ≡ at = at-word (O2 t) t (z .0) e refl (word-slot bits c (markOf c) n (base .ground) t (z .0) (z .1)) in
+          let late : ring .head + 2 * c < z .0 + n * c = omega (arith, subst (λ (p : Place). Recent c (markOf c) n ring (pic .ages w) (look c p)) e young refl .1, z .3) in
           let free = loose (λ a. true≢false (sym (subst (λ (p : Place). HandAt (markOf c) (look c p) at) e a .0))) none in
-          let seen = sees-head c (markOf c) n (m .ring .fixed .edition) (base .ground) ring (pic .inv) at (z .0) (ring .val at) (pic .shut) i (z .2) late (ring .cell at) (pic .inv .cells at small) free in
-          subst (λ (f : Fixed). SeesHead f (m .ring .ends) here t) (sym (pic .rule))
-          (subst (λ (u : Ends). SeesHead (fixed c (markOf c) (m .ring .fixed .edition)) u here t) (sym (pic .ends))
-          (subst (λ (s : Slot). SeesHead (fixed c (markOf c) (m .ring .fixed .edition)) (endsOf c (markOf c) n ring (pic .shut)) s t) (sym (pic .slots at small))
-          (subst (SeesHead (fixed c (markOf c) (m .ring .fixed .edition)) (endsOf c (markOf c) n ring (pic .shut)) (slotOf c (markOf c) n (ring .cell at) (ring .val at))) (sym (z .1)) seen)))
+          let seen = sees-head bits c (markOf c) n (m .ring .fixed .edition) (base .ground) ring (pic .inv) at (z .0) (ring .val at) (pic .shut) i (z .2) late (ring .cell at) (pic .inv .cells at small) free in
+          subst (λ (f : Fixed). SeesHead bits f (m .ring .ends) here t) (sym (pic .rule))
+          (subst (λ (u : Ends). SeesHead bits (fixed c (markOf c) (m .ring .fixed .edition)) u here t) (sym (pic .ends))
+          (subst (λ (s : Slot). SeesHead bits (fixed c (markOf c) (m .ring .fixed .edition)) (endsOf c (markOf c) n ring (pic .shut)) s t) (sym (pic .slots at small))
+          (subst (SeesHead bits (fixed c (markOf c) (m .ring .fixed .edition)) (endsOf c (markOf c) n ring (pic .shut)) (slotOf c (markOf c) n (ring .cell at) (ring .val at))) (sym (z .1)) seen)))
 
-      pub its-row : Row (m .ring .fixed) (m .ring .ends) here x others (stood m w) does
-      its-row = row (m .ring .fixed) (m .ring .ends) here x others (stood m w) lose (o .knows w few) tails heads
+      pub its-row : Row bits (m .ring .fixed) (m .ring .ends) here x others (stood m w) does
+      its-row = row bits (m .ring .fixed) (m .ring .ends) here x others (stood m w) lose (o .knows w few) tails heads
 
       -- what is kept afterwards
       abbrev pub deed : Deed
@@ -223,14 +221,14 @@ module _ (c n workers : ℕ) (base : Base c n workers) where
       -- the unmarked tail stays where tail is not claimed
       bare : claimsTail (movedOf (does .place)) ≡ false → unmarkedOf (m .ring .fixed) (does .ends .tail) ≡ unmarkedOf (m .ring .fixed) (m .ring .ends .tail)
       bare none =
-          let st = stepped c n workers base ring m pic w l lose busy in
+          let st = stepped bits c n workers base ring m pic w l lose busy young in
           let f = fixed c (markOf c) (m .ring .fixed .edition) in
           let told-so : movedOf (does .place) ≡ movedBy (told (st .effect)) = shows c (does .place) .1 ∙ ap movedBy (st .tells) in
           let still : after c w at (st .effect) ring .tail ≡ ring .tail = tail-stays c ring w at (st .effect) (ap claimsTail (sym told-so) ∙ none) in
           ap (λ (f : Fixed). unmarkedOf f (does .ends .tail)) (pic .rule)
           ∙ ap (λ (u : Ends). unmarkedOf f (u .tail)) (st .ends)
-          ∙ unmarked-tail c (markOf c) n (base .ground) (m .ring .fixed .edition) (after c w at (st .effect) ring .tail) (st .shut)
-          ∙ sym (unmarked-tail c (markOf c) n (base .ground) (m .ring .fixed .edition) (after c w at (st .effect) ring .tail) (pic .shut))
+          ∙ unmarked-tail bits c (markOf c) n (base .ground) (m .ring .fixed .edition) (after c w at (st .effect) ring .tail) (st .shut)
+          ∙ sym (unmarked-tail bits c (markOf c) n (base .ground) (m .ring .fixed .edition) (after c w at (st .effect) ring .tail) (pic .shut))
           ∙ ap (λ (k : ℕ). unmarkedOf f (tailWord c (markOf c) n k (pic .shut))) still
           ∙ ap (λ (u : Ends). unmarkedOf f (u .tail)) (sym (pic .ends))
           ∙ ap (λ (f : Fixed). unmarkedOf f (m .ring .ends .tail)) (sym (pic .rule))
@@ -238,25 +236,25 @@ module _ (c n workers : ℕ) (base : Base c n workers) where
       hands-next : (v : ℕ) → v < workersMost → watchOf (kept (h ++ new ∷ [])) v .hand ≡ standOf (stood next v) .hand
       unfolding actedBy stored recordAfter deedOf ownAct otherAct
       hands-next =
-          placed-else (m .workers) w (new-record c n workers base ring m pic w l lose busy) idler
+          placed-else (m .workers) w (new-record bits c n workers base ring m pic w l lose busy) idler
           (λ (v : ℕ) (z : Worker). v < workersMost → watchOf (kept (h ++ new ∷ [])) v .hand ≡ standOf (z .place) .hand) seat
           (λ b. ap (λ (y : Watch). y .hand) own-next) (λ v ne b. ap (λ (y : Watch). y .hand) (else-next v b ne) ∙ o .hands v b)
 
-      knows-next : (v : ℕ) → v < workersMost → Knows (next .ring .fixed) (next .ring .ends) (watchOf (kept (h ++ new ∷ [])) v) (stood next v)
+      knows-next : (v : ℕ) → v < workersMost → Knows bits (next .ring .fixed) (next .ring .ends) (watchOf (kept (h ++ new ∷ [])) v) (stood next v)
       unfolding actedBy stored recordAfter deedOf
       knows-next =
-          placed-else (m .workers) w (new-record c n workers base ring m pic w l lose busy) idler
-          (λ (v : ℕ) (z : Worker). v < workersMost → Knows (m .ring .fixed) (does .ends) (watchOf (kept (h ++ new ∷ [])) v) (z .place)) seat
-          (λ b. subst (λ (y : Watch). Knows (m .ring .fixed) (does .ends) y (does .place)) (sym own-next) (its-row .knows))
-          (λ v ne b. subst (λ (y : Watch). Knows (m .ring .fixed) (does .ends) y (stood m v)) (sym (else-next v b ne))
-          (knows-else (m .ring .fixed) (m .ring .ends) (does .ends) deed (watchOf (kept h) v) (its-row .tail) (its-row .head) bare (stood m v) (o .knows v b)))
+          placed-else (m .workers) w (new-record bits c n workers base ring m pic w l lose busy) idler
+          (λ (v : ℕ) (z : Worker). v < workersMost → Knows bits (m .ring .fixed) (does .ends) (watchOf (kept (h ++ new ∷ [])) v) (z .place)) seat
+          (λ b. subst (λ (y : Watch). Knows bits (m .ring .fixed) (does .ends) y (does .place)) (sym own-next) (its-row .knows))
+          (λ v ne b. subst (λ (y : Watch). Knows bits (m .ring .fixed) (does .ends) y (stood m v)) (sym (else-next v b ne))
+          (knows-else bits (m .ring .fixed) (m .ring .ends) (does .ends) deed (watchOf (kept h) v) (its-row .tail) (its-row .head) bare (stood m v) (o .knows v b)))
 
       -- the causes of the act
-      causes-are : causesIn h new ≡ causesOf (standOf (stood m w)) x now (lossAt m w lose)
+      causes-are : causesIn h new ≡ causesOf (standOf (stood m w)) x now (lossAt bits m w lose)
       unfolding namedOf
       causes-are =
-          ap (λ (q : Place). causesOf (standOf (stood m w)) x (watchOf (watchedOf w (deedOf (standOf (stood m w)) (standOf q) (movedOf q)) (kept h)) w) (lossAt m w lose)) went
-          ∙ ap (λ (y : Watch). causesOf (standOf (stood m w)) x y (lossAt m w lose)) (watched-own w deed (kept h) (o .long) few)
+          ap (λ (q : Place). causesOf (standOf (stood m w)) x (watchOf (watchedOf w (deedOf (standOf (stood m w)) (standOf q) (movedOf q)) (kept h)) w) (lossAt bits m w lose)) went
+          ∙ ap (λ (y : Watch). causesOf (standOf (stood m w)) x y (lossAt bits m w lose)) (watched-own w deed (kept h) (o .long) few)
 
       pub goes : goesBack new ≡ goesBackOf (standOf (stood m w)) (standOf (does .place))
       goes = ap (λ (q : Place). goesBackOf (standOf (stood m w)) (standOf q)) went
@@ -266,9 +264,9 @@ module _ (c n workers : ℕ) (base : Base c n workers) where
 
       new-len : (t u : Stamp) → stood m w ≡ Len3 t u → goesBack new ≡ true → causesIn h new ≡ onlyOwn
       new-len t u e b =
-          let k : causesIn h new ≡ causesOf (standOf (Len3 t u)) x now (lossAt m w lose) =
-          causes-are ∙ ap (λ (p : Place). causesOf (standOf p) x now (lossAt m w lose)) e in
-          k ∙ len-only t u x now (lossAt m w lose) (subst Caused k (new-caused b))
+          let k : causesIn h new ≡ causesOf (standOf (Len3 t u)) x now (lossAt bits m w lose) =
+          causes-are ∙ ap (λ (p : Place). causesOf (standOf p) x now (lossAt bits m w lose)) e in
+          k ∙ len-only t u x now (lossAt bits m w lose) (subst Caused k (new-caused b))
 
       new-way : goesBack new ≡ true → WayBack (stood m w) (stood next w)
       new-way b = subst (WayBack (stood m w)) (sym went) (its-row .way (sym goes ∙ b))
@@ -306,38 +304,44 @@ module _ (c n workers : ℕ) (base : Base c n workers) where
             lens = lens-next;
           }
 
-  pub causing-kept : (m : Machine) (h : List Event) (en : Entry) (next : Machine) (acts : List Event) → Causing m h → Turned m en next acts → Causing next (h ++ acts)
-  causing-kept m h en next acts o (began w q l idle) =
-      begun-causing m h o w l q idle en (entered c n workers base m h en next acts (o .behind) (began w q l idle))
-  causing-kept m h en next acts o (did w lose l busy early) =
-      acted-causing m h o w l lose busy (entered c n workers base m h en next acts (o .behind) (did w lose l busy early))
+  pub causing-kept : (m : Machine) (h : List Event) (en : Entry) (next : Machine) (acts : List Event) → Causing m h → InWindow bits m h → Turned bits m en next acts → Causing next (h ++ acts)
+  causing-kept m h en next acts o window (began w q l idle) =
+      begun-causing m h o w l q idle en (entered-in bits c n workers base m h en next acts (o .behind) window (began w q l idle))
+  causing-kept m h en next acts o window (did w lose l busy early) =
+      acted-causing m h o w l lose busy (recent-in bits c n workers base m h (o .behind) window w)
+      (entered-in bits c n workers base m h en next acts (o .behind) window (did w lose l busy early))
 
-pub fresh-causing : (capacity workers edition : ℕ) (a : Allowed capacity workers edition)
-    → Causing capacity (lapsOf capacity) workers (base-of capacity workers edition a) (freshOf capacity workers edition) []
+pub fresh-causing : (bits : Width) (capacity workers edition : ℕ) (a : Allowed capacity workers edition)
+    → Causing bits capacity (lapsOf bits capacity) workers (base-of bits capacity workers edition a) (freshOf capacity workers edition) []
 unfolding watchesFrom
-fresh-causing capacity workers edition a =
+fresh-causing bits capacity workers edition a =
     record {
-      behind = fresh-reached capacity workers edition a;
+      behind = fresh-reached bits capacity workers edition a;
       long = length-replicate workersMost unwatched;
       hands = λ v b. ap (λ (y : Watch). y .hand) (same-at workersMost v unwatched) ∙ sym (ap (λ (z : Worker). standOf (z .place) .hand) (fresh-record capacity workers edition v));
       knows =
           λ v b.
-          subst (λ (z : Worker). Knows (freshOf capacity workers edition .ring .fixed) (freshOf capacity workers edition .ring .ends) (watchOf (kept []) v) (z .place))
+          subst (λ (z : Worker). Knows bits (freshOf capacity workers edition .ring .fixed) (freshOf capacity workers edition .ring .ends) (watchOf (kept []) v) (z .place))
           (sym (fresh-record capacity workers edition v)) tt;
       ways = λ earlier later act e. absurd (nil-split earlier act later e);
       caused = λ earlier later act e. absurd (nil-split earlier act later e);
       lens = λ earlier later act t u e. absurd (nil-split earlier act later e);
     }
 
-reached-causing : (capacity workers edition : ℕ) (a : Allowed capacity workers edition) (s : List ℕ)
-    → Causing capacity (lapsOf capacity) workers (base-of capacity workers edition a) (machineAfter document01 capacity workers edition s) (actsOf document01 capacity workers edition s)
-reached-causing capacity workers edition a s =
-    let n = lapsOf capacity in
-    let base = base-of capacity workers edition a in
-    along (Causing capacity n workers base) (causing-kept capacity n workers base) s (freshOf capacity workers edition) [] 0 (fresh-causing capacity workers edition a)
+-- every schedule that keeps the window
+reached-causing : (bits : Width) (capacity workers edition : ℕ) (a : Allowed capacity workers edition) (s : List ℕ)
+    → KeepsWindow (ofWidth bits) (freshOf capacity workers edition) [] s
+    → Causing bits capacity (lapsOf bits capacity) workers (base-of bits capacity workers edition a) (machineAfter (ofWidth bits) capacity workers edition s)
+    (actsOf (ofWidth bits) capacity workers edition s)
+reached-causing bits capacity workers edition a s keeps =
+    let n = lapsOf bits capacity in
+    let base = base-of bits capacity workers edition a in
+    along bits (InWindow bits) (Causing bits capacity n workers base) (causing-kept bits capacity n workers base) s (freshOf capacity workers edition) [] 0 keeps
+    (fresh-causing bits capacity workers edition a)
 
+-- of 64 bits every schedule
 pub every-retry : EveryRetryHasACause document01 causesIn
-every-retry capacity workers edition a s = let o = reached-causing capacity workers edition a s in (o .caused, o .lens)
+every-retry capacity workers edition a s = let o = reached-causing SixtyFour capacity workers edition a s (always capacity workers edition a s) in (o .caused, o .lens)
 
 pub eight-ways : EightWaysBack document01
-eight-ways capacity workers edition a s = reached-causing capacity workers edition a s .ways
+eight-ways capacity workers edition a s = reached-causing SixtyFour capacity workers edition a s (always capacity workers edition a s) .ways

@@ -4,10 +4,10 @@ use mathlib.Core.Bool.{Bool, true, false, cond, true≢false}
 use Prim.Native.Nat.{ℕ, _+_, _*_, _%_, _≤_, _<_}
 use native.Mathlib.Omega.{arith}
 use native.Mathlib.Nat.{add-mod-right}
-use lib.Dec.{eqb}
 use borrow.Author.Tests.{eqb-true, eqb-false, eq-eqb}
 use Rattle.bounded_words.specs.declared.Stamp.{Stamp}
 use Rattle.bounded_words.specs.declared.Fixed.{Fixed}
+use Rattle.bounded_words.specs.declared.Width.{Width}
 use Rattle.bounded_words.specs.Words.{unmarkedOf, minus, same, onePast, lapBehind, lapBehindOnePast}
 use Rattle.bounded_places.specs.declared.Slot.{Slot}
 use Rattle.bounded_places.specs.declared.Ends.{Ends}
@@ -18,12 +18,12 @@ use Rattle.bounded_proof_each_act.proofs.Stamps
 use Rattle.bounded_proof_each_act.proofs.Stamps.{Ground, fixed, W, tailWord}
 use Rattle.bounded_proof_each_act.proofs.Sight.{endsOf, slotOf}
 
-pub record SeesTail (f : Fixed) (e : Ends) (s : Slot) (t : Stamp) : Type 0 where
-  pub decides : e .tail ≡ t → same (s .stamp) t ≡ false → lapBehindOnePast f (s .stamp) t ≡ false → ⊥
-  pub full : lapBehindOnePast f (s .stamp) t ≡ true → (lapBehind f (e .head) t ≡ true) × (same (e .head) (minus t (f .lap)) ≡ true)
+pub record SeesTail (bits : Width) (f : Fixed) (e : Ends) (s : Slot) (t : Stamp) : Type 0 where
+  pub decides : e .tail ≡ t → same (s .stamp) t ≡ false → lapBehindOnePast bits f (s .stamp) t ≡ false → ⊥
+  pub full : lapBehindOnePast bits f (s .stamp) t ≡ true → (lapBehind bits f (e .head) t ≡ true) × (same (e .head) (minus bits t (f .lap)) ≡ true)
 
-pub record SeesHead (f : Fixed) (e : Ends) (s : Slot) (h : Stamp) : Type 0 where
-  pub decides : e .head ≡ h → onePast (s .stamp) h ≡ false → same (s .stamp) h ≡ false → ⊥
+pub record SeesHead (bits : Width) (f : Fixed) (e : Ends) (s : Slot) (h : Stamp) : Type 0 where
+  pub decides : e .head ≡ h → onePast bits (s .stamp) h ≡ false → same (s .stamp) h ≡ false → ⊥
   pub empty : same (s .stamp) h ≡ true → same (unmarkedOf f (e .tail)) h ≡ true
 
 pub loose-of : (x : Cell) → ((v : ℕ) → Mine v x → ⊥) → Loose x
@@ -42,7 +42,7 @@ unmarked : (b t : Bool) → cond b false t ≡ true → t ≡ true
 unmarked true t h = absurd (true≢false (sym h))
 unmarked false t h = h
 
-module _ (c mark n ed : ℕ) (g : Ground c mark n) (s : Shared) (inv : Inv c s) (i m v : ℕ) (b : Bool) (at : m % c ≡ i) where
+module _ (bits : Width) (c mark n ed : ℕ) (g : Ground bits c mark n) (s : Shared) (inv : Inv c s) (i m v : ℕ) (b : Bool) (at : m % c ≡ i) where
   abbrev f : Fixed
   f = fixed c mark ed
 
@@ -60,9 +60,9 @@ module _ (c mark n ed : ℕ) (g : Ground c mark n) (s : Shared) (inv : Inv c s) 
     tail-is : tailWord c mark n (s .tail) b ≡ Word m → s .tail ≡ m
     tail-is e =
         let r : Near (n * c) (s .tail) m = omega (arith, turn) in
-        eqb-true _ _ (unmarked b _ (sym (Stamps.same-tail c mark n g (s .tail) m b r) ∙ same-self _ _ e))
+        eqb-true _ _ (unmarked b _ (sym (Stamps.same-tail bits c mark n g (s .tail) m b r) ∙ same-self _ _ e))
 
-    pub sees-tail : (x : Cell) → CellOk c s i x → Loose x → SeesTail f (endsOf c mark n s b) (slotOf c mark n x v) (Word m)
+    pub sees-tail : (x : Cell) → CellOk c s i x → Loose x → SeesTail bits f (endsOf c mark n s b) (slotOf c mark n x v) (Word m)
     sees-tail (Await k) o l =
         let r : Near (n * c) k m = omega (arith, turn, inv .low, inv .high, o .1, o .2) in
         let r' : Near (n * c) (k + c) m = omega (arith, turn, inv .low, inv .high, o .1, o .2) in
@@ -72,12 +72,12 @@ module _ (c mark n ed : ℕ) (g : Ground c mark n) (s : Shared) (inv : Inv c s) 
               let e : s .tail ≡ m = tail-is q in
               let z : k % c ≡ s .tail % c = o .0 ∙ sym at ∙ ap (λ (y : ℕ). y % c) (sym e) in
               let w : k ≡ s .tail = near-one c (s .tail) k some (o .1) (omega (arith, inv .low, o .2)) z in
-              eqb-false k m (sym (Stamps.stamp-same c mark n g false k m (o .0 ∙ sym at) r) ∙ h) (w ∙ e);
-          full = λ d. clash _ d (Stamps.stamp-behind c mark n g ed false k m (o .0 ∙ sym at) r');
+              eqb-false k m (sym (Stamps.stamp-same bits c mark n g false k m (o .0 ∙ sym at) r) ∙ h) (w ∙ e);
+          full = λ d. clash _ d (Stamps.stamp-behind bits c mark n g ed false k m (o .0 ∙ sym at) r');
         }
     sees-tail (Hold k) o l =
         let r' : Near (n * c) (k + c) m = omega (arith, turn, inv .low, inv .high, o .1, o .2) in
-        let past = Stamps.stamp-behind c mark n g ed true k m (o .0 ∙ sym at) r' in
+        let past = Stamps.stamp-behind bits c mark n g ed true k m (o .0 ∙ sym at) r' in
         record {
           decides =
               λ q h d.
@@ -91,8 +91,8 @@ module _ (c mark n ed : ℕ) (g : Ground c mark n) (s : Shared) (inv : Inv c s) 
               let e : s .head ≡ k = omega (arith, inv .high, o .1) in
               let near : Near (n * c) (s .head + c) m = omega (arith, turn) in
               let near' : Near (n * c) (s .head) k = omega (arith, turn) in (
-                Stamps.behind-is c mark n g ed (s .head) m near ∙ eq-eqb (s .head + c) m (omega arith),
-                ap (λ (y : ℕ). same (Word (s .head)) (minus (Word y) (2 * mark))) (sym w) ∙ Stamps.before-is c mark n g (s .head) k near' ∙ eq-eqb (s .head) k e,
+                Stamps.behind-is bits c mark n g ed (s .head) m near ∙ eq-eqb (s .head + c) m (omega arith),
+                ap (λ (y : ℕ). same (Word (s .head)) (minus bits (Word y) (2 * mark))) (sym w) ∙ Stamps.before-is bits c mark n g (s .head) k near' ∙ eq-eqb (s .head) k e,
               );
         }
 
@@ -101,12 +101,12 @@ module _ (c mark n ed : ℕ) (g : Ground c mark n) (s : Shared) (inv : Inv c s) 
     head-is : Word (s .head) ≡ Word m → s .head ≡ m
     head-is e =
         let r : Near (n * c) (s .head) m = omega (arith, turn) in
-        eqb-true _ _ (sym (Stamps.same-is c mark n g (s .head) m r) ∙ same-self _ _ e)
+        eqb-true _ _ (sym (Stamps.same-is bits c mark n g (s .head) m r) ∙ same-self _ _ e)
 
-    pub sees-head : (x : Cell) → CellOk c s i x → Loose x → SeesHead f (endsOf c mark n s b) (slotOf c mark n x v) (Word m)
+    pub sees-head : (x : Cell) → CellOk c s i x → Loose x → SeesHead bits f (endsOf c mark n s b) (slotOf c mark n x v) (Word m)
     sees-head (Await k) o l =
         let r : Near (n * c) k m = omega (arith, turn, inv .low, inv .high, o .1, o .2) in
-        let here = Stamps.stamp-same c mark n g false k m (o .0 ∙ sym at) r in
+        let here = Stamps.stamp-same bits c mark n g false k m (o .0 ∙ sym at) r in
         record {
           decides =
               λ q p d.
@@ -118,7 +118,7 @@ module _ (c mark n ed : ℕ) (g : Ground c mark n) (s : Shared) (inv : Inv c s) 
               λ d.
               let w : k ≡ m = eqb-true k m (sym here ∙ d) in
               let e : s .tail ≡ m = omega (arith, inv .low, o .1) in
-              same-self _ _ (Stamps.unmarked-tail c mark n g ed (s .tail) b ∙ ap Word e);
+              same-self _ _ (Stamps.unmarked-tail bits c mark n g ed (s .tail) b ∙ ap Word e);
         }
     sees-head (Hold k) o l =
         let r : Near (n * c) k m = omega (arith, turn, inv .low, inv .high, o .1, o .2) in
@@ -128,6 +128,6 @@ module _ (c mark n ed : ℕ) (g : Ground c mark n) (s : Shared) (inv : Inv c s) 
               let e : s .head ≡ m = head-is q in
               let z : k % c ≡ s .head % c = o .0 ∙ sym at ∙ ap (λ (y : ℕ). y % c) (sym e) in
               let w : k ≡ s .head = near-one c (s .head) k some (o .1) (omega (arith, inv .high, o .2)) z in
-              eqb-false k m (sym (Stamps.stamp-past c mark n g true k m (o .0 ∙ sym at) r) ∙ p) (w ∙ e);
-          empty = λ d. clash _ d (Stamps.stamp-same c mark n g true k m (o .0 ∙ sym at) r);
+              eqb-false k m (sym (Stamps.stamp-past bits c mark n g true k m (o .0 ∙ sym at) r) ∙ p) (w ∙ e);
+          empty = λ d. clash _ d (Stamps.stamp-same bits c mark n g true k m (o .0 ∙ sym at) r);
         }

@@ -11,13 +11,14 @@ use Rattle.queue_entries.specs.declared.Entry.the-variants.{Unreadable, Asks}
 use Rattle.queue_entries.specs.Entries.{entryOf}
 use Rattle.queue_entries.specs.declared.Verdict.{Verdict}
 use Rattle.queue_entries.specs.declared.Verdict.the-variants.{Refuse, Start, Move}
+use Rattle.bounded_words.specs.declared.Width.{Width}
 use Rattle.bounded_places.specs.declared.Place.{Place}
 use Rattle.bounded_places.specs.declared.Worker.{Worker}
 use Rattle.bounded_machine.specs.declared.Machine.{Machine}
 use Rattle.bounded_machine.specs.declared.Did.{Did}
 use Rattle.bounded_machine.specs.Machine.{machineOf, placeOf, refused, accepted}
 use Rattle.bounded_machine.specs.Turn.{verdictOf, beginner, recordAfter, begun, stored, acted, actedBy, carried, turn, turnOfBy}
-use Rattle.bounded_demands.specs.Notions.{document01, struck}
+use Rattle.bounded_demands.specs.Notions.{ofWidth, struck}
 use Rattle.bounded_demands.specs.Demands.{CountsAside}
 
 -- ---- the records, struck
@@ -54,7 +55,7 @@ Alike d k = (d .refusal ≡ k .refusal) × (struck (d .machine) ≡ struck (k .m
 abbrev withRecords : Machine → List Worker → Machine
 withRecords m l = machineOf (m .ring .fixed) (m .ring .ends) (m .ring .slots) l (m .count) (m .meter)
 
-module _ (m : Machine) where
+module _ (bits : Width) (m : Machine) where
   again : struck m ≡ struck (struck m)
   unfolding struck
   again = ap (withRecords m) (sym (struck-twice (m .workers)))
@@ -63,22 +64,22 @@ module _ (m : Machine) where
   unfolding refused
   refused-alike k = (refl, again)
 
-  carried-alike : (w : ℕ) (p : Place) (v : Verdict) → Alike (carried m w p v) (carried (struck m) w p v)
+  carried-alike : (w : ℕ) (p : Place) (v : Verdict) → Alike (carried bits m w p v) (carried bits (struck m) w p v)
   unfolding struck accepted begun actedBy stored recordAfter
   carried-alike w p (Refuse k) = refused-alike k
   carried-alike w p (Start c) = (refl, ap (withRecords m) (set-alike (m .workers) w _ _ refl))
-  carried-alike w p (Move lose) = (refl, ap (withRecords (acted m w p lose)) (set-alike (m .workers) w _ _ refl))
+  carried-alike w p (Move lose) = (refl, ap (withRecords (acted bits m w p lose)) (set-alike (m .workers) w _ _ refl))
 
   asked-alike : (w : ℕ) (o : Order) (b : Bool) (p q : Place) → p ≡ q
-      → Alike (cond b (carried m w p (verdictOf (m .meter) p o)) (refused 3 m)) (cond b (carried (struck m) w q (verdictOf (m .meter) q o)) (refused 3 (struck m)))
-  asked-alike w o true p q e = subst (λ (z : Place). Alike (carried m w p (verdictOf (m .meter) p o)) (carried (struck m) w z (verdictOf (m .meter) z o))) e (carried-alike w p (verdictOf (m .meter) p o))
+      → Alike (cond b (carried bits m w p (verdictOf (m .meter) p o)) (refused 3 m)) (cond b (carried bits (struck m) w q (verdictOf (m .meter) q o)) (refused 3 (struck m)))
+  asked-alike w o true p q e = subst (λ (z : Place). Alike (carried bits m w p (verdictOf (m .meter) p o)) (carried bits (struck m) w z (verdictOf (m .meter) z o))) e (carried-alike w p (verdictOf (m .meter) p o))
   asked-alike w o false p q e = refused-alike 3
 
-  turn-alike : (x : Entry) → Alike (turn m x) (turn (struck m) x)
+  turn-alike : (x : Entry) → Alike (turn bits m x) (turn bits (struck m) x)
   unfolding struck
   turn-alike Unreadable = refused-alike 9
   turn-alike (Asks w o) = asked-alike w o (ltb w (m .count)) (placeOf (m .workers) w) (placeOf (map strike (m .workers)) w) (sym (struck-place (m .workers) w))
 
-pub counts-aside : CountsAside document01
+pub counts-aside : (bits : Width) → CountsAside (ofWidth bits)
 unfolding turnOfBy
-counts-aside m first second = turn-alike m (entryOf first second)
+counts-aside bits m first second = turn-alike bits m (entryOf first second)

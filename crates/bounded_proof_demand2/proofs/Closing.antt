@@ -10,6 +10,8 @@ use native.Mathlib.Decide.{ℕ-discrete}
 use lib.ListN.{length, getD, length-append}
 use Rattle.queue_entries.specs.declared.Entry.{Entry}
 use Rattle.bounded_words.specs.declared.Fixed.{Fixed}
+use Rattle.bounded_words.specs.declared.Width.{Width}
+use Rattle.bounded_words.specs.declared.Width.the-variants.{SixtyFour}
 use Rattle.bounded_words.specs.Words.{markOf, markedOf, withMark}
 use Rattle.bounded_places.specs.declared.Slot.{Slot}
 use Rattle.bounded_places.specs.declared.Ends.{Ends}
@@ -24,22 +26,24 @@ use Rattle.bounded_machine.specs.declared.Event.{Event}
 use Rattle.bounded_machine.specs.declared.Moved.the-variants.{Neither}
 use Rattle.bounded_machine.specs.Machine.{slot, freshOf}
 use Rattle.bounded_machine.specs.Turn.{acted}
-use Rattle.bounded_machine.specs.Run.{runFrom}
-use Rattle.bounded_machine.specs.History.{historyOf, movedOf}
-use Rattle.bounded_demands.specs.Notions.{document01, machineAfter, actsOf, ClosesYes, NoClaims}
-use Rattle.bounded_demands.specs.Demands.{YesOnce, NoneAfterClosed, CloseHolds, ClosedIsLast}
+use Rattle.bounded_machine.specs.History.{movedOf}
+use Rattle.bounded_machine.proofs.Kept.{unbroken-of}
+use Rattle.bounded_demands.specs.Notions.{ofWidth, document01, Allowed, machineAfter, actsOf, InWindow, KeepsWindow, ClosesYes, NoClaims}
+use Rattle.bounded_demands.specs.Demands.{OnceClosed, YesOnce, NoneAfterClosed, CloseHolds, ClosedIsLast}
 use Rattle.bounded_proof_invariant.proofs.Ring.{Filled, Grab, Swapped, Cell, Await, Hold, Hand, Shared, CellOk, Inv}
 use Rattle.bounded_proof_invariant.proofs.Effects.{Effect, Still, Tailed, Taken, Grabbed, Forced, Fills, Swaps, Frees, Gives, Fits, Loose, after, ok-at}
 use Rattle.bounded_proof_invariant.proofs.Upd.{upd, upd-at, upd-else}
 use Rattle.bounded_proof_each_act.proofs.Stamps.{fixed, tailWord, marked-tail, with-mark}
-use Rattle.bounded_proof_each_act.proofs.Sight.{look, told, answerIn}
+use Rattle.bounded_proof_each_act.proofs.Sight.{look, told, answerIn, Recent}
 use Rattle.bounded_proof_each_act.proofs.Steps.{Latch, Says, Step}
 use Rattle.bounded_proof_demand2.proofs.Lists.{Last, Earlier, split-end}
 use Rattle.bounded_proof_demand2.proofs.Turns.{Turned, began, did, stood, eventOf, turned-fixed}
 use Rattle.bounded_proof_demand2.proofs.Logged.{movedBy, shows}
 use Rattle.bounded_proof_demand2.proofs.Pictured.{Base, Pictured, stepped, spot, spot-small, result, acted-stood}
-use Rattle.bounded_proof_demand2.proofs.Reached.{Reached, lapsOf, base-of, nil-split, along, entered, begun-behind, did-behind}
-use Rattle.bounded_proof_demand2.proofs.Demand2.{fresh-reached, reached, same-fixed}
+use Rattle.bounded_proof_demand2.proofs.Reached.{Reached, lapsOf, base-of, nil-split, along, recent-in, entered-in, begun-behind, did-behind}
+use Rattle.bounded_proof_demand2.proofs.Always.{always}
+use Rattle.bounded_proof_demand2.proofs.Shut.{stays-shut}
+use Rattle.bounded_proof_demand2.proofs.Demand2.{fresh-reached, demand2-in, same-fixed}
 
 -- ---- lists that grow at their end
 
@@ -121,45 +125,46 @@ said-more P h e o = go (split-end h e (o .earlier) (o .act) (o .later) (o .is))
 abbrev SaysClosed : Event → Type 0
 SaysClosed e = e .after ≡ Idle PopClosed
 
-module _ (c n workers : ℕ) (base : Base c n workers) where
+module _ (bits : Width) (c n workers : ℕ) (base : Base bits c n workers) where
   -- What is kept along a history.
   record Closing (m : Machine) (h : List Event) : Type 0 where
     pub behind : Reached c n workers m h
     pub none : NoneAfterClosed h
     pub sealed : Said SaysClosed h → Sealed c (behind .ring) (behind .pictured .shut)
 
-  module _ (m : Machine) (h : List Event) (r : Reached c n workers m h) (w : ℕ) (lose : Bool) (l : w < m .count) (busy : viewOf (stood m w) .busy ≡ true) where
+  module _ (m : Machine) (h : List Event) (r : Reached c n workers m h) (w : ℕ) (lose : Bool) (l : w < m .count) (busy : viewOf (stood m w) .busy ≡ true)
+      (young : Recent c (markOf c) n (r .ring) (r .pictured .ages w) (look c (stood m w))) where
     abbrev pic : Pictured c n workers (r .ring) m
     pic = r .pictured
 
     abbrev ed : ℕ
     ed = m .ring .fixed .edition
 
-    abbrev st : Step c (markOf c) n ed (r .ring) w (spot c n workers base (r .ring) m pic w l lose busy) (pic .shut) (stood m w) (result c n workers base (r .ring) m pic w l lose busy)
-    st = stepped c n workers base (r .ring) m pic w l lose busy
+    abbrev st : Step bits c (markOf c) n ed (r .ring) w (spot bits c n workers base (r .ring) m pic w l lose busy) (pic .ages w) (pic .shut) (stood m w) (result bits c n workers base (r .ring) m pic w l lose busy)
+    st = stepped bits c n workers base (r .ring) m pic w l lose busy young
 
     abbrev new : Event
-    new = eventOf m w lose (acted m w (stood m w) lose)
+    new = eventOf bits m w lose (acted bits m w (stood m w) lose)
 
-    went : stood (acted m w (stood m w) lose) w ≡ result c n workers base (r .ring) m pic w l lose busy .place
-    went = acted-stood c n workers base (r .ring) m pic w l lose busy
+    went : stood (acted bits m w (stood m w) lose) w ≡ result bits c n workers base (r .ring) m pic w l lose busy .place
+    went = acted-stood bits c n workers base (r .ring) m pic w l lose busy
 
     keeps-shut : ed ≡ 2 → pic .shut ≡ true → st .shut ≡ true
     keeps-shut = latched (pic .shut) (st .shut) ed (st .effect) (st .latch)
 
     -- on a sealed ring
     calm : Sealed c (r .ring) (pic .shut)
-        → (movedOf (new .after) ≡ Neither) × Sealed c (after c w (spot c n workers base (r .ring) m pic w l lose busy) (st .effect) (r .ring)) (st .shut)
+        → (movedOf (new .after) ≡ Neither) × Sealed c (after c w (spot bits c n workers base (r .ring) m pic w l lose busy) (st .effect) (r .ring)) (st .shut)
     calm z =
-        let q = quiet c (r .ring) w _ (spot-small c n workers base (r .ring) m pic w l lose busy) (pic .inv) (pic .shut) (st .shut) ed z (st .effect) (st .fits) (st .latch) in
-        (ap movedOf went ∙ shows c (result c n workers base (r .ring) m pic w l lose busy .place) .1 ∙ ap movedBy (st .tells) ∙ q .0, q .1)
+        let q = quiet c (r .ring) w _ (spot-small bits c n workers base (r .ring) m pic w l lose busy) (pic .inv) (pic .shut) (st .shut) ed z (st .effect) (st .fits) (st .latch) in
+        (ap movedOf went ∙ shows c (result bits c n workers base (r .ring) m pic w l lose busy .place) .1 ∙ ap movedBy (st .tells) ∙ q .0, q .1)
 
     -- a pop that says Closed seals it
     closed : SaysClosed new → Sealed c (r .ring) (pic .shut)
     closed e =
-        let p : result c n workers base (r .ring) m pic w l lose busy .place ≡ Idle PopClosed = sym went ∙ e in
-        let t : Says c (markOf c) n ed (r .ring) (pic .shut) PopClosed =
-        subst (λ (q : Place). Says c (markOf c) n ed (r .ring) (pic .shut) (answerIn (look c q))) p (st .says) in
+        let p : result bits c n workers base (r .ring) m pic w l lose busy .place ≡ Idle PopClosed = sym went ∙ e in
+        let t : Says bits c (markOf c) n ed (r .ring) (pic .shut) PopClosed =
+        subst (λ (q : Place). Says bits c (markOf c) n ed (r .ring) (pic .shut) (answerIn (look c q))) p (st .says) in
         seal c (r .ring) (pic .shut) (pic .inv) (t .1) (t .2) (t .3)
 
     none-more : NoneAfterClosed h → (Said SaysClosed h → Sealed c (r .ring) (pic .shut)) → NoneAfterClosed (h ++ new ∷ [])
@@ -173,66 +178,66 @@ module _ (c n workers : ℕ) (base : Base c n workers) where
             (calm (sealed (record { earlier = earlier; act = act; later = o .left; is = o .was; so = e })) .0))
 
     sealed-more : (Said SaysClosed h → Sealed c (r .ring) (pic .shut)) → Said SaysClosed (h ++ new ∷ [])
-        → Sealed c (after c w (spot c n workers base (r .ring) m pic w l lose busy) (st .effect) (r .ring)) (st .shut)
+        → Sealed c (after c w (spot bits c n workers base (r .ring) m pic w l lose busy) (st .effect) (r .ring)) (st .shut)
     sealed-more sealed o = go (said-more SaysClosed h new o)
       where
-        go : SaysClosed new ⊎ Said SaysClosed h → Sealed c (after c w (spot c n workers base (r .ring) m pic w l lose busy) (st .effect) (r .ring)) (st .shut)
+        go : SaysClosed new ⊎ Said SaysClosed h → Sealed c (after c w (spot bits c n workers base (r .ring) m pic w l lose busy) (st .effect) (r .ring)) (st .shut)
         go (inl e) = calm (closed e) .1
         go (inr s) = calm (sealed s) .1
 
     -- a close that says yes found the mark clear, and set it
     abbrev here : Slot
-    here = getD (m .ring .slots) (spot c n workers base (r .ring) m pic w l lose busy) (slot 0 0)
+    here = getD (m .ring .slots) (spot bits c n workers base (r .ring) m pic w l lose busy) (slot 0 0)
 
     module _ (y : ClosesYes new) where
-      closes : result c n workers base (r .ring) m pic w l lose busy ≡ actOf (m .ring .fixed) (m .ring .ends) here Close1 lose
-      closes = ap (λ (p : Place). actOf (m .ring .fixed) (m .ring .ends) here p lose) (y .0)
+      closes : result bits c n workers base (r .ring) m pic w l lose busy ≡ actOf bits (m .ring .fixed) (m .ring .ends) here Close1 lose
+      closes = ap (λ (p : Place). actOf bits (m .ring .fixed) (m .ring .ends) here p lose) (y .0)
 
       unmarked : markedOf (m .ring .fixed) (m .ring .ends .tail) ≡ false
       unfolding stay
       unmarked = go (markedOf (m .ring .fixed) (m .ring .ends .tail)) refl (sym (ap (λ (a : Acted). a .place) closes) ∙ sym went ∙ y .1)
         where
           go : (b : Bool) → markedOf (m .ring .fixed) (m .ring .ends .tail) ≡ b
-              → cond (markedOf (m .ring .fixed) (m .ring .ends .tail)) (stay (m .ring .ends) here (Idle No)) (stay (tailTo (m .ring .ends) (withMark (m .ring .fixed) (m .ring .ends .tail))) here (Idle Yes)) .place ≡ Idle Yes
+              → cond (markedOf (m .ring .fixed) (m .ring .ends .tail)) (stay (m .ring .ends) here (Idle No)) (stay (tailTo (m .ring .ends) (withMark bits (m .ring .fixed) (m .ring .ends .tail))) here (Idle Yes)) .place ≡ Idle Yes
               → b ≡ false
           go true e said = let q : Idle No ≡ Idle Yes = rw e at said in absurd (let z : _≡_ {A = ℕ} 0 1 = cc in omega arith)
           go false e said = refl
 
       was-open : pic .shut ≡ false
       was-open =
-          sym (marked-tail c (markOf c) n (base .ground) ed (r .ring .tail) (pic .shut))
+          sym (marked-tail bits c (markOf c) n (base .ground) ed (r .ring .tail) (pic .shut))
           ∙ sym (ap (λ (e : Ends). markedOf (fixed c (markOf c) ed) (e .tail)) (pic .ends))
           ∙ sym (ap (λ (f : Fixed). markedOf f (m .ring .ends .tail)) (pic .rule)) ∙ unmarked
 
       now-shut : st .shut ≡ true
       unfolding stay tailTo
       now-shut =
-          let u = after c w (spot c n workers base (r .ring) m pic w l lose busy) (st .effect) (r .ring) in
-          let marked : result c n workers base (r .ring) m pic w l lose busy .ends .tail ≡ tailWord c (markOf c) n (r .ring .tail) true =
+          let u = after c w (spot bits c n workers base (r .ring) m pic w l lose busy) (st .effect) (r .ring) in
+          let marked : result bits c n workers base (r .ring) m pic w l lose busy .ends .tail ≡ tailWord c (markOf c) n (r .ring .tail) true =
           ap (λ (a : Acted). a .ends .tail) closes ∙ rw unmarked
-          (ap (λ (f : Fixed). withMark f (m .ring .ends .tail)) (pic .rule)
-          ∙ ap (λ (e : Ends). withMark (fixed c (markOf c) ed) (e .tail)) (pic .ends)
-          ∙ ap (λ (b : Bool). withMark (fixed c (markOf c) ed) (tailWord c (markOf c) n (r .ring .tail) b)) was-open
-          ∙ with-mark c (markOf c) n (base .ground) ed (r .ring .tail)) in
-          sym (marked-tail c (markOf c) n (base .ground) ed (u .tail) (st .shut))
+          (ap (λ (f : Fixed). withMark bits f (m .ring .ends .tail)) (pic .rule)
+          ∙ ap (λ (e : Ends). withMark bits (fixed c (markOf c) ed) (e .tail)) (pic .ends)
+          ∙ ap (λ (b : Bool). withMark bits (fixed c (markOf c) ed) (tailWord c (markOf c) n (r .ring .tail) b)) was-open
+          ∙ with-mark bits c (markOf c) n (base .ground) ed (r .ring .tail)) in
+          sym (marked-tail bits c (markOf c) n (base .ground) ed (u .tail) (st .shut))
           ∙ ap (λ (e : Ends). markedOf (fixed c (markOf c) ed) (e .tail)) (sym (st .ends))
-          ∙ ap (markedOf (fixed c (markOf c) ed)) marked ∙ marked-tail c (markOf c) n (base .ground) ed (r .ring .tail) true
+          ∙ ap (markedOf (fixed c (markOf c) ed)) marked ∙ marked-tail bits c (markOf c) n (base .ground) ed (r .ring .tail) true
 
   abbrev SealedRing : Shared × Bool → Type 0
   SealedRing z = Sealed c (z .0) (z .1)
 
-  closing-kept : (m : Machine) (h : List Event) (en : Entry) (next : Machine) (acts : List Event) → Closing m h → Turned m en next acts → Closing next (h ++ acts)
-  closing-kept m h en next acts o (began w call l idle) =
+  closing-kept : (m : Machine) (h : List Event) (en : Entry) (next : Machine) (acts : List Event) → Closing m h → InWindow bits m h → Turned bits m en next acts → Closing next (h ++ acts)
+  closing-kept m h en next acts o window (began w call l idle) =
       record {
-        behind = entered c n workers base m h en next acts (o .behind) (began w call l idle);
+        behind = entered-in bits c n workers base m h en next acts (o .behind) window (began w call l idle);
         none = rw (append-nil h) (o .none);
-        sealed = λ s. subst SealedRing (sym (begun-behind c n workers base m h (o .behind) w l call idle)) (o .sealed (rw (append-nil h) at s));
+        sealed = λ s. subst SealedRing (sym (begun-behind bits c n workers base m h (o .behind) w l call idle)) (o .sealed (rw (append-nil h) at s));
       }
-  closing-kept m h en next acts o (did w lose l busy early) =
+  closing-kept m h en next acts o window (did w lose l busy early) =
       record {
-        behind = entered c n workers base m h en next acts (o .behind) (did w lose l busy early);
-        none = none-more m h (o .behind) w lose l busy (o .none) (o .sealed);
-        sealed = λ s. subst SealedRing (sym (did-behind c n workers base m h (o .behind) w l lose busy early)) (sealed-more m h (o .behind) w lose l busy (o .sealed) s);
+        behind = entered-in bits c n workers base m h en next acts (o .behind) window (did w lose l busy early);
+        none = none-more m h (o .behind) w lose l busy (recent-in bits c n workers base m h (o .behind) window w) (o .none) (o .sealed);
+        sealed = λ s. subst SealedRing (sym (did-behind bits c n workers base m h (o .behind) w l lose busy (recent-in bits c n workers base m h (o .behind) window w) early)) (sealed-more m h (o .behind) w lose l busy (recent-in bits c n workers base m h (o .behind) window w) (o .sealed) s);
       }
 
   -- Edition 2.
@@ -242,87 +247,78 @@ module _ (c n workers : ℕ) (base : Base c n workers) where
     pub once : YesOnce h
     pub shut : Said ClosesYes h → behind .pictured .shut ≡ true
 
-  shutting-kept : (m : Machine) (h : List Event) (en : Entry) (next : Machine) (acts : List Event) → Shutting m h → Turned m en next acts → Shutting next (h ++ acts)
-  shutting-kept m h en next acts o (began w call l idle) =
+  shutting-kept : (m : Machine) (h : List Event) (en : Entry) (next : Machine) (acts : List Event) → Shutting m h → InWindow bits m h → Turned bits m en next acts → Shutting next (h ++ acts)
+  shutting-kept m h en next acts o window (began w call l idle) =
       record {
-        behind = entered c n workers base m h en next acts (o .behind) (began w call l idle);
-        second = ap (λ (f : Fixed). f .edition) (turned-fixed m en next acts (began w call l idle)) ∙ o .second;
+        behind = entered-in bits c n workers base m h en next acts (o .behind) window (began w call l idle);
+        second = ap (λ (f : Fixed). f .edition) (turned-fixed bits m en next acts (began w call l idle)) ∙ o .second;
         once = rw (append-nil h) (o .once);
-        shut = λ s. ap (λ (z : Shared × Bool). z .1) (begun-behind c n workers base m h (o .behind) w l call idle) ∙ o .shut (rw (append-nil h) at s);
+        shut = λ s. ap (λ (z : Shared × Bool). z .1) (begun-behind bits c n workers base m h (o .behind) w l call idle) ∙ o .shut (rw (append-nil h) at s);
       }
-  shutting-kept m h en next acts o (did w lose l busy early) =
+  shutting-kept m h en next acts o window (did w lose l busy early) =
       record {
-        behind = entered c n workers base m h en next acts (o .behind) (did w lose l busy early);
-        second = ap (λ (f : Fixed). f .edition) (turned-fixed m en next acts (did w lose l busy early)) ∙ o .second;
+        behind = entered-in bits c n workers base m h en next acts (o .behind) window (did w lose l busy early);
+        second = ap (λ (f : Fixed). f .edition) (turned-fixed bits m en next acts (did w lose l busy early)) ∙ o .second;
         once = once-more;
-        shut = λ s. ap (λ (z : Shared × Bool). z .1) (did-behind c n workers base m h (o .behind) w l lose busy early) ∙ go (said-more ClosesYes h (new m h (o .behind) w lose l busy) s);
+        shut = λ s. ap (λ (z : Shared × Bool). z .1) (did-behind bits c n workers base m h (o .behind) w l lose busy (recent-in bits c n workers base m h (o .behind) window w) early) ∙ go (said-more ClosesYes h (new m h (o .behind) w lose l busy (recent-in bits c n workers base m h (o .behind) window w)) s);
       }
     where
-      go : ClosesYes (new m h (o .behind) w lose l busy) ⊎ Said ClosesYes h → st m h (o .behind) w lose l busy .shut ≡ true
-      go (inl y) = now-shut m h (o .behind) w lose l busy y
-      go (inr s) = keeps-shut m h (o .behind) w lose l busy (o .second) (o .shut s)
+      go : ClosesYes (new m h (o .behind) w lose l busy (recent-in bits c n workers base m h (o .behind) window w)) ⊎ Said ClosesYes h → st m h (o .behind) w lose l busy (recent-in bits c n workers base m h (o .behind) window w) .shut ≡ true
+      go (inl y) = now-shut m h (o .behind) w lose l busy (recent-in bits c n workers base m h (o .behind) window w) y
+      go (inr s) = keeps-shut m h (o .behind) w lose l busy (recent-in bits c n workers base m h (o .behind) window w) (o .second) (o .shut s)
 
-      once-more : YesOnce (h ++ new m h (o .behind) w lose l busy ∷ [])
-      once-more earlier between later act again z y x = each (split-end h (new m h (o .behind) w lose l busy) (earlier ++ act ∷ between) again later z)
+      once-more : YesOnce (h ++ new m h (o .behind) w lose l busy (recent-in bits c n workers base m h (o .behind) window w) ∷ [])
+      once-more earlier between later act again z y x = each (split-end h (new m h (o .behind) w lose l busy (recent-in bits c n workers base m h (o .behind) window w)) (earlier ++ act ∷ between) again later z)
         where
-          each : Last h (new m h (o .behind) w lose l busy) (earlier ++ act ∷ between) again later ⊎ Earlier h (new m h (o .behind) w lose l busy) (earlier ++ act ∷ between) again later → ⊥
+          each : Last h (new m h (o .behind) w lose l busy (recent-in bits c n workers base m h (o .behind) window w)) (earlier ++ act ∷ between) again later ⊎ Earlier h (new m h (o .behind) w lose l busy (recent-in bits c n workers base m h (o .behind) window w)) (earlier ++ act ∷ between) again later → ⊥
           each (inr e) = o .once earlier between (e .left) act again (e .was) y x
           each (inl e) =
               true≢false (sym (o .shut (record { earlier = earlier; act = act; later = between; is = sym (e .whole); so = y }))
-              ∙ was-open m h (o .behind) w lose l busy (subst ClosesYes (e .one) x))
+              ∙ was-open m h (o .behind) w lose l busy (recent-in bits c n workers base m h (o .behind) window w) (subst ClosesYes (e .one) x))
 
-  abbrev Shut2 : Machine → List Event → Type 0
-  Shut2 m h = (r : Reached c n workers m h) × (m .ring .fixed .edition ≡ 2) × (r .pictured .shut ≡ true)
+module _ (bits : Width) (capacity workers edition : ℕ) (a : Allowed capacity workers edition) (s : List ℕ) (keeps : KeepsWindow (ofWidth bits) (freshOf capacity workers edition) [] s) where
+  pub none-in : NoneAfterClosed (actsOf (ofWidth bits) capacity workers edition s)
+  none-in =
+      along bits (InWindow bits) (Closing bits capacity (lapsOf bits capacity) workers (base-of bits capacity workers edition a))
+      (closing-kept bits capacity (lapsOf bits capacity) workers (base-of bits capacity workers edition a)) s (freshOf capacity workers edition) [] 0 keeps
+      (record {
+        behind = fresh-reached bits capacity workers edition a;
+        none = λ earlier later act e. absurd (nil-split earlier act later e);
+        sealed = λ o. absurd (nil-split (o .earlier) (o .act) (o .later) (o .is));
+      })
+      .none
 
-  shut-kept : (m : Machine) (h : List Event) (en : Entry) (next : Machine) (acts : List Event) → Shut2 m h → Turned m en next acts → Shut2 next (h ++ acts)
-  shut-kept m h en next acts o (began w call l idle) = (
-    entered c n workers base m h en next acts (o .0) (began w call l idle),
-    ap (λ (f : Fixed). f .edition) (turned-fixed m en next acts (began w call l idle)) ∙ o .1,
-    ap (λ (z : Shared × Bool). z .1) (begun-behind c n workers base m h (o .0) w l call idle) ∙ o .2,
-  )
-  shut-kept m h en next acts o (did w lose l busy early) = (
-    entered c n workers base m h en next acts (o .0) (did w lose l busy early),
-    ap (λ (f : Fixed). f .edition) (turned-fixed m en next acts (did w lose l busy early)) ∙ o .1,
-    ap (λ (z : Shared × Bool). z .1) (did-behind c n workers base m h (o .0) w l lose busy early) ∙ keeps-shut m h (o .0) w lose l busy (o .1) (o .2),
-  )
+  edition-of : freshOf capacity workers edition .ring .fixed .edition ≡ edition
+  unfolding freshOf
+  edition-of = refl
 
-  stays-shut : (m : Machine) (h : List Event) → Shut2 m h → (s : List ℕ) → Shut2 (runFrom m 0 s .machine) (h ++ historyOf m s)
-  stays-shut m h o s = along Shut2 shut-kept s m h 0 o
+  pub yes-in : edition ≡ 2 → YesOnce (actsOf (ofWidth bits) capacity workers edition s)
+  yes-in two =
+      along bits (InWindow bits) (Shutting bits capacity (lapsOf bits capacity) workers (base-of bits capacity workers edition a))
+      (shutting-kept bits capacity (lapsOf bits capacity) workers (base-of bits capacity workers edition a)) s (freshOf capacity workers edition) [] 0 keeps
+      (record {
+        behind = fresh-reached bits capacity workers edition a;
+        second = edition-of ∙ two;
+        once = λ earlier between later act again e. absurd (nil-split (earlier ++ act ∷ between) again later e);
+        shut = λ o. absurd (nil-split (o .earlier) (o .act) (o .later) (o .is));
+      })
+      .once
 
-  -- the mark of the machine is the ring's
-  shut-is : (m : Machine) (h : List Event) (r : Reached c n workers m h) → markedOf (m .ring .fixed) (m .ring .ends .tail) ≡ r .pictured .shut
-  shut-is m h r =
-      ap (λ (f : Fixed). markedOf f (m .ring .ends .tail)) (r .pictured .rule)
-      ∙ ap (λ (e : Ends). markedOf (fixed c (markOf c) (m .ring .fixed .edition)) (e .tail)) (r .pictured .ends)
-      ∙ marked-tail c (markOf c) n (base .ground) (m .ring .fixed .edition) (r .ring .tail) (r .pictured .shut)
+  pub closed-in : edition ≡ 2 → OnceClosed (ofWidth bits) (machineAfter (ofWidth bits) capacity workers edition s)
+  closed-in two marked entries =
+      let m = machineAfter (ofWidth bits) capacity workers edition s in
+      stays-shut bits m (actsOf (ofWidth bits) capacity workers edition s)
+      (record {
+        unbroken = unbroken-of m (demand2-in bits capacity workers edition a s keeps .unbroken);
+        second = ap (λ (f : Fixed). f .edition) (same-fixed bits (freshOf capacity workers edition) s) ∙ edition-of ∙ two;
+        marked = marked;
+      })
+      entries
 
 pub closed-is-last : ClosedIsLast document01
-closed-is-last capacity workers edition a s =
-    along (Closing capacity (lapsOf capacity) workers (base-of capacity workers edition a)) (closing-kept capacity (lapsOf capacity) workers (base-of capacity workers edition a)) s
-    (freshOf capacity workers edition) [] 0
-    (record { behind = fresh-reached capacity workers edition a; none = λ earlier later act e. absurd (nil-split earlier act later e); sealed = λ o. absurd (nil-split (o .earlier) (o .act) (o .later) (o .is)) })
-    .none
-
-edition-of : (capacity workers edition : ℕ) → freshOf capacity workers edition .ring .fixed .edition ≡ edition
-unfolding freshOf
-edition-of capacity workers edition = refl
+closed-is-last capacity workers edition a s = none-in SixtyFour capacity workers edition a s (always capacity workers edition a s)
 
 pub close-holds : CloseHolds document01
 close-holds capacity workers a s =
-    let n = lapsOf capacity in
-    let base = base-of capacity workers 2 a in
-    let m = machineAfter document01 capacity workers 2 s in
-    let r = reached capacity workers 2 a s in
-    let two : m .ring .fixed .edition ≡ 2 = ap (λ (f : Fixed). f .edition) (same-fixed (freshOf capacity workers 2) s) ∙ edition-of capacity workers 2 in (
-      λ marked entries.
-          let q = stays-shut capacity n workers base m (actsOf document01 capacity workers 2 s) (r, two, sym (shut-is capacity n workers base m _ r) ∙ marked) entries in
-          ap (λ (f : Fixed). markedOf f (runFrom m 0 entries .machine .ring .ends .tail)) (sym (same-fixed m entries)) ∙ shut-is capacity n workers base (runFrom m 0 entries .machine) _ (q .0) ∙ q .2,
-      along (Shutting capacity n workers base) (shutting-kept capacity n workers base) s (freshOf capacity workers 2) [] 0
-          (record {
-            behind = fresh-reached capacity workers 2 a;
-            second = edition-of capacity workers 2;
-            once = λ earlier between later act again e. absurd (nil-split (earlier ++ act ∷ between) again later e);
-            shut = λ o. absurd (nil-split (o .earlier) (o .act) (o .later) (o .is));
-          })
-          .once,
-    )
+    let keeps = always capacity workers 2 a s in
+    (closed-in SixtyFour capacity workers 2 a s keeps refl, yes-in SixtyFour capacity workers 2 a s keeps refl)

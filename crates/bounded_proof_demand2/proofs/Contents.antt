@@ -11,6 +11,7 @@ use lib.Seq.{drop-cons}
 use borrow.Author.Tests.{not-true}
 use Rattle.queue_entries.specs.Limits.{workersMost}
 use Rattle.bounded_words.specs.declared.Fixed.{Fixed}
+use Rattle.bounded_words.specs.declared.Width.{Width}
 use Rattle.bounded_words.specs.Words.{markOf, indexOf}
 use Rattle.bounded_places.specs.declared.Slot.{Slot}
 use Rattle.bounded_places.specs.declared.Ends.{Ends}
@@ -43,7 +44,7 @@ idle-at ws long e w = go (decLt w workersMost)
         let past : length ws ≤ w = omega arith in
         ap (λ (z : Worker). viewOf (z .place) .busy) (List·getD-eq-default ws idler past)
 
-module _ (c n workers : ℕ) (base : Base c n workers) (m : Machine) (h : List Event) (r : Reached c n workers m h) where
+module _ (bits : Width) (c n workers : ℕ) (base : Base bits c n workers) (m : Machine) (h : List Event) (r : Reached c n workers m h) where
   -- `len`'s count of the machine's own ends
   pub count-in : countIn m ≡ r .ring .tail - r .ring .head
   unfolding countIn
@@ -51,7 +52,7 @@ module _ (c n workers : ℕ) (base : Base c n workers) (m : Machine) (h : List E
       let pic = r .pictured in
       ap (λ (f : Fixed). countOf f (m .ring .ends .tail) (m .ring .ends .head)) (pic .rule)
       ∙ ap (λ (e : Ends). countOf (fixed c (markOf c) (m .ring .fixed .edition)) (e .tail) (e .head)) (pic .ends)
-      ∙ count-is c (markOf c) n (m .ring .fixed .edition) (base .ground) (r .ring .head) (r .ring .tail) (pic .shut) (pic .inv .low) (pic .inv .high)
+      ∙ count-is bits c (markOf c) n (m .ring .fixed .edition) (base .ground) (r .ring .head) (r .ring .tail) (pic .shut) (pic .inv .low) (pic .inv .high)
 
   pub untaken-is : untakenOf (tally h) ≡ r .ring .tail - r .ring .head
   unfolding untakenOf

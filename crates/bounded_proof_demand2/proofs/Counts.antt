@@ -11,6 +11,7 @@ use lib.Arith.{digits-mod}
 use lib.Dec.{ltb, eqb}
 use lib.ListN.{length, length-append}
 use borrow.Author.Tests.{ltb-true, ltb-false, eqb-true, eqb-false}
+use Rattle.bounded_words.specs.declared.Width.{Width}
 use Rattle.bounded_acts.specs.Acts.{countOf}
 use Rattle.bounded_machine.specs.declared.Event.{Event}
 use Rattle.bounded_machine.specs.declared.Moved.{Moved}
@@ -125,10 +126,10 @@ numbers-count c j k some low high = go (decLt (j % c + (k - j)) c)
     go (yes l) = count (within l)
     go (no l) = count-over (over (omega arith))
 
-pub count-is : (c mark n ed : ℕ) → Ground c mark n → (j k : ℕ) (b : Bool) → j ≤ k → k ≤ j + c
+pub count-is : (bits : Width) (c mark n ed : ℕ) → Ground bits c mark n → (j k : ℕ) (b : Bool) → j ≤ k → k ≤ j + c
     → countOf (fixed c mark ed) (tailWord c mark n k b) (W c mark n j) ≡ k - j
 unfolding countOf
-count-is c mark n ed g j k b low high =
+count-is bits c mark n ed g j k b low high =
     let r : Near (n * c) k j = omega (arith, turn-long c mark n (g .laws), g .laws .some) in
-    rw (index-tail c mark n g k b, index-word c mark n (g .laws) j, unmarked-tail c mark n g ed k b, same-is c mark n g k j r)
+    rw (index-tail bits c mark n g k b, index-word c mark n (g .laws) j, unmarked-tail bits c mark n g ed k b, same-is bits c mark n g k j r)
     (numbers-count c j k (g .laws .some) low high)

@@ -14,6 +14,7 @@ use Rattle.queue_entries.specs.declared.Call.the-variants as call
 use Rattle.queue_entries.specs.declared.Entry.{Entry}
 use Rattle.bounded_words.specs.declared.Stamp.{Stamp}
 use Rattle.bounded_words.specs.declared.Fixed.{Fixed}
+use Rattle.bounded_words.specs.declared.Width.{Width}
 use Rattle.bounded_words.specs.Words.{stamp, unmarkedOf, markedOf, minus, withMark, same, onePast, lapBehind, lapBehindOnePast}
 use Rattle.bounded_places.specs.declared.Slot.{Slot}
 use Rattle.bounded_places.specs.declared.Ends.{Ends}
@@ -36,72 +37,72 @@ use Rattle.bounded_machine.specs.Machine.{idler, recordOf, freshOf}
 use Rattle.bounded_machine.specs.Turn.{beginner, byWords, bySchedule, recordAfter, begun, stored, acted, actedBy, actAt}
 use Rattle.bounded_machine.specs.History.{lossAt}
 use Rattle.bounded_machine.proofs.Kept.{either, exchanged}
-use Rattle.bounded_demands.specs.Notions.{document01, Allowed, machineAfter, actsOf, Exchanges, exchangeP3, exchangeF6, exchangeO3, Lost, lostWith, lostFrom, lostBy, lostIn}
+use Rattle.bounded_demands.specs.Notions.{ofWidth, Allowed, machineAfter, actsOf, Exchanges, exchangeP3, exchangeF6, exchangeO3, Lost, lostWith, lostFrom, lostBy, lostIn}
 use Rattle.bounded_demands.specs.Demands.{EndsTold, LossesUnderEverySchedule}
 use Rattle.bounded_proof_demand2.proofs.Turns.{Turned, began, did, stood, eventOf}
-use Rattle.bounded_proof_demand2.proofs.Reached.{along, fresh-record, fresh-seats}
+use Rattle.bounded_proof_demand2.proofs.Reached.{along-any, fresh-record, fresh-seats}
 
 -- ---- one act, by the table
 
 -- an act that is no exchange
-none-lost : (f : Fixed) (e : Ends) (s : Slot) (p : Place) (lose : Bool) → viewOf p .weak ≡ false → actOf f e s p lose .loss ≡ Nothing
+none-lost : (bits : Width) (f : Fixed) (e : Ends) (s : Slot) (p : Place) (lose : Bool) → viewOf p .weak ≡ false → actOf bits f e s p lose .loss ≡ Nothing
 unfolding stay
-none-lost f e s (Idle a) lose h = refl
-none-lost f e s (P1 k x) lose h = refl
-none-lost f e s (P2 k t x) lose h =
+none-lost bits f e s (Idle a) lose h = refl
+none-lost bits f e s (P1 k x) lose h = refl
+none-lost bits f e s (P2 k t x) lose h =
     either N (same (s .stamp) t) (stay e s (P3 k t x)) _ (λ b. refl)
-    (λ b. either N (lapBehindOnePast f (s .stamp) t) (stay e s (fullAt k t x)) (stay e s (P1 k x)) (λ d. refl) (λ d. refl))
+    (λ b. either N (lapBehindOnePast bits f (s .stamp) t) (stay e s (fullAt k t x)) (stay e s (P1 k x)) (λ d. refl) (λ d. refl))
   where
     N : Acted → Type 0
     N a = a .loss ≡ Nothing
-none-lost f e s (P3 k t x) lose h = absurd (true≢false h)
-none-lost f e s (P4 t x) lose h = refl
-none-lost f e s (P5 t) lose h = refl
-none-lost f e s (P6 t x) lose h = either (λ (a : Acted). a .loss ≡ Nothing) (lapBehind f (e .head) t) (stay e s (Idle (Full x))) (stay e s (P1 Push x)) (λ b. refl) (λ b. refl)
-none-lost f e s (F6 t x) lose h = absurd (true≢false h)
-none-lost f e s (F7 t x) lose h = refl
-none-lost f e s (F8 t x) lose h = refl
-none-lost f e s (F9 t old) lose h = refl
-none-lost f e s O1 lose h = refl
-none-lost f e s (O2 w) lose h =
-    either N (onePast (s .stamp) w) (stay e s (O3 w)) _ (λ b. refl) (λ b. either N (same (s .stamp) w) (stay e s (O6 w)) (stay e s O1) (λ d. refl) (λ d. refl))
+none-lost bits f e s (P3 k t x) lose h = absurd (true≢false h)
+none-lost bits f e s (P4 t x) lose h = refl
+none-lost bits f e s (P5 t) lose h = refl
+none-lost bits f e s (P6 t x) lose h = either (λ (a : Acted). a .loss ≡ Nothing) (lapBehind bits f (e .head) t) (stay e s (Idle (Full x))) (stay e s (P1 Push x)) (λ b. refl) (λ b. refl)
+none-lost bits f e s (F6 t x) lose h = absurd (true≢false h)
+none-lost bits f e s (F7 t x) lose h = refl
+none-lost bits f e s (F8 t x) lose h = refl
+none-lost bits f e s (F9 t old) lose h = refl
+none-lost bits f e s O1 lose h = refl
+none-lost bits f e s (O2 w) lose h =
+    either N (onePast bits (s .stamp) w) (stay e s (O3 w)) _ (λ b. refl) (λ b. either N (same (s .stamp) w) (stay e s (O6 w)) (stay e s O1) (λ d. refl) (λ d. refl))
   where
     N : Acted → Type 0
     N a = a .loss ≡ Nothing
-none-lost f e s (O3 w) lose h = absurd (true≢false h)
-none-lost f e s (O4 w) lose h = refl
-none-lost f e s (O5 w v) lose h = refl
-none-lost f e s (O6 w) lose h =
+none-lost bits f e s (O3 w) lose h = absurd (true≢false h)
+none-lost bits f e s (O4 w) lose h = refl
+none-lost bits f e s (O5 w v) lose h = refl
+none-lost bits f e s (O6 w) lose h =
     either N (same (unmarkedOf f (e .tail)) w) _ (stay e s O1)
     (λ b. either N (markedOf f (e .tail)) (stay e s (Idle PopClosed)) (stay e s (Idle Empty)) (λ d. refl) (λ d. refl)) (λ b. refl)
   where
     N : Acted → Type 0
     N a = a .loss ≡ Nothing
-none-lost f e s Len1 lose h = refl
-none-lost f e s (Len2 t) lose h = refl
-none-lost f e s (Len3 t w) lose h = either (λ (a : Acted). a .loss ≡ Nothing) (same (e .tail) t) (stay e s (Idle (Len (countOf f t w)))) (stay e s Len1) (λ b. refl) (λ b. refl)
-none-lost f e s Empty1 lose h = refl
-none-lost f e s (Empty2 w) lose h = refl
-none-lost f e s Full1 lose h = refl
-none-lost f e s (Full2 t) lose h = refl
-none-lost f e s Close1 lose h =
-    either (λ (a : Acted). a .loss ≡ Nothing) (markedOf f (e .tail)) (stay e s (Idle No)) (stay (tailTo e (withMark f (e .tail))) s (Idle Yes)) (λ b. refl) (λ b. refl)
-none-lost f e s IsClosed1 lose h = refl
+none-lost bits f e s Len1 lose h = refl
+none-lost bits f e s (Len2 t) lose h = refl
+none-lost bits f e s (Len3 t w) lose h = either (λ (a : Acted). a .loss ≡ Nothing) (same (e .tail) t) (stay e s (Idle (Len (countOf f t w)))) (stay e s Len1) (λ b. refl) (λ b. refl)
+none-lost bits f e s Empty1 lose h = refl
+none-lost bits f e s (Empty2 w) lose h = refl
+none-lost bits f e s Full1 lose h = refl
+none-lost bits f e s (Full2 t) lose h = refl
+none-lost bits f e s Close1 lose h =
+    either (λ (a : Acted). a .loss ≡ Nothing) (markedOf f (e .tail)) (stay e s (Idle No)) (stay (tailTo e (withMark bits f (e .tail))) s (Idle Yes)) (λ b. refl) (λ b. refl)
+none-lost bits f e s IsClosed1 lose h = refl
 
 abbrev lossOf : Exchange → Loss
 lossOf Won = Nothing
 lossOf (Differed found) = ByWords
 lossOf Failed = BySchedule
 
-ended : (f : Fixed) (e : Ends) (s : Slot) (p : Place) (lose : Bool) (found expected : Stamp) → Exchanges f e p found expected
-    → actOf f e s p lose .loss ≡ lossOf (exchangeOf found expected lose)
+ended : (bits : Width) (f : Fixed) (e : Ends) (s : Slot) (p : Place) (lose : Bool) (found expected : Stamp) → Exchanges bits f e p found expected
+    → actOf bits f e s p lose .loss ≡ lossOf (exchangeOf found expected lose)
 unfolding stay losing
-ended f e s p lose found expected (exchangeP3 {k} {t} {x}) =
-    exchanged (λ (y : Exchange). endP3 f e s k t x y .loss ≡ lossOf y) (e .tail) t lose (λ b d. refl) (λ b d. refl) (λ b. refl)
-ended f e s p lose found expected (exchangeF6 {t} {x}) =
-    exchanged (λ (y : Exchange). endF6 f e s t x y .loss ≡ lossOf y) (e .head) (minus t (f .lap)) lose (λ b d. refl) (λ b d. refl) (λ b. refl)
-ended f e s p lose found expected (exchangeO3 {h}) =
-    exchanged (λ (y : Exchange). endO3 f e s h y .loss ≡ lossOf y) (e .head) h lose (λ b d. refl) (λ b d. refl) (λ b. refl)
+ended bits f e s p lose found expected (exchangeP3 {k} {t} {x}) =
+    exchanged (λ (y : Exchange). endP3 bits f e s k t x y .loss ≡ lossOf y) (e .tail) t lose (λ b d. refl) (λ b d. refl) (λ b. refl)
+ended bits f e s p lose found expected (exchangeF6 {t} {x}) =
+    exchanged (λ (y : Exchange). endF6 bits f e s t x y .loss ≡ lossOf y) (e .head) (minus bits t (f .lap)) lose (λ b d. refl) (λ b d. refl) (λ b. refl)
+ended bits f e s p lose found expected (exchangeO3 {h}) =
+    exchanged (λ (y : Exchange). endO3 bits f e s h y .loss ≡ lossOf y) (e .head) h lose (λ b d. refl) (λ b d. refl) (λ b. refl)
 
 module _ (found expected : Stamp) where
   apart : (lose : Bool) → (found ≡ expected → ⊥) → lossOf (exchangeOf found expected lose) ≡ ByWords
@@ -113,13 +114,13 @@ module _ (found expected : Stamp) where
   alike true e = simp (eq-eqb (found .0) (expected .0) (ap (λ (z : Stamp). z .0) e))
   alike false e = simp (eq-eqb (found .0) (expected .0) (ap (λ (z : Stamp). z .0) e))
 
-pub ends-told : EndsTold lossAt
-ends-told m w =
+pub ends-told : (bits : Width) → EndsTold bits (lossAt bits)
+ends-told bits m w =
     record {
-      differed = λ found expected lose x ne. ended (m .ring .fixed) (m .ring .ends) _ (stood m w) lose found expected x ∙ apart found expected lose ne;
-      failed = λ found expected x e. ended (m .ring .fixed) (m .ring .ends) _ (stood m w) true found expected x ∙ alike found expected true e;
-      won = λ found expected x e. ended (m .ring .fixed) (m .ring .ends) _ (stood m w) false found expected x ∙ alike found expected false e;
-      none = λ lose h. none-lost (m .ring .fixed) (m .ring .ends) _ (stood m w) lose h;
+      differed = λ found expected lose x ne. ended bits (m .ring .fixed) (m .ring .ends) _ (stood m w) lose found expected x ∙ apart found expected lose ne;
+      failed = λ found expected x e. ended bits (m .ring .fixed) (m .ring .ends) _ (stood m w) true found expected x ∙ alike found expected true e;
+      won = λ found expected x e. ended bits (m .ring .fixed) (m .ring .ends) _ (stood m w) false found expected x ∙ alike found expected false e;
+      none = λ lose h. none-lost bits (m .ring .fixed) (m .ring .ends) _ (stood m w) lose h;
     }
 
 -- ---- along a history
@@ -141,7 +142,7 @@ begin-busy call.Close = refl
 begin-busy call.IsClosed = refl
 
 -- of one kind, whose count a record keeps
-module _ (kind : Loss → ℕ) (count : Worker → ℕ) (none : (q : Place) → count (beginner q) ≡ 0)
+module _ (bits : Width) (kind : Loss → ℕ) (count : Worker → ℕ) (none : (q : Place) → count (beginner q) ≡ 0)
     (more : (r : Worker) (q : Place) (l : Loss) → count (recordAfter r q l) ≡ count r + kind l) where
   -- Busy, a worker has counted its present call's; idle, its last call's, and none is under way.
   record Counts (r : Worker) (n : Lost) : Type 0 where
@@ -183,22 +184,22 @@ module _ (kind : Loss → ℕ) (count : Worker → ℕ) (none : (q : Place) → 
 
     module _ (lose : Bool) (busy : viewOf (stood m v) .busy ≡ true) where
       abbrev next : Machine
-      next = acted m v (stood m v) lose
+      next = acted bits m v (stood m v) lose
 
       abbrev new : Event
-      new = eventOf m v lose next
+      new = eventOf bits m v lose next
 
       abbrev after : Worker
-      after = recordAfter (recordOf (m .workers) v) (actAt actOf m (stood m v) lose .place) (lossAt m v lose)
+      after = recordAfter (recordOf (m .workers) v) (actAt (actOf bits) m (stood m v) lose .place) (lossAt bits m v lose)
 
-      went : stood next v ≡ actAt actOf m (stood m v) lose .place
+      went : stood next v ≡ actAt (actOf bits) m (stood m v) lose .place
       unfolding actedBy stored recordAfter
       went = ap (λ (z : Worker). z .place) (getD-set-same (m .workers) v after idler (o .seats v l))
 
       own : Counts after (lostBy kind v (h ++ new ∷ []))
       own =
           rw (lost-end kind v _ h new, eq-eqb v v refl, went)
-          (acted-counts (recordOf (m .workers) v) (lostBy kind v h) (actAt actOf m (stood m v) lose .place) (lossAt m v lose) (o .counts v) busy)
+          (acted-counts (recordOf (m .workers) v) (lostBy kind v h) (actAt (actOf bits) m (stood m v) lose .place) (lossAt bits m v lose) (o .counts v) busy)
 
       acted-counting : Counting next (h ++ new ∷ [])
       unfolding actedBy stored
@@ -208,7 +209,7 @@ module _ (kind : Loss → ℕ) (count : Worker → ℕ) (none : (q : Place) → 
             counts = λ w. one-changes after (new ∷ []) own (λ z ne. lost-end kind z _ h new ∙ simp (ne-eqb v z (λ q. ne (sym q)))) w (ℕ-discrete w v);
           }
 
-  kept : (m : Machine) (h : List Event) (en : Entry) (next : Machine) (acts : List Event) → Counting m h → Turned m en next acts → Counting next (h ++ acts)
+  kept : (m : Machine) (h : List Event) (en : Entry) (next : Machine) (acts : List Event) → Counting m h → Turned bits m en next acts → Counting next (h ++ acts)
   kept m h en next acts o (began v c l idle) = begun-counting m h o v l c idle
   kept m h en next acts o (did v lose l busy early) = acted-counting m h o v l lose busy
 
@@ -221,16 +222,16 @@ module _ (kind : Loss → ℕ) (count : Worker → ℕ) (none : (q : Place) → 
       }
 
   pub counted : (c workers edition : ℕ) → Allowed c workers edition → (s : List ℕ) (w : ℕ)
-      → count (recordOf (machineAfter document01 c workers edition s .workers) w) ≡ lostIn kind (machineAfter document01 c workers edition s) w (actsOf document01 c workers edition s)
+      → count (recordOf (machineAfter (ofWidth bits) c workers edition s .workers) w) ≡ lostIn kind (machineAfter (ofWidth bits) c workers edition s) w (actsOf (ofWidth bits) c workers edition s)
   counted c workers edition a s w =
-      let m = machineAfter document01 c workers edition s in
-      let n = lostBy kind w (actsOf document01 c workers edition s) in
-      let o = along Counting kept s (freshOf c workers edition) [] 0 (fresh-counting c workers edition a) .counts w in
+      let m = machineAfter (ofWidth bits) c workers edition s in
+      let n = lostBy kind w (actsOf (ofWidth bits) c workers edition s) in
+      let o = along-any bits Counting kept s (freshOf c workers edition) [] 0 (fresh-counting c workers edition a) .counts w in
       either (λ (k : ℕ). count (recordOf (m .workers) w) ≡ k) (viewOf (stood m w) .busy) (n .present) (n .last) (λ b. o .busy b) (λ b. o .idle b .0)
 
-pub losses : LossesUnderEverySchedule document01
+pub losses : (bits : Width) → LossesUnderEverySchedule (ofWidth bits)
 unfolding recordAfter
-losses c workers edition a s w = (
-  counted byWords (λ (r : Worker). r .differed) (λ q. refl) (λ r q l. refl) c workers edition a s w,
-  counted bySchedule (λ (r : Worker). r .failed) (λ q. refl) (λ r q l. refl) c workers edition a s w,
+losses bits c workers edition a s w = (
+  counted bits byWords (λ (r : Worker). r .differed) (λ q. refl) (λ r q l. refl) c workers edition a s w,
+  counted bits bySchedule (λ (r : Worker). r .failed) (λ q. refl) (λ r q l. refl) c workers edition a s w,
 )

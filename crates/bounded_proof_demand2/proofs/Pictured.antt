@@ -3,9 +3,8 @@ use mathlib.Core.Path.{_≡_, refl, sym, ap, _∙_, subst}
 use mathlib.Core.Logic.{_≢_}
 use mathlib.Core.Bool.{Bool, true, false, true≢false}
 use mathlib.Core.List.{List}
-use Prim.Native.Nat.{ℕ, _+_, _*_, _≤_, _<_}
+use Prim.Native.Nat.{ℕ, _+_, _≤_, _<_}
 use native.Mathlib.Omega.{arith}
-use native.Mathlib.Nat.{mul-le-mul-right}
 use native.Mathlib.Decide.{decLt, ℕ-discrete}
 use lib.Dec.{ltb}
 use lib.ListN.{length, getD, set, length-set, List·getD-eq-default}
@@ -15,6 +14,7 @@ use Rattle.queue_entries.specs.Limits.{workersMost, meterMost}
 use Rattle.queue_entries.specs.declared.Call.{Call}
 use Rattle.queue_entries.specs.declared.Call.the-variants as call
 use Rattle.bounded_words.specs.declared.Fixed.{Fixed}
+use Rattle.bounded_words.specs.declared.Width.{Width}
 use Rattle.bounded_words.specs.Limits.{slotsMost}
 use Rattle.bounded_words.specs.Words.{markOf}
 use Rattle.bounded_places.specs.declared.Slot.{Slot}
@@ -34,19 +34,20 @@ use Rattle.bounded_machine.specs.Machine.{slot, recordOf, placeOf, idler}
 use Rattle.bounded_machine.specs.Broken.{placeFits}
 use Rattle.bounded_machine.specs.Turn.{spotOf, beginner, recordAfter, begun, stored, acted, actedBy}
 use Rattle.bounded_machine.proofs.Kept.{Unbroken, place-of, begun-unbroken, acted-unbroken, word-fits-in, fits-plain}
+use Rattle.bounded_demands.specs.Notions.{holdingAt}
+use Rattle.bounded_proof_invariant.proofs.Upd.{upd, upd-same, upd-else}
 use Rattle.bounded_proof_invariant.proofs.Ring.{Mine, Shared, Inv}
 use Rattle.bounded_proof_invariant.proofs.Effects.{Effect, Still, Tailed, Taken, Grabbed, Forced, Fills, Swaps, Frees, Gives, after, Course, course, inv-after, mine-after, cell-course, val-course}
 use Rattle.bounded_proof_each_act.proofs.Stamps.{Ground, fixed}
-use Rattle.bounded_proof_each_act.proofs.Sight.{Calm, look, HandAt, endsOf, slotOf, Stands, young-recent, stands-else}
+use Rattle.bounded_proof_each_act.proofs.Sight.{Age, aged, Calm, look, HandAt, endsOf, slotOf, Stands, Recent, stands-else}
 use Rattle.bounded_proof_each_act.proofs.Steps.{Step, step}
 use Rattle.bounded_proof_demand2.proofs.Turns.{stood}
 
--- The constants: a ring by rule, its words so wide that the meter ends long before a turn.
-pub record Base (c n workers : ℕ) : Type 0 where
-  pub ground : Ground c (markOf c) n
+-- The constants: a ring by rule, of words of this width.
+pub record Base (bits : Width) (c n workers : ℕ) : Type 0 where
+  pub ground : Ground bits c (markOf c) n
   pub few : c ≤ slotsMost
   pub team : workers ≤ workersMost
-  pub long : meterMost + 2 * slotsMost < n
 
 pub record Pictured (c n workers : ℕ) (s : Shared) (m : Machine) : Type 0 where
   pub inv : Inv c s
@@ -58,7 +59,9 @@ pub record Pictured (c n workers : ℕ) (s : Shared) (m : Machine) : Type 0 wher
   pub slots-long : length (m .ring .slots) ≡ slotsMost
   pub slots : (i : ℕ) → i < c → getD (m .ring .slots) i (slot 0 0) ≡ slotOf c (markOf c) n (s .cell i) (s .val i)
   pub workers-long : length (m .workers) ≡ workersMost
-  pub stands : (w : ℕ) → Stands c (markOf c) n s w (look c (stood m w))
+  -- when each worker was given the word that it holds
+  pub ages : ℕ → Age
+  pub stands : (w : ℕ) → Stands c (markOf c) n s w (ages w) (look c (stood m w))
   -- whoever has a slot in hand stands at a place that says so
   pub back : (i : ℕ) → i < c → (w : ℕ) → Mine w (s .cell i) → HandAt (markOf c) (look c (stood m w)) i
   pub claims-few : s .tail ≤ m .meter
@@ -185,13 +188,7 @@ spot-below f (held.End t) pos k = fits-plain f t k .low
 spot-below f (held.Tail t) pos k = pos
 spot-below f (held.Both t w) pos k = pos
 
--- the meter ends within the first turn
-pub first-turn : (c n workers : ℕ) → Base c n workers → (s : Shared) (m : Machine) → Pictured c n workers s m → s .tail + 2 * c < n * c
-first-turn c n workers base s m pic =
-    let one : 1 ≤ c = base .ground .laws .some in
-    omega (arith, mul-le-mul-right n one, base .long, base .few, pic .claims-few, pic .meter-few)
-
-module _ (c n workers : ℕ) (base : Base c n workers) (s : Shared) (m : Machine) (pic : Pictured c n workers s m) (w : ℕ) (team : w < m .count) where
+module _ (bits : Width) (c n workers : ℕ) (base : Base bits c n workers) (s : Shared) (m : Machine) (pic : Pictured c n workers s m) (w : ℕ) (team : w < m .count) where
   abbrev mark : ℕ
   mark = markOf c
 
@@ -215,8 +212,9 @@ module _ (c n workers : ℕ) (base : Base c n workers) (s : Shared) (m : Machine
         slots-long = pic .slots-long;
         slots = pic .slots;
         workers-long = length-set (m .workers) w (beginner (beginOf q)) ∙ pic .workers-long;
+        ages = pic .ages;
         stands =
-            set-places (m .workers) w (beginner (beginOf q)) (λ j p. Stands c mark n s j (look c p)) seat (rw (begin-calm c q) tt) (λ j ne. pic .stands j);
+            set-places (m .workers) w (beginner (beginOf q)) (λ j p. Stands c mark n s j (pic .ages j) (look c p)) seat (rw (begin-calm c q) tt) (λ j ne. pic .stands j);
         back =
             λ i l j mine.
             set-places (m .workers) w (beginner (beginOf q)) (λ v p. Mine v (s .cell i) → HandAt mark (look c p) i) seat
@@ -230,12 +228,16 @@ module _ (c n workers : ℕ) (base : Base c n workers) (s : Shared) (m : Machine
   unfolding begun-pictured
   begun-shut q idle = refl
 
+  pub begun-ages : (q : Call) (idle : viewOf (stood m w) .busy ≡ false) → begun-pictured q idle .ages ≡ pic .ages
+  unfolding begun-pictured
+  begun-ages q idle = refl
+
   module _ (lose : Bool) (busy : viewOf (stood m w) .busy ≡ true) where
     abbrev pub spot : ℕ
     spot = spotOf (m .ring .fixed) (viewOf (stood m w) .held)
 
     abbrev pub result : Acted
-    result = actOf (m .ring .fixed) (m .ring .ends) (getD (m .ring .slots) spot (slot 0 0)) (stood m w) lose
+    result = actOf bits (m .ring .fixed) (m .ring .ends) (getD (m .ring .slots) spot (slot 0 0)) (stood m w) lose
 
     -- its worker's record afterwards
     abbrev pub new-record : Worker
@@ -247,87 +249,102 @@ module _ (c n workers : ℕ) (base : Base c n workers) (s : Shared) (m : Machine
         spot-below (m .ring .fixed) (viewOf (stood m w) .held) (rw (pic .rule) (base .ground .laws .some)) (word-fits-in m (pic .unbroken) w team busy) in
         subst (λ (z : ℕ). spot < z) (ap (λ (f : Fixed). f .capacity) (pic .rule)) b
 
-    -- the act, as an effect on the ring
-    pub stepped : Step c mark n ed s w spot (pic .shut) (stood m w) result
-    stepped =
-        let p : Place = stood m w in
-        let o : Stands c mark n s w (look c p) = pic .stands w in
-        let at : spot ≡ spotOf (fixed c mark ed) (viewOf p .held) = ap (λ (f : Fixed). spotOf f (viewOf p .held)) (pic .rule) in
-        let same : result ≡ actOf (fixed c mark ed) (endsOf c mark n s (pic .shut)) (slotOf c mark n (s .cell spot) (s .val spot)) p lose =
-        ap (λ (f : Fixed). actOf f (m .ring .ends) (getD (m .ring .slots) spot (slot 0 0)) p lose) (pic .rule)
-        ∙ ap (λ (e : Ends). actOf (fixed c mark ed) e (getD (m .ring .slots) spot (slot 0 0)) p lose) (pic .ends)
-        ∙ ap (λ (z : Slot). actOf (fixed c mark ed) (endsOf c mark n s (pic .shut)) z p lose) (pic .slots spot spot-small) in
-        subst (Step c mark n ed s w spot (pic .shut) p) (sym same)
-        (step c mark n ed (base .ground) s (pic .inv) w spot spot-small (pic .shut) p lose busy at o (young-recent c mark n s w (pic .inv .low) (first-turn c n workers base s m pic) (look c p) o))
-
-    abbrev pub effect : Effect
-    effect = stepped .effect
-
-    abbrev pub next : Shared
-    next = after c w spot effect s
-
-    pub coursed : Course c s next w spot
-    coursed = course c s w spot spot-small (pic .inv) effect (stepped .fits)
-
-    slots-next : (i : ℕ) → i < c → Dec (i ≡ spot) → getD (set (m .ring .slots) spot (result .slot)) i (slot 0 0) ≡ slotOf c mark n (next .cell i) (next .val i)
-    slots-next i l (yes e) =
-        let in-list : spot < length (m .ring .slots) = omega (arith, spot-small, base .few, pic .slots-long) in
-        rw e (getD-set-same (m .ring .slots) spot (result .slot) (slot 0 0) in-list ∙ stepped .slot)
-    slots-next i l (no ne) =
-        getD-set-other (m .ring .slots) spot i (result .slot) (slot 0 0) ne ∙ pic .slots i l
-        ∙ sym (rw (cell-course c s next w spot coursed i ne, val-course c s next w spot coursed i ne))
+    -- where the acting worker stands afterwards
+    pub acted-stood : stood (acted bits m w (stood m w) lose) w ≡ result .place
+    unfolding actedBy stored recordAfter
+    acted-stood = ap (λ (z : Worker). z .place) (getD-set-same (m .workers) w new-record idler seat)
 
     -- the acting worker's hand is on the slot of its act
     hand-here : (i : ℕ) → HandAt mark (look c (stood m w)) i → i ≡ spot
     hand-here i h = hand-spot c mark ed i (stood m w) h ∙ ap (λ (f : Fixed). spotOf f (viewOf (stood m w) .held)) (sym (pic .rule))
 
-    back-next : (i : ℕ) → i < c → (j : ℕ) → Mine j (next .cell i) → HandAt mark (look c (placeOf (set (m .workers) w new-record) j)) i
-    unfolding recordAfter
-    back-next i l =
-        λ j mine.
-        set-places (m .workers) w new-record (λ v p. Mine v (next .cell i) → HandAt mark (look c p) i) seat (own (ℕ-discrete i spot)) (λ v ne. other v ne (ℕ-discrete i spot)) j mine
-      where
-        own : Dec (i ≡ spot) → Mine w (next .cell i) → HandAt mark (look c (result .place)) i
-        own (yes e) z = rw e (stepped .grip (pic .back spot spot-small w) (rw e at z))
-        own (no ne) z = absurd (ne (hand-here i (pic .back i l w (rw (cell-course c s next w spot coursed i ne) at z))))
-
-        other : (v : ℕ) → v ≢ w → Dec (i ≡ spot) → Mine v (next .cell i) → HandAt mark (look c (stood m v)) i
-        other v ne (yes e) z = rw e (pic .back spot spot-small v (mine-after c s w spot spot-small (pic .inv) effect (stepped .fits) v ne (rw e at z)))
-        other v ne (no far) z = pic .back i l v (rw (cell-course c s next w spot coursed i far) at z)
-
-    pub acted-pictured : m .meter < meterMost → Pictured c n workers next (acted m w (stood m w) lose)
-    unfolding actedBy stored recordAfter
-    acted-pictured early =
-        record {
-          inv = inv-after c s w spot spot-small (pic .inv) effect (stepped .fits);
-          unbroken = acted-unbroken m (pic .unbroken) w team lose busy;
-          rule = pic .rule;
-          count = pic .count;
-          shut = stepped .shut;
-          ends = stepped .ends;
-          slots-long = length-set (m .ring .slots) spot (result .slot) ∙ pic .slots-long;
-          slots = λ i l. slots-next i l (ℕ-discrete i spot);
-          workers-long = length-set (m .workers) w new-record ∙ pic .workers-long;
-          stands =
-              set-places (m .workers) w new-record (λ j p. Stands c mark n next j (look c p)) seat (stepped .stands)
-              (λ j ne. stands-else c mark n s next w spot (pic .inv) coursed j ne (look c (stood m j)) (pic .stands j));
-          back = back-next;
-          claims-few = omega (arith, grows c s w spot effect, pic .claims-few);
-          meter-few = omega arith;
-        }
-
-    pub acted-shut : (early : m .meter < meterMost) → acted-pictured early .shut ≡ stepped .shut
-    unfolding acted-pictured
-    acted-shut early = refl
-
-    -- the acting worker has no other slot in hand, and if it has that of its act afterwards then it has not answered
+    -- the acting worker has no other slot in hand
     pub alone : (i : ℕ) → i < c → i ≢ spot → Mine w (s .cell i) → ⊥
     alone i l ne mine = ne (hand-here i (pic .back i l w mine))
 
-    pub holding : Mine w (next .cell spot) → viewOf (result .place) .busy ≡ true
-    holding mine = hand-busy c mark spot (result .place) (stepped .grip (pic .back spot spot-small w) mine)
+    -- the ages afterwards
+    abbrev pub new-age : Age
+    new-age = aged s (pic .ages w) (holdingAt (result .place))
 
-    -- where the acting worker stands afterwards
-    pub acted-stood : stood (acted m w (stood m w) lose) w ≡ result .place
-    unfolding actedBy stored recordAfter
-    acted-stood = ap (λ (z : Worker). z .place) (getD-set-same (m .workers) w new-record idler seat)
+    abbrev pub new-ages : ℕ → Age
+    new-ages = upd (pic .ages) w new-age
+
+    -- whose word is not too old
+    module _ (young : Recent c mark n s (pic .ages w) (look c (stood m w))) where
+      -- the act, as an effect on the ring
+      pub stepped : Step bits c mark n ed s w spot (pic .ages w) (pic .shut) (stood m w) result
+      stepped =
+          let p : Place = stood m w in
+          let o : Stands c mark n s w (pic .ages w) (look c p) = pic .stands w in
+          let at : spot ≡ spotOf (fixed c mark ed) (viewOf p .held) = ap (λ (f : Fixed). spotOf f (viewOf p .held)) (pic .rule) in
+          let same : result ≡ actOf bits (fixed c mark ed) (endsOf c mark n s (pic .shut)) (slotOf c mark n (s .cell spot) (s .val spot)) p lose =
+          ap (λ (f : Fixed). actOf bits f (m .ring .ends) (getD (m .ring .slots) spot (slot 0 0)) p lose) (pic .rule)
+          ∙ ap (λ (e : Ends). actOf bits (fixed c mark ed) e (getD (m .ring .slots) spot (slot 0 0)) p lose) (pic .ends)
+          ∙ ap (λ (z : Slot). actOf bits (fixed c mark ed) (endsOf c mark n s (pic .shut)) z p lose) (pic .slots spot spot-small) in
+          subst (Step bits c mark n ed s w spot (pic .ages w) (pic .shut) p) (sym same)
+          (step bits c mark n ed (base .ground) s (pic .inv) w spot spot-small (pic .ages w) (pic .shut) p lose busy at o young)
+
+      abbrev pub effect : Effect
+      effect = stepped .effect
+
+      abbrev pub next : Shared
+      next = after c w spot effect s
+
+      pub coursed : Course c s next w spot
+      coursed = course c s w spot spot-small (pic .inv) effect (stepped .fits)
+
+      slots-next : (i : ℕ) → i < c → Dec (i ≡ spot) → getD (set (m .ring .slots) spot (result .slot)) i (slot 0 0) ≡ slotOf c mark n (next .cell i) (next .val i)
+      slots-next i l (yes e) =
+          let in-list : spot < length (m .ring .slots) = omega (arith, spot-small, base .few, pic .slots-long) in
+          rw e (getD-set-same (m .ring .slots) spot (result .slot) (slot 0 0) in-list ∙ stepped .slot)
+      slots-next i l (no ne) =
+          getD-set-other (m .ring .slots) spot i (result .slot) (slot 0 0) ne ∙ pic .slots i l
+          ∙ sym (rw (cell-course c s next w spot coursed i ne, val-course c s next w spot coursed i ne))
+
+      back-next : (i : ℕ) → i < c → (j : ℕ) → Mine j (next .cell i) → HandAt mark (look c (placeOf (set (m .workers) w new-record) j)) i
+      unfolding recordAfter
+      back-next i l =
+          λ j mine.
+          set-places (m .workers) w new-record (λ v p. Mine v (next .cell i) → HandAt mark (look c p) i) seat (own (ℕ-discrete i spot)) (λ v ne. other v ne (ℕ-discrete i spot)) j mine
+        where
+          own : Dec (i ≡ spot) → Mine w (next .cell i) → HandAt mark (look c (result .place)) i
+          own (yes e) z = rw e (stepped .grip (pic .back spot spot-small w) (rw e at z))
+          own (no ne) z = absurd (ne (hand-here i (pic .back i l w (rw (cell-course c s next w spot coursed i ne) at z))))
+
+          other : (v : ℕ) → v ≢ w → Dec (i ≡ spot) → Mine v (next .cell i) → HandAt mark (look c (stood m v)) i
+          other v ne (yes e) z = rw e (pic .back spot spot-small v (mine-after c s w spot spot-small (pic .inv) effect (stepped .fits) v ne (rw e at z)))
+          other v ne (no far) z = pic .back i l v (rw (cell-course c s next w spot coursed i far) at z)
+
+      pub acted-pictured : m .meter < meterMost → Pictured c n workers next (acted bits m w (stood m w) lose)
+      unfolding actedBy stored recordAfter
+      acted-pictured early =
+          record {
+            inv = inv-after c s w spot spot-small (pic .inv) effect (stepped .fits);
+            unbroken = acted-unbroken m (pic .unbroken) w team bits lose busy;
+            rule = pic .rule;
+            count = pic .count;
+            shut = stepped .shut;
+            ends = stepped .ends;
+            slots-long = length-set (m .ring .slots) spot (result .slot) ∙ pic .slots-long;
+            slots = λ i l. slots-next i l (ℕ-discrete i spot);
+            workers-long = length-set (m .workers) w new-record ∙ pic .workers-long;
+            ages = new-ages;
+            stands =
+                set-places (m .workers) w new-record (λ j p. Stands c mark n next j (new-ages j) (look c p)) seat (rw (upd-same (pic .ages) w new-age) (stepped .stands))
+                (λ j ne. rw (upd-else (pic .ages) w j new-age ne) (stands-else c mark n s next w spot (pic .inv) coursed j ne (pic .ages j) (look c (stood m j)) (pic .stands j)));
+            back = back-next;
+            claims-few = omega (arith, grows c s w spot effect, pic .claims-few);
+            meter-few = omega arith;
+          }
+
+      pub acted-shut : (early : m .meter < meterMost) → acted-pictured early .shut ≡ stepped .shut
+      unfolding acted-pictured
+      acted-shut early = refl
+
+      pub acted-ages : (early : m .meter < meterMost) → acted-pictured early .ages ≡ new-ages
+      unfolding acted-pictured
+      acted-ages early = refl
+
+      -- if it has the slot of its act in hand afterwards then it has not answered
+      pub holding : Mine w (next .cell spot) → viewOf (result .place) .busy ≡ true
+      holding mine = hand-busy c mark spot (result .place) (stepped .grip (pic .back spot spot-small w) mine)

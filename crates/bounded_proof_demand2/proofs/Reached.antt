@@ -1,10 +1,10 @@
 -- Every machine that a schedule reaches from a fresh one is the picture of a ring, and its history is that ring's.
-use mathlib.Core.Path.{_≡_, refl, sym, ap, _∙_}
+use mathlib.Core.Path.{_≡_, refl, sym, ap, _∙_, subst}
 use mathlib.Core.Bool.{Bool, true, false, cond, true≢false}
 use mathlib.Core.List.{List, [], _∷_, _++_, append-assoc, append-nil}
-use Prim.Native.Nat.{ℕ, zero, suc, _+_, _*_, _/_, _%_, _≤_, _<_}
+use Prim.Native.Nat.{ℕ, zero, suc, _+_, _*_, _-_, _/_, _%_, _≤_, _<_}
 use native.Mathlib.Omega.{arith}
-use native.Mathlib.Nat.{mod-eq-of-lt, mul-le-mul-left, div-mul-cancel}
+use native.Mathlib.Nat.{mod-eq-of-lt, mul-le-mul-left, mul-le-mul-right, div-mul-cancel}
 use native.Mathlib.Decide.{decLt, ℕ-discrete}
 use lib.Dec.{ltb, eqb}
 use lib.ListN.{length, getD, set, replicate, length-append, length-set, length-replicate}
@@ -15,11 +15,14 @@ use Rattle.queue_entries.specs.Limits.{workersMost, meterMost, inLimits}
 use Rattle.queue_entries.specs.declared.Call.{Call}
 use Rattle.queue_entries.specs.declared.Order.the-variants.{Begin, Act}
 use Rattle.queue_entries.specs.declared.Entry.{Entry}
-use Rattle.queue_entries.specs.declared.Entry.the-variants.{Asks}
+use Rattle.queue_entries.specs.declared.Entry.the-variants.{Unreadable, Asks}
 use Rattle.queue_entries.specs.Entries.{entryOf}
-use Rattle.bounded_words.specs.Limits.{slotsMost, editionsMost, wide}
-use Rattle.bounded_words.specs.Words.{stamp, markOf, lapOf, fixedOf, markedOf, indexOf}
-use Rattle.bounded_words.proofs.Marks.{Ruled, ruled}
+use Rattle.bounded_words.specs.declared.Fixed.{Fixed}
+use Rattle.bounded_words.specs.declared.Width.{Width}
+use Rattle.bounded_words.specs.declared.Width.the-variants.{SixtyFour}
+use Rattle.bounded_words.specs.Limits.{slotsMost, editionsMost}
+use Rattle.bounded_words.specs.Words.{stamp, widthOf, markOf, lapOf, fixedOf, markedOf, indexOf}
+use Rattle.bounded_words.proofs.Marks.{Ruled, ruled, narrow-least}
 use Rattle.bounded_places.specs.declared.Slot.{Slot}
 use Rattle.bounded_places.specs.declared.Place.{Place}
 use Rattle.bounded_places.specs.declared.Place.the-variants.{Idle}
@@ -30,51 +33,60 @@ use Rattle.bounded_machine.specs.declared.Machine.{Machine}
 use Rattle.bounded_machine.specs.declared.Event.{Event}
 use Rattle.bounded_machine.specs.Machine.{slot, emptySlots, stamped, freshSlots, idler, idlers, recordOf, starts, freshOf}
 use Rattle.bounded_machine.specs.Broken.{byRule, endsFit, placeFits, recordFits}
-use Rattle.bounded_machine.specs.Turn.{turnOf, turnOfBy, begun, acted, actedBy, stored}
-use Rattle.bounded_machine.specs.Run.{ran, runFrom}
-use Rattle.bounded_machine.specs.History.{lossAt, eventsOf, historyOf, tallyOf}
+use Rattle.bounded_machine.specs.Turn.{turnAt, turnOfBy, begun, acted, actedBy, stored}
+use Rattle.bounded_machine.specs.Run.{ran, runAt}
+use Rattle.bounded_machine.specs.History.{lossAt, eventsOf, historyAt, movedOf, tallyOf}
 use Rattle.bounded_machine.proofs.Kept.{Unbroken, ends-of}
-use Rattle.bounded_demands.specs.Notions.{Allowed, start, itemsOf, tailersOf, takersOf}
+use Rattle.bounded_demands.specs.Notions.{ofWidth, Allowed, start, itemsOf, tailersOf, takersOf, tailBy, headBy, tally, holdingAt, holds, isNew, givesTo, sinceFrom, since, turnLength, InWindow, KeepsWindow}
 use Rattle.bounded_proof_invariant.proofs.Width.{word, word-first}
+use Rattle.bounded_proof_invariant.proofs.Upd.{upd, upd-same, upd-else}
 use Rattle.bounded_proof_invariant.proofs.Ring.{Await, Shared}
 use Rattle.bounded_proof_each_act.proofs.Stamps.{fixed, tailWord, index-tail, marked-tail}
-use Rattle.bounded_proof_each_act.proofs.Sight.{endsOf}
+use Rattle.bounded_proof_each_act.proofs.Sight.{Age, look, told, endsOf, Young, Recent}
 use Rattle.bounded_proof_demand2.proofs.Turns.{Turned, began, did, turned, stood, eventOf}
-use Rattle.bounded_proof_demand2.proofs.Pictured.{Base, Pictured, begun-pictured, begun-shut, acted-pictured, acted-shut, stepped, effect, spot-small, next, result, acted-stood, alone, holding}
-use Rattle.bounded_proof_demand2.proofs.Logged.{Logged, logged-after}
+use Rattle.bounded_proof_demand2.proofs.Pictured.{Base, Pictured, begun-pictured, begun-shut, begun-ages, acted-pictured, acted-shut, acted-ages, new-age, stepped, effect, spot, spot-small, next, result, acted-stood, alone, holding}
+use Rattle.bounded_proof_demand2.proofs.Logged.{Logged, logged-after, movedBy, shows}
+use Rattle.bounded_proof_demand2.proofs.Window.{Dated, since-end, claims-after, dated-more, dated-own, window-young, recent-of}
+use Rattle.bounded_proof_demand2.proofs.Runs.{any-place}
 
 -- how many laps there are to the width
-pub lapsOf : ℕ → ℕ
-lapsOf c = wide / (2 * markOf c)
+pub lapsOf : Width → ℕ → ℕ
+lapsOf bits c = widthOf bits / (2 * markOf c)
 
-pub base-of : (c workers edition : ℕ) → Allowed c workers edition → Base c (lapsOf c) workers
-unfolding lapsOf
-base-of c workers edition a =
-    record {
-      ground =
-          record {
-            laws = record { some = a .slot-some; room = r .room; laps = omega (arith, many) };
-            whole = whole;
-          };
-      few = a .slot-most;
-      team = a .worker-most;
-      long = many;
-    }
-  where
-    r : Ruled (fixedOf c edition)
-    r = ruled (fixedOf c edition) (a .slot-some) (a .slot-most) refl refl
+module _ (bits : Width) (c workers edition : ℕ) (a : Allowed c workers edition) where
+  r : Ruled (fixedOf c edition)
+  r = ruled (fixedOf c edition) (a .slot-some) (a .slot-most) refl refl
 
-    whole : wide / (2 * markOf c) * (2 * markOf c) ≡ wide
-    whole = div-mul-cancel _ (r .laps)
+  whole : lapsOf bits c * (2 * markOf c) ≡ widthOf bits
+  unfolding lapsOf
+  whole = div-mul-cancel _ (r .laps bits)
 
-    many : meterMost + 2 * slotsMost < wide / (2 * markOf c)
-    many = go (decLt (meterMost + 2 * slotsMost) (wide / (2 * markOf c)))
-      where
-        go : Dec (meterMost + 2 * slotsMost < wide / (2 * markOf c)) → meterMost + 2 * slotsMost < wide / (2 * markOf c)
-        go (yes l) = l
-        go (no z) =
-            let small : 2 * markOf c ≤ 4 * (slotsMost + 1) = omega (arith, r .small) in
-            absurd (omega (arith, mul-le-mul-left (wide / (2 * markOf c)) small, whole))
+  -- so many laps that their words fill the width
+  pub many : (k : ℕ) → k * (4 * (slotsMost + 1)) < widthOf bits → k < lapsOf bits c
+  many k small = go (decLt k (lapsOf bits c))
+    where
+      go : Dec (k < lapsOf bits c) → k < lapsOf bits c
+      go (yes l) = l
+      go (no z) =
+          let few : lapsOf bits c ≤ k = omega arith in
+          let lap : 2 * markOf c ≤ 4 * (slotsMost + 1) = omega (arith, r .small) in
+          absurd (omega (arith, mul-le-mul-left (lapsOf bits c) lap, mul-le-mul-right (4 * (slotsMost + 1)) few, whole))
+
+  pub base-of : Base bits c (lapsOf bits c) workers
+  base-of =
+      record {
+        ground =
+            record {
+              laws = record { some = a .slot-some; room = r .room; laps = many 2 (omega (arith, narrow-least bits)) };
+              whole = whole;
+            };
+        few = a .slot-most;
+        team = a .worker-most;
+      }
+
+-- of 64 bits there are more than acts
+pub long : (c workers edition : ℕ) → Allowed c workers edition → meterMost + 2 * slotsMost < lapsOf SixtyFour c
+long c workers edition a = many SixtyFour c workers edition a (meterMost + 2 * slotsMost) (omega arith)
 
 -- The fresh machine.
 
@@ -114,11 +126,11 @@ stamped-at (suc k) l i b h = go (λ (z : i < k). stamped-at k l i (omega arith) 
         rw e (getD-set-same (stamped k l) k (slot k 0) (slot 0 0) in-list)
     go rest (no ne) = getD-set-other (stamped k l) k i (slot k 0) (slot 0 0) ne ∙ rest (omega arith)
 
-fresh-long : (c : ℕ) → length (freshSlots c) ≡ slotsMost
+pub fresh-long : (c : ℕ) → length (freshSlots c) ≡ slotsMost
 unfolding freshSlots emptySlots
 fresh-long c = stamped-long c (replicate slotsMost (slot 0 0)) ∙ length-replicate slotsMost (slot 0 0)
 
-fresh-at : (c i : ℕ) → c ≤ slotsMost → i < c → getD (freshSlots c) i (slot 0 0) ≡ slot i 0
+pub fresh-at : (c i : ℕ) → c ≤ slotsMost → i < c → getD (freshSlots c) i (slot 0 0) ≡ slot i 0
 unfolding freshSlots emptySlots
 fresh-at c i few l = stamped-at c (replicate slotsMost (slot 0 0)) i (omega (arith, length-replicate slotsMost (slot 0 0))) l
 
@@ -147,7 +159,7 @@ idle-fits : (c ed : ℕ) (r : Worker) (b : Bool) → r ≡ idler → recordFits 
 unfolding recordFits placeFits
 idle-fits c ed r b e = rw e
 
-module _ (c n workers ed : ℕ) (base : Base c n workers) where
+module _ (bits : Width) (c n workers ed : ℕ) (base : Base bits c n workers) where
   zero-word : word c (markOf c) n 0 ≡ 0
   zero-word = word-first c (markOf c) n (base .ground .laws) 0 (base .ground .laws .some)
 
@@ -159,8 +171,8 @@ module _ (c n workers ed : ℕ) (base : Base c n workers) where
   unfolding inside
   starts-fit =
       let some = base .ground .laws .some in
-      let i : tailWord c (markOf c) n 0 false .0 % markOf c ≡ 0 % c = index-tail c (markOf c) n (base .ground) 0 false in
-      let m : markedOf (fixed c (markOf c) ed) (tailWord c (markOf c) n 0 false) ≡ false = marked-tail c (markOf c) n (base .ground) ed 0 false in
+      let i : tailWord c (markOf c) n 0 false .0 % markOf c ≡ 0 % c = index-tail bits c (markOf c) n (base .ground) 0 false in
+      let m : markedOf (fixed c (markOf c) ed) (tailWord c (markOf c) n 0 false) ≡ false = marked-tail bits c (markOf c) n (base .ground) ed 0 false in
       let z : 0 % c ≡ 0 = mod-eq-of-lt some in
       let low : indexOf (fixedOf c ed) (stamp 0) < c = omega (arith, ap (λ (k : ℕ). k % markOf c) zero-word) in
       ends-of (fixedOf c ed) starts (record { unmarked = rw zero-word at m; low = low }) (lt-ltb (indexOf (fixedOf c ed) (stamp 0)) c low)
@@ -191,11 +203,17 @@ module _ (c n workers ed : ℕ) (base : Base c n workers) where
           slots-long = fresh-long c;
           slots = λ i l. fresh-at c i (base .few) l ∙ rw (word-first c (markOf c) n (base .ground .laws) i l);
           workers-long = idlers-long;
+          ages = λ w. record { tail = 0; head = 0 };
           stands = λ w. rw (fresh-stood c workers ed w) tt;
           back = λ i l w m. absurd m;
           claims-few = omega arith;
           meter-few = omega arith;
         }
+
+pub fresh-dated : (bits : Width) (c n workers ed : ℕ) (base : Base bits c n workers) (some : 0 < workers) (first : 0 < ed) (last : ed ≤ editionsMost) (w : ℕ)
+    → Dated ring0 (fresh-pictured bits c n workers ed base some first last .ages w) (since w [])
+unfolding ring0 fresh-pictured sinceFrom tallyOf
+fresh-dated bits c n workers ed base some first last w = (refl, refl)
 
 pub nil-split : {A : Type 0} (xs : List A) (y : A) (ys : List A) → [] ≡ xs ++ y ∷ ys → ⊥
 nil-split [] y ys e = let q : _≡_ {A = ℕ} 0 1 = cc in omega arith
@@ -228,37 +246,67 @@ begun-meter : (m : Machine) (w : ℕ) (q : Place) → begun m w q .meter ≡ m .
 unfolding begun
 begun-meter m w q = refl
 
-acted-meter : (m : Machine) (w : ℕ) (p : Place) (lose : Bool) → acted m w p lose .meter ≡ m .meter + 1
+acted-meter : (bits : Width) (m : Machine) (w : ℕ) (p : Place) (lose : Bool) → acted bits m w p lose .meter ≡ m .meter + 1
 unfolding actedBy stored
-acted-meter m w p lose = refl
+acted-meter bits m w p lose = refl
 
--- What holds of a machine and of the acts behind it, and is kept by each accepted entry, is kept along every list of entries.
-module _ (P : Machine → List Event → Type 0)
-    (kept : (m : Machine) (h : List Event) (en : Entry) (next : Machine) (acts : List Event) → P m h → Turned m en next acts → P next (h ++ acts)) where
-  one-entry : (m : Machine) (h : List Event) (first second : ℕ) → P m h → turnOf m first second .refusal ≡ 0
-      → P (turnOf m first second .machine) (h ++ eventsOf m (entryOf first second) (turnOf m first second .machine))
-  unfolding turnOfBy
-  one-entry m h first second p e = kept m h (entryOf first second) _ _ p (turned m (entryOf first second) e)
+-- What holds of a machine and of the acts behind it, and is kept by each accepted entry on a machine of which W holds, is kept along every list of entries each
+-- of whose beginnings leads to such a machine.
+module _ (bits : Width) (W P : Machine → List Event → Type 0)
+    (kept : (m : Machine) (h : List Event) (en : Entry) (next : Machine) (acts : List Event) → P m h → W m h → Turned bits m en next acts → P next (h ++ acts)) where
+  abbrev pub Each : Machine → List Event → List ℕ → Type 0
+  Each m h s = (before after : List ℕ) → s ≡ before ++ after → W (runAt bits m 0 before .machine) (h ++ historyAt bits m before)
 
-  pub along : (s : List ℕ) (m : Machine) (h : List Event) (place : ℕ) → P m h → P (runFrom m place s .machine) (h ++ historyOf m s)
+  now : (s : List ℕ) (m : Machine) (h : List Event) → Each m h s → W m h
   unfolding runBy historyBy ran
-  along [] m h place p = rw (append-nil h) p
-  along (first ∷ []) m h place p = rw (append-nil h) p
-  along (first ∷ second ∷ rest) m h place p =
-      go (λ (q : P (turnOf m first second .machine) (h ++ eventsOf m (entryOf first second) (turnOf m first second .machine))).
-      along rest (turnOf m first second .machine) (h ++ eventsOf m (entryOf first second) (turnOf m first second .machine)) (place + 1) q)
-      (eqb (turnOf m first second .refusal) 0) refl
+  now s m h each = rw (append-nil h) at (each [] s refl)
+
+  one-entry : (m : Machine) (h : List Event) (first second : ℕ) → P m h → W m h → turnAt bits m first second .refusal ≡ 0
+      → P (turnAt bits m first second .machine) (h ++ eventsOf bits m (entryOf first second) (turnAt bits m first second .machine))
+  unfolding turnOfBy
+  one-entry m h first second p o e = kept m h (entryOf first second) _ _ p o (turned bits m (entryOf first second) e)
+
+  later : (first second : ℕ) (rest : List ℕ) (m : Machine) (h : List Event) → eqb (turnAt bits m first second .refusal) 0 ≡ true → Each m h (first ∷ second ∷ rest)
+      → Each (turnAt bits m first second .machine) (h ++ eventsOf bits m (entryOf first second) (turnAt bits m first second .machine)) rest
+  unfolding runBy historyBy ran
+  later first second rest m h e each before after q =
+      let next = turnAt bits m first second .machine in
+      let new = eventsOf bits m (entryOf first second) (turnAt bits m first second .machine) in
+      let o : W (runAt bits next (0 + 1) before .machine) (h ++ (new ++ historyAt bits next before)) =
+      rw e at (each (first ∷ second ∷ before) after (ap (λ (l : List ℕ). first ∷ second ∷ l) q)) in
+      subst (λ (z : Machine). W z ((h ++ new) ++ historyAt bits next before)) (any-place bits before next (0 + 1) 0)
+      (subst (W (runAt bits next (0 + 1) before .machine)) (sym (append-assoc h new (historyAt bits next before))) o)
+
+  pub along : (s : List ℕ) (m : Machine) (h : List Event) (place : ℕ) → Each m h s → P m h → P (runAt bits m place s .machine) (h ++ historyAt bits m s)
+  unfolding runBy historyBy ran
+  along [] m h place each p = rw (append-nil h) p
+  along (first ∷ []) m h place each p = rw (append-nil h) p
+  along (first ∷ second ∷ rest) m h place each p =
+      go (λ (more : Each (turnAt bits m first second .machine) (h ++ eventsOf bits m (entryOf first second) (turnAt bits m first second .machine)) rest)
+      (q : P (turnAt bits m first second .machine) (h ++ eventsOf bits m (entryOf first second) (turnAt bits m first second .machine))).
+      along rest (turnAt bits m first second .machine) (h ++ eventsOf bits m (entryOf first second) (turnAt bits m first second .machine)) (place + 1) more q)
+      (eqb (turnAt bits m first second .refusal) 0) refl
     where
-      go : (P (turnOf m first second .machine) (h ++ eventsOf m (entryOf first second) (turnOf m first second .machine))
-          → P (runFrom (turnOf m first second .machine) (place + 1) rest .machine)
-          (h ++ eventsOf m (entryOf first second) (turnOf m first second .machine) ++ historyOf (turnOf m first second .machine) rest))
-          → (b : Bool) → eqb (turnOf m first second .refusal) 0 ≡ b
-          → P (cond b (runFrom (turnOf m first second .machine) (place + 1) rest) (ran (turnOf m first second .refusal) place m) .machine)
-          (h ++ cond b (eventsOf m (entryOf first second) (turnOf m first second .machine) ++ historyOf (turnOf m first second .machine) rest) [])
+      go : (Each (turnAt bits m first second .machine) (h ++ eventsOf bits m (entryOf first second) (turnAt bits m first second .machine)) rest
+          → P (turnAt bits m first second .machine) (h ++ eventsOf bits m (entryOf first second) (turnAt bits m first second .machine))
+          → P (runAt bits (turnAt bits m first second .machine) (place + 1) rest .machine)
+          ((h ++ eventsOf bits m (entryOf first second) (turnAt bits m first second .machine)) ++ historyAt bits (turnAt bits m first second .machine) rest))
+          → (b : Bool) → eqb (turnAt bits m first second .refusal) 0 ≡ b
+          → P (cond b (runAt bits (turnAt bits m first second .machine) (place + 1) rest) (ran (turnAt bits m first second .refusal) place m) .machine)
+          (h ++ cond b (eventsOf bits m (entryOf first second) (turnAt bits m first second .machine) ++ historyAt bits (turnAt bits m first second .machine) rest) [])
       go more true e =
-          rw (← append-assoc h (eventsOf m (entryOf first second) (turnOf m first second .machine)) (historyOf (turnOf m first second .machine) rest))
-          (more (one-entry m h first second p (eqb-true _ 0 e)))
+          rw (← append-assoc h (eventsOf bits m (entryOf first second) (turnAt bits m first second .machine)) (historyAt bits (turnAt bits m first second .machine) rest))
+          (more (later first second rest m h e each) (one-entry m h first second p (now (first ∷ second ∷ rest) m h each) (eqb-true _ 0 e)))
       go more false e = rw (append-nil h) p
+
+-- What is kept on any machine.
+abbrev pub Any : Machine → List Event → Type 0
+Any m h = Unit {0}
+
+pub along-any : (bits : Width) (P : Machine → List Event → Type 0)
+    → ((m : Machine) (h : List Event) (en : Entry) (next : Machine) (acts : List Event) → P m h → Turned bits m en next acts → P next (h ++ acts))
+    → (s : List ℕ) (m : Machine) (h : List Event) (place : ℕ) → P m h → P (runAt bits m place s .machine) (h ++ historyAt bits m s)
+along-any bits P kept s m h place p = along bits Any P (λ z k en next acts q o t. kept z k en next acts q t) s m h place (λ before after e. tt) p
 
 -- What every reached machine has behind it.
 pub record Reached (c n workers : ℕ) (m : Machine) (h : List Event) : Type 0 where
@@ -266,31 +314,102 @@ pub record Reached (c n workers : ℕ) (m : Machine) (h : List Event) : Type 0 w
   pub pictured : Pictured c n workers ring m
   pub logged : Logged c ring h
   pub metered : m .meter ≡ length h
+  -- the claims since each worker was given its word
+  pub dated : (w : ℕ) → Dated ring (pictured .ages w) (since w h)
 
-module _ (c n workers : ℕ) (base : Base c n workers) where
+module _ (bits : Width) (c n workers : ℕ) (base : Base bits c n workers) where
+  -- in the window no worker's word is too old
+  module _ (m : Machine) (h : List Event) (r : Reached c n workers m h) (window : InWindow bits m h) (w : ℕ) where
+    pub young-in : holds (holdingAt (stood m w)) ≡ true → Young c (markOf c) n (r .ring) (r .pictured .ages w)
+    young-in held =
+        let f = fixed c (markOf c) (m .ring .fixed .edition) in
+        window-young bits c (markOf c) n (m .ring .fixed .edition) (base .ground) (r .ring) (r .pictured .ages w) (since w h) (r .dated w)
+        (subst (λ (z : Fixed). (tally (since w h) .tail .0 < turnLength bits z - 2 * z .capacity) × (tally (since w h) .head .0 < turnLength bits z - 2 * z .capacity)) (r .pictured .rule) (window w held))
+
+    pub recent-in : Recent c (markOf c) n (r .ring) (r .pictured .ages w) (look c (stood m w))
+    recent-in = recent-of bits c (markOf c) n (m .ring .fixed .edition) (base .ground) (r .ring) (r .pictured .ages w) (stood m w) young-in
+
+  -- the word of the worker that an entry asks to act is not too old
+  abbrev pub Fit : {m : Machine} {h : List Event} → Reached c n workers m h → Entry → Type 0
+  Fit r Unreadable = Unit {0}
+  Fit r (Asks w (Begin q)) = Unit {0}
+  Fit {m} {h} r (Asks w (Act lose)) = Recent c (markOf c) n (r .ring) (r .pictured .ages w) (look c (stood m w))
+
+  abbrev pub fit-in : (m : Machine) (h : List Event) (r : Reached c n workers m h) → InWindow bits m h → (en : Entry) → Fit r en
+  fit-in m h r window Unreadable = tt
+  fit-in m h r window (Asks w (Begin q)) = tt
+  fit-in m h r window (Asks w (Act lose)) = recent-in m h r window w
+
+  module _ (m : Machine) (h : List Event) (r : Reached c n workers m h) (w : ℕ) (l : w < m .count) where
+    abbrev pic : Pictured c n workers (r .ring) m
+    pic = r .pictured
+
+    dated-begun : (q : Call) (idle : viewOf (stood m w) .busy ≡ false) (j : ℕ) → Dated (r .ring) (begun-pictured bits c n workers base (r .ring) m pic w l q idle .ages j) (since j (h ++ []))
+    dated-begun q idle j = rw (append-nil h, begun-ages bits c n workers base (r .ring) m pic w l q idle) (r .dated j)
+
+    module _ (lose : Bool) (busy : viewOf (stood m w) .busy ≡ true) (young : Recent c (markOf c) n (r .ring) (pic .ages w) (look c (stood m w))) where
+      abbrev u : Shared
+      u = next bits c n workers base (r .ring) m pic w l lose busy young
+
+      abbrev new : Event
+      new = eventOf bits m w lose (acted bits m w (stood m w) lose)
+
+      went : stood (acted bits m w (stood m w) lose) w ≡ result bits c n workers base (r .ring) m pic w l lose busy .place
+      went = acted-stood bits c n workers base (r .ring) m pic w l lose busy
+
+      -- what the act claimed
+      pub grown : (u .tail ≡ r .ring .tail + length (tailBy (movedOf (result bits c n workers base (r .ring) m pic w l lose busy .place)) 0))
+          × (u .head ≡ r .ring .head + length (headBy (movedOf (result bits c n workers base (r .ring) m pic w l lose busy .place)) 0))
+      grown =
+          let st = stepped bits c n workers base (r .ring) m pic w l lose busy young in
+          let moved-is : movedOf (result bits c n workers base (r .ring) m pic w l lose busy .place) ≡ movedBy (told (st .effect)) =
+          shows c (result bits c n workers base (r .ring) m pic w l lose busy .place) .1 ∙ ap movedBy (st .tells) in
+          rw moved-is (claims-after c (r .ring) w (spot bits c n workers base (r .ring) m pic w l lose busy) (st .effect))
+
+      grown-new : (u .tail ≡ r .ring .tail + length (tailBy (movedOf (new .after)) 0)) × (u .head ≡ r .ring .head + length (headBy (movedOf (new .after)) 0))
+      grown-new = rw went grown
+
+      since-own : since w (h ++ new ∷ []) ≡ cond (isNew (holdingAt (result bits c n workers base (r .ring) m pic w l lose busy .place))) [] (since w h ++ new ∷ [])
+      since-own =
+          let own : givesTo w new ≡ isNew (holdingAt (new .after)) = ap (λ (b : Bool). cond b (isNew (holdingAt (new .after))) false) (eq-eqb w w refl) in
+          since-end w [] h new ∙ ap (λ (b : Bool). cond b [] (since w h ++ new ∷ [])) (own ∙ ap (λ (p : Place). isNew (holdingAt p)) went)
+
+      dated-did : (early : m .meter < meterMost) (j : ℕ) → Dated u (acted-pictured bits c n workers base (r .ring) m pic w l lose busy young early .ages j) (since j (h ++ new ∷ []))
+      dated-did early j = rw (acted-ages bits c n workers base (r .ring) m pic w l lose busy young early) (go (ℕ-discrete j w))
+        where
+          go : Dec (j ≡ w) → Dated u (upd (pic .ages) w (new-age bits c n workers base (r .ring) m pic w l lose busy) j) (since j (h ++ new ∷ []))
+          go (yes e) =
+              rw (e, upd-same (pic .ages) w (new-age bits c n workers base (r .ring) m pic w l lose busy), since-own)
+              (dated-own (r .ring) u (pic .ages w) (since w h) new grown-new (r .dated w) (holdingAt (result bits c n workers base (r .ring) m pic w l lose busy .place)) (ap holdingAt (sym went)))
+          go (no ne) =
+              rw (upd-else (pic .ages) w j (new-age bits c n workers base (r .ring) m pic w l lose busy) ne, since-end j [] h new, ne-eqb w j (λ q. ne (sym q)))
+              (dated-more (r .ring) u (pic .ages j) (since j h) new grown-new (r .dated j))
+
   -- an accepted entry leads from one to the next
-  pub entered : (m : Machine) (h : List Event) (en : Entry) (next-machine : Machine) (acts : List Event) → Reached c n workers m h
-      → Turned m en next-machine acts → Reached c n workers next-machine (h ++ acts)
-  entered m h en next-machine acts r (began w call l idle) =
+  pub entered : (m : Machine) (h : List Event) (en : Entry) (next-machine : Machine) (acts : List Event) (r : Reached c n workers m h) → Fit r en
+      → Turned bits m en next-machine acts → Reached c n workers next-machine (h ++ acts)
+  entered m h en next-machine acts r fit (began w call l idle) =
       record {
         ring = r .ring;
-        pictured = begun-pictured c n workers base (r .ring) m (r .pictured) w l call idle;
+        pictured = begun-pictured bits c n workers base (r .ring) m (r .pictured) w l call idle;
         logged = rw (append-nil h) (r .logged);
         metered = begun-meter m w (beginOf call) ∙ r .metered ∙ ap length (sym (append-nil h));
+        dated = dated-begun m h r w l call idle;
       }
-  entered m h en next-machine acts r (did w lose l busy early) =
+  entered m h en next-machine acts r fit (did w lose l busy early) =
       let pic = r .pictured in
-      let st = stepped c n workers base (r .ring) m pic w l lose busy in
+      let st = stepped bits c n workers base (r .ring) m pic w l lose busy fit in
       record {
-        ring = next c n workers base (r .ring) m pic w l lose busy;
-        pictured = acted-pictured c n workers base (r .ring) m pic w l lose busy early;
+        ring = next bits c n workers base (r .ring) m pic w l lose busy fit;
+        pictured = acted-pictured bits c n workers base (r .ring) m pic w l lose busy fit early;
         logged =
-            rw (acted-stood c n workers base (r .ring) m pic w l lose busy)
-            (logged-after c (r .ring) (pic .inv) w _ (spot-small c n workers base (r .ring) m pic w l lose busy) (st .effect) (st .fits) h (r .logged) (stood m w)
-            (result c n workers base (r .ring) m pic w l lose busy .place) (lossAt m w lose) (st .tells) (st .writes) (alone c n workers base (r .ring) m pic w l lose busy) (holding c n workers base (r .ring) m pic w l lose busy));
+            rw (acted-stood bits c n workers base (r .ring) m pic w l lose busy)
+            (logged-after c (r .ring) (pic .inv) w _ (spot-small bits c n workers base (r .ring) m pic w l lose busy) (st .effect) (st .fits) h (r .logged) (stood m w)
+            (result bits c n workers base (r .ring) m pic w l lose busy .place) (lossAt bits m w lose) (st .tells) (st .writes) (alone bits c n workers base (r .ring) m pic w l lose busy) (holding bits c n workers base (r .ring) m pic w l lose busy fit));
         metered =
-            acted-meter m w (stood m w) lose ∙ ap (λ (k : ℕ). k + 1) (r .metered)
-            ∙ sym (length-append h (eventOf m w lose (acted m w (stood m w) lose) ∷ []));
+            acted-meter bits m w (stood m w) lose ∙ ap (λ (k : ℕ). k + 1) (r .metered)
+            ∙ sym (length-append h (eventOf bits m w lose (acted bits m w (stood m w) lose) ∷ []));
+        dated = dated-did m h r w l lose busy fit early;
       }
 
   -- the ring and the mark behind a machine, and what an entry makes of them
@@ -299,17 +418,38 @@ module _ (c n workers : ℕ) (base : Base c n workers) where
 
   module _ (m : Machine) (h : List Event) (r : Reached c n workers m h) (w : ℕ) (l : w < m .count) where
     pub begun-behind : (q : Call) (idle : viewOf (stood m w) .busy ≡ false)
-        → markedRing (entered m h (Asks w (Begin q)) (begun m w (beginOf q)) [] r (began w q l idle)) ≡ markedRing r
+        → markedRing (entered m h (Asks w (Begin q)) (begun m w (beginOf q)) [] r tt (began w q l idle)) ≡ markedRing r
     unfolding entered
-    begun-behind q idle = ap (λ (b : Bool). (r .ring, b)) (begun-shut c n workers base (r .ring) m (r .pictured) w l q idle)
+    begun-behind q idle = ap (λ (b : Bool). (r .ring, b)) (begun-shut bits c n workers base (r .ring) m (r .pictured) w l q idle)
 
-    pub did-behind : (lose : Bool) (busy : viewOf (stood m w) .busy ≡ true) (early : m .meter < meterMost)
-        → markedRing (entered m h (Asks w (Act lose)) (acted m w (stood m w) lose) (eventOf m w lose (acted m w (stood m w) lose) ∷ []) r (did w lose l busy early))
-        ≡ (next c n workers base (r .ring) m (r .pictured) w l lose busy, stepped c n workers base (r .ring) m (r .pictured) w l lose busy .shut)
+    pub did-behind : (lose : Bool) (busy : viewOf (stood m w) .busy ≡ true) (young : Recent c (markOf c) n (r .ring) (r .pictured .ages w) (look c (stood m w))) (early : m .meter < meterMost)
+        → markedRing (entered m h (Asks w (Act lose)) (acted bits m w (stood m w) lose) (eventOf bits m w lose (acted bits m w (stood m w) lose) ∷ []) r young (did w lose l busy early))
+        ≡ (next bits c n workers base (r .ring) m (r .pictured) w l lose busy young, stepped bits c n workers base (r .ring) m (r .pictured) w l lose busy young .shut)
     unfolding entered
-    did-behind lose busy early =
-        ap (λ (b : Bool). (next c n workers base (r .ring) m (r .pictured) w l lose busy, b)) (acted-shut c n workers base (r .ring) m (r .pictured) w l lose busy early)
+    did-behind lose busy young early =
+        ap (λ (b : Bool). (next bits c n workers base (r .ring) m (r .pictured) w l lose busy young, b)) (acted-shut bits c n workers base (r .ring) m (r .pictured) w l lose busy young early)
 
-  -- and so does every list of entries
-  pub entries : (s : List ℕ) (m : Machine) (h : List Event) (place : ℕ) → Reached c n workers m h → Reached c n workers (runFrom m place s .machine) (h ++ historyOf m s)
-  entries = along (Reached c n workers) entered
+    -- the acting worker afterwards
+    pub own-next : (lose : Bool) (busy : viewOf (stood m w) .busy ≡ true) (young : Recent c (markOf c) n (r .ring) (r .pictured .ages w) (look c (stood m w))) (early : m .meter < meterMost)
+        (Q : Shared → Age → Place → Type 0)
+        → Q (next bits c n workers base (r .ring) m (r .pictured) w l lose busy young) (new-age bits c n workers base (r .ring) m (r .pictured) w l lose busy)
+        (result bits c n workers base (r .ring) m (r .pictured) w l lose busy .place)
+        → Q (entered m h (Asks w (Act lose)) (acted bits m w (stood m w) lose) (eventOf bits m w lose (acted bits m w (stood m w) lose) ∷ []) r young (did w lose l busy early) .ring)
+        (entered m h (Asks w (Act lose)) (acted bits m w (stood m w) lose) (eventOf bits m w lose (acted bits m w (stood m w) lose) ∷ []) r young (did w lose l busy early) .pictured .ages w)
+        (stood (acted bits m w (stood m w) lose) w)
+    unfolding entered
+    own-next lose busy young early Q o =
+        rw (acted-ages bits c n workers base (r .ring) m (r .pictured) w l lose busy young early, upd-same (r .pictured .ages) w (new-age bits c n workers base (r .ring) m (r .pictured) w l lose busy), acted-stood bits c n workers base (r .ring) m (r .pictured) w l lose busy) o
+
+  abbrev pub entered-in : (m : Machine) (h : List Event) (en : Entry) (next-machine : Machine) (acts : List Event) → Reached c n workers m h → InWindow bits m h
+      → Turned bits m en next-machine acts → Reached c n workers next-machine (h ++ acts)
+  entered-in m h en next-machine acts r window t = entered m h en next-machine acts r (fit-in m h r window en) t
+
+  -- and so does every list of entries that keeps the window
+  pub entries : (s : List ℕ) (m : Machine) (h : List Event) (place : ℕ) → KeepsWindow (ofWidth bits) m h s → Reached c n workers m h
+      → Reached c n workers (runAt bits m place s .machine) (h ++ historyAt bits m s)
+  entries = along bits (InWindow bits) (Reached c n workers) entered-in
+
+-- the last beginning is the whole
+pub at-end : (bits : Width) (m : Machine) (h : List Event) (s : List ℕ) → KeepsWindow (ofWidth bits) m h s → InWindow bits (runAt bits m 0 s .machine) (h ++ historyAt bits m s)
+at-end bits m h s keeps = keeps s [] (sym (append-nil s))

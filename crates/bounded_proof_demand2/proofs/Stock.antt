@@ -3,24 +3,25 @@ use mathlib.Core.Path.{_≡_, refl, sym, ap, _∙_, subst}
 use mathlib.Core.Logic.{_≢_, _⊎_, inl, inr}
 use mathlib.Core.Bool.{Bool, true, false, cond, true≢false}
 use mathlib.Core.List.{List, [], _∷_, _++_, append-nil}
-use Prim.Native.Nat.{ℕ, zero, suc, _+_, _-_, _*_, _%_, _≤_, _<_}
+use Prim.Native.Nat.{ℕ, zero, suc, _+_, _-_, _%_, _≤_, _<_}
 use native.Mathlib.Omega.{arith}
 use native.Mathlib.Nat.{mod-lt}
-use native.Mathlib.Decide.{ℕ-discrete}
 use lib.Dec.{leb}
-use lib.ListN.{length, getD, set, replicate}
+use lib.ListN.{length, set, replicate}
 use Rattle.queue_entries.specs.Limits.{workersMost}
 use Rattle.queue_entries.specs.declared.Call.{Call}
 use Rattle.queue_entries.specs.declared.Call.the-variants as call
 use Rattle.queue_entries.specs.declared.Entry.{Entry}
 use Rattle.bounded_words.specs.declared.Stamp.{Stamp}
 use Rattle.bounded_words.specs.declared.Fixed.{Fixed}
+use Rattle.bounded_words.specs.declared.Width.{Width}
+use Rattle.bounded_words.specs.declared.Width.the-variants.{SixtyFour}
 use Rattle.bounded_words.specs.Words.{markOf, markedOf, unmarkedOf, minus, same, onePast, lapBehind, lapBehindOnePast, withMark}
 use Rattle.bounded_places.specs.declared.Slot.{Slot}
 use Rattle.bounded_places.specs.declared.Ends.{Ends}
 use Rattle.bounded_places.specs.declared.Kind.{Kind}
 use Rattle.bounded_places.specs.declared.Kind.the-variants.{Push, Force}
-use Rattle.bounded_places.specs.declared.Answer.the-variants.{Nothing, Full, Closed, Empty, PopClosed, Len, Yes, No}
+use Rattle.bounded_places.specs.declared.Answer.the-variants.{Full, Closed, Empty, PopClosed, Len, Yes, No}
 use Rattle.bounded_places.specs.declared.Exchange.{Exchange}
 use Rattle.bounded_places.specs.declared.Place.{Place}
 use Rattle.bounded_places.specs.declared.Place.the-variants.{Idle, P1, P2, P3, P4, P5, P6, F6, F7, F8, F9, O1, O2, O3, O4, O5, O6, Len1, Len2, Len3, Empty1, Empty2, Full1, Full2, Close1, IsClosed1}
@@ -35,19 +36,19 @@ use Rattle.bounded_machine.specs.declared.Moved.the-variants.{Neither, Tail, He
 use Rattle.bounded_machine.specs.declared.Tally.{Tally}
 use Rattle.bounded_machine.specs.Machine.{placeOf, idler, idlers, freshOf}
 use Rattle.bounded_machine.specs.Broken.{allIdle}
-use Rattle.bounded_machine.specs.Contents.{contentsOf}
 use Rattle.bounded_machine.specs.Turn.{beginner, recordAfter, begun, stored, acted, actedBy}
 use Rattle.bounded_machine.specs.History.{movedOf, readsAt, untallied, tallyOf, stockOf, untakenOf}
 use Rattle.bounded_machine.proofs.Kept.{either, exchanged}
-use Rattle.bounded_demands.specs.Notions.{document01, machineAfter, actsOf, Reads, readO4, readF8, tailBy, headBy, tally, stock, unread, unreadBy, lesser}
+use Rattle.bounded_demands.specs.Notions.{ofWidth, document01, Allowed, InWindow, KeepsWindow, machineAfter, actsOf, Reads, readO4, readF8, tailBy, headBy, tally, stock, unread, unreadBy}
 use Rattle.bounded_demands.specs.Demands.{StockRises, StockFalls, StockStays, Stocked, StockUnderEverySchedule}
 use Rattle.bounded_proof_invariant.proofs.Ring.{Cell, Await, Hold, Hand, Mine, Shared}
-use Rattle.bounded_proof_each_act.proofs.Sight.{look, Stands}
+use Rattle.bounded_proof_each_act.proofs.Sight.{Age, look, Stands}
 use Rattle.bounded_proof_demand2.proofs.Lists.{Last, Earlier, split-end}
 use Rattle.bounded_proof_demand2.proofs.Turns.{Turned, began, did, stood, eventOf}
 use Rattle.bounded_proof_demand2.proofs.Counts.{by-act, tally-end, tally-tail, tally-head}
 use Rattle.bounded_proof_demand2.proofs.Pictured.{Base, Pictured, idle-is, busy-counted, hand-busy, result, new-record, acted-stood}
-use Rattle.bounded_proof_demand2.proofs.Reached.{Reached, lapsOf, base-of, nil-split, along, entered}
+use Rattle.bounded_proof_demand2.proofs.Reached.{Reached, lapsOf, base-of, nil-split, along, entered-in}
+use Rattle.bounded_proof_demand2.proofs.Always.{always}
 use Rattle.bounded_proof_demand2.proofs.Contents.{idle-at, contents-number}
 use Rattle.bounded_proof_demand2.proofs.Demand2.{fresh-reached}
 
@@ -76,44 +77,44 @@ full-kept : (k j : Kind) (t : Stamp) (x : ℕ) → Kept (P2 j t x) (fullAt k t x
 full-kept Push j t x = omega arith
 full-kept Force j t x = omega arith
 
-act-kept : (f : Fixed) (e : Ends) (s : Slot) (p : Place) (lose : Bool) → Kept p (actOf f e s p lose .place)
+act-kept : (bits : Width) (f : Fixed) (e : Ends) (s : Slot) (p : Place) (lose : Bool) → Kept p (actOf bits f e s p lose .place)
 unfolding stay losing
-act-kept f e s (Idle a) lose = omega arith
-act-kept f e s (P1 k x) lose = found-kept f (e .tail) k x (P1 k x) refl refl
-act-kept f e s (P2 k t x) lose =
-    either (λ (a : Acted). Kept (P2 k t x) (a .place)) (same (s .stamp) t) (stay e s (P3 k t x)) (cond (lapBehindOnePast f (s .stamp) t) (stay e s (fullAt k t x)) (stay e s (P1 k x))) (λ z. omega arith) (λ z. either (λ (a : Acted). Kept (P2 k t x) (a .place)) (lapBehindOnePast f (s .stamp) t) (stay e s (fullAt k t x)) (stay e s (P1 k x)) (λ y. full-kept k k t x) (λ y. omega arith))
-act-kept f e s (P3 k t x) lose =
-    exchanged (λ (y : Exchange). Kept (P3 k t x) (endP3 f e s k t x y .place)) (e .tail) t lose (λ b d. omega arith) (λ b d. omega arith)
+act-kept bits f e s (Idle a) lose = omega arith
+act-kept bits f e s (P1 k x) lose = found-kept f (e .tail) k x (P1 k x) refl refl
+act-kept bits f e s (P2 k t x) lose =
+    either (λ (a : Acted). Kept (P2 k t x) (a .place)) (same (s .stamp) t) (stay e s (P3 k t x)) (cond (lapBehindOnePast bits f (s .stamp) t) (stay e s (fullAt k t x)) (stay e s (P1 k x))) (λ z. omega arith) (λ z. either (λ (a : Acted). Kept (P2 k t x) (a .place)) (lapBehindOnePast bits f (s .stamp) t) (stay e s (fullAt k t x)) (stay e s (P1 k x)) (λ y. full-kept k k t x) (λ y. omega arith))
+act-kept bits f e s (P3 k t x) lose =
+    exchanged (λ (y : Exchange). Kept (P3 k t x) (endP3 bits f e s k t x y .place)) (e .tail) t lose (λ b d. omega arith) (λ b d. omega arith)
     (λ b. found-kept f (e .tail) k x (P3 k t x) refl refl)
-act-kept f e s (P4 t x) lose = omega arith
-act-kept f e s (P5 t) lose = omega arith
-act-kept f e s (P6 t x) lose =
-    either (λ (a : Acted). Kept (P6 t x) (a .place)) (lapBehind f (e .head) t) (stay e s (Idle (Full x))) (stay e s (P1 Push x)) (λ z. omega arith) (λ z. omega arith)
-act-kept f e s (F6 t x) lose =
-    exchanged (λ (y : Exchange). Kept (F6 t x) (endF6 f e s t x y .place)) (e .head) (minus t (f .lap)) lose (λ b d. omega arith) (λ b d. omega arith) (λ b. omega arith)
-act-kept f e s (F7 t x) lose = omega arith
-act-kept f e s (F8 t x) lose = omega arith
-act-kept f e s (F9 t old) lose = omega arith
-act-kept f e s O1 lose = omega arith
-act-kept f e s (O2 h) lose =
-    either (λ (a : Acted). Kept (O2 h) (a .place)) (onePast (s .stamp) h) (stay e s (O3 h)) (cond (same (s .stamp) h) (stay e s (O6 h)) (stay e s O1)) (λ z. omega arith) (λ z. either (λ (a : Acted). Kept (O2 h) (a .place)) (same (s .stamp) h) (stay e s (O6 h)) (stay e s O1) (λ y. omega arith) (λ y. omega arith))
-act-kept f e s (O3 h) lose =
-    exchanged (λ (y : Exchange). Kept (O3 h) (endO3 f e s h y .place)) (e .head) h lose (λ b d. omega arith) (λ b d. omega arith) (λ b. omega arith)
-act-kept f e s (O4 h) lose = omega arith
-act-kept f e s (O5 h v) lose = omega arith
-act-kept f e s (O6 h) lose =
+act-kept bits f e s (P4 t x) lose = omega arith
+act-kept bits f e s (P5 t) lose = omega arith
+act-kept bits f e s (P6 t x) lose =
+    either (λ (a : Acted). Kept (P6 t x) (a .place)) (lapBehind bits f (e .head) t) (stay e s (Idle (Full x))) (stay e s (P1 Push x)) (λ z. omega arith) (λ z. omega arith)
+act-kept bits f e s (F6 t x) lose =
+    exchanged (λ (y : Exchange). Kept (F6 t x) (endF6 bits f e s t x y .place)) (e .head) (minus bits t (f .lap)) lose (λ b d. omega arith) (λ b d. omega arith) (λ b. omega arith)
+act-kept bits f e s (F7 t x) lose = omega arith
+act-kept bits f e s (F8 t x) lose = omega arith
+act-kept bits f e s (F9 t old) lose = omega arith
+act-kept bits f e s O1 lose = omega arith
+act-kept bits f e s (O2 h) lose =
+    either (λ (a : Acted). Kept (O2 h) (a .place)) (onePast bits (s .stamp) h) (stay e s (O3 h)) (cond (same (s .stamp) h) (stay e s (O6 h)) (stay e s O1)) (λ z. omega arith) (λ z. either (λ (a : Acted). Kept (O2 h) (a .place)) (same (s .stamp) h) (stay e s (O6 h)) (stay e s O1) (λ y. omega arith) (λ y. omega arith))
+act-kept bits f e s (O3 h) lose =
+    exchanged (λ (y : Exchange). Kept (O3 h) (endO3 bits f e s h y .place)) (e .head) h lose (λ b d. omega arith) (λ b d. omega arith) (λ b. omega arith)
+act-kept bits f e s (O4 h) lose = omega arith
+act-kept bits f e s (O5 h v) lose = omega arith
+act-kept bits f e s (O6 h) lose =
     either (λ (a : Acted). Kept (O6 h) (a .place)) (same (unmarkedOf f (e .tail)) h) (cond (markedOf f (e .tail)) (stay e s (Idle PopClosed)) (stay e s (Idle Empty))) (stay e s O1) (λ z. either (λ (a : Acted). Kept (O6 h) (a .place)) (markedOf f (e .tail)) (stay e s (Idle PopClosed)) (stay e s (Idle Empty)) (λ y. omega arith) (λ y. omega arith)) (λ z. omega arith)
-act-kept f e s Len1 lose = omega arith
-act-kept f e s (Len2 t) lose = omega arith
-act-kept f e s (Len3 t h) lose =
+act-kept bits f e s Len1 lose = omega arith
+act-kept bits f e s (Len2 t) lose = omega arith
+act-kept bits f e s (Len3 t h) lose =
     either (λ (a : Acted). Kept (Len3 t h) (a .place)) (same (e .tail) t) (stay e s (Idle (Len (countOf f t h)))) (stay e s Len1) (λ z. omega arith) (λ z. omega arith)
-act-kept f e s Empty1 lose = omega arith
-act-kept f e s (Empty2 h) lose = omega arith
-act-kept f e s Full1 lose = omega arith
-act-kept f e s (Full2 t) lose = omega arith
-act-kept f e s Close1 lose =
-    either (λ (a : Acted). Kept Close1 (a .place)) (markedOf f (e .tail)) (stay e s (Idle No)) (stay (tailTo e (withMark f (e .tail))) s (Idle Yes)) (λ z. omega arith) (λ z. omega arith)
-act-kept f e s IsClosed1 lose = omega arith
+act-kept bits f e s Empty1 lose = omega arith
+act-kept bits f e s (Empty2 h) lose = omega arith
+act-kept bits f e s Full1 lose = omega arith
+act-kept bits f e s (Full2 t) lose = omega arith
+act-kept bits f e s Close1 lose =
+    either (λ (a : Acted). Kept Close1 (a .place)) (markedOf f (e .tail)) (stay e s (Idle No)) (stay (tailTo e (withMark bits f (e .tail))) s (Idle Yes)) (λ z. omega arith) (λ z. omega arith)
+act-kept bits f e s IsClosed1 lose = omega arith
 
 no-tail : (x : Moved) → (x ≡ Tail → ⊥) → tails x ≡ 0
 no-tail Neither none = refl
@@ -224,33 +225,33 @@ few-read (suc n) owner ws own = omega (arith, less-one ws (owner n), few-read n 
 
 -- the slot in the hand of each
 module _ (c n : ℕ) (some : 0 < c) (s : Shared) (w : ℕ) where
-  unread-owns : (p : Place) → unread p ≡ true → Stands c (markOf c) n s w (look c p) → (i : ℕ) × (i < c) × Mine w (s .cell i)
-  unread-owns (Idle a) e o = absurd (true≢false (sym e))
-  unread-owns (P1 k x) e o = absurd (true≢false (sym e))
-  unread-owns (P2 k t x) e o = absurd (true≢false (sym e))
-  unread-owns (P3 k t x) e o = absurd (true≢false (sym e))
-  unread-owns (P4 t x) e o = absurd (true≢false (sym e))
-  unread-owns (P5 t) e o = absurd (true≢false (sym e))
-  unread-owns (P6 t x) e o = absurd (true≢false (sym e))
-  unread-owns (F6 t x) e o = absurd (true≢false (sym e))
-  unread-owns (F7 t x) e o = (o .0 % c, mod-lt (o .0) some, subst (Mine w) (sym (o .2 .0)) refl)
-  unread-owns (F8 t x) e o = (o .0 % c, mod-lt (o .0) some, subst (Mine w) (sym (o .2 .0 .0)) refl)
-  unread-owns (F9 t old) e o = absurd (true≢false (sym e))
-  unread-owns O1 e o = absurd (true≢false (sym e))
-  unread-owns (O2 h) e o = absurd (true≢false (sym e))
-  unread-owns (O3 h) e o = absurd (true≢false (sym e))
-  unread-owns (O4 h) e o = (o .0 % c, mod-lt (o .0) some, subst (Mine w) (sym (o .2 .0)) refl)
-  unread-owns (O5 h v) e o = absurd (true≢false (sym e))
-  unread-owns (O6 h) e o = absurd (true≢false (sym e))
-  unread-owns Len1 e o = absurd (true≢false (sym e))
-  unread-owns (Len2 t) e o = absurd (true≢false (sym e))
-  unread-owns (Len3 t h) e o = absurd (true≢false (sym e))
-  unread-owns Empty1 e o = absurd (true≢false (sym e))
-  unread-owns (Empty2 h) e o = absurd (true≢false (sym e))
-  unread-owns Full1 e o = absurd (true≢false (sym e))
-  unread-owns (Full2 t) e o = absurd (true≢false (sym e))
-  unread-owns Close1 e o = absurd (true≢false (sym e))
-  unread-owns IsClosed1 e o = absurd (true≢false (sym e))
+  unread-owns : (a : Age) (p : Place) → unread p ≡ true → Stands c (markOf c) n s w a (look c p) → (i : ℕ) × (i < c) × Mine w (s .cell i)
+  unread-owns a (Idle x) e o = absurd (true≢false (sym e))
+  unread-owns a (P1 k x) e o = absurd (true≢false (sym e))
+  unread-owns a (P2 k t x) e o = absurd (true≢false (sym e))
+  unread-owns a (P3 k t x) e o = absurd (true≢false (sym e))
+  unread-owns a (P4 t x) e o = absurd (true≢false (sym e))
+  unread-owns a (P5 t) e o = absurd (true≢false (sym e))
+  unread-owns a (P6 t x) e o = absurd (true≢false (sym e))
+  unread-owns a (F6 t x) e o = absurd (true≢false (sym e))
+  unread-owns a (F7 t x) e o = (o .0 % c, mod-lt (o .0) some, subst (Mine w) (sym (o .2 .0)) refl)
+  unread-owns a (F8 t x) e o = (o .0 % c, mod-lt (o .0) some, subst (Mine w) (sym (o .2 .0 .0)) refl)
+  unread-owns a (F9 t old) e o = absurd (true≢false (sym e))
+  unread-owns a O1 e o = absurd (true≢false (sym e))
+  unread-owns a (O2 h) e o = absurd (true≢false (sym e))
+  unread-owns a (O3 h) e o = absurd (true≢false (sym e))
+  unread-owns a (O4 h) e o = (o .0 % c, mod-lt (o .0) some, subst (Mine w) (sym (o .2 .0)) refl)
+  unread-owns a (O5 h v) e o = absurd (true≢false (sym e))
+  unread-owns a (O6 h) e o = absurd (true≢false (sym e))
+  unread-owns a Len1 e o = absurd (true≢false (sym e))
+  unread-owns a (Len2 t) e o = absurd (true≢false (sym e))
+  unread-owns a (Len3 t h) e o = absurd (true≢false (sym e))
+  unread-owns a Empty1 e o = absurd (true≢false (sym e))
+  unread-owns a (Empty2 h) e o = absurd (true≢false (sym e))
+  unread-owns a Full1 e o = absurd (true≢false (sym e))
+  unread-owns a (Full2 t) e o = absurd (true≢false (sym e))
+  unread-owns a Close1 e o = absurd (true≢false (sym e))
+  unread-owns a IsClosed1 e o = absurd (true≢false (sym e))
 
 abbrev ownerOf : Cell → ℕ
 ownerOf (Await k) = 0
@@ -262,7 +263,7 @@ mine-owner w (Hand st k v) e = e
 
 -- ---- along a history
 
-module _ (c n workers : ℕ) (base : Base c n workers) where
+module _ (bits : Width) (c n workers : ℕ) (base : Base bits c n workers) where
   record Shelved (m : Machine) (h : List Event) : Type 0 where
     pub behind : Reached c n workers m h
     pub balance : tally h .head .0 ≡ tally h .reads + unreadBy (m .workers)
@@ -283,23 +284,23 @@ module _ (c n workers : ℕ) (base : Base c n workers) where
     pic = o .behind .pictured
 
     abbrev next : Machine
-    next = acted m w (stood m w) lose
+    next = acted bits m w (stood m w) lose
 
     abbrev new : Event
-    new = eventOf m w lose next
+    new = eventOf bits m w lose next
 
     seat : w < length (m .workers)
     seat = omega (arith, pic .workers-long, pic .count, base .team)
 
-    went : stood next w ≡ result c n workers base (o .behind .ring) m pic w l lose busy .place
-    went = acted-stood c n workers base (o .behind .ring) m pic w l lose busy
+    went : stood next w ≡ result bits c n workers base (o .behind .ring) m pic w l lose busy .place
+    went = acted-stood bits c n workers base (o .behind .ring) m pic w l lose busy
 
     kept : Kept (stood m w) (stood next w)
-    kept = subst (Kept (stood m w)) (sym went) (act-kept (m .ring .fixed) (m .ring .ends) _ (stood m w) lose)
+    kept = subst (Kept (stood m w)) (sym went) (act-kept bits (m .ring .fixed) (m .ring .ends) _ (stood m w) lose)
 
-    set-there : unreadBy (next .workers) + one (unread (stood m w)) ≡ unreadBy (m .workers) + one (unread (result c n workers base (o .behind .ring) m pic w l lose busy .place))
+    set-there : unreadBy (next .workers) + one (unread (stood m w)) ≡ unreadBy (m .workers) + one (unread (result bits c n workers base (o .behind .ring) m pic w l lose busy .place))
     unfolding actedBy stored recordAfter
-    set-there = set-read (m .workers) w (new-record c n workers base (o .behind .ring) m pic w l lose busy) seat
+    set-there = set-read (m .workers) w (new-record bits c n workers base (o .behind .ring) m pic w l lose busy) seat
 
     moved-read : unreadBy (next .workers) + one (unread (stood m w)) ≡ unreadBy (m .workers) + one (unread (stood next w))
     moved-read = subst (λ (q : Place). unreadBy (next .workers) + one (unread (stood m w)) ≡ unreadBy (m .workers) + one (unread q)) (sym went) set-there
@@ -363,19 +364,19 @@ module _ (c n workers : ℕ) (base : Base c n workers) where
             (stay-so (λ e. none (ap (λ (y : Event). movedOf (y .after)) (q .one) ∙ e)) (λ a e. unread a (subst (λ (y : Event). Reads (y .before) a) (sym (q .one)) e)))
         go (inr q) = o .stays earlier (q .left) act (q .was) none unread
 
-  shelved-kept : (m : Machine) (h : List Event) (en : Entry) (next-machine : Machine) (acts : List Event) → Shelved m h → Turned m en next-machine acts → Shelved next-machine (h ++ acts)
-  shelved-kept m h en next-machine acts o (began w q l idle) =
+  shelved-kept : (m : Machine) (h : List Event) (en : Entry) (next-machine : Machine) (acts : List Event) → Shelved m h → InWindow bits m h → Turned bits m en next-machine acts → Shelved next-machine (h ++ acts)
+  shelved-kept m h en next-machine acts o window (began w q l idle) =
       let sits : w < length (m .workers) = omega (arith, o .behind .pictured .workers-long, o .behind .pictured .count, base .team) in
       record {
-        behind = entered c n workers base m h en next-machine acts (o .behind) (began w q l idle);
+        behind = entered-in bits c n workers base m h en next-machine acts (o .behind) window (began w q l idle);
         balance = rw (append-nil h) (o .balance ∙ omega (arith, begun-read m w q sits idle));
         rises = rw (append-nil h) (o .rises);
         falls = rw (append-nil h) (o .falls);
         stays = rw (append-nil h) (o .stays);
       }
-  shelved-kept m h en next-machine acts o (did w lose l busy early) =
+  shelved-kept m h en next-machine acts o window (did w lose l busy early) =
       record {
-        behind = entered c n workers base m h en next-machine acts (o .behind) (did w lose l busy early);
+        behind = entered-in bits c n workers base m h en next-machine acts (o .behind) window (did w lose l busy early);
         balance = balance-next m h o w lose l busy;
         rises = rises-more m h o w lose l busy;
         falls = falls-more m h o w lose l busy;
@@ -393,7 +394,7 @@ module _ (c n workers : ℕ) (base : Base c n workers) where
     idle-none idle = none-read (m .workers) (λ w. idle-read (stood m w) (idle-at (m .workers) (o .behind .pictured .workers-long) idle w))
 
     owns : (w : ℕ) → unread (stood m w) ≡ true → (i : ℕ) × (i < c) × Mine w (o .behind .ring .cell i)
-    owns w e = unread-owns c n (base .ground .laws .some) (o .behind .ring) w (stood m w) e (o .behind .pictured .stands w)
+    owns w e = unread-owns c n (base .ground .laws .some) (o .behind .ring) w (o .behind .pictured .ages w) (stood m w) e (o .behind .pictured .stands w)
 
     -- no more than there are slots, and no more than there are workers
     few-slots : unreadBy (m .workers) ≤ c
@@ -426,7 +427,7 @@ module _ (c n workers : ℕ) (base : Base c n workers) where
           number =
               λ idle.
               let even : stock h ≡ untakenOf (tally h) = omega (arith, by-hands, idle-none idle) in
-              (even ∙ contents-number c n workers base m h (o .behind) idle, even);
+              (even ∙ contents-number bits c n workers base m h (o .behind) idle, even);
           most =
               either (λ (k : ℕ). stock h ≤ c + k) (leb c workers) c workers
               (λ z. omega (arith, by-hands, few-untaken, few-slots)) (λ z. omega (arith, by-hands, few-untaken, few-workers));
@@ -436,17 +437,21 @@ fresh-read : (capacity workers edition : ℕ) → unreadBy (freshOf capacity wor
 unfolding freshOf idlers
 fresh-read capacity workers edition = idlers-read workersMost
 
-pub stock-stands : StockUnderEverySchedule document01 stock
+pub stock-in : (bits : Width) (capacity workers edition : ℕ) → Allowed capacity workers edition → (s : List ℕ) → KeepsWindow (ofWidth bits) (freshOf capacity workers edition) [] s
+    → Stocked stock capacity workers (machineAfter (ofWidth bits) capacity workers edition s) (actsOf (ofWidth bits) capacity workers edition s)
 unfolding tallyOf
-stock-stands capacity workers edition a s =
-    let n = lapsOf capacity in
-    let base = base-of capacity workers edition a in
-    stocked capacity n workers base (machineAfter document01 capacity workers edition s) (actsOf document01 capacity workers edition s)
-    (along (Shelved capacity n workers base) (shelved-kept capacity n workers base) s (freshOf capacity workers edition) [] 0
+stock-in bits capacity workers edition a s keeps =
+    let n = lapsOf bits capacity in
+    let base = base-of bits capacity workers edition a in
+    stocked bits capacity n workers base (machineAfter (ofWidth bits) capacity workers edition s) (actsOf (ofWidth bits) capacity workers edition s)
+    (along bits (InWindow bits) (Shelved bits capacity n workers base) (shelved-kept bits capacity n workers base) s (freshOf capacity workers edition) [] 0 keeps
     (record {
-      behind = fresh-reached capacity workers edition a;
+      behind = fresh-reached bits capacity workers edition a;
       balance = omega (arith, fresh-read capacity workers edition);
       rises = λ earlier later act e. absurd (nil-split earlier act later e);
       falls = λ earlier later act t e. absurd (nil-split earlier act later e);
       stays = λ earlier later act e. absurd (nil-split earlier act later e);
     }))
+
+pub stock-stands : StockUnderEverySchedule document01 stock
+stock-stands capacity workers edition a s = stock-in SixtyFour capacity workers edition a s (always capacity workers edition a s)

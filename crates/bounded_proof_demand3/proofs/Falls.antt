@@ -7,6 +7,7 @@ use native.Mathlib.Omega.{arith}
 use borrow.Author.Tests.{eq-eqb}
 use Rattle.bounded_words.specs.declared.Stamp.{Stamp}
 use Rattle.bounded_words.specs.declared.Fixed.{Fixed}
+use Rattle.bounded_words.specs.declared.Width.{Width}
 use Rattle.bounded_words.specs.Words.{stamp, indexOf, markedOf, unmarkedOf, minus, withMark, same, onePast, lapBehind, lapBehindOnePast}
 use Rattle.bounded_places.specs.declared.Slot.{Slot}
 use Rattle.bounded_places.specs.declared.Ends.{Ends}
@@ -26,46 +27,46 @@ use Rattle.bounded_proof_demand3.specs.Rank.{rankOf}
 
 -- What a stamp load finds. At P2 with the word of tail: free, or full a lap behind, and then head is a lap behind too. At O2
 -- with the word of head: full, or free, and then tail is there too.
-pub record FindsTail (f : Fixed) (e : Ends) (s : Slot) (t : Stamp) : Type 0 where
-  pub decides : same (unmarkedOf f (e .tail)) t ≡ true → same (s .stamp) t ≡ false → lapBehindOnePast f (s .stamp) t ≡ false → ⊥
-  pub full : lapBehindOnePast f (s .stamp) t ≡ true → (lapBehind f (e .head) t ≡ true) × (same (e .head) (minus t (f .lap)) ≡ true)
+pub record FindsTail (bits : Width) (f : Fixed) (e : Ends) (s : Slot) (t : Stamp) : Type 0 where
+  pub decides : same (unmarkedOf f (e .tail)) t ≡ true → same (s .stamp) t ≡ false → lapBehindOnePast bits f (s .stamp) t ≡ false → ⊥
+  pub full : lapBehindOnePast bits f (s .stamp) t ≡ true → (lapBehind bits f (e .head) t ≡ true) × (same (e .head) (minus bits t (f .lap)) ≡ true)
   -- what is free is no lap after head
-  pub free : same (s .stamp) t ≡ true → lapBehind f (e .head) t ≡ false
+  pub free : same (s .stamp) t ≡ true → lapBehind bits f (e .head) t ≡ false
   -- a lap after head is tail
-  pub lapped : lapBehind f (e .head) t ≡ true → same (unmarkedOf f (e .tail)) t ≡ true
+  pub lapped : lapBehind bits f (e .head) t ≡ true → same (unmarkedOf f (e .tail)) t ≡ true
 
-pub record FindsHead (f : Fixed) (e : Ends) (s : Slot) (h : Stamp) : Type 0 where
-  pub decides : same (e .head) h ≡ true → onePast (s .stamp) h ≡ false → same (s .stamp) h ≡ false → ⊥
+pub record FindsHead (bits : Width) (f : Fixed) (e : Ends) (s : Slot) (h : Stamp) : Type 0 where
+  pub decides : same (e .head) h ≡ true → onePast bits (s .stamp) h ≡ false → same (s .stamp) h ≡ false → ⊥
   pub empty : same (s .stamp) h ≡ true → same (unmarkedOf f (e .tail)) h ≡ true
 
 -- And what the words of an exchange that is won, or of a last load, say beside.
-abbrev pub Finds : Fixed → Ends → Slot → Place → Type 0
-Finds f e s (Idle a) = Unit {0}
-Finds f e s (P1 k x) = Unit {0}
-Finds f e s (P2 k t x) = FindsTail f e s t
-Finds f e s (P3 k t x) = same (e .tail) t ≡ true → (markedOf f (e .tail) ≡ false) × (lapBehind f (e .head) (unmarkedOf f (e .tail)) ≡ false)
-Finds f e s (P4 t x) = Unit {0}
-Finds f e s (P5 t) = Unit {0}
-Finds f e s (P6 t x) = Unit {0}
-Finds f e s (F6 t x) = same (e .head) (minus t (f .lap)) ≡ true → indexOf f t ≡ indexOf f (e .head)
-Finds f e s (F7 t x) = Unit {0}
-Finds f e s (F8 t x) = Unit {0}
-Finds f e s (F9 t old) = Unit {0}
-Finds f e s O1 = Unit {0}
-Finds f e s (O2 h) = FindsHead f e s h
-Finds f e s (O3 h) = same (e .head) h ≡ true → same (unmarkedOf f (e .tail)) (e .head) ≡ false
-Finds f e s (O4 h) = Unit {0}
-Finds f e s (O5 h v) = Unit {0}
-Finds f e s (O6 h) = same (unmarkedOf f (e .tail)) h ≡ true → same (unmarkedOf f (e .tail)) (e .head) ≡ true
-Finds f e s Len1 = Unit {0}
-Finds f e s (Len2 t) = Unit {0}
-Finds f e s (Len3 t h) = Unit {0}
-Finds f e s Empty1 = Unit {0}
-Finds f e s (Empty2 h) = Unit {0}
-Finds f e s Full1 = Unit {0}
-Finds f e s (Full2 t) = Unit {0}
-Finds f e s Close1 = Unit {0}
-Finds f e s IsClosed1 = Unit {0}
+abbrev pub Finds : Width → Fixed → Ends → Slot → Place → Type 0
+Finds bits f e s (Idle a) = Unit {0}
+Finds bits f e s (P1 k x) = Unit {0}
+Finds bits f e s (P2 k t x) = FindsTail bits f e s t
+Finds bits f e s (P3 k t x) = same (e .tail) t ≡ true → (markedOf f (e .tail) ≡ false) × (lapBehind bits f (e .head) (unmarkedOf f (e .tail)) ≡ false)
+Finds bits f e s (P4 t x) = Unit {0}
+Finds bits f e s (P5 t) = Unit {0}
+Finds bits f e s (P6 t x) = Unit {0}
+Finds bits f e s (F6 t x) = same (e .head) (minus bits t (f .lap)) ≡ true → indexOf f t ≡ indexOf f (e .head)
+Finds bits f e s (F7 t x) = Unit {0}
+Finds bits f e s (F8 t x) = Unit {0}
+Finds bits f e s (F9 t old) = Unit {0}
+Finds bits f e s O1 = Unit {0}
+Finds bits f e s (O2 h) = FindsHead bits f e s h
+Finds bits f e s (O3 h) = same (e .head) h ≡ true → same (unmarkedOf f (e .tail)) (e .head) ≡ false
+Finds bits f e s (O4 h) = Unit {0}
+Finds bits f e s (O5 h v) = Unit {0}
+Finds bits f e s (O6 h) = same (unmarkedOf f (e .tail)) h ≡ true → same (unmarkedOf f (e .tail)) (e .head) ≡ true
+Finds bits f e s Len1 = Unit {0}
+Finds bits f e s (Len2 t) = Unit {0}
+Finds bits f e s (Len3 t h) = Unit {0}
+Finds bits f e s Empty1 = Unit {0}
+Finds bits f e s (Empty2 h) = Unit {0}
+Finds bits f e s Full1 = Unit {0}
+Finds bits f e s (Full2 t) = Unit {0}
+Finds bits f e s Close1 = Unit {0}
+Finds bits f e s IsClosed1 = Unit {0}
 
 pub same-self : (w : Stamp) → same w w ≡ true
 unfolding same
@@ -97,39 +98,39 @@ high : (b : Bool) (x y n : ℕ) → x ≤ n → y ≤ n → cond b x y ≤ n
 high true x y n p q = p
 high false x y n p q = q
 
-module _ (f : Fixed) (e : Ends) (s : Slot) where
+module _ (bits : Width) (f : Fixed) (e : Ends) (s : Slot) where
   -- the act leaves fewer than n
   abbrev Less : ℕ → Acted → Type 0
-  Less n a = rankOf f (a .ends) (a .place) < n
+  Less n a = rankOf bits f (a .ends) (a .place) < n
 
   now-at : (b : Bool) (x y n : ℕ) → b ≡ true → x < n → cond b x y < n
   now-at true x y n h l = l
   now-at false x y n h l = absurd (true≢false (sym h))
 
   -- the word of tail, just loaded or found
-  finds : (k : Kind) (x n : ℕ) → (markedOf f (e .tail) ≡ false → rankOf f e (P2 k (e .tail) x) < n) → 0 < n → rankOf f e (afterTail f k (e .tail) x) < n
+  finds : (k : Kind) (x n : ℕ) → (markedOf f (e .tail) ≡ false → rankOf bits f e (P2 k (e .tail) x) < n) → 0 < n → rankOf bits f e (afterTail f k (e .tail) x) < n
   unfolding afterTail
-  finds k x n in-date pos = either (λ (p : Place). rankOf f e p < n) (markedOf f (e .tail)) (Idle (Closed x)) (P2 k (e .tail) x) (λ h. pos) in-date
+  finds k x n in-date pos = either (λ (p : Place). rankOf bits f e p < n) (markedOf f (e .tail)) (Idle (Closed x)) (P2 k (e .tail) x) (λ h. pos) in-date
 
-  falls-p2 : (k : Kind) (t : Stamp) (x : ℕ) → FindsTail f e s t → Less (rankOf f e (P2 k t x)) (actP2 f e s k t x)
+  falls-p2 : (k : Kind) (t : Stamp) (x : ℕ) → FindsTail bits f e s t → Less (rankOf bits f e (P2 k t x)) (actP2 bits f e s k t x)
   unfolding stay
   falls-p2 k t x d =
-      either (Less (rankOf f e (P2 k t x))) (same (s .stamp) t) (stay e s (P3 k t x)) _
+      either (Less (rankOf bits f e (P2 k t x))) (same (s .stamp) t) (stay e s (P3 k t x)) _
       (λ h. both (same (unmarkedOf f (e .tail)) t) _ _ _ _ (omega arith) (omega arith))
-      (λ h. either (Less (rankOf f e (P2 k t x))) (lapBehindOnePast f (s .stamp) t) (stay e s (fullAt k t x)) (stay e s (P1 k x))
+      (λ h. either (Less (rankOf bits f e (P2 k t x))) (lapBehindOnePast bits f (s .stamp) t) (stay e s (fullAt k t x)) (stay e s (P1 k x))
       (λ g. full k (d .full g))
       (λ g. second (same (unmarkedOf f (e .tail)) t) _ _ _ (λ q. d .decides q h g) (omega arith)))
     where
-      full : (k : Kind) → (lapBehind f (e .head) t ≡ true) × (same (e .head) (minus t (f .lap)) ≡ true) → rankOf f e (fullAt k t x) < rankOf f e (P2 k t x)
-      full Push q = now-at (lapBehind f (e .head) t) _ _ _ (q .0) (low (same (unmarkedOf f (e .tail)) t) _ _ _ (omega arith) (omega arith))
-      full Force q = now-at (same (e .head) (minus t (f .lap))) _ _ _ (q .1) (low (same (unmarkedOf f (e .tail)) t) _ _ _ (omega arith) (omega arith))
+      full : (k : Kind) → (lapBehind bits f (e .head) t ≡ true) × (same (e .head) (minus bits t (f .lap)) ≡ true) → rankOf bits f e (fullAt k t x) < rankOf bits f e (P2 k t x)
+      full Push q = now-at (lapBehind bits f (e .head) t) _ _ _ (q .0) (low (same (unmarkedOf f (e .tail)) t) _ _ _ (omega arith) (omega arith))
+      full Force q = now-at (same (e .head) (minus bits t (f .lap))) _ _ _ (q .1) (low (same (unmarkedOf f (e .tail)) t) _ _ _ (omega arith) (omega arith))
 
-  falls-p3 : (k : Kind) (t : Stamp) (x : ℕ) → Less (rankOf f e (P3 k t x)) (actP3 f e s k t x false)
+  falls-p3 : (k : Kind) (t : Stamp) (x : ℕ) → Less (rankOf bits f e (P3 k t x)) (actP3 bits f e s k t x false)
   unfolding stay losing
   falls-p3 k t x =
-      exchanged (λ (y : Exchange). Less (rankOf f e (P3 k t x)) (endP3 f e s k t x y)) (e .tail) t false (λ h g. absurd (true≢false (sym g)))
+      exchanged (λ (y : Exchange). Less (rankOf bits f e (P3 k t x)) (endP3 bits f e s k t x y)) (e .tail) t false (λ h g. absurd (true≢false (sym g)))
       (λ h g. low (same (unmarkedOf f (e .tail)) t) _ _ _ (omega arith) (omega arith))
-      (λ h. finds k x (rankOf f e (P3 k t x))
+      (λ h. finds k x (rankOf bits f e (P3 k t x))
       (λ g. now-at (same (unmarkedOf f (e .tail)) (e .tail)) _ _ _ (clear-same f (e .tail) g) (second (same (unmarkedOf f (e .tail)) t) _ _ _ (lost h g) (omega arith)))
       (low (same (unmarkedOf f (e .tail)) t) _ _ _ (omega arith) (omega arith)))
     where
@@ -137,12 +138,12 @@ module _ (f : Fixed) (e : Ends) (s : Slot) where
       lost : same (e .tail) t ≡ false → markedOf f (e .tail) ≡ false → same (unmarkedOf f (e .tail)) t ≡ true → ⊥
       lost h g q = true≢false (sym q ∙ ap (λ (z : Stamp). same z t) (clear-is f (e .tail) g) ∙ h)
 
-  falls-o2 : (h : Stamp) → FindsHead f e s h → Less (rankOf f e (O2 h)) (actOf f e s (O2 h) false)
+  falls-o2 : (h : Stamp) → FindsHead bits f e s h → Less (rankOf bits f e (O2 h)) (actOf bits f e s (O2 h) false)
   unfolding stay
   falls-o2 h d =
-      either (Less (rankOf f e (O2 h))) (onePast (s .stamp) h) (stay e s (O3 h)) _
+      either (Less (rankOf bits f e (O2 h))) (onePast bits (s .stamp) h) (stay e s (O3 h)) _
       (λ p. both (same (e .head) h) _ _ _ _ (omega arith) (omega arith))
-      (λ p. either (Less (rankOf f e (O2 h))) (same (s .stamp) h) (stay e s (O6 h)) (stay e s O1)
+      (λ p. either (Less (rankOf bits f e (O2 h))) (same (s .stamp) h) (stay e s (O6 h)) (stay e s O1)
       (λ q. now-at (same (unmarkedOf f (e .tail)) h) _ _ _ (d .empty q) (low (same (e .head) h) _ _ _ (omega arith) (omega arith)))
       (λ q. second (same (e .head) h) _ _ _ (λ z. d .decides z p q) (omega arith)))
 
@@ -161,7 +162,7 @@ module _ (f : Fixed) (e : Ends) (s : Slot) where
       go true = p
       go false = q
 
-  pub falls : (p : Place) → viewOf p .busy ≡ true → Finds f e s p → rankOf f (actOf f e s p false .ends) (actOf f e s p false .place) < rankOf f e p
+  pub falls : (p : Place) → viewOf p .busy ≡ true → Finds bits f e s p → rankOf bits f (actOf bits f e s p false .ends) (actOf bits f e s p false .place) < rankOf bits f e p
   unfolding stay losing tailTo headTo
   falls (Idle a) busy d = absurd (true≢false (sym busy))
   falls (P1 k x) busy d =
@@ -170,16 +171,16 @@ module _ (f : Fixed) (e : Ends) (s : Slot) where
   falls (P3 k t x) busy d = falls-p3 k t x
   falls (P4 t x) busy d = omega arith
   falls (P5 t) busy d = omega arith
-  falls (P6 t x) busy d = back (lapBehind f (e .head) t) (stay e s (Idle (Full x))) (stay e s (P1 Push x)) _ _ (omega arith) (omega arith)
+  falls (P6 t x) busy d = back (lapBehind bits f (e .head) t) (stay e s (Idle (Full x))) (stay e s (P1 Push x)) _ _ (omega arith) (omega arith)
   falls (F6 t x) busy d =
-      back-lost (endF6 f e s t x) (e .head) (minus t (f .lap)) _ _ (omega arith) (omega arith)
+      back-lost (endF6 bits f e s t x) (e .head) (minus bits t (f .lap)) _ _ (omega arith) (omega arith)
   falls (F7 t x) busy d = omega arith
   falls (F8 t x) busy d = omega arith
   falls (F9 t old) busy d = omega arith
   falls O1 busy d = now-at (same (e .head) (e .head)) _ _ _ (same-self (e .head)) (omega arith)
   falls (O2 h) busy d = falls-o2 h d
   falls (O3 h) busy d =
-      back-lost (endO3 f e s h) (e .head) h _ _ (omega arith)
+      back-lost (endO3 bits f e s h) (e .head) h _ _ (omega arith)
       (now-at (same (e .head) (e .head)) _ _ _ (same-self (e .head)) (omega arith))
   falls (O4 h) busy d = omega arith
   falls (O5 h v) busy d = omega arith
@@ -194,37 +195,37 @@ module _ (f : Fixed) (e : Ends) (s : Slot) where
   falls Full1 busy d = omega arith
   falls (Full2 t) busy d = omega arith
   falls Close1 busy d =
-      either (Less _) (markedOf f (e .tail)) (stay e s (Idle No)) (stay (tailTo e (withMark f (e .tail))) s (Idle Yes)) (λ q. omega arith) (λ q. omega arith)
+      either (Less _) (markedOf f (e .tail)) (stay e s (Idle No)) (stay (tailTo e (withMark bits f (e .tail))) s (Idle Yes)) (λ q. omega arith) (λ q. omega arith)
   falls IsClosed1 busy d = omega arith
 
 -- the rank is within document 01's numbers
-pub most : (f : Fixed) (e : Ends) (p : Place) → rankOf f e p ≤ mostOf p
-most f e (Idle a) = omega arith
-most f e (P1 k x) = omega arith
-most f e (P2 k t x) = high (same (unmarkedOf f (e .tail)) t) _ _ _ (omega arith) (omega arith)
-most f e (P3 k t x) = high (same (unmarkedOf f (e .tail)) t) _ _ _ (omega arith) (omega arith)
-most f e (P4 t x) = omega arith
-most f e (P5 t) = omega arith
-most f e (P6 t x) = high (lapBehind f (e .head) t) _ _ _ (omega arith) (omega arith)
-most f e (F6 t x) = high (same (e .head) (minus t (f .lap))) _ _ _ (omega arith) (omega arith)
-most f e (F7 t x) = omega arith
-most f e (F8 t x) = omega arith
-most f e (F9 t old) = omega arith
-most f e O1 = omega arith
-most f e (O2 h) = high (same (e .head) h) _ _ _ (omega arith) (omega arith)
-most f e (O3 h) = high (same (e .head) h) _ _ _ (omega arith) (omega arith)
-most f e (O4 h) = omega arith
-most f e (O5 h v) = omega arith
-most f e (O6 h) = high (same (unmarkedOf f (e .tail)) h) _ _ _ (omega arith) (omega arith)
-most f e Len1 = omega arith
-most f e (Len2 t) = high (same (e .tail) t) _ _ _ (omega arith) (omega arith)
-most f e (Len3 t h) = high (same (e .tail) t) _ _ _ (omega arith) (omega arith)
-most f e Empty1 = omega arith
-most f e (Empty2 h) = omega arith
-most f e Full1 = omega arith
-most f e (Full2 t) = omega arith
-most f e Close1 = omega arith
-most f e IsClosed1 = omega arith
+pub most : (bits : Width) (f : Fixed) (e : Ends) (p : Place) → rankOf bits f e p ≤ mostOf p
+most bits f e (Idle a) = omega arith
+most bits f e (P1 k x) = omega arith
+most bits f e (P2 k t x) = high (same (unmarkedOf f (e .tail)) t) _ _ _ (omega arith) (omega arith)
+most bits f e (P3 k t x) = high (same (unmarkedOf f (e .tail)) t) _ _ _ (omega arith) (omega arith)
+most bits f e (P4 t x) = omega arith
+most bits f e (P5 t) = omega arith
+most bits f e (P6 t x) = high (lapBehind bits f (e .head) t) _ _ _ (omega arith) (omega arith)
+most bits f e (F6 t x) = high (same (e .head) (minus bits t (f .lap))) _ _ _ (omega arith) (omega arith)
+most bits f e (F7 t x) = omega arith
+most bits f e (F8 t x) = omega arith
+most bits f e (F9 t old) = omega arith
+most bits f e O1 = omega arith
+most bits f e (O2 h) = high (same (e .head) h) _ _ _ (omega arith) (omega arith)
+most bits f e (O3 h) = high (same (e .head) h) _ _ _ (omega arith) (omega arith)
+most bits f e (O4 h) = omega arith
+most bits f e (O5 h v) = omega arith
+most bits f e (O6 h) = high (same (unmarkedOf f (e .tail)) h) _ _ _ (omega arith) (omega arith)
+most bits f e Len1 = omega arith
+most bits f e (Len2 t) = high (same (e .tail) t) _ _ _ (omega arith) (omega arith)
+most bits f e (Len3 t h) = high (same (e .tail) t) _ _ _ (omega arith) (omega arith)
+most bits f e Empty1 = omega arith
+most bits f e (Empty2 h) = omega arith
+most bits f e Full1 = omega arith
+most bits f e (Full2 t) = omega arith
+most bits f e Close1 = omega arith
+most bits f e IsClosed1 = omega arith
 
 one-more : (k : Kind) → oneMore k ≤ 1
 one-more Push = omega arith

@@ -8,6 +8,7 @@ use lib.Dec.{eqb}
 use borrow.Author.Tests.{eqb-true, eqb-false, eq-eqb, ne-eqb}
 use Rattle.bounded_words.specs.declared.Stamp.{Stamp}
 use Rattle.bounded_words.specs.declared.Fixed.{Fixed}
+use Rattle.bounded_words.specs.declared.Width.{Width}
 use Rattle.bounded_words.specs.Words.{indexOf, markedOf, unmarkedOf, minus, same, lapBehind}
 use Rattle.bounded_places.specs.declared.Place.{Place}
 use Rattle.bounded_places.specs.declared.Place.the-variants.{Idle, P1, P2, P3, P4, P5, P6, F6, F7, F8, F9, O1, O2, O3, O4, O5, O6, Len1, Len2, Len3, Empty1, Empty2, Full1, Full2, Close1, IsClosed1}
@@ -19,7 +20,7 @@ use Rattle.bounded_proof_invariant.proofs.Ring.{Cell, Await, Hold, Hand, Mine, 
 use Rattle.bounded_proof_invariant.proofs.Effects.{Loose}
 use Rattle.bounded_proof_each_act.proofs.Stamps
 use Rattle.bounded_proof_each_act.proofs.Stamps.{Ground, fixed, W, tailWord, word-slot, lap-slot}
-use Rattle.bounded_proof_each_act.proofs.Sight.{look, HandAt, endsOf, slotOf, Stands}
+use Rattle.bounded_proof_each_act.proofs.Sight.{Age, look, HandAt, endsOf, slotOf, Stands, Recent}
 use Rattle.bounded_proof_demand3.proofs.Falls.{Finds, FindsTail, FindsHead}
 
 -- a hand of the ring is one of document 01
@@ -63,7 +64,7 @@ unless : (b t : Bool) → cond b false t ≡ true → (b ≡ false) × (t ≡ tr
 unless true t h = absurd (true≢false (sym h))
 unless false t h = (refl, h)
 
-module _ (c mark n ed : ℕ) (g : Ground c mark n) (s : Shared) (inv : Inv c s) (young : s .tail + 2 * c < n * c) where
+module _ (bits : Width) (c mark n ed : ℕ) (g : Ground bits c mark n) (s : Shared) (inv : Inv c s) where
   abbrev f : Fixed
   f = fixed c mark ed
 
@@ -74,46 +75,46 @@ module _ (c mark n ed : ℕ) (g : Ground c mark n) (s : Shared) (inv : Inv c s) 
   turn = turn-long c mark n (g .laws)
 
   -- the tests of the ends, in claims
-  pub tail-is : (b : Bool) (m : ℕ) → m ≤ s .tail → same (unmarkedOf f (tailWord c mark n (s .tail) b)) (Word m) ≡ eqb (s .tail) m
-  tail-is b m le =
+  pub tail-is : (b : Bool) (m : ℕ) → m ≤ s .tail → s .tail < m + n * c → same (unmarkedOf f (tailWord c mark n (s .tail) b)) (Word m) ≡ eqb (s .tail) m
+  tail-is b m le late =
       let r : Near (n * c) (s .tail) m = omega (arith, turn) in
-      rw (Stamps.unmarked-tail c mark n g ed (s .tail) b) (Stamps.same-is c mark n g (s .tail) m r)
+      rw (Stamps.unmarked-tail bits c mark n g ed (s .tail) b) (Stamps.same-is bits c mark n g (s .tail) m r)
 
-  head-is : (m : ℕ) → m ≤ s .head → same (Word (s .head)) (Word m) ≡ eqb (s .head) m
-  head-is m le =
+  head-is : (m : ℕ) → m ≤ s .head → s .head < m + n * c → same (Word (s .head)) (Word m) ≡ eqb (s .head) m
+  head-is m le late =
       let r : Near (n * c) (s .head) m = omega (arith, turn, inv .low) in
-      Stamps.same-is c mark n g (s .head) m r
+      Stamps.same-is bits c mark n g (s .head) m r
 
-  pub behind-is : (m : ℕ) → m ≤ s .tail → lapBehind f (Word (s .head)) (Word m) ≡ eqb (s .head + c) m
-  behind-is m le =
+  pub behind-is : (m : ℕ) → m ≤ s .tail → s .head + c < m + n * c → lapBehind bits f (Word (s .head)) (Word m) ≡ eqb (s .head + c) m
+  behind-is m le late =
       let r : Near (n * c) (s .head + c) m = omega (arith, turn, inv .low, inv .high) in
-      Stamps.behind-is c mark n g ed (s .head) m r
+      Stamps.behind-is bits c mark n g ed (s .head) m r
 
-  before-is : (m : ℕ) → m ≤ s .head → same (Word (s .head)) (minus (Word (m + c)) (2 * mark)) ≡ eqb (s .head) m
-  before-is m le =
+  before-is : (m : ℕ) → m ≤ s .head → s .head < m + n * c → same (Word (s .head)) (minus bits (Word (m + c)) (2 * mark)) ≡ eqb (s .head) m
+  before-is m le late =
       let r : Near (n * c) (s .head) m = omega (arith, turn, inv .low) in
-      Stamps.before-is c mark n g (s .head) m r
+      Stamps.before-is bits c mark n g (s .head) m r
 
   module _ (i m v : ℕ) (b : Bool) (at : m % c ≡ i) where
     some : 0 < c
     some = g .laws .some
 
-    lapped : m ≤ s .tail → lapBehind f (Word (s .head)) (Word m) ≡ true → same (unmarkedOf f (tailWord c mark n (s .tail) b)) (Word m) ≡ true
-    lapped le h =
-        let q : s .head + c ≡ m = eqb-true _ _ (sym (behind-is m le) ∙ h) in
+    lapped : m ≤ s .tail → s .tail + 2 * c < m + n * c → lapBehind bits f (Word (s .head)) (Word m) ≡ true → same (unmarkedOf f (tailWord c mark n (s .tail) b)) (Word m) ≡ true
+    lapped le late h =
+        let q : s .head + c ≡ m = eqb-true _ _ (sym (behind-is m le (omega (arith, inv .low))) ∙ h) in
         let e : s .tail ≡ m = omega (arith, inv .high) in
-        tail-is b m le ∙ eq-eqb _ _ e
+        tail-is b m le (omega arith) ∙ eq-eqb _ _ e
 
-    pub finds-tail : m ≤ s .tail → (x : Cell) → CellOk c s i x → Loose x → FindsTail f (endsOf c mark n s b) (slotOf c mark n x v) (Word m)
-    finds-tail le (Await k) o l =
+    pub finds-tail : m ≤ s .tail → s .tail + 2 * c < m + n * c → (x : Cell) → CellOk c s i x → Loose x → FindsTail bits f (endsOf c mark n s b) (slotOf c mark n x v) (Word m)
+    finds-tail le late (Await k) o l =
         let r : Near (n * c) k m = omega (arith, turn, inv .low, inv .high, o .1, o .2) in
         let r' : Near (n * c) (k + c) m = omega (arith, turn, inv .low, inv .high, o .1, o .2) in
-        let here = Stamps.stamp-same c mark n g false k m (o .0 ∙ sym at) r in
-        let past = Stamps.stamp-behind c mark n g ed false k m (o .0 ∙ sym at) r' in
+        let here = Stamps.stamp-same bits c mark n g false k m (o .0 ∙ sym at) r in
+        let past = Stamps.stamp-behind bits c mark n g ed false k m (o .0 ∙ sym at) r' in
         record {
           decides =
               λ q h d.
-              let e : s .tail ≡ m = eqb-true _ _ (sym (tail-is b m le) ∙ q) in
+              let e : s .tail ≡ m = eqb-true _ _ (sym (tail-is b m le (omega arith)) ∙ q) in
               let z : k % c ≡ s .tail % c = o .0 ∙ sym at ∙ ap (λ (y : ℕ). y % c) (sym e) in
               let w : k ≡ s .tail = near-one c (s .tail) k some (o .1) (omega (arith, inv .low, o .2)) z in
               eqb-false k m (sym here ∙ h) (w ∙ e);
@@ -121,18 +122,18 @@ module _ (c mark n ed : ℕ) (g : Ground c mark n) (s : Shared) (inv : Inv c s) 
           free =
               λ h.
               let w : k ≡ m = eqb-true k m (sym here ∙ h) in
-              behind-is m le ∙ ne-eqb (s .head + c) m (λ q. omega (arith, o .2));
-          lapped = lapped le;
+              behind-is m le (omega (arith, inv .low)) ∙ ne-eqb (s .head + c) m (λ q. omega (arith, o .2));
+          lapped = lapped le late;
         }
-    finds-tail le (Hold k) o l =
+    finds-tail le late (Hold k) o l =
         let r : Near (n * c) k m = omega (arith, turn, inv .low, inv .high, o .1, o .2) in
         let r' : Near (n * c) (k + c) m = omega (arith, turn, inv .low, inv .high, o .1, o .2) in
-        let here = Stamps.stamp-same c mark n g true k m (o .0 ∙ sym at) r in
-        let past = Stamps.stamp-behind c mark n g ed true k m (o .0 ∙ sym at) r' in
+        let here = Stamps.stamp-same bits c mark n g true k m (o .0 ∙ sym at) r in
+        let past = Stamps.stamp-behind bits c mark n g ed true k m (o .0 ∙ sym at) r' in
         record {
           decides =
               λ q h d.
-              let e : s .tail ≡ m = eqb-true _ _ (sym (tail-is b m le) ∙ q) in
+              let e : s .tail ≡ m = eqb-true _ _ (sym (tail-is b m le (omega arith)) ∙ q) in
               let z : (k + c) % c ≡ s .tail % c = add-mod-right k c ∙ o .0 ∙ sym at ∙ ap (λ (y : ℕ). y % c) (sym e) in
               let w : k + c ≡ s .tail = near-one c (s .tail) (k + c) some (omega (arith, inv .high, o .1)) (omega (arith, o .2)) z in
               eqb-false (k + c) m (sym past ∙ d) (w ∙ e);
@@ -140,37 +141,37 @@ module _ (c mark n ed : ℕ) (g : Ground c mark n) (s : Shared) (inv : Inv c s) 
               λ d.
               let w : k + c ≡ m = eqb-true (k + c) m (sym past ∙ d) in
               let e : s .head ≡ k = omega (arith, inv .high, o .1) in (
-                behind-is m le ∙ eq-eqb (s .head + c) m (omega arith),
-                ap (λ (y : ℕ). same (Word (s .head)) (minus (Word y) (2 * mark))) (sym w) ∙ before-is k (omega arith) ∙ eq-eqb (s .head) k e,
+                behind-is m le (omega (arith, inv .low)) ∙ eq-eqb (s .head + c) m (omega arith),
+                ap (λ (y : ℕ). same (Word (s .head)) (minus bits (Word y) (2 * mark))) (sym w) ∙ before-is k (omega arith) (omega (arith, turn, some)) ∙ eq-eqb (s .head) k e,
               );
           free = λ h. clash _ h here;
-          lapped = lapped le;
+          lapped = lapped le late;
         }
 
-    pub finds-head : m ≤ s .head → (x : Cell) → CellOk c s i x → Loose x → FindsHead f (endsOf c mark n s b) (slotOf c mark n x v) (Word m)
-    finds-head le (Await k) o l =
+    pub finds-head : m ≤ s .head → s .head + 2 * c < m + n * c → (x : Cell) → CellOk c s i x → Loose x → FindsHead bits f (endsOf c mark n s b) (slotOf c mark n x v) (Word m)
+    finds-head le late (Await k) o l =
         let r : Near (n * c) k m = omega (arith, turn, inv .low, inv .high, o .1, o .2) in
-        let here = Stamps.stamp-same c mark n g false k m (o .0 ∙ sym at) r in
+        let here = Stamps.stamp-same bits c mark n g false k m (o .0 ∙ sym at) r in
         record {
           decides =
               λ q p d.
-              let e : s .head ≡ m = eqb-true _ _ (sym (head-is m le) ∙ q) in
+              let e : s .head ≡ m = eqb-true _ _ (sym (head-is m le (omega arith)) ∙ q) in
               let z : k % c ≡ s .head % c = o .0 ∙ sym at ∙ ap (λ (y : ℕ). y % c) (sym e) in
               let w : k ≡ s .head = near-one c (s .head) k some (omega (arith, inv .low, o .1)) (o .2) z in
               eqb-false k m (sym here ∙ d) (w ∙ e);
           empty =
               λ d.
               let w : k ≡ m = eqb-true k m (sym here ∙ d) in
-              tail-is b m (omega (arith, inv .low)) ∙ eq-eqb (s .tail) m (omega (arith, inv .low, o .1));
+              tail-is b m (omega (arith, inv .low)) (omega (arith, inv .high)) ∙ eq-eqb (s .tail) m (omega (arith, inv .low, o .1));
         }
-    finds-head le (Hold k) o l =
+    finds-head le late (Hold k) o l =
         let r : Near (n * c) k m = omega (arith, turn, inv .low, inv .high, o .1, o .2) in
-        let here = Stamps.stamp-same c mark n g true k m (o .0 ∙ sym at) r in
-        let past = Stamps.stamp-past c mark n g true k m (o .0 ∙ sym at) r in
+        let here = Stamps.stamp-same bits c mark n g true k m (o .0 ∙ sym at) r in
+        let past = Stamps.stamp-past bits c mark n g true k m (o .0 ∙ sym at) r in
         record {
           decides =
               λ q p d.
-              let e : s .head ≡ m = eqb-true _ _ (sym (head-is m le) ∙ q) in
+              let e : s .head ≡ m = eqb-true _ _ (sym (head-is m le (omega arith)) ∙ q) in
               let z : k % c ≡ s .head % c = o .0 ∙ sym at ∙ ap (λ (y : ℕ). y % c) (sym e) in
               let w : k ≡ s .head = near-one c (s .head) k some (o .1) (omega (arith, inv .high, o .2)) z in
               eqb-false k m (sym past ∙ p) (w ∙ e);
@@ -181,61 +182,61 @@ module _ (c mark n ed : ℕ) (g : Ground c mark n) (s : Shared) (inv : Inv c s) 
   cell-at k x e = rw e at (inv .cells (k % c) (mod-lt k (g .laws .some)))
 
   -- an exchange that is won: tail is unmarked and not a lap after head; head is not tail
-  won-tail : (b : Bool) (m w : ℕ) → ViewOk c s w (Awaits m) → same (tailWord c mark n (s .tail) b) (Word m) ≡ true
-      → (markedOf f (tailWord c mark n (s .tail) b) ≡ false) × (lapBehind f (Word (s .head)) (unmarkedOf f (tailWord c mark n (s .tail) b)) ≡ false)
-  won-tail b m w o h =
+  won-tail : (b : Bool) (m w : ℕ) → s .tail < m + n * c → ViewOk c s w (Awaits m) → same (tailWord c mark n (s .tail) b) (Word m) ≡ true
+      → (markedOf f (tailWord c mark n (s .tail) b) ≡ false) × (lapBehind bits f (Word (s .head)) (unmarkedOf f (tailWord c mark n (s .tail) b)) ≡ false)
+  won-tail b m w late o h =
       let r : Near (n * c) (s .tail) m = omega (arith, turn, o .0) in
-      let q = unless b _ (sym (Stamps.same-tail c mark n g (s .tail) m b r) ∙ h) in
+      let q = unless b _ (sym (Stamps.same-tail bits c mark n g (s .tail) m b r) ∙ h) in
       let e : s .tail ≡ m = eqb-true _ _ (q .1) in
       let k = cell-at m (Await m) (o .1 e) in
-      (Stamps.marked-tail c mark n g ed (s .tail) b ∙ q .0, rw (Stamps.unmarked-tail c mark n g ed (s .tail) b) (behind-is (s .tail) (omega arith) ∙ ne-eqb (s .head + c) (s .tail) (λ z. omega (arith, k .2))))
+      (Stamps.marked-tail bits c mark n g ed (s .tail) b ∙ q .0, rw (Stamps.unmarked-tail bits c mark n g ed (s .tail) b) (behind-is (s .tail) (omega arith) (omega (arith, turn, inv .low, g .laws .some)) ∙ ne-eqb (s .head + c) (s .tail) (λ z. omega (arith, k .2))))
 
-  won-head : (b : Bool) (m w : ℕ) → ViewOk c s w (Holds m) → same (Word (s .head)) (Word m) ≡ true
+  won-head : (b : Bool) (m w : ℕ) → s .head < m + n * c → ViewOk c s w (Holds m) → same (Word (s .head)) (Word m) ≡ true
       → same (unmarkedOf f (tailWord c mark n (s .tail) b)) (Word (s .head)) ≡ false
-  won-head b m w o h =
-      let e : s .head ≡ m = eqb-true _ _ (sym (head-is m (o .0)) ∙ h) in
+  won-head b m w late o h =
+      let e : s .head ≡ m = eqb-true _ _ (sym (head-is m (o .0) late) ∙ h) in
       let k = cell-at m (Hold m) (o .1 e) in
-      tail-is b (s .head) (inv .low) ∙ ne-eqb (s .tail) (s .head) (λ (z : s .tail ≡ s .head). omega (arith, k .2))
+      tail-is b (s .head) (inv .low) (omega (arith, turn, inv .high, g .laws .some)) ∙ ne-eqb (s .tail) (s .head) (λ (z : s .tail ≡ s .head). omega (arith, k .2))
 
-  last-load : (b : Bool) (m : ℕ) → m ≤ s .head → same (unmarkedOf f (tailWord c mark n (s .tail) b)) (Word m) ≡ true
+  last-load : (b : Bool) (m : ℕ) → m ≤ s .head → s .head + 2 * c < m + n * c → same (unmarkedOf f (tailWord c mark n (s .tail) b)) (Word m) ≡ true
       → same (unmarkedOf f (tailWord c mark n (s .tail) b)) (Word (s .head)) ≡ true
-  last-load b m le h =
-      let e : s .tail ≡ m = eqb-true _ _ (sym (tail-is b m (omega (arith, inv .low))) ∙ h) in
-      tail-is b (s .head) (inv .low) ∙ eq-eqb (s .tail) (s .head) (omega (arith, inv .low))
+  last-load b m le late h =
+      let e : s .tail ≡ m = eqb-true _ _ (sym (tail-is b m (omega (arith, inv .low)) (omega (arith, inv .high))) ∙ h) in
+      tail-is b (s .head) (inv .low) (omega (arith, turn, inv .high, g .laws .some)) ∙ eq-eqb (s .tail) (s .head) (omega (arith, inv .low))
 
-  same-index : (m : ℕ) (t : Stamp) → t ≡ Word (m + c) → m ≤ s .head → same (Word (s .head)) (minus (Word (m + c)) (2 * mark)) ≡ true
+  same-index : (m : ℕ) (t : Stamp) → t ≡ Word (m + c) → m ≤ s .head → s .head < m + n * c → same (Word (s .head)) (minus bits (Word (m + c)) (2 * mark)) ≡ true
       → indexOf f t ≡ indexOf f (Word (s .head))
-  same-index m t q le h =
-      let e : s .head ≡ m = eqb-true _ _ (sym (before-is m le) ∙ h) in
-      lap-slot c mark n g t m q ∙ ap (λ (y : ℕ). y % c) (sym e) ∙ sym (word-slot c mark n g (Word (s .head)) (s .head) refl)
+  same-index m t q le late h =
+      let e : s .head ≡ m = eqb-true _ _ (sym (before-is m le late) ∙ h) in
+      lap-slot bits c mark n g t m q ∙ ap (λ (y : ℕ). y % c) (sym e) ∙ sym (word-slot bits c mark n g (Word (s .head)) (s .head) refl)
 
-  pub finds : (w i : ℕ) (b : Bool) (p : Place) → i < c → i ≡ spotOf f (viewOf p .held) → Stands c mark n s w (look c p) → ((HandAt mark (look c p) i → ⊥) → Loose (s .cell i))
-      → Finds f (endsOf c mark n s b) (slotOf c mark n (s .cell i) (s .val i)) p
-  finds w i b (Idle a) small at o loose = tt
-  finds w i b (P1 k x) small at o loose = tt
-  finds w i b (P2 k t x) small at o loose =
-      rw (o .1) (finds-tail i (o .0) (s .val i) b (sym (word-slot c mark n g t (o .0) (o .1)) ∙ sym at) (o .2) (s .cell i) (inv .cells i small) (loose (λ h. true≢false (sym (h .0)))))
-  finds w i b (P3 k t x) small at o loose = rw (o .1) (won-tail b (o .0) w (o .2))
-  finds w i b (P4 t x) small at o loose = tt
-  finds w i b (P5 t) small at o loose = tt
-  finds w i b (P6 t x) small at o loose = tt
-  finds w i b (F6 t x) small at o loose = λ h. same-index (o .0) t (o .1) (o .2 .0) (rw (o .1) at h)
-  finds w i b (F7 t x) small at o loose = tt
-  finds w i b (F8 t x) small at o loose = tt
-  finds w i b (F9 t old) small at o loose = tt
-  finds w i b O1 small at o loose = tt
-  finds w i b (O2 h) small at o loose =
-      rw (o .1) (finds-head i (o .0) (s .val i) b (sym (word-slot c mark n g h (o .0) (o .1)) ∙ sym at) (o .2) (s .cell i) (inv .cells i small) (loose (λ z. true≢false (sym (z .0)))))
-  finds w i b (O3 h) small at o loose = rw (o .1) (won-head b (o .0) w (o .2))
-  finds w i b (O4 h) small at o loose = tt
-  finds w i b (O5 h v) small at o loose = tt
-  finds w i b (O6 h) small at o loose = rw (o .1) (last-load b (o .0) (o .2 .0))
-  finds w i b Len1 small at o loose = tt
-  finds w i b (Len2 t) small at o loose = tt
-  finds w i b (Len3 t h) small at o loose = tt
-  finds w i b Empty1 small at o loose = tt
-  finds w i b (Empty2 h) small at o loose = tt
-  finds w i b Full1 small at o loose = tt
-  finds w i b (Full2 t) small at o loose = tt
-  finds w i b Close1 small at o loose = tt
-  finds w i b IsClosed1 small at o loose = tt
+  pub finds : (w i : ℕ) (age : Age) (b : Bool) (p : Place) → i < c → i ≡ spotOf f (viewOf p .held) → Stands c mark n s w age (look c p) → Recent c mark n s age (look c p) → ((HandAt mark (look c p) i → ⊥) → Loose (s .cell i))
+      → Finds bits f (endsOf c mark n s b) (slotOf c mark n (s .cell i) (s .val i)) p
+  finds w i age b (Idle a) small at o y loose = tt
+  finds w i age b (P1 k x) small at o y loose = tt
+  finds w i age b (P2 k t x) small at o y loose =
+      rw (o .1) (finds-tail i (o .0) (s .val i) b (sym (word-slot bits c mark n g t (o .0) (o .1)) ∙ sym at) (o .2) (omega (arith, o .3, y refl)) (s .cell i) (inv .cells i small) (loose (λ h. true≢false (sym (h .0)))))
+  finds w i age b (P3 k t x) small at o y loose = rw (o .1) (won-tail b (o .0) w (omega (arith, o .3, y refl)) (o .2))
+  finds w i age b (P4 t x) small at o y loose = tt
+  finds w i age b (P5 t) small at o y loose = tt
+  finds w i age b (P6 t x) small at o y loose = tt
+  finds w i age b (F6 t x) small at o y loose = λ h. same-index (o .0) t (o .1) (o .2 .0) (omega (arith, o .3, y refl, inv .low)) (rw (o .1) at h)
+  finds w i age b (F7 t x) small at o y loose = tt
+  finds w i age b (F8 t x) small at o y loose = tt
+  finds w i age b (F9 t old) small at o y loose = tt
+  finds w i age b O1 small at o y loose = tt
+  finds w i age b (O2 h) small at o y loose =
+      rw (o .1) (finds-head i (o .0) (s .val i) b (sym (word-slot bits c mark n g h (o .0) (o .1)) ∙ sym at) (o .2) (omega (arith, o .3, y refl)) (s .cell i) (inv .cells i small) (loose (λ z. true≢false (sym (z .0)))))
+  finds w i age b (O3 h) small at o y loose = rw (o .1) (won-head b (o .0) w (omega (arith, o .3, y refl)) (o .2))
+  finds w i age b (O4 h) small at o y loose = tt
+  finds w i age b (O5 h v) small at o y loose = tt
+  finds w i age b (O6 h) small at o y loose = rw (o .1) (last-load b (o .0) (o .2 .0) (omega (arith, o .3, y refl)))
+  finds w i age b Len1 small at o y loose = tt
+  finds w i age b (Len2 t) small at o y loose = tt
+  finds w i age b (Len3 t h) small at o y loose = tt
+  finds w i age b Empty1 small at o y loose = tt
+  finds w i age b (Empty2 h) small at o y loose = tt
+  finds w i age b Full1 small at o y loose = tt
+  finds w i age b (Full2 t) small at o y loose = tt
+  finds w i age b Close1 small at o y loose = tt
+  finds w i age b IsClosed1 small at o y loose = tt

@@ -1,6 +1,7 @@
 pub mod Falls
 pub mod Found
 pub mod Leaves
+pub mod Fresh
 pub mod Solo
 pub mod Hand
 pub mod Queue

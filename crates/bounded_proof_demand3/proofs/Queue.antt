@@ -13,6 +13,7 @@ use Rattle.queue_entries.specs.declared.Call.{Call}
 use Rattle.queue_entries.specs.declared.Call.the-variants as call
 use Rattle.bounded_words.specs.declared.Stamp.{Stamp}
 use Rattle.bounded_words.specs.declared.Fixed.{Fixed}
+use Rattle.bounded_words.specs.declared.Width.{Width}
 use Rattle.bounded_words.specs.Words.{markOf, indexOf, markedOf, unmarkedOf, same, lapBehind}
 use Rattle.bounded_places.specs.declared.Slot.{Slot}
 use Rattle.bounded_places.specs.declared.Ends.{Ends}
@@ -26,7 +27,7 @@ use Rattle.bounded_machine.specs.Machine.{slot}
 use Rattle.bounded_machine.specs.Contents.{countIn}
 use Rattle.bounded_demands.specs.Notions.{itemsOf, tally, waiting, OtherHand, valueAt, queueAnswer}
 use Rattle.bounded_demands.specs.Foretold.{foretoldOf, ownValue, foretold}
-use Rattle.bounded_proof_invariant.proofs.Width.{near-one}
+use Rattle.bounded_proof_invariant.proofs.Width.{near-one, turn-long}
 use Rattle.bounded_proof_invariant.proofs.Ring.{Cell, Await, Hold, Shared, CellOk}
 use Rattle.bounded_proof_invariant.proofs.Effects.{Loose}
 use Rattle.bounded_proof_each_act.proofs.Stamps.{fixed, W, word-slot, unmarked-tail}
@@ -34,7 +35,7 @@ use Rattle.bounded_proof_each_act.proofs.Sight.{look, HandAt}
 use Rattle.bounded_proof_demand2.proofs.Turns.{stood}
 use Rattle.bounded_proof_demand2.proofs.Counts.{tally-head}
 use Rattle.bounded_proof_demand2.proofs.Contents.{count-in}
-use Rattle.bounded_proof_demand2.proofs.Pictured.{Base, first-turn}
+use Rattle.bounded_proof_demand2.proofs.Pictured.{Base}
 use Rattle.bounded_proof_demand2.proofs.Reached.{Reached}
 use Rattle.bounded_proof_demand3.proofs.Found.{tail-is, behind-is}
 use Rattle.bounded_proof_demand3.proofs.Solo.{loose}
@@ -59,10 +60,10 @@ begun-empty c mark j call.Close h = h
 begun-empty c mark j call.IsClosed h = h
 
 -- the words, read as a queue q of so many items with v in front
-module _ (f : Fixed) (e : Ends) (v u : ℕ) (some : 0 < f .capacity) where
-  pub answer-is : (k : Call) (q : List ℕ) → lapBehind f (e .head) (unmarkedOf f (e .tail)) ≡ eqb (length q) (f .capacity)
+module _ (bits : Width) (f : Fixed) (e : Ends) (v u : ℕ) (some : 0 < f .capacity) where
+  pub answer-is : (k : Call) (q : List ℕ) → lapBehind bits f (e .head) (unmarkedOf f (e .tail)) ≡ eqb (length q) (f .capacity)
       → same (unmarkedOf f (e .tail)) (e .head) ≡ eqb (length q) 0 → countOf f (e .tail) (e .head) ≡ length q → (0 < length q → v ≡ getD q 0 0)
-      → foretoldOf f e v u (beginOf k) ≡ queueAnswer k (markedOf f (e .tail)) (f .capacity) q
+      → foretoldOf bits f e v u (beginOf k) ≡ queueAnswer k (markedOf f (e .tail)) (f .capacity) q
   answer-is (call.Push x) q full empty count front = rw full
   answer-is (call.ForcePush x) [] full empty count front = rw (full, ne-eqb 0 (f .capacity) (λ z. omega arith))
   answer-is (call.ForcePush x) (y ∷ q) full empty count front = rw (full, front (omega arith))
@@ -74,7 +75,7 @@ module _ (f : Fixed) (e : Ends) (v u : ℕ) (some : 0 < f .capacity) where
   answer-is call.Close q full empty count front = refl
   answer-is call.IsClosed q full empty count front = refl
 
-module _ (c n workers : ℕ) (base : Base c n workers) (m : Machine) (h : List Event) (r : Reached c n workers m h) (w : ℕ) where
+module _ (bits : Width) (c n workers : ℕ) (base : Base bits c n workers) (m : Machine) (h : List Event) (r : Reached c n workers m h) (w : ℕ) where
   abbrev s : Shared
   s = r .ring
 
@@ -91,15 +92,15 @@ module _ (c n workers : ℕ) (base : Base c n workers) (m : Machine) (h : List E
   long = length-drop (tally h .head .0) (itemsOf h) ∙ omega (arith, heads, r .logged .lists .items-are .long)
 
   -- the words' tests
-  full-is : lapBehind (m .ring .fixed) (m .ring .ends .head) (unmarkedOf (m .ring .fixed) (m .ring .ends .tail)) ≡ eqb (length (waiting h)) (m .ring .fixed .capacity)
+  full-is : lapBehind bits (m .ring .fixed) (m .ring .ends .head) (unmarkedOf (m .ring .fixed) (m .ring .ends .tail)) ≡ eqb (length (waiting h)) (m .ring .fixed .capacity)
   full-is =
       let pic = r .pictured in
       let inv = pic .inv in
-      let young = first-turn c n workers base s m pic in
-      ap (λ (f : Fixed). lapBehind f (m .ring .ends .head) (unmarkedOf f (m .ring .ends .tail))) (pic .rule)
-      ∙ ap (λ (e : Ends). lapBehind (fixed c mark (m .ring .fixed .edition)) (e .head) (unmarkedOf (fixed c mark (m .ring .fixed .edition)) (e .tail))) (pic .ends)
-      ∙ ap (λ (z : Stamp). lapBehind (fixed c mark (m .ring .fixed .edition)) (W c mark n (s .head)) z) (unmarked-tail c mark n (base .ground) (m .ring .fixed .edition) (s .tail) (pic .shut))
-      ∙ behind-is c mark n (m .ring .fixed .edition) (base .ground) s inv young (s .tail) (omega arith)
+      let turn = turn-long c mark n (base .ground .laws) in
+      ap (λ (f : Fixed). lapBehind bits f (m .ring .ends .head) (unmarkedOf f (m .ring .ends .tail))) (pic .rule)
+      ∙ ap (λ (e : Ends). lapBehind bits (fixed c mark (m .ring .fixed .edition)) (e .head) (unmarkedOf (fixed c mark (m .ring .fixed .edition)) (e .tail))) (pic .ends)
+      ∙ ap (λ (z : Stamp). lapBehind bits (fixed c mark (m .ring .fixed .edition)) (W c mark n (s .head)) z) (unmarked-tail bits c mark n (base .ground) (m .ring .fixed .edition) (s .tail) (pic .shut))
+      ∙ behind-is bits c mark n (m .ring .fixed .edition) (base .ground) s inv (s .tail) (omega arith) (omega (arith, turn, inv .low, some))
       ∙ as-one (s .head + c) (s .tail) (length (waiting h)) c (λ z. omega (arith, long)) (λ z. omega (arith, long, inv .low))
       ∙ ap (λ (f : Fixed). eqb (length (waiting h)) (f .capacity)) (sym (pic .rule))
 
@@ -107,10 +108,10 @@ module _ (c n workers : ℕ) (base : Base c n workers) (m : Machine) (h : List E
   empty-is =
       let pic = r .pictured in
       let inv = pic .inv in
-      let young = first-turn c n workers base s m pic in
+      let turn = turn-long c mark n (base .ground .laws) in
       ap (λ (f : Fixed). same (unmarkedOf f (m .ring .ends .tail)) (m .ring .ends .head)) (pic .rule)
       ∙ ap (λ (e : Ends). same (unmarkedOf (fixed c mark (m .ring .fixed .edition)) (e .tail)) (e .head)) (pic .ends)
-      ∙ tail-is c mark n (m .ring .fixed .edition) (base .ground) s inv young (pic .shut) (s .head) (inv .low)
+      ∙ tail-is bits c mark n (m .ring .fixed .edition) (base .ground) s inv (pic .shut) (s .head) (inv .low) (omega (arith, turn, inv .high, some))
       ∙ as-one (s .tail) (s .head) (length (waiting h)) 0 (λ z. omega (arith, long)) (λ z. omega (arith, long, inv .low))
 
   -- the first item is in the slot at head
@@ -126,7 +127,7 @@ module _ (c n workers : ℕ) (base : Base c n workers) (m : Machine) (h : List E
       let more : s .head < s .tail = omega (arith, long) in
       let at : indexOf (m .ring .fixed) (m .ring .ends .head) ≡ s .head % c =
       ap (λ (f : Fixed). indexOf f (m .ring .ends .head)) (pic .rule)
-      ∙ word-slot c mark n (base .ground) (m .ring .ends .head) (s .head) (ap (λ (e : Ends). e .head) (pic .ends)) in
+      ∙ word-slot bits c mark n (base .ground) (m .ring .ends .head) (s .head) (ap (λ (e : Ends). e .head) (pic .ends)) in
       let first : tally h .head .0 + 0 ≡ s .head = omega (arith, heads) in
       ap (λ (j : ℕ). getD (m .ring .slots) j (slot 0 0) .value) at
       ∙ ap (λ (z : Slot). z .value) (pic .slots (s .head % c) (mod-lt (s .head) some))
@@ -134,14 +135,14 @@ module _ (c n workers : ℕ) (base : Base c n workers) (m : Machine) (h : List E
       ∙ sym (getD-drop (tally h .head .0) (itemsOf h) 0 0 ∙ ap (λ (j : ℕ). getD (itemsOf h) j 0) first ∙ r .logged .lists .items-are .at (s .head) more)
 
   pub queue-is : (k : Call) → stood m w ≡ beginOf k → viewOf (stood m w) .busy ≡ true → (OtherHand m w → ⊥)
-      → foretold m w ≡ queueAnswer k (markedOf (m .ring .fixed) (m .ring .ends .tail)) (m .ring .fixed .capacity) (waiting h)
+      → foretold bits m w ≡ queueAnswer k (markedOf (m .ring .fixed) (m .ring .ends .tail)) (m .ring .fixed .capacity) (waiting h)
   unfolding countIn
   queue-is k e busy free =
       let pic = r .pictured in
       let f = m .ring .fixed in
       let cap : 0 < m .ring .fixed .capacity = rw (pic .rule) some in
       let l : Loose (s .cell (s .head % c)) =
-      loose c n workers base s m pic w busy free (s .head % c) (mod-lt (s .head) some)
+      loose bits c n workers base s m pic w busy free (s .head % c) (mod-lt (s .head) some)
       (λ z. begun-empty c mark (s .head % c) k (subst (λ (q : Place). HandAt mark (look c q) (s .head % c)) e z)) in
-      ap (λ (q : Place). foretoldOf f (m .ring .ends) (valueAt m (m .ring .ends .head)) (ownValue m q) q) e
-      ∙ answer-is f (m .ring .ends) (valueAt m (m .ring .ends .head)) (ownValue m (beginOf k)) cap k (waiting h) full-is empty-is (count-in c n workers base m h r ∙ sym long) (front-is l)
+      ap (λ (q : Place). foretoldOf bits f (m .ring .ends) (valueAt m (m .ring .ends .head)) (ownValue m q) q) e
+      ∙ answer-is bits f (m .ring .ends) (valueAt m (m .ring .ends .head)) (ownValue m (beginOf k)) cap k (waiting h) full-is empty-is (count-in bits c n workers base m h r ∙ sym long) (front-is l)

@@ -7,6 +7,7 @@ use native.Mathlib.Omega.{arith}
 use native.Mathlib.Decide.{ℕ-discrete}
 use Rattle.queue_entries.specs.Limits.{workersMost}
 use Rattle.bounded_words.specs.declared.Stamp.{Stamp}
+use Rattle.bounded_words.specs.declared.Width.{Width}
 use Rattle.bounded_places.specs.declared.Place.{Place}
 use Rattle.bounded_machine.specs.declared.Machine.{Machine}
 use Rattle.bounded_demands.specs.Notions.{InHand, handP4, handP5, handF7, handF8, handF9, handO4, handO5, OtherHand}
@@ -71,10 +72,10 @@ module _ (m : Machine) (w : ℕ) where
           least o (yes q) = h (o .3, subst (λ (y : ℕ). InHand (stood m y) (o .3)) q (o .4))
           least o (no q) = z (o .0, omega (arith, o .1), o .2, o .3, o .4)
 
-pub other-hand : (c n workers : ℕ) (base : Base c n workers) (s : Shared) (m : Machine) → Pictured c n workers s m → (w : ℕ) → Dec (OtherHand m w)
-other-hand c n workers base s m pic w = go (look-through m w workersMost)
+pub other-hand : (bits : Width) (c n workers : ℕ) (base : Base bits c n workers) (s : Shared) (m : Machine) → Pictured c n workers s m → (w : ℕ) → Dec (OtherHand m w)
+other-hand bits c n workers base s m pic w = go (look-through m w workersMost)
   where
     go : Dec (Among m w workersMost) → Dec (OtherHand m w)
     go (yes o) = yes (o .0, o .2, o .3, o .4)
     go (no z) =
-        no (λ o. let l = team c n workers base s m pic (o .0) (hand-busy (stood m (o .0)) (o .2) (o .3)) in z (o .0, omega (arith, l, pic .count, base .team), o .1, o .2, o .3))
+        no (λ o. let l = team bits c n workers base s m pic (o .0) (hand-busy (stood m (o .0)) (o .2) (o .3)) in z (o .0, omega (arith, l, pic .count, base .team), o .1, o .2, o .3))

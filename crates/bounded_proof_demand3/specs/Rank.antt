@@ -3,6 +3,7 @@
 use mathlib.Core.Bool.{cond}
 use Prim.Native.Nat.{ℕ, _+_}
 use Rattle.bounded_words.specs.declared.Fixed.{Fixed}
+use Rattle.bounded_words.specs.declared.Width.{Width}
 use Rattle.bounded_words.specs.Words.{unmarkedOf, minus, same, lapBehind}
 use Rattle.bounded_places.specs.declared.Ends.{Ends}
 use Rattle.bounded_places.specs.declared.Place.{Place}
@@ -10,30 +11,30 @@ use Rattle.bounded_places.specs.declared.Place.the-variants.{Idle, P1, P2, P3, 
 use Rattle.bounded_demands.specs.Notions.{oneMore}
 
 -- A word that is not out of date costs fewer acts: then the rank is the first number, else the second.
-abbrev pub rankOf : Fixed → Ends → Place → ℕ
-rankOf f e (Idle a) = 0
-rankOf f e (P1 k x) = 5 + oneMore k
-rankOf f e (P2 k t x) = cond (same (unmarkedOf f (e .tail)) t) (4 + oneMore k) (6 + oneMore k)
-rankOf f e (P3 k t x) = cond (same (unmarkedOf f (e .tail)) t) 3 (5 + oneMore k)
-rankOf f e (P4 t x) = 2
-rankOf f e (P5 t) = 1
-rankOf f e (P6 t x) = cond (lapBehind f (e .head) t) 1 6
-rankOf f e (F6 t x) = cond (same (e .head) (minus t (f .lap))) 4 7
-rankOf f e (F7 t x) = 3
-rankOf f e (F8 t x) = 2
-rankOf f e (F9 t old) = 1
-rankOf f e O1 = 5
-rankOf f e (O2 h) = cond (same (e .head) h) 4 6
-rankOf f e (O3 h) = cond (same (e .head) h) 3 5
-rankOf f e (O4 h) = 2
-rankOf f e (O5 h v) = 1
-rankOf f e (O6 h) = cond (same (unmarkedOf f (e .tail)) h) 1 6
-rankOf f e Len1 = 3
-rankOf f e (Len2 t) = cond (same (e .tail) t) 2 5
-rankOf f e (Len3 t h) = cond (same (e .tail) t) 1 4
-rankOf f e Empty1 = 2
-rankOf f e (Empty2 h) = 1
-rankOf f e Full1 = 2
-rankOf f e (Full2 t) = 1
-rankOf f e Close1 = 1
-rankOf f e IsClosed1 = 1
+abbrev pub rankOf : Width → Fixed → Ends → Place → ℕ
+rankOf bits f e (Idle a) = 0
+rankOf bits f e (P1 k x) = 5 + oneMore k
+rankOf bits f e (P2 k t x) = cond (same (unmarkedOf f (e .tail)) t) (4 + oneMore k) (6 + oneMore k)
+rankOf bits f e (P3 k t x) = cond (same (unmarkedOf f (e .tail)) t) 3 (5 + oneMore k)
+rankOf bits f e (P4 t x) = 2
+rankOf bits f e (P5 t) = 1
+rankOf bits f e (P6 t x) = cond (lapBehind bits f (e .head) t) 1 6
+rankOf bits f e (F6 t x) = cond (same (e .head) (minus bits t (f .lap))) 4 7
+rankOf bits f e (F7 t x) = 3
+rankOf bits f e (F8 t x) = 2
+rankOf bits f e (F9 t old) = 1
+rankOf bits f e O1 = 5
+rankOf bits f e (O2 h) = cond (same (e .head) h) 4 6
+rankOf bits f e (O3 h) = cond (same (e .head) h) 3 5
+rankOf bits f e (O4 h) = 2
+rankOf bits f e (O5 h v) = 1
+rankOf bits f e (O6 h) = cond (same (unmarkedOf f (e .tail)) h) 1 6
+rankOf bits f e Len1 = 3
+rankOf bits f e (Len2 t) = cond (same (e .tail) t) 2 5
+rankOf bits f e (Len3 t h) = cond (same (e .tail) t) 1 4
+rankOf bits f e Empty1 = 2
+rankOf bits f e (Empty2 h) = 1
+rankOf bits f e Full1 = 2
+rankOf bits f e (Full2 t) = 1
+rankOf bits f e Close1 = 1
+rankOf bits f e IsClosed1 = 1

@@ -12,6 +12,7 @@ use Rattle.bounded_places.specs.declared.Answer.{Answer}
 use Rattle.bounded_places.specs.declared.Answer.the-variants.{Nothing, Pushed, Full, Closed, Displaced, Popped, Empty, PopClosed, Len, Yes, No}
 use Rattle.bounded_places.specs.declared.Place.{Place}
 use Rattle.bounded_places.specs.declared.Place.the-variants.{Idle, P1, P2, P3, P4, P5, P6, F6, F7, F8, F9, O1, O2, O3, O4, O5, O6, Len1, Len2, Len3, Empty1, Empty2, Full1, Full2, Close1, IsClosed1}
+use Rattle.bounded_demands.specs.Notions.{Holding, NoWord, NewWord, OldWord}
 use Rattle.bounded_proof_invariant.proofs.Ring.{Fill, Filled, Take, Grab, Swap, Swapped, taking, Cell, Await, Hold, Hand, number, Shared, View, Tail, Head, Awaits, Holds, Forces, Rests, Owns, Keeps, ViewOk, CellOk, Inv}
 use Rattle.bounded_proof_invariant.proofs.Effects.{Effect, Still, Tailed, Taken, Grabbed, Forced, Fills, Swaps, Frees, Gives, Course, view-course, tail-course}
 use Rattle.bounded_proof_each_act.proofs.Stamps.{W, tailWord, slotWord}
@@ -140,26 +141,27 @@ full (Await k) = false
 full (Hold k) = true
 full (Hand st k w) = taking st
 
--- the end whose word a view is of
-abbrev pub endSeen : Shared → View → ℕ
-endSeen s (Tail t) = s .tail
-endSeen s (Head h) = s .head
-endSeen s (Awaits t) = s .tail
-endSeen s (Holds h) = s .head
-endSeen s (Forces h) = s .tail
-endSeen s (Rests h) = s .head
-endSeen s (Owns st k) = s .tail
-endSeen s (Keeps st k a m) = s .tail
+-- How many claims there were at each end when a worker was given the word that it holds.
+pub record Age : Type 0 where
+  pub tail : ℕ
+  pub head : ℕ
 
-end-most : (s : Shared) → s .head ≤ s .tail → (v : View) → endSeen s v ≤ s .tail
-end-most s le (Tail t) = omega arith
-end-most s le (Head h) = le
-end-most s le (Awaits t) = omega arith
-end-most s le (Holds h) = le
-end-most s le (Forces h) = omega arith
-end-most s le (Rests h) = le
-end-most s le (Owns st k) = omega arith
-end-most s le (Keeps st k a m) = omega arith
+-- an act that gives its worker a word gives a new one
+abbrev pub aged : Shared → Age → Holding → Age
+aged s a NoWord = a
+aged s a NewWord = record { tail = s .tail; head = s .head }
+aged s a OldWord = a
+
+-- the number that a word of this view is no less than (in hand it does not matter)
+abbrev pub dateOf : Age → View → ℕ
+dateOf a (Tail t) = a .tail
+dateOf a (Head h) = a .head
+dateOf a (Awaits t) = a .tail
+dateOf a (Holds h) = a .head
+dateOf a (Forces h) = a .tail
+dateOf a (Rests h) = a .head
+dateOf a (Owns st k) = 0
+dateOf a (Keeps st k x m) = 0
 
 -- The ring's ends and slots as the machine has them, with so many laps to the width; the mark is outside the ring.
 module _ (c mark n : ℕ) where
@@ -169,40 +171,36 @@ module _ (c mark n : ℕ) where
   abbrev pub slotOf : Cell → ℕ → Slot
   slotOf x v = record { stamp = slotWord c mark n (full x) (number x); value = v }
 
-  -- the words that a worker holds are words of claims, and their numbers are what it relies on
-  abbrev pub Stands : Shared → ℕ → Look → Type 0
-  Stands s w (Calm a) = Unit {0}
-  Stands s w (Sees t v) = (k : ℕ) × (t ≡ W c mark n k) × ViewOk c s w (v k)
-  Stands s w (Laps t v) = (k : ℕ) × (t ≡ W c mark n (k + c)) × ViewOk c s w (v k)
-  Stands s w (Tails t) = (k : ℕ) × (b : Bool) × (t ≡ tailWord c mark n k b) × (k ≤ s .tail)
-  Stands s w (Counts t h) =
-      (k : ℕ) × (b : Bool) × (j : ℕ) × (t ≡ tailWord c mark n k b) × (h ≡ W c mark n j) × (k ≤ s .tail) × (s .tail ≡ k → (j ≤ k) × (k ≤ j + c))
+  -- the words that a worker holds are words of claims, whose numbers are what it relies on, and no older than their gift
+  abbrev pub Stands : Shared → ℕ → Age → Look → Type 0
+  Stands s w a (Calm x) = Unit {0}
+  Stands s w a (Sees t v) = (k : ℕ) × (t ≡ W c mark n k) × ViewOk c s w (v k) × (dateOf a (v 0) ≤ k)
+  Stands s w a (Laps t v) = (k : ℕ) × (t ≡ W c mark n (k + c)) × ViewOk c s w (v k) × (dateOf a (v 0) ≤ k + c)
+  Stands s w a (Tails t) = (k : ℕ) × (b : Bool) × (t ≡ tailWord c mark n k b) × (k ≤ s .tail) × (a .tail ≤ k)
+  Stands s w a (Counts t h) =
+      (k : ℕ) × (b : Bool) × (j : ℕ) × (t ≡ tailWord c mark n k b) × (h ≡ W c mark n j) × (k ≤ s .tail) × (s .tail ≡ k → (j ≤ k) × (k ≤ j + c)) × (a .tail ≤ k)
 
-  -- The word that a worker holds of an end is not too old: since it was loaded or found, fewer claims were made at that end
-  -- than a turn less two capacities. Words of the width wrap; this is all that their tests ask.
-  abbrev pub Recent : (s : Shared) (w : ℕ) (l : Look) → Stands s w l → Type 0
-  Recent s w (Calm a) o = Unit {0}
-  Recent s w (Sees t v) o = endSeen s (v 0) + 2 * c < o .0 + n * c
-  Recent s w (Laps t v) o = endSeen s (v 0) + 2 * c < o .0 + c + n * c
-  Recent s w (Tails t) o = s .tail + 2 * c < o .0 + n * c
-  Recent s w (Counts t h) o = s .tail + 2 * c < o .0 + n * c
+  -- Since a word was given, fewer claims were made at either end than a turn less two capacities. Words of the width wrap; this is all that their
+  -- tests ask.
+  abbrev pub Young : Shared → Age → Type 0
+  Young s a = (s .tail + 2 * c < a .tail + n * c) × (s .head + 2 * c < a .head + n * c)
 
-  -- in the first turn every word is recent
-  pub young-recent : (s : Shared) (w : ℕ) → s .head ≤ s .tail → s .tail + 2 * c < n * c → (l : Look) (o : Stands s w l) → Recent s w l o
-  young-recent s w le y (Calm a) o = tt
-  young-recent s w le y (Sees t v) o = omega (arith, end-most s le (v 0))
-  young-recent s w le y (Laps t v) o = omega (arith, end-most s le (v 0))
-  young-recent s w le y (Tails t) o = omega arith
-  young-recent s w le y (Counts t h) o = omega arith
+  -- A worker's word is so; in hand, and without a word, it does not matter.
+  abbrev pub Recent : Shared → Age → Look → Type 0
+  Recent s a (Calm x) = Unit {0}
+  Recent s a (Sees t v) = grips (v 0) ≡ false → Young s a
+  Recent s a (Laps t v) = grips (v 0) ≡ false → Young s a
+  Recent s a (Tails t) = Young s a
+  Recent s a (Counts t h) = Young s a
 
   -- another's act leaves a worker where it stands
-  pub stands-else : (s u : Shared) (w i : ℕ) → Inv c s → Course c s u w i → (j : ℕ) → j ≢ w → (l : Look) → Stands s j l → Stands u j l
-  stands-else s u w i inv d j ne (Calm a) o = tt
-  stands-else s u w i inv d j ne (Sees t v) o = (o .0, o .1, view-course c s u w i inv d j ne (v (o .0)) (o .2))
-  stands-else s u w i inv d j ne (Laps t v) o = (o .0, o .1, view-course c s u w i inv d j ne (v (o .0)) (o .2))
-  stands-else s u w i inv d j ne (Tails t) o = (o .0, o .1, o .2, omega (arith, tail-course c s u w i d))
-  stands-else s u w i inv d j ne (Counts t h) o =
-      (o .0, o .1, o .2, o .3, o .4, omega (arith, tail-course c s u w i d), λ e. o .6 (omega (arith, tail-course c s u w i d)))
+  pub stands-else : (s u : Shared) (w i : ℕ) → Inv c s → Course c s u w i → (j : ℕ) → j ≢ w → (a : Age) (l : Look) → Stands s j a l → Stands u j a l
+  stands-else s u w i inv d j ne a (Calm x) o = tt
+  stands-else s u w i inv d j ne a (Sees t v) o = (o .0, o .1, view-course c s u w i inv d j ne (v (o .0)) (o .2), o .3)
+  stands-else s u w i inv d j ne a (Laps t v) o = (o .0, o .1, view-course c s u w i inv d j ne (v (o .0)) (o .2), o .3)
+  stands-else s u w i inv d j ne a (Tails t) o = (o .0, o .1, o .2, omega (arith, tail-course c s u w i d), o .4)
+  stands-else s u w i inv d j ne a (Counts t h) o =
+      (o .0, o .1, o .2, o .3, o .4, omega (arith, tail-course c s u w i d), λ e. o .6 (omega (arith, tail-course c s u w i d)), o .7)
 
 -- What a slot's stamp says, where the end stands at its number.
 module _ (c : ℕ) (s : Shared) (inv : Inv c s) (i : ℕ) where

@@ -155,6 +155,11 @@ module _ (c mark n : ℕ) (g : Wide c mark n) where
       let z : j % c ≡ k % c + 1 = sym (digits-mod (j / c % n) (low j)) ∙ ap (λ (z : ℕ). z % (2 * mark)) (e ∙ f) ∙ digits-mod (k / c % n) h in
       omega arith
 
+  -- the laps of a word where nothing wraps, taken modulo the width
+  pub word-is : (k : ℕ) → word c mark n k ≡ (k / c * (2 * mark) + k % c) % (n * (2 * mark))
+  unfolding word
+  word-is k = sym (wrapped (k / c) (low k))
+
   -- within the first turn nothing wraps
   pub word-plain : (k : ℕ) → k < n → word c mark n k ≡ k / c * (2 * mark) + k % c
   unfolding word

@@ -12,13 +12,14 @@ use bounded_places::Place;
 use bounded_places::Slot;
 use bounded_words::Fixed;
 use bounded_words::Stamp;
+use bounded_words::Width;
 
-fn tail_to_next(f: Fixed, e: Ends, t: Stamp) -> Ends
+fn tail_to_next(bits: Width, f: Fixed, e: Ends, t: Stamp) -> Ends
     requires { ⌜ Fair f ⌝ }
-    ensures { λ r. ⌜ r ≡ tailTo e (nextOf f t) ⌝ }
+    ensures { λ r. ⌜ r ≡ tailTo e (nextOf bits f t) ⌝ }
 {
     let h = e.head;
-    let w = bounded_words::next(f, t);
+    let w = bounded_words::next(bits, f, t);
     Ends { head: h, tail: w }
 }
 
@@ -50,26 +51,35 @@ fn full_at(k: Kind, t: Stamp, item: u64) -> Place
     }
 }
 
-pub fn p2(f: Fixed, e: Ends, s: Slot, k: Kind, t: Stamp, item: u64) -> Acted
-    ensures { λ r. ⌜ r ≡ actP2 f e s k t item ⌝ }
+pub fn p2(bits: Width, f: Fixed, e: Ends, s: Slot, k: Kind, t: Stamp, item: u64) -> Acted
+    ensures { λ r. ⌜ r ≡ actP2 bits f e s k t item ⌝ }
 {
     let seen = s.stamp;
     if bounded_words::same_word(seen, t) {
         return bounded_acts::stay(e, s, Place::P3(k, t, item));
     }
-    if bounded_words::lap_behind_one_past(f, seen, t) {
+    if bounded_words::lap_behind_one_past(bits, f, seen, t) {
         bounded_acts::stay(e, s, full_at(k, t, item))
     } else {
         bounded_acts::stay(e, s, Place::P1(k, item))
     }
 }
 
-pub fn p3(f: Fixed, e: Ends, s: Slot, k: Kind, t: Stamp, item: u64, lose: bool) -> Acted
+pub fn p3(
+    bits: Width,
+    f: Fixed,
+    e: Ends,
+    s: Slot,
+    k: Kind,
+    t: Stamp,
+    item: u64,
+    lose: bool,
+) -> Acted
     requires { ⌜ Fair f ⌝ }
-    ensures { λ r. ⌜ r ≡ actP3 f e s k t item lose ⌝ }
+    ensures { λ r. ⌜ r ≡ actP3 bits f e s k t item lose ⌝ }
 {
     match bounded_acts::exchange(e.tail, t, lose) {
-        Exchange::Won => bounded_acts::stay(tail_to_next(f, e, t), s, Place::P4(t, item)),
+        Exchange::Won => bounded_acts::stay(tail_to_next(bits, f, e, t), s, Place::P4(t, item)),
         Exchange::Differed(found) => {
             bounded_acts::losing(e, s, after_tail(f, k, found, item), Loss::ByWords)
         }
@@ -77,21 +87,21 @@ pub fn p3(f: Fixed, e: Ends, s: Slot, k: Kind, t: Stamp, item: u64, lose: bool) 
     }
 }
 
-pub fn p5(e: Ends, s: Slot, t: Stamp) -> Acted
-    ensures { λ r. ⌜ r ≡ actP5 e s t ⌝ }
+pub fn p5(bits: Width, e: Ends, s: Slot, t: Stamp) -> Acted
+    ensures { λ r. ⌜ r ≡ actP5 bits e s t ⌝ }
 {
     bounded_acts::stay(
         e,
-        bounded_acts::stamp_to(s, t, 1),
+        bounded_acts::stamp_to(bits, s, t, 1),
         Place::Idle(Answer::Pushed),
     )
 }
 
-pub fn p6(f: Fixed, e: Ends, s: Slot, t: Stamp, item: u64) -> Acted
-    ensures { λ r. ⌜ r ≡ actP6 f e s t item ⌝ }
+pub fn p6(bits: Width, f: Fixed, e: Ends, s: Slot, t: Stamp, item: u64) -> Acted
+    ensures { λ r. ⌜ r ≡ actP6 bits f e s t item ⌝ }
 {
     let h = e.head;
-    if bounded_words::lap_behind(f, h, t) {
+    if bounded_words::lap_behind(bits, f, h, t) {
         bounded_acts::stay(e, s, Place::Idle(Answer::Full(item)))
     } else {
         bounded_acts::stay(e, s, Place::P1(Kind::Push, item))

@@ -21,6 +21,7 @@ use Rattle.queue_entries.specs.declared.Entry.the-variants.{Unreadable, Asks}
 use Rattle.queue_entries.specs.Entries.{entryOf}
 use Rattle.queue_entries.specs.declared.Verdict.{Verdict}
 use Rattle.queue_entries.specs.declared.Verdict.the-variants.{Refuse, Start, Move}
+use Rattle.bounded_words.specs.declared.Width.{Width}
 use Rattle.bounded_words.specs.Limits.{slotsMost}
 use Rattle.bounded_places.specs.declared.Slot.{Slot}
 use Rattle.bounded_places.specs.declared.Place.{Place}
@@ -34,8 +35,8 @@ use Rattle.bounded_machine.specs.declared.Machine.{Machine}
 use Rattle.bounded_machine.specs.declared.Ran.{Ran}
 use Rattle.bounded_machine.specs.Machine.{slot, machineOf, recordOf, placeOf, refused, accepted}
 use Rattle.bounded_machine.specs.Broken.{brokenOf}
-use Rattle.bounded_machine.specs.Turn.{verdictOf, spotOf, recordAfter, begun, stored, actedBy, carried, turn, turnOf, turnOfBy}
-use Rattle.bounded_machine.specs.Run.{ran, runFrom, runOf}
+use Rattle.bounded_machine.specs.Turn.{verdictOf, spotOf, recordAfter, begun, stored, actedBy, carried, turn, turnAt, turnOfBy}
+use Rattle.bounded_machine.specs.Run.{ran, runAt, runOfBy}
 use Rattle.bounded_machine.proofs.Kept.{Unbroken, fair-in, ruled-in, few-workers, few-lost, begun-unbroken, stored-unbroken, Ok, keeps, word-fits-in, fits-plain, either}
 
 -- ---- what a verdict tells: a refusal has a number, a move is a busy worker's in time
@@ -74,79 +75,79 @@ unfolding stored
 as-stored m w i a r e = ap (kept m w i a) (sym e)
 
 -- ---- what an entry does
-module _ (m : Machine) (first second : ℕ) (x : Entry) (ex : x ≡ entryOf first second) where
-  unread : x ≡ Unreadable → turnOf m first second ≡ refused 9 m
+module _ (bits : Width) (m : Machine) (first second : ℕ) (x : Entry) (ex : x ≡ entryOf first second) where
+  unread : x ≡ Unreadable → turnAt bits m first second ≡ refused 9 m
   unfolding turnOfBy
-  unread h = ap (turn m) (sym ex ∙ h)
+  unread h = ap (turn bits m) (sym ex ∙ h)
 
   module _ (w : ℕ) (o : Order) (h : x ≡ Asks w o) where
-    far : m .count ≤ w → turnOf m first second ≡ refused 3 m
+    far : m .count ≤ w → turnAt bits m first second ≡ refused 3 m
     unfolding turnOfBy
-    far g = ap (turn m) (sym ex ∙ h) ∙ sym (above w (m .count) _ _ _ g refl)
+    far g = ap (turn bits m) (sym ex ∙ h) ∙ sym (above w (m .count) _ _ _ g refl)
 
-    near : (v : Verdict) → w < m .count → v ≡ verdictOf (m .meter) (placeOf (m .workers) w) o → turnOf m first second ≡ carried m w (placeOf (m .workers) w) v
+    near : (v : Verdict) → w < m .count → v ≡ verdictOf (m .meter) (placeOf (m .workers) w) o → turnAt bits m first second ≡ carried bits m w (placeOf (m .workers) w) v
     unfolding turnOfBy
-    near v g e = ap (turn m) (sym ex ∙ h) ∙ sym (below w (m .count) _ _ _ g (ap (carried m w (placeOf (m .workers) w)) e))
+    near v g e = ap (turn bits m) (sym ex ∙ h) ∙ sym (below w (m .count) _ _ _ g (ap (carried bits m w (placeOf (m .workers) w)) e))
 
 -- ---- one turn
-module _ (s : List ℕ) (n i : ℕ) (m : Machine) (whole : Ran) (back : runFrom m i (drop (2 * i) s) ≡ whole) (len : length s ≡ 2 * n) (lt : i < n) where
-  whole-from : runFrom m i (getD s (2 * i) 0 ∷ getD s (2 * i + 1) 0 ∷ drop (2 * (i + 1)) s) ≡ whole
-  whole-from = sym (ap (runFrom m i) (two-words s i (omega arith))) ∙ back
+module _ (bits : Width) (s : List ℕ) (n i : ℕ) (m : Machine) (whole : Ran) (back : runAt bits m i (drop (2 * i) s) ≡ whole) (len : length s ≡ 2 * n) (lt : i < n) where
+  whole-from : runAt bits m i (getD s (2 * i) 0 ∷ getD s (2 * i + 1) 0 ∷ drop (2 * (i + 1)) s) ≡ whole
+  whole-from = sym (ap (runAt bits m i) (two-words s i (omega arith))) ∙ back
 
-  stopped : (k : ℕ) → 0 < k → turnOf m (getD s (2 * i) 0) (getD s (2 * i + 1) 0) ≡ refused k m → ran k i m ≡ whole
+  stopped : (k : ℕ) → 0 < k → turnAt bits m (getD s (2 * i) 0) (getD s (2 * i + 1) 0) ≡ refused k m → ran k i m ≡ whole
   unfolding runBy refused
   stopped k pos h = sym (simp (h, ne-eqb k 0 (λ z. omega arith))) ∙ whole-from
 
-  went : (next : Machine) → turnOf m (getD s (2 * i) 0) (getD s (2 * i + 1) 0) ≡ accepted next → runFrom next (i + 1) (drop (2 * (i + 1)) s) ≡ whole
+  went : (next : Machine) → turnAt bits m (getD s (2 * i) 0) (getD s (2 * i + 1) 0) ≡ accepted next → runAt bits next (i + 1) (drop (2 * (i + 1)) s) ≡ whole
   unfolding runBy accepted
   went next h = sym (simp h) ∙ whole-from
 
   module _ (x : Entry) (ex : x ≡ entryOf (getD s (2 * i) 0) (getD s (2 * i + 1) 0)) where
     pub stop-9 : x ≡ Unreadable → ran 9 i m ≡ whole
-    stop-9 h = stopped 9 (omega arith) (unread m _ _ x ex h)
+    stop-9 h = stopped 9 (omega arith) (unread bits m _ _ x ex h)
 
     module _ (w : ℕ) (o : Order) (h : x ≡ Asks w o) where
       pub stop-3 : m .count ≤ w → ran 3 i m ≡ whole
-      stop-3 g = stopped 3 (omega arith) (far m _ _ x ex w o h g)
+      stop-3 g = stopped 3 (omega arith) (far bits m _ _ x ex w o h g)
 
       module _ (v : Verdict) (g : w < m .count) (e : v ≡ verdictOf (m .meter) (placeOf (m .workers) w) o) where
         pub stop : (k : ℕ) → v ≡ Refuse k → ran k i m ≡ whole
-        stop k q = stopped k (number-positive (m .meter) (placeOf (m .workers) w) o v e k q) (near m _ _ x ex w o h v g e ∙ ap (carried m w (placeOf (m .workers) w)) q)
+        stop k q = stopped k (number-positive (m .meter) (placeOf (m .workers) w) o v e k q) (near bits m _ _ x ex w o h v g e ∙ ap (carried bits m w (placeOf (m .workers) w)) q)
 
-        pub start : (c : Call) (q : Place) → v ≡ Start c → q ≡ beginOf c → runFrom (begun m w q) (i + 1) (drop (2 * (i + 1)) s) ≡ whole
-        start c q k l = went (begun m w q) (near m _ _ x ex w o h v g e ∙ ap (carried m w (placeOf (m .workers) w)) k ∙ ap (λ (z : Place). accepted (begun m w z)) (sym l))
+        pub start : (c : Call) (q : Place) → v ≡ Start c → q ≡ beginOf c → runAt bits (begun m w q) (i + 1) (drop (2 * (i + 1)) s) ≡ whole
+        start c q k l = went (begun m w q) (near bits m _ _ x ex w o h v g e ∙ ap (carried bits m w (placeOf (m .workers) w)) k ∙ ap (λ (z : Place). accepted (begun m w z)) (sym l))
 
         pub move : (lose : Bool) (sp : ℕ) (a : Acted) → v ≡ Move lose → sp ≡ spotOf (m .ring .fixed) (viewOf (placeOf (m .workers) w) .held)
-            → a ≡ actOf (m .ring .fixed) (m .ring .ends) (getD (m .ring .slots) sp (slot 0 0)) (placeOf (m .workers) w) lose
-            → (r : Worker) → r ≡ recordAfter (recordOf (m .workers) w) (a .place) (a .loss) → runFrom (kept m w sp a r) (i + 1) (drop (2 * (i + 1)) s) ≡ whole
+            → a ≡ actOf bits (m .ring .fixed) (m .ring .ends) (getD (m .ring .slots) sp (slot 0 0)) (placeOf (m .workers) w) lose
+            → (r : Worker) → r ≡ recordAfter (recordOf (m .workers) w) (a .place) (a .loss) → runAt bits (kept m w sp a r) (i + 1) (drop (2 * (i + 1)) s) ≡ whole
         unfolding actedBy
         move lose sp a k es ea r er =
             went (kept m w sp a r)
-            (near m _ _ x ex w o h v g e ∙ ap (carried m w (placeOf (m .workers) w)) k ∙ ap accepted (rw (ea, es)) ∙ ap accepted (as-stored m w sp a r er))
+            (near bits m _ _ x ex w o h v g e ∙ ap (carried bits m w (placeOf (m .workers) w)) k ∙ ap accepted (rw (ea, es)) ∙ ap accepted (as-stored m w sp a r er))
 
 -- ---- before and after the loop
-module _ (m : Machine) (s : List ℕ) (b : Bool) (e : b ≡ brokenOf m) where
-  pub broken-run : b ≡ true → ran 6 0 m ≡ runOf m s
+module _ (bits : Width) (m : Machine) (s : List ℕ) (b : Bool) (e : b ≡ brokenOf m) where
+  pub broken-run : b ≡ true → ran 6 0 m ≡ runOfBy (actOf bits) m s
   unfolding scheduleBy
   broken-run h = yes _ b _ _ _ e h refl
 
   module _ (h : b ≡ false) where
-    pub odd-run : length s % 2 ≡ 1 → ran 11 0 m ≡ runOf m s
+    pub odd-run : length s % 2 ≡ 1 → ran 11 0 m ≡ runOfBy (actOf bits) m s
     unfolding scheduleBy
     odd-run k = no _ b _ _ _ e h (sym (simp (eq-eqb _ _ k)))
 
     module _ (k : length s % 2 ≡ 1 → ⊥) (f : Finding) (g : f ≡ searchBy entryOf 0 s) where
-      pub unread-run : (i : ℕ) → f ≡ UnreadableAt i → ran 9 i m ≡ runOf m s
+      pub unread-run : (i : ℕ) → f ≡ UnreadableAt i → ran 9 i m ≡ runOfBy (actOf bits) m s
       unfolding scheduleBy
       unread-run i z = no _ b _ _ _ e h (sym (simp (ne-eqb _ _ k, sym g ∙ z)))
 
-      pub read-run : f ≡ AllRead → runFrom m 0 (drop 0 s) ≡ runOf m s
+      pub read-run : f ≡ AllRead → runAt bits m 0 (drop 0 s) ≡ runOfBy (actOf bits) m s
       unfolding scheduleBy
       read-run z = no _ b _ _ _ e h (sym (simp (ne-eqb _ _ k, sym g ∙ z)))
 
-pub ended : (s : List ℕ) (n i : ℕ) (m : Machine) (whole : Ran) → runFrom m i (drop (2 * i) s) ≡ whole → length s ≡ 2 * n → n ≤ i → ran 0 i m ≡ whole
+pub ended : (bits : Width) (s : List ℕ) (n i : ℕ) (m : Machine) (whole : Ran) → runAt bits m i (drop (2 * i) s) ≡ whole → length s ≡ 2 * n → n ≤ i → ran 0 i m ≡ whole
 unfolding runBy
-ended s n i m whole back len ge = sym (ap (runFrom m i) (drop-of-length-le s {i = 2 * i} (omega arith))) ∙ back
+ended bits s n i m whole back len ge = sym (ap (runAt bits m i) (drop-of-length-le s {i = 2 * i} (omega arith))) ∙ back
 
 -- ---- what the loop may do on an unbroken machine
 module _ (m : Machine) (u : Unbroken m) where
@@ -175,10 +176,10 @@ module _ (m : Machine) (u : Unbroken m) where
     pub started-unbroken : (c : Call) (q : Place) → q ≡ beginOf c → Unbroken (begun m w q)
     started-unbroken c q e = subst (λ (x : Place). Unbroken (begun m w x)) (sym e) (begun-unbroken m u w l c)
 
-    pub moved-unbroken : (sp : ℕ) (a : Acted) (s : Slot) (lose : Bool) → viewOf (placeOf (m .workers) w) .busy ≡ true → a ≡ actOf (m .ring .fixed) (m .ring .ends) s (placeOf (m .workers) w) lose
+    pub moved-unbroken : (bits : Width) (sp : ℕ) (a : Acted) (s : Slot) (lose : Bool) → viewOf (placeOf (m .workers) w) .busy ≡ true → a ≡ actOf bits (m .ring .fixed) (m .ring .ends) s (placeOf (m .workers) w) lose
         → (r : Worker) → r ≡ recordAfter (recordOf (m .workers) w) (a .place) (a .loss) → Unbroken (kept m w sp a r)
-    moved-unbroken sp a s lose h e r er =
+    moved-unbroken bits sp a s lose h e r er =
         subst Unbroken (as-stored m w sp a r er)
         (stored-unbroken m u w l sp a
         (subst (Ok (m .ring .fixed) (ruled-in m u)) (sym e)
-        (keeps (m .ring .fixed) (ruled-in m u) (m .ring .ends) s (u .ends) (placeOf (m .workers) w) lose (word-fits-in m u w l h))))
+        (keeps (m .ring .fixed) (ruled-in m u) bits (m .ring .ends) s (u .ends) (placeOf (m .workers) w) lose (word-fits-in m u w l h))))

@@ -1,7 +1,8 @@
 // A schedule, entry by entry, on any machine: the one loop that all entries go through.
 ghost use mathlib.Core.Path.{_≡_};
+ghost use Rattle.bounded_acts.specs.Acts.{actOf};
 ghost use Rattle.bounded_machine.specs.Machine.{machineOf};
-ghost use Rattle.bounded_machine.specs.Run.{ran, runOf};
+ghost use Rattle.bounded_machine.specs.Run.{ran, runOfBy};
 use bounded_machine::Machine;
 use bounded_machine::Ran;
 use bounded_machine::Ring;
@@ -9,6 +10,7 @@ use bounded_places::Ends;
 use bounded_places::Slot;
 use bounded_places::Worker;
 use bounded_words::Fixed;
+use bounded_words::Width;
 use queue_entries::Entry;
 use queue_entries::Finding;
 use queue_entries::Verdict;
@@ -42,8 +44,8 @@ fn ran(
 }
 
 // A schedule, entry by entry, to its end or to the first refusal.
-pub fn run(m: Machine, schedule: &[u64]) -> Ran
-    ensures { λ r. ⌜ r ≡ runOf m (now (schedule .entry)) ⌝ }
+pub fn run(bits: Width, m: Machine, schedule: &[u64]) -> Ran
+    ensures { λ r. ⌜ r ≡ runOfBy (actOf bits) m (now (schedule .entry)) ⌝ }
 {
     let ring = m.ring;
     let f = ring.fixed;
@@ -97,7 +99,7 @@ pub fn run(m: Machine, schedule: &[u64]) -> Ran
                 let held = view.held;
                 let k = bounded_machine::spot(f, held) as usize;
                 let slot = slots[k];
-                let a = bounded_table::act_at(f, ends, slot, p, lose);
+                let a = bounded_table::act_at(bits, f, ends, slot, p, lose);
                 let slot_after = a.slot;
                 let place_after = a.place;
                 let loss = a.loss;

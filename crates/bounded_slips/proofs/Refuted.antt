@@ -98,6 +98,7 @@ refuted =
       answers-closed = λ a. true≢false (sym (said (slipped closedUnseen) (reached pushLoses) 1 (Closed 6) a refl refl refl));
       reads = λ r. unclaimed (past popOfNothing) 0 0 refl (r 0 (stamp 0) readO4);
       unbroken = true≢false;
+      words = λ p. let q = p .head in omega arith;
       plain = λ p. let q = p .head in omega arith;
       untaken = λ s. let q : _≡_ {A = ℕ} 1 0 = s in omega arith;
       contents = λ c. let q : _≡_ {A = ℕ} 0 5 = ap (λ (l : List ℕ). getD l 0 0) (c refl) in omega arith;

@@ -13,6 +13,7 @@ use Rattle.queue_entries.specs.declared.Order.the-variants.{Act}
 use Rattle.queue_entries.specs.declared.Entry.the-variants.{Asks}
 use Rattle.queue_entries.specs.Entries.{entryOf}
 use Rattle.queue_entries.specs.Schedules.{runBy}
+use Rattle.bounded_words.specs.declared.Width.the-variants.{SixtyFour}
 use Rattle.bounded_places.specs.declared.Answer.{Answer}
 use Rattle.bounded_places.specs.declared.Answer.the-variants.{Nothing}
 use Rattle.bounded_places.specs.declared.Worker.{Worker}
@@ -83,7 +84,7 @@ acting d m w asks done = record { first = 16 * w + 8; second = 0; lose = false; 
 -- If it answers, what it answers is true.
 pub said : (d : Definition) (m : Machine) (w : ℕ) (a : Answer) → AnswersTrue d m → entryOf (16 * w + 8) 0 ≡ Asks w (Act false)
     → d .turn m (16 * w + 8) 0 ≡ accepted (d .turn m (16 * w + 8) 0 .machine)
-    → placeOf (d .turn m (16 * w + 8) 0 .machine .workers) w ≡ Idle a → Truth (m .ring .fixed) (m .ring .ends) a
+    → placeOf (d .turn m (16 * w + 8) 0 .machine .workers) w ≡ Idle a → Truth (d .width) (m .ring .fixed) (m .ring .ends) a
 said d m w a all asks done ends =
     all w (d .turn m (16 * w + 8) 0 .machine) a (acting d m w asks done) ends
 
@@ -143,7 +144,7 @@ late d m h w most b e =
     absurd (true≢false (sym (busy-by d m w most (e .before) b (e .within)) ∙ ap (λ (p : Place). viewOf p .busy) (e .ends)))
 
 -- A worker that is refused leaves the machine as it is.
-pub rests : (table : Table) (m : Machine) (place w k : ℕ) → eqb (turnOfBy table m (16 * w + 8) 0 .refusal) 0 ≡ false → byTable table .run m place (acts w k) .machine ≡ m
+pub rests : (table : Table) (m : Machine) (place w k : ℕ) → eqb (turnOfBy table m (16 * w + 8) 0 .refusal) 0 ≡ false → byTable SixtyFour table .run m place (acts w k) .machine ≡ m
 unfolding runBy acts ran
 rests table m place w zero e = refl
 rests table m place w (suc k) e = rw e
@@ -152,16 +153,16 @@ rests table m place w (suc k) e = rw e
 pub at-once : (d : Definition) (m : Machine) (h : List Event) (w most : ℕ) (a : Answer)
     → placeOf (d .run m 0 (acts w 1) .machine .workers) w ≡ Idle a
     → ((n : ℕ) → busyAt (d .run m 0 (acts w (suc n)) .machine) w ≡ false)
-    → EndsAlone d m h w most → Truth (m .ring .fixed) (d .run m 0 (acts w 0) .machine .ring .ends) a × (a ≡ foretold m w)
+    → EndsAlone d m h w most → Truth (d .width) (m .ring .fixed) (d .run m 0 (acts w 0) .machine .ring .ends) a × (a ≡ foretold (d .width) m w)
 at-once d m h w most a ends idle e = go (e .before) refl
   where
-    go : (n : ℕ) → e .before ≡ n → Truth (m .ring .fixed) (d .run m 0 (acts w 0) .machine .ring .ends) a × (a ≡ foretold m w)
+    go : (n : ℕ) → e .before ≡ n → Truth (d .width) (m .ring .fixed) (d .run m 0 (acts w 0) .machine .ring .ends) a × (a ≡ foretold (d .width) m w)
     go zero first =
         let same : e .answer ≡ a =
         ap (λ (p : Place). answerIn (look 1 p))
         (sym (subst (λ (n : ℕ). placeOf (d .run m 0 (acts w (suc n)) .machine .workers) w ≡ Idle (e .answer)) first (e .ends)) ∙ ends) in (
-          subst (Truth (m .ring .fixed) (d .run m 0 (acts w 0) .machine .ring .ends)) same
-              (subst (λ (n : ℕ). Truth (m .ring .fixed) (d .run m 0 (acts w n) .machine .ring .ends) (e .answer)) first (e .true-then)),
+          subst (Truth (d .width) (m .ring .fixed) (d .run m 0 (acts w 0) .machine .ring .ends)) same
+              (subst (λ (n : ℕ). Truth (d .width) (m .ring .fixed) (d .run m 0 (acts w n) .machine .ring .ends) (e .answer)) first (e .true-then)),
           sym same ∙ e .foretold-answer,
         )
     go (suc n) later = absurd (true≢false (sym (subst (λ (n : ℕ). busyAt (d .run m 0 (acts w n) .machine) w ≡ true) later (e .busy)) ∙ idle n))

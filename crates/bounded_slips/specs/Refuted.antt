@@ -4,10 +4,11 @@ use Prim.Native.Nat.{ℕ, _+_, _*_}
 use mathlib.Core.Bool.{false}
 use mathlib.Core.List.{List, [], _∷_, _++_}
 use mathlib.Core.Path.{_≡_}
+use Rattle.bounded_words.specs.declared.Width.the-variants.{SixtyFour}
 use Rattle.bounded_machine.specs.declared.Machine.{Machine}
 use Rattle.bounded_machine.specs.declared.Event.{Event}
 use Rattle.bounded_machine.specs.Broken.{brokenOf}
-use Rattle.bounded_demands.specs.Notions.{Definition, Plain, machineAfter, actsOf, acts, stock}
+use Rattle.bounded_demands.specs.Notions.{Definition, Words, Plain, machineAfter, actsOf, acts, stock}
 use Rattle.bounded_demands.specs.Demands.{ClaimRule, OnceOut, OneHand, ReadsWritten, AnswersTrue, UntakenCounts, ContentsWait, PlainQueue, EmptyTrue, FullTrue, ActByAct, WholeSchedules, LenTrue, NeverRefused, AloneEnds, InTheWay, HandLetsGo, PassedAsRun, StockRises, StockFalls, StockStays, StockByHands, StockIsNumber, StockMost, EndTold, LossesCounted, CountsAside, OnceClosed, NoneAfterClosed}
 use Rattle.bounded_slips.specs.Slips.{none, lostPushGoesOn, closedUnseen, unwrapped, tailUnmoved, unwritten, unstamped, fullUnseen, tailBeforeHead, lostForceKeepsItsWord, lostForceTakesTheHead, stampBeforeValue, stampUntested, readsAfterItsStore, releasesWithNext, neverLetsGo, emptyUnseen, handsOutAgain, popKeepsItsWord, lenLooksOnce, emptyTailFirst, fullHeadFirst, pushWritesLate, forceForgets, closedTooSoon, fallsWhenTaken, risesWhenWritten, forceUnread, popUncounted, bothBySchedule, forceUncounted, wonCounted, counting, unreset, forgotten, twice, toldBySchedule, weary, slipped, stockWith, deaf, refusing}
 
@@ -191,8 +192,9 @@ pub record Refuted : Type 0 where
   pub answers-closed : AnswersTrue (slipped closedUnseen) (reached pushLoses) → ⊥
   -- 5. only what was written is read
   pub reads : ReadsWritten (reached popOfNothing) (past popOfNothing) → ⊥
-  -- 6. unbroken, no stamp wraps
+  -- 6. unbroken, the words of claims, no stamp wraps
   pub unbroken : brokenOf (reached pushClaims) ≡ false → ⊥
+  pub words : Words SixtyFour (reached forceClaims) (past forceClaims) → ⊥
   pub plain : Plain (reached forceClaims) (past forceClaims) → ⊥
   -- 7. claims not taken, and contents
   pub untaken : UntakenCounts (reached (onePush tailUnmoved)) (past (onePush tailUnmoved)) → ⊥
@@ -231,7 +233,7 @@ pub record Refuted : Type 0 where
   pub twice-counted : LossesBy (counting twice) popLoses → ⊥
   pub ended : LossesBy (counting forgotten) popEnds → ⊥
   pub begun-anew : LossesBy (counting unreset) popAgain → ⊥
-  pub told : EndTold toldBySchedule (reached (trial none 1 (pushLoses .schedule))) 1 → ⊥
+  pub told : EndTold SixtyFour toldBySchedule (reached (trial none 1 (pushLoses .schedule))) 1 → ⊥
   pub aside : CountsAside weary → ⊥
   -- a close that holds
   pub once-closed : OnceClosed (slipped forceForgets) (reached closedF) → ⊥

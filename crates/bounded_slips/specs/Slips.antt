@@ -9,6 +9,7 @@ use Rattle.queue_entries.specs.declared.Entry.{Entry}
 use Rattle.queue_entries.specs.declared.Entry.the-variants.{Unreadable, Asks}
 use Rattle.queue_entries.specs.Entries.{entryOf}
 use Rattle.bounded_words.specs.declared.Fixed.{Fixed}
+use Rattle.bounded_words.specs.declared.Width.the-variants.{SixtyFour}
 use Rattle.bounded_words.specs.Words.{plus, minus, nextOf, same, markedOf, unmarkedOf, lapBehind}
 use Rattle.bounded_places.specs.declared.Slot.{Slot}
 use Rattle.bounded_places.specs.declared.Ends.{Ends}
@@ -32,7 +33,7 @@ use Rattle.bounded_machine.specs.Turn.{beginner, turnOf}
 use Rattle.bounded_machine.specs.Run.{ran, runWith, runFrom}
 use Rattle.bounded_machine.specs.History.{lossAt, historyWith, historyOf, movedOf, readsAt, untakenOf}
 use Rattle.bounded_demands.specs.Notions.{Definition, byTable, document01, itemIn, tally, stock}
-use Rattle.bounded_demands.specs.Demands.{UnderEverySchedule, ActByAct, WholeSchedules, LenTrue, ScheduledAlone, StockUnderEverySchedule, LossesUnderEverySchedule, CountsAside, CloseHolds, ClosedIsLast}
+use Rattle.bounded_demands.specs.Demands.{UnderEverySchedule, NothingWraps, ActByAct, WholeSchedules, LenTrue, ScheduledAlone, StockUnderEverySchedule, LossesUnderEverySchedule, CountsAside, CloseHolds, ClosedIsLast}
 
 -- ---- the slips
 
@@ -173,65 +174,65 @@ onWin found lose wrong right = cond found (cond lose right wrong) right
 
 -- The tables with slip number n.
 abbrev pub actWith : ℕ → Fixed → Ends → Slot → Place → Bool → Acted
-actWith n f e s (Idle a) lose = actOf f e s (Idle a) lose
-actWith n f e s (P1 k x) lose = actOf f e s (P1 k x) lose
-actWith n f e s (P2 k t x) lose = actOf f e s (P2 k t x) lose
+actWith n f e s (Idle a) lose = actOf SixtyFour f e s (Idle a) lose
+actWith n f e s (P1 k x) lose = actOf SixtyFour f e s (P1 k x) lose
+actWith n f e s (P2 k t x) lose = actOf SixtyFour f e s (P2 k t x) lose
 actWith n f e s (P3 k t x) lose =
-    but n lostPushGoesOn (stay (tailTo e (nextOf f t)) s (P4 t x))
-    (but n closedUnseen (cond (same (e .tail) t) (actOf f e s (P3 k t x) lose) (stay e s (Idle (Closed x))))
-    (but n unwrapped (onWin (same (e .tail) t) lose (stay (tailTo e (plus t 1)) s (P4 t x)) (actOf f e s (P3 k t x) lose))
-    (but n tailUnmoved (onWin (same (e .tail) t) lose (stay e s (P4 t x)) (actOf f e s (P3 k t x) lose))
-    (but n bothBySchedule (cond (same (e .tail) t) (actOf f e s (P3 k t x) lose) (cond lose (losing e s (afterTail f k (e .tail) x) BySchedule) (actOf f e s (P3 k t x) lose)))
-    (actOf f e s (P3 k t x) lose)))))
+    but n lostPushGoesOn (stay (tailTo e (nextOf SixtyFour f t)) s (P4 t x))
+    (but n closedUnseen (cond (same (e .tail) t) (actOf SixtyFour f e s (P3 k t x) lose) (stay e s (Idle (Closed x))))
+    (but n unwrapped (onWin (same (e .tail) t) lose (stay (tailTo e (plus SixtyFour t 1)) s (P4 t x)) (actOf SixtyFour f e s (P3 k t x) lose))
+    (but n tailUnmoved (onWin (same (e .tail) t) lose (stay e s (P4 t x)) (actOf SixtyFour f e s (P3 k t x) lose))
+    (but n bothBySchedule (cond (same (e .tail) t) (actOf SixtyFour f e s (P3 k t x) lose) (cond lose (losing e s (afterTail f k (e .tail) x) BySchedule) (actOf SixtyFour f e s (P3 k t x) lose)))
+    (actOf SixtyFour f e s (P3 k t x) lose)))))
 actWith n f e s (P4 t x) lose =
-    but n unwritten (stay e s (P5 t)) (but n pushWritesLate (stay e (stampTo s (plus t 1)) (F9 t x)) (actOf f e s (P4 t x) lose))
-actWith n f e s (P5 t) lose = but n unstamped (stay e s (Idle Pushed)) (actOf f e s (P5 t) lose)
-actWith n f e s (P6 t x) lose = but n fullUnseen (stay e s (Idle (Full x))) (actOf f e s (P6 t x) lose)
+    but n unwritten (stay e s (P5 t)) (but n pushWritesLate (stay e (stampTo s (plus SixtyFour t 1)) (F9 t x)) (actOf SixtyFour f e s (P4 t x) lose))
+actWith n f e s (P5 t) lose = but n unstamped (stay e s (Idle Pushed)) (actOf SixtyFour f e s (P5 t) lose)
+actWith n f e s (P6 t x) lose = but n fullUnseen (stay e s (Idle (Full x))) (actOf SixtyFour f e s (P6 t x) lose)
 actWith n f e s (F6 t x) lose =
-    but n tailBeforeHead (stay (tailTo e (nextOf f t)) s (F7 t x))
-    (but n lostForceKeepsItsWord (cond (same (e .head) (minus t (f .lap))) (actOf f e s (F6 t x) lose) (stay e s (P2 Force t x)))
-    (but n lostForceTakesTheHead (cond (same (e .head) (minus t (f .lap))) (actOf f e s (F6 t x) lose) (stay e s (P2 Force (e .head) x)))
-    (but n forceUncounted (onWin (same (e .head) (minus t (f .lap))) lose (actOf f e s (F6 t x) lose) (stay e s (P1 Force x)))
-    (actOf f e s (F6 t x) lose))))
+    but n tailBeforeHead (stay (tailTo e (nextOf SixtyFour f t)) s (F7 t x))
+    (but n lostForceKeepsItsWord (cond (same (e .head) (minus SixtyFour t (f .lap))) (actOf SixtyFour f e s (F6 t x) lose) (stay e s (P2 Force t x)))
+    (but n lostForceTakesTheHead (cond (same (e .head) (minus SixtyFour t (f .lap))) (actOf SixtyFour f e s (F6 t x) lose) (stay e s (P2 Force (e .head) x)))
+    (but n forceUncounted (onWin (same (e .head) (minus SixtyFour t (f .lap))) lose (actOf SixtyFour f e s (F6 t x) lose) (stay e s (P1 Force x)))
+    (actOf SixtyFour f e s (F6 t x) lose))))
 actWith n f e s (F7 t x) lose =
-    but n forceForgets (stay (tailTo e (nextOf f t)) s (F8 t x))
+    but n forceForgets (stay (tailTo e (nextOf SixtyFour f t)) s (F8 t x))
     (but n tailBeforeHead
-    (cond (same (e .head) (minus t (f .lap))) (stay (headTo e (minus (nextOf f t) (f .lap))) s (F8 t x)) (stay e s (P1 Force x)))
-    (actOf f e s (F7 t x) lose))
-actWith n f e s (F8 t x) lose = but n stampBeforeValue (stay e (stampTo s (plus t 1)) (F9 t x)) (actOf f e s (F8 t x) lose)
+    (cond (same (e .head) (minus SixtyFour t (f .lap))) (stay (headTo e (minus SixtyFour (nextOf SixtyFour f t) (f .lap))) s (F8 t x)) (stay e s (P1 Force x)))
+    (actOf SixtyFour f e s (F7 t x) lose))
+actWith n f e s (F8 t x) lose = but n stampBeforeValue (stay e (stampTo s (plus SixtyFour t 1)) (F9 t x)) (actOf SixtyFour f e s (F8 t x) lose)
 actWith n f e s (F9 t x) lose = but n stampBeforeValue (stay e (valueTo s x) (Idle (Displaced (s .value))))
-    (but n pushWritesLate (stay e (valueTo s x) (Idle Pushed)) (actOf f e s (F9 t x) lose))
-actWith n f e s O1 lose = actOf f e s O1 lose
-actWith n f e s (O2 h) lose = but n stampUntested (stay e s (O3 h)) (actOf f e s (O2 h) lose)
+    (but n pushWritesLate (stay e (valueTo s x) (Idle Pushed)) (actOf SixtyFour f e s (F9 t x) lose))
+actWith n f e s O1 lose = actOf SixtyFour f e s O1 lose
+actWith n f e s (O2 h) lose = but n stampUntested (stay e s (O3 h)) (actOf SixtyFour f e s (O2 h) lose)
 actWith n f e s (O3 h) lose =
-    but n wonCounted (onWin (same (e .head) h) lose (losing (headTo e (nextOf f h)) s (O4 h) ByWords) (actOf f e s (O3 h) lose)) (actOf f e s (O3 h) lose)
-actWith n f e s (O4 h) lose = but n readsAfterItsStore (stay e (stampTo s (plus h (f .lap))) (O5 h 0)) (actOf f e s (O4 h) lose)
+    but n wonCounted (onWin (same (e .head) h) lose (losing (headTo e (nextOf SixtyFour f h)) s (O4 h) ByWords) (actOf SixtyFour f e s (O3 h) lose)) (actOf SixtyFour f e s (O3 h) lose)
+actWith n f e s (O4 h) lose = but n readsAfterItsStore (stay e (stampTo s (plus SixtyFour h (f .lap))) (O5 h 0)) (actOf SixtyFour f e s (O4 h) lose)
 actWith n f e s (O5 h v) lose =
     but n readsAfterItsStore (stay e s (Idle (Popped (s .value))))
-    (but n releasesWithNext (stay e (stampTo s (nextOf f h)) (Idle (Popped v)))
-    (but n neverLetsGo (stay e s (O4 h)) (actOf f e s (O5 h v) lose)))
+    (but n releasesWithNext (stay e (stampTo s (nextOf SixtyFour f h)) (Idle (Popped v)))
+    (but n neverLetsGo (stay e s (O4 h)) (actOf SixtyFour f e s (O5 h v) lose)))
 actWith n f e s (O6 h) lose =
     but n emptyUnseen (stay e s (Idle Empty))
-    (but n handsOutAgain (cond (same (unmarkedOf f (e .tail)) h) (stay e s (Idle (Popped (s .value)))) (actOf f e s (O6 h) lose))
-    (but n popKeepsItsWord (cond (same (unmarkedOf f (e .tail)) h) (actOf f e s (O6 h) lose) (stay e s (O2 h)))
-    (but n closedTooSoon (cond (markedOf f (e .tail)) (stay e s (Idle PopClosed)) (actOf f e s (O6 h) lose))
-    (actOf f e s (O6 h) lose))))
-actWith n f e s Len1 lose = actOf f e s Len1 lose
-actWith n f e s (Len2 t) lose = actOf f e s (Len2 t) lose
-actWith n f e s (Len3 t h) lose = but n lenLooksOnce (stay e s (Idle (Len (countOf f t h)))) (actOf f e s (Len3 t h) lose)
-actWith n f e s Empty1 lose = but n emptyTailFirst (stay e s (Empty2 (e .tail))) (actOf f e s Empty1 lose)
+    (but n handsOutAgain (cond (same (unmarkedOf f (e .tail)) h) (stay e s (Idle (Popped (s .value)))) (actOf SixtyFour f e s (O6 h) lose))
+    (but n popKeepsItsWord (cond (same (unmarkedOf f (e .tail)) h) (actOf SixtyFour f e s (O6 h) lose) (stay e s (O2 h)))
+    (but n closedTooSoon (cond (markedOf f (e .tail)) (stay e s (Idle PopClosed)) (actOf SixtyFour f e s (O6 h) lose))
+    (actOf SixtyFour f e s (O6 h) lose))))
+actWith n f e s Len1 lose = actOf SixtyFour f e s Len1 lose
+actWith n f e s (Len2 t) lose = actOf SixtyFour f e s (Len2 t) lose
+actWith n f e s (Len3 t h) lose = but n lenLooksOnce (stay e s (Idle (Len (countOf f t h)))) (actOf SixtyFour f e s (Len3 t h) lose)
+actWith n f e s Empty1 lose = but n emptyTailFirst (stay e s (Empty2 (e .tail))) (actOf SixtyFour f e s Empty1 lose)
 actWith n f e s (Empty2 t) lose =
-    but n emptyTailFirst (stay e s (Idle (yesNo (same (unmarkedOf f t) (e .head))))) (actOf f e s (Empty2 t) lose)
-actWith n f e s Full1 lose = but n fullHeadFirst (stay e s (Full2 (e .head))) (actOf f e s Full1 lose)
+    but n emptyTailFirst (stay e s (Idle (yesNo (same (unmarkedOf f t) (e .head))))) (actOf SixtyFour f e s (Empty2 t) lose)
+actWith n f e s Full1 lose = but n fullHeadFirst (stay e s (Full2 (e .head))) (actOf SixtyFour f e s Full1 lose)
 actWith n f e s (Full2 h) lose =
-    but n fullHeadFirst (stay e s (Idle (yesNo (lapBehind f h (unmarkedOf f (e .tail)))))) (actOf f e s (Full2 h) lose)
-actWith n f e s Close1 lose = actOf f e s Close1 lose
-actWith n f e s IsClosed1 lose = actOf f e s IsClosed1 lose
+    but n fullHeadFirst (stay e s (Idle (yesNo (lapBehind SixtyFour f h (unmarkedOf f (e .tail)))))) (actOf SixtyFour f e s (Full2 h) lose)
+actWith n f e s Close1 lose = actOf SixtyFour f e s Close1 lose
+actWith n f e s IsClosed1 lose = actOf SixtyFour f e s IsClosed1 lose
 
 -- ---- the machine with a slip
 
 abbrev pub slipped : ℕ → Definition
-slipped n = byTable (actWith n)
+slipped n = byTable SixtyFour (actWith n)
 
 -- ---- counts of losses with a slip
 
@@ -247,7 +248,7 @@ turnCounting how m first second =
     record { refusal = turnOf m first second .refusal; machine = recounted how m (entryOf first second) (turnOf m first second .machine) }
 
 abbrev pub counting : (Worker → Worker → Worker) → Definition
-counting how = record { turn = turnCounting how; run = runWith (turnCounting how); history = historyWith (turnCounting how) }
+counting how = record { width = SixtyFour; turn = turnCounting how; run = runWith (turnCounting how); history = historyWith SixtyFour (turnCounting how) }
 
 -- a begun call goes on with the counts of the last
 abbrev pub unreset : Worker → Worker → Worker
@@ -263,12 +264,13 @@ twice was is = record { place = is .place; differed = is .differed + (is .differ
 
 -- Losses told with a slip: whatever the schedule makes fail is lost by the schedule.
 abbrev pub toldBySchedule : Machine → ℕ → Bool → Loss
-toldBySchedule m w lose = cond lose BySchedule (lossAt m w lose)
+toldBySchedule m w lose = cond lose BySchedule (lossAt SixtyFour m w lose)
 
 -- A definition in which a count decides: no act of worker 0 is taken once it has lost an exchange.
 abbrev pub weary : Definition
 weary =
     record {
+      width = SixtyFour;
       turn = λ m first second. cond (eqb (recordOf (m .workers) 0 .failed) 0) (turnOf m first second) (refused 7 m);
       run = runFrom;
       history = historyOf;
@@ -306,10 +308,10 @@ stockWith n h =
 
 -- Two definitions that are wrong beside the tables: one runs no entry of a schedule, one refuses every entry.
 abbrev pub deaf : Definition
-deaf = record { turn = turnOf; run = λ m place s. ran 0 place m; history = historyOf }
+deaf = record { width = SixtyFour; turn = turnOf; run = λ m place s. ran 0 place m; history = historyOf }
 
 abbrev pub refusing : Definition
-refusing = record { turn = λ m first second. refused 8 m; run = runFrom; history = historyOf }
+refusing = record { width = SixtyFour; turn = λ m first second. refused 8 m; run = runFrom; history = historyOf }
 
 -- ---- what stands
 
@@ -329,5 +331,5 @@ Faithful = (given ≡ document01) × (givenStock ≡ stock)
 
 abbrev pub Stands : Type 0
 Stands =
-    UnderEverySchedule given × ActByAct given × WholeSchedules given × LenTrue given × ScheduledAlone given × StockUnderEverySchedule given givenStock
+    UnderEverySchedule given × NothingWraps given × ActByAct given × WholeSchedules given × LenTrue given × ScheduledAlone given × StockUnderEverySchedule given givenStock
     × LossesUnderEverySchedule given × CountsAside given × CloseHolds given × ClosedIsLast given

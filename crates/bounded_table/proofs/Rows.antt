@@ -5,6 +5,7 @@ use borrow.Author.Tests.{ltb-true}
 use Rattle.queue_entries.proofs.Pick.{along, both-left, both-right}
 use Rattle.bounded_words.specs.declared.Stamp.{Stamp}
 use Rattle.bounded_words.specs.declared.Fixed.{Fixed}
+use Rattle.bounded_words.specs.declared.Width.{Width}
 use Rattle.bounded_words.specs.Words.{indexOf}
 use Rattle.bounded_places.specs.declared.Slot.{Slot}
 use Rattle.bounded_places.specs.declared.Ends.{Ends}
@@ -14,8 +15,8 @@ use Rattle.bounded_places.specs.Places.{inside, fitsOf, viewOf}
 use Rattle.bounded_acts.specs.declared.Acted.{Acted}
 use Rattle.bounded_acts.specs.Acts.{actOf, Fits, Within}
 
-pub along-act : (f : Fixed) (e : Ends) (s : Slot) (p q : Place) (lose : Bool) (r : Acted) → p ≡ q → r ≡ actOf f e s q lose → r ≡ actOf f e s p lose
-along-act f e s p q lose = along (λ (x : Place). actOf f e s x lose) p q
+pub along-act : (bits : Width) (f : Fixed) (e : Ends) (s : Slot) (p q : Place) (lose : Bool) (r : Acted) → p ≡ q → r ≡ actOf bits f e s q lose → r ≡ actOf bits f e s p lose
+along-act bits f e s p q lose = along (λ (x : Place). actOf bits f e s x lose) p q
 
 -- what `count` asks, of the words that len holds
 pub within : (f : Fixed) (p : Place) (t h : Stamp) → Fits f p → p ≡ Len3 t h → Within f t h

@@ -9,8 +9,10 @@ use lib.Dec.{ltb}
 use lib.Pow.{pow-mono, pow-add, pow-pos}
 use borrow.Author.Tests.{lt-ltb, le-ltb}
 use Rattle.bounded_words.specs.declared.Fixed.{Fixed}
-use Rattle.bounded_words.specs.Limits.{slotsMost, wide}
-use Rattle.bounded_words.specs.Words.{doubled, markOf, lapOf, Fair}
+use Rattle.bounded_words.specs.declared.Width.{Width}
+use Rattle.bounded_words.specs.declared.Width.the-variants.{Sixteen, SixtyFour}
+use Rattle.bounded_words.specs.Limits.{slotsMost, narrow}
+use Rattle.bounded_words.specs.Words.{doubled, markOf, lapOf, widthOf, Fair}
 
 -- a power of two that is not below n, and whose half is
 pub record Smallest (n m : ℕ) : Type 0 where
@@ -33,6 +35,11 @@ pub mark-is : (c : ℕ) → Smallest (c + 1) (markOf c)
 unfolding markOf
 mark-is c = doubled-is (c + 1) (c + 1) 1 0 refl (omega arith) (omega arith) (omega arith)
 
+-- no width is below sixteen bits
+pub narrow-least : (bits : Width) → narrow ≤ widthOf bits
+narrow-least Sixteen = omega arith
+narrow-least SixtyFour = omega arith
+
 -- What a ring's constants by rule have.
 pub record Ruled (f : Fixed) : Type 0 where
   pub some : 0 < f .capacity
@@ -40,19 +47,24 @@ pub record Ruled (f : Fixed) : Type 0 where
   pub room : f .capacity < f .mark
   pub small : f .mark < 2 * (slotsMost + 1)
   pub twice : f .lap ≡ f .mark * 2
-  pub laps : f .lap ∣ wide
-  pub marks : f .mark ∣ wide
+  pub laps : (bits : Width) → f .lap ∣ widthOf bits
+  pub marks : (bits : Width) → f .mark ∣ widthOf bits
 
 -- a power that fits
-exponent : (k : ℕ) → 2 ^ k < 2 ^ 63 → k ≤ 62
-exponent k h = go (decLe 63 k)
+exponent : (k : ℕ) → 2 ^ k < 2 ^ 15 → k ≤ 14
+exponent k h = go (decLe 15 k)
   where
-    go : Dec (63 ≤ k) → k ≤ 62
+    go : Dec (15 ≤ k) → k ≤ 14
     go (yes l) = absurd (omega (arith, pow-mono l))
     go (no n) = omega arith
 
 power-divides : (j k : ℕ) → j ≤ k → 2 ^ j ∣ 2 ^ k
 power-divides j k h = let e : k ≡ (k - j) + j = omega arith in rw e (rw (pow-add 2 (k - j) j) (dvd-mul-left (2 ^ j) (2 ^ (k - j))))
+
+-- and divides the width
+fits-width : (k : ℕ) → k ≤ 16 → (bits : Width) → 2 ^ k ∣ widthOf bits
+fits-width k h Sixteen = power-divides k 16 h
+fits-width k h SixtyFour = power-divides k 64 (omega arith)
 
 pub ruled : (f : Fixed) → 0 < f .capacity → f .capacity ≤ slotsMost → f .mark ≡ markOf (f .capacity) → f .lap ≡ lapOf (f .capacity) → Ruled f
 ruled f some most m l =
@@ -62,8 +74,8 @@ ruled f some most m l =
       room = omega (arith, s .enough);
       small = omega (arith, s .least);
       twice = omega arith;
-      laps = subst (λ (x : ℕ). x ∣ wide) (sym lap-is) (power-divides (s .power + 1) 64 (omega (arith, below)));
-      marks = subst (λ (x : ℕ). x ∣ wide) (sym mark-is-power) (power-divides (s .power) 64 (omega (arith, below)));
+      laps = λ bits. subst (λ (x : ℕ). x ∣ widthOf bits) (sym lap-is) (fits-width (s .power + 1) (omega (arith, below)) bits);
+      marks = λ bits. subst (λ (x : ℕ). x ∣ widthOf bits) (sym mark-is-power) (fits-width (s .power) (omega (arith, below)) bits);
     }
   where
     s : Smallest (f .capacity + 1) (markOf (f .capacity))
@@ -75,7 +87,7 @@ ruled f some most m l =
     lap-is : f .lap ≡ 2 ^ (s .power + 1)
     lap-is = l ∙ (omega (arith, pow-add 2 (s .power) 1, s .is))
 
-    below : s .power ≤ 62
+    below : s .power ≤ 14
     below = exponent (s .power) (omega (arith, s .is, s .least))
 
 pub fair : (f : Fixed) → Ruled f → Fair f

@@ -9,6 +9,9 @@ slotsMost = 1024
 abbrev pub editionsMost : ℕ
 editionsMost = 2
 
--- how many words there are: modulo 2 to the power 64
+-- how many words there are of 64 bits, and of sixteen
 abbrev pub wide : ℕ
 wide = 2 ^ 64
+
+abbrev pub narrow : ℕ
+narrow = 65536

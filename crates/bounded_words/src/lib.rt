@@ -1,14 +1,20 @@
 // The words of a ring: document 01, "The words".
 ghost use mathlib.Core.Path.{_≡_};
-ghost use Prim.Native.Nat.{_≤_};
+ghost use Prim.Native.Nat.{_≤_, _%_};
 ghost use Rattle.bounded_words.specs.Limits.{slotsMost};
-ghost use Rattle.bounded_words.specs.Words.{Fair, Indexed, lapOf, markOf, markedOf, nextOf, plus, minus, unmarkedOf, withMark, same, onePast, lapBehind, lapBehindOnePast};
+ghost use Rattle.bounded_words.specs.Words.{Fair, Indexed, stamp, widthOf, lapOf, markOf, markedOf, nextOf, plus, minus, unmarkedOf, withMark, same, onePast, lapBehind, lapBehindOnePast};
 
 // A word of head, of tail or of a slot: a lap, the mark and an index in one number.
 pub struct Stamp(pub u64);
 
 // The number of a claim: the k-th move of tail, or of head, since the machine was made.
 pub struct Claim(pub u64);
+
+// How wide the words of a ring are. It is no part of a machine: which face is called says it.
+pub enum Width {
+    Sixteen,
+    SixtyFour,
+}
 
 // What a ring keeps unchanged from its making on.
 pub struct Fixed {
@@ -25,6 +31,9 @@ pub struct Fixed {
 pub const SLOTS: usize = 1024;
 
 pub const EDITIONS: u64 = 2;
+
+// How many words there are of sixteen bits.
+pub const NARROW: u64 = 65536;
 
 // "smallest power of two not below capacity + 1"
 pub fn mark_of(capacity: u64) -> u64
@@ -43,28 +52,38 @@ pub fn index(f: Fixed, w: Stamp) -> u64
     w.0 % f.mark
 }
 
-// "a lap is added and taken away modulo 2 to the power 64"
-pub fn later(w: Stamp, by: u64) -> Stamp
-    ensures { λ r. ⌜ r ≡ plus w by ⌝ }
+// The word of this width that a sum leaves.
+fn cut(bits: Width, sum: u64) -> Stamp
+    ensures { λ r. ⌜ r ≡ stamp (sum % widthOf bits) ⌝ }
 {
-    Stamp(std::num::wrapping_add_u64(w.0, by))
+    match bits {
+        Width::Sixteen => Stamp(sum % NARROW),
+        Width::SixtyFour => Stamp(sum),
+    }
 }
 
-pub fn earlier(w: Stamp, by: u64) -> Stamp
-    ensures { λ r. ⌜ r ≡ minus w by ⌝ }
+// "a lap is added and taken away modulo 2 to the power 64", or modulo 65,536
+pub fn later(bits: Width, w: Stamp, by: u64) -> Stamp
+    ensures { λ r. ⌜ r ≡ plus bits w by ⌝ }
 {
-    Stamp(std::num::wrapping_sub_u64(w.0, by))
+    cut(bits, std::num::wrapping_add_u64(w.0, by))
 }
 
-pub fn next(f: Fixed, w: Stamp) -> Stamp
+pub fn earlier(bits: Width, w: Stamp, by: u64) -> Stamp
+    ensures { λ r. ⌜ r ≡ minus bits w by ⌝ }
+{
+    cut(bits, std::num::wrapping_sub_u64(w.0, by))
+}
+
+pub fn next(bits: Width, f: Fixed, w: Stamp) -> Stamp
     requires { ⌜ Fair f ⌝ }
-    ensures { λ r. ⌜ r ≡ nextOf f w ⌝ }
+    ensures { λ r. ⌜ r ≡ nextOf bits f w ⌝ }
 {
     let i = index(f, w);
     if i + 1 < f.capacity {
-        later(w, 1)
+        later(bits, w, 1)
     } else {
-        later(Stamp(w.0 - i), f.lap)
+        later(bits, Stamp(w.0 - i), f.lap)
     }
 }
 
@@ -88,14 +107,14 @@ pub fn unmarked(f: Fixed, w: Stamp) -> Stamp
 }
 
 // `w | mark`
-pub fn with_mark(f: Fixed, w: Stamp) -> Stamp
+pub fn with_mark(bits: Width, f: Fixed, w: Stamp) -> Stamp
     requires { ⌜ Fair f ⌝ }
-    ensures { λ r. ⌜ r ≡ withMark f w ⌝ }
+    ensures { λ r. ⌜ r ≡ withMark bits f w ⌝ }
 {
     if w.0 / f.mark % 2 == 1 {
         w
     } else {
-        later(w, f.mark)
+        later(bits, w, f.mark)
     }
 }
 
@@ -106,26 +125,26 @@ pub fn same_word(a: Stamp, b: Stamp) -> bool
 }
 
 // s = h + 1
-pub fn one_past(s: Stamp, h: Stamp) -> bool
-    ensures { λ r. ⌜ r ≡ onePast s h ⌝ }
+pub fn one_past(bits: Width, s: Stamp, h: Stamp) -> bool
+    ensures { λ r. ⌜ r ≡ onePast bits s h ⌝ }
 {
-    let n = later(h, 1);
+    let n = later(bits, h, 1);
     s.0 == n.0
 }
 
 // h + lap = t
-pub fn lap_behind(f: Fixed, h: Stamp, t: Stamp) -> bool
-    ensures { λ r. ⌜ r ≡ lapBehind f h t ⌝ }
+pub fn lap_behind(bits: Width, f: Fixed, h: Stamp, t: Stamp) -> bool
+    ensures { λ r. ⌜ r ≡ lapBehind bits f h t ⌝ }
 {
-    let m = later(h, f.lap);
+    let m = later(bits, h, f.lap);
     m.0 == t.0
 }
 
 // s + lap = t + 1
-pub fn lap_behind_one_past(f: Fixed, s: Stamp, t: Stamp) -> bool
-    ensures { λ r. ⌜ r ≡ lapBehindOnePast f s t ⌝ }
+pub fn lap_behind_one_past(bits: Width, f: Fixed, s: Stamp, t: Stamp) -> bool
+    ensures { λ r. ⌜ r ≡ lapBehindOnePast bits f s t ⌝ }
 {
-    lap_behind(f, s, later(t, 1))
+    lap_behind(bits, f, s, later(bits, t, 1))
 }
 
 // The unmarked part of t is h.
@@ -137,9 +156,9 @@ pub fn unmarked_is(f: Fixed, t: Stamp, h: Stamp) -> bool
 }
 
 // h + lap is the unmarked part of t.
-pub fn lap_behind_unmarked(f: Fixed, h: Stamp, t: Stamp) -> bool
+pub fn lap_behind_unmarked(bits: Width, f: Fixed, h: Stamp, t: Stamp) -> bool
     requires { ⌜ Fair f ⌝ }
-    ensures { λ r. ⌜ r ≡ lapBehind f h (unmarkedOf f t) ⌝ }
+    ensures { λ r. ⌜ r ≡ lapBehind bits f h (unmarkedOf f t) ⌝ }
 {
-    lap_behind(f, h, unmarked(f, t))
+    lap_behind(bits, f, h, unmarked(f, t))
 }

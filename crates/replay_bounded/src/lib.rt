@@ -1,4 +1,2 @@
-// What replay is made of: the entries run and written line by line, why acts go back, and the counts of a run.
-pub mod because;
+// What replay of the ring is made of: the entries run and written line by line.
 pub mod play;
-pub mod summary;

@@ -1,9 +1,10 @@
 // A machine, run pair by pair. The first pair of numbers makes it; every other is an entry.
-use crate::summary::Summary;
 use bounded_machine::Machine;
 use bounded_places::Answer;
 use bounded_places::Place;
 use bounded_places::Worker;
+use bounded_words::Width;
+use replay_bounded_counts::summary::Summary;
 use replay_input::source::Reading;
 use replay_options::Options;
 use replay_survey::Played;
@@ -30,7 +31,7 @@ fn start(at: usize) -> Run {
         refusal: 0,
         whole: false,
         at: at,
-        summary: crate::summary::none(),
+        summary: replay_bounded_counts::summary::none(),
     }
 }
 
@@ -46,11 +47,11 @@ fn of_the_whole(m: Machine, whole: Whole) -> Whole {
 }
 
 fn refused_of(refusal: u64) -> Summary {
-    let none = crate::summary::none();
+    let none = replay_bounded_counts::summary::none();
     if refusal == 0 {
         return none;
     }
-    crate::summary::refused(none)
+    replay_bounded_counts::summary::refused(none)
 }
 
 fn made(m: Machine, whole: Whole, at: usize) -> Run {
@@ -100,21 +101,21 @@ fn counted(
         return s;
     }
     if refusal != 0 {
-        return crate::summary::refused(s);
+        return replay_bounded_counts::summary::refused(s);
     }
     if first % 16 < 8 {
-        return crate::summary::begun(s);
+        return replay_bounded_counts::summary::begun(s);
     }
-    let acted = crate::summary::acted(s, before, after);
+    let acted = replay_bounded_counts::summary::acted(s, before, after);
     if o.causes {
-        return crate::summary::reasoned(acted, first / 16, before, after);
+        return replay_bounded_counts::summary::reasoned(acted, first / 16, before, after);
     }
     acted
 }
 
 fn causes_if(asked: bool, out: &mut [u8], at: usize, s: Summary) -> usize {
     if asked {
-        return crate::because::tell(out, at, s.because);
+        return replay_bounded_counts::because::tell(out, at, s.because);
     }
     at
 }
@@ -133,7 +134,7 @@ fn losses_if(asked: bool, out: &mut [u8], at: usize, there: bool, r: Worker) -> 
 
 fn stock_if(asked: bool, out: &mut [u8], at: usize, s: Summary) -> usize {
     if asked {
-        return crate::summary::tell_stock(out, at, s);
+        return replay_bounded_counts::summary::tell_stock(out, at, s);
     }
     at
 }
@@ -169,6 +170,14 @@ fn next_place(place: u64, refusal: u64) -> u64 {
     place
 }
 
+fn width(o: Options) -> Width {
+    if o.narrow {
+        Width::Sixteen
+    } else {
+        Width::SixtyFour
+    }
+}
+
 // Entry by entry, with what is asked after each.
 fn steps(r: Run, o: Options, list: &[u64], from: usize, out: &mut [u8]) -> Run {
     let mut m = r.machine;
@@ -180,17 +189,17 @@ fn steps(r: Run, o: Options, list: &[u64], from: usize, out: &mut [u8]) -> Run {
         return r;
     }
     let last = list.len() - 1;
+    let bits = width(o);
     let mut i = from;
     while i < last && refusal == 0 {
         let first = list[i];
         let second = list[i + 1];
         i += 2;
         let w = first / 16;
-        let pair = [first, second];
         let before = record_of(m, w);
-        let ran = bounded::run(m, &pair);
-        m = ran.machine;
-        refusal = ran.refusal;
+        let did = bounded_steps::step(bits, m, first, second);
+        m = did.machine;
+        refusal = did.refusal;
         let after = record_of(m, w);
         s = counted(o, s, refusal, first, before, after);
         at = line_unless(
@@ -218,10 +227,10 @@ fn steps(r: Run, o: Options, list: &[u64], from: usize, out: &mut [u8]) -> Run {
 }
 
 // All entries of the list at once: no line of theirs is asked.
-fn at_once(r: Run, list: &[u64]) -> Run {
+fn at_once(r: Run, bits: Width, list: &[u64]) -> Run {
     let m = r.machine;
     let s = r.summary;
-    let ran = bounded::run(m, list);
+    let ran = bounded_runs::run(bits, m, list);
     let after = ran.machine;
     Run {
         machine: after,
@@ -241,7 +250,7 @@ fn entries(r: Run, o: Options, list: &[u64], from: usize, out: &mut [u8]) -> Run
     if o.quiet {
         if !o.summary {
             if from <= list.len() {
-                return at_once(r, &list[from..]);
+                return at_once(r, width(o), &list[from..]);
             }
         }
     }
@@ -289,7 +298,7 @@ fn contents(out: &mut [u8], at: usize, m: Machine) -> usize {
 
 fn tell_causes(s: Summary, asked: bool, out: &mut [u8], at: usize) -> usize {
     if asked {
-        return crate::because::tell_counts(out, at, s.because);
+        return replay_bounded_counts::because::tell_counts(out, at, s.because);
     }
     at
 }
@@ -298,10 +307,10 @@ fn tell_summary(s: Summary, o: Options, out: &mut [u8], at: usize) -> usize {
     if !o.summary {
         return at;
     }
-    let p = crate::summary::tell(out, at, s);
+    let p = replay_bounded_counts::summary::tell(out, at, s);
     let q = tell_causes(s, o.causes, out, p);
     if o.losses {
-        return crate::summary::tell_losses(out, q, s);
+        return replay_bounded_counts::summary::tell_losses(out, q, s);
     }
     q
 }

@@ -17,6 +17,12 @@ pub struct Options {
     pub edition_at: usize,
     // its value is wanted
     pub numbering: bool,
+    // head, tail and stamps have sixteen bits, and not 64
+    pub narrow: bool,
+    // the number of the argument --bits; 0: there is none
+    pub bits_at: usize,
+    // its value is wanted
+    pub measuring: bool,
     pub quiet: bool,
     pub causes: bool,
     // the number of the argument --causes; 0: there is none
@@ -63,6 +69,9 @@ fn none() -> Options {
         edition: 1,
         edition_at: 0,
         numbering: false,
+        narrow: false,
+        bits_at: 0,
+        measuring: false,
         quiet: false,
         causes: false,
         causes_at: 0,
@@ -137,6 +146,22 @@ fn with_edition(before: Options, i: usize, word: &[u8]) -> Options {
     o
 }
 
+// The width after --bits.
+fn with_bits(before: Options, i: usize, word: &[u8]) -> Options {
+    let mut o = before;
+    o.measuring = false;
+    if equal(word, b"16") {
+        o.narrow = true;
+        return o;
+    }
+    if equal(word, b"64") {
+        o.narrow = false;
+        return o;
+    }
+    o.wrong = i;
+    o
+}
+
 fn with_word(before: Options, i: usize, word: &[u8]) -> Options {
     let mut o = before;
     if o.naming != 0 {
@@ -144,6 +169,14 @@ fn with_word(before: Options, i: usize, word: &[u8]) -> Options {
     }
     if o.numbering {
         return with_edition(o, i, word);
+    }
+    if o.measuring {
+        return with_bits(o, i, word);
+    }
+    if equal(word, b"--bits") {
+        o.bits_at = i;
+        o.measuring = true;
+        return o;
     }
     if equal(word, b"--edition") {
         o.edition_at = i;
@@ -214,7 +247,7 @@ fn arguments() -> Options {
     o
 }
 
-// An option that is still without its value at the end is of no use; nor is an edition, causes, losses or a stock of a queue that has none.
+// An option that is still without its value at the end is of no use; nor is an edition, a width, causes, losses or a stock of a queue that has none.
 pub fn read() -> Options {
     let mut o = arguments();
     if o.naming != 0 {
@@ -222,6 +255,9 @@ pub fn read() -> Options {
     }
     if o.numbering || (o.edition_at != 0 && o.queue != BOUNDED) {
         o.wrong = o.edition_at;
+    }
+    if o.measuring || (o.bits_at != 0 && o.queue != BOUNDED) {
+        o.wrong = o.bits_at;
     }
     if o.causes && o.queue != BOUNDED {
         o.wrong = o.causes_at;
@@ -263,7 +299,7 @@ pub fn tell(o: Options, status: u8) {
 pub fn help() {
     io::write_all(
         libc::STDOUT_FILENO,
-        b"replay [--queue NAME] [--edition N] [--quiet] [--causes] [--losses] [--stock] [--summary] [--many] [--tape] [FILE]\n\
+        b"replay [--queue NAME] [--edition N] [--bits N] [--quiet] [--causes] [--losses] [--stock] [--summary] [--many] [--tape] [FILE]\n\
         \n\
         Runs a schedule on the stamped ring, or on another queue. It is read from FILE, or from standard input: unsigned decimal\n\
         numbers separated by white space. The first is the capacity (1 to 1024), the second the number of\n\
@@ -287,6 +323,7 @@ pub fn help() {
         \x20             PLACE R h=H hb=B t=T tb=B m=M wN=S, and at the end: block B next=N (state,value) .. for each taken block, contents;\n\
         \x20             code 1 is refusal 9, and 23: no block is free; it has no --summary\n\
         \x20 --edition 2      the ring whose force_push keeps a close (1 unless told)\n\
+        \x20 --bits 16   the ring whose head, tail and stamps have sixteen bits, so that they come round (64 unless told)\n\
         \x20 --quiet     no line for each entry, one for the whole\n\
         \x20 --causes    after the worker, where its act goes back to an earlier place, because=LIST: schedule (which made its\n\
         \x20             exchange fail), own-end (moved or marked since its word was loaded or found), other-end (moved since\n\

@@ -14,10 +14,11 @@ use Rattle.bounded_places.specs.declared.View.{View}
 use Rattle.bounded_places.specs.Places.{viewOf}
 use Rattle.bounded_places.proofs.first_place.Reads as first-place-reads
 use Rattle.bounded_places.proofs.view_of.Reads as view-of-reads
+use Rattle.bounded_acts.specs.Acts.{actOf}
 use Rattle.bounded_table.proofs.act_at.Reads as act-at-reads
 use Rattle.bounded_machine.specs.Machine.{machineOf, placeOf}
 use Rattle.bounded_machine.specs.Turn.{spotOf, begun}
-use Rattle.bounded_machine.specs.Run.{runFrom, runOf}
+use Rattle.bounded_machine.specs.Run.{runAt, runOfBy}
 use Rattle.bounded_machine.proofs.Kept.{Unbroken, unbroken-of, fair-in}
 use Rattle.bounded_machine.proofs.broken.Reads as broken-reads
 use Rattle.bounded_machine.proofs.record_after.Reads as record-after-reads
@@ -31,12 +32,12 @@ use Rattle.bounded_runs.proofs.run.Lts as lts
 use Rattle.bounded_runs.proofs.ran.Reads as ran-reads
 
 abbrev Inv-loop : tie.InvT-loop
-Inv-loop schedule f ends₀ slots₀ workers₀ count meter₀ n i₀ ends slots workers meter i =
+Inv-loop bits schedule f ends₀ slots₀ workers₀ count meter₀ n i₀ ends slots workers meter i =
     (i ≤ n) × (length schedule ≡ 2 * n) × Unbroken (machineOf f ends slots workers count meter)
-    × (runFrom (machineOf f ends slots workers count meter) i (drop (2 * i) schedule) ≡ runOf (machineOf f ends₀ slots₀ workers₀ count meter₀) schedule)
+    × (runAt bits (machineOf f ends slots workers count meter) i (drop (2 * i) schedule) ≡ runOfBy (actOf bits) (machineOf f ends₀ slots₀ workers₀ count meter₀) schedule)
 
 abbrev μ-loop : tie.MeasureT-loop
-μ-loop schedule f ends₀ slots₀ workers₀ count meter₀ n i₀ ends slots workers meter i = n - i
+μ-loop bits schedule f ends₀ slots₀ workers₀ count meter₀ n i₀ ends slots workers meter i = n - i
 
 bound : {i n : ℕ} → i < n → i + 1 ≤ n
 bound h = omega arith
@@ -76,7 +77,7 @@ ran-requires c κs = search needs
 
 -- src/lib.rt:120:9
 returns : tie.Need-returns Inv-loop μ-loop
-returns c = c .ran .ensures ∙ broken-run _ _ (c .before .before .broken .result) (c .before .before .broken .ensures) (c .before .if1 .taken)
+returns c = c .ran .ensures ∙ broken-run _ _ _ (c .before .before .broken .result) (c .before .before .broken .ensures) (c .before .if1 .taken)
 
 -- src/lib.rt:123:9
 ran-requires-2 : tie.Need-ran-requires-2 Inv-loop μ-loop
@@ -84,7 +85,7 @@ ran-requires-2 c κs = search needs
 
 -- src/lib.rt:123:9
 returns-2 : tie.Need-returns-2 Inv-loop μ-loop
-returns-2 c = c .ran2 .ensures ∙ odd-run _ _ (c .before .before .before .broken .result) (c .before .before .before .broken .ensures) (c .before .before .if1 .left) (c .before .if2 .taken)
+returns-2 c = c .ran2 .ensures ∙ odd-run _ _ _ (c .before .before .before .broken .result) (c .before .before .before .broken .ensures) (c .before .before .if1 .left) (c .before .if2 .taken)
 
 -- src/lib.rt:125:11
 search-requires : tie.Need-search-requires Inv-loop μ-loop
@@ -100,7 +101,7 @@ ran-requires-3 c κs = search needs
 
 -- src/lib.rt:127:13
 returns-3 : tie.Need-returns-3 Inv-loop μ-loop
-returns-3 c = c .ran3 .ensures ∙ unread-run _ _ (c .before .before .before .before .before .before .before .broken .result) (c .before .before .before .before .before .before .before .broken .ensures) (c .before .before .before .before .before .before .if1 .left) (c .before .before .before .before .before .if2 .left) (c .before .before .before .before .search .result) (c .before .before .before .before .search .ensures) _ (search needs)
+returns-3 c = c .ran3 .ensures ∙ unread-run _ _ _ (c .before .before .before .before .before .before .before .broken .result) (c .before .before .before .before .before .before .before .broken .ensures) (c .before .before .before .before .before .before .if1 .left) (c .before .before .before .before .before .if2 .left) (c .before .before .before .before .search .result) (c .before .before .before .before .search .ensures) _ (search needs)
 
 -- src/lib.rt:125:5
 enum-told : tie.Need-enum-told Inv-loop μ-loop
@@ -108,7 +109,7 @@ enum-told c = search needs
 
 -- src/lib.rt:127:5
 loop-holds : tie.Need-loop-holds Inv-loop μ-loop
-loop-holds c = (omega arith, omega arith, unbroken-of _ (sym (c .before .before .before .before .before .broken .ensures) ∙ c .before .before .before .before .if1 .left), read-run _ _ (c .before .before .before .before .before .broken .result) (c .before .before .before .before .before .broken .ensures) (c .before .before .before .before .if1 .left) (c .before .before .before .if2 .left) (c .before .before .search .result) (c .before .before .search .ensures) (search needs))
+loop-holds c = (omega arith, omega arith, unbroken-of _ (sym (c .before .before .before .before .before .broken .ensures) ∙ c .before .before .before .before .if1 .left), read-run _ _ _ (c .before .before .before .before .before .broken .result) (c .before .before .before .before .before .broken .ensures) (c .before .before .before .before .if1 .left) (c .before .before .before .if2 .left) (c .before .before .search .result) (c .before .before .search .ensures) (search needs))
 
 -- src/lib.rt:128:68
 mul-entry-of : tie.Need-mul-entry-of Inv-loop μ-loop
@@ -158,7 +159,7 @@ ran-requires-4 c κs = search needs
 returns-4 : tie.Need-returns-4 Inv-loop μ-loop
 returns-4 c = let l = c .before .before .before .before .before .before .before .loop in
     let e = c .before .before .before .entry-of in
-    c .ran4 .ensures ∙ stop-9 _ _ _ _ _ (l .inv .3) (l .inv .1) (c .before .before .before .before .before .before .loop-test .taken) (e .result) (e .ensures) (search needs)
+    c .ran4 .ensures ∙ stop-9 _ _ _ _ _ _ (l .inv .3) (l .inv .1) (c .before .before .before .before .before .before .loop-test .taken) (e .result) (e .ensures) (search needs)
 
 -- src/lib.rt:132:13
 ran-requires-5 : tie.Need-ran-requires-5 Inv-loop μ-loop
@@ -169,7 +170,7 @@ returns-5 : tie.Need-returns-5 Inv-loop μ-loop
 returns-5 c = let l = c .before .before .before .before .before .before .before .before .before .loop in
     let e = c .before .before .before .before .before .entry-of in
     let a = c .before .before .before .worker .given .0 in
-    c .ran5 .ensures ∙ stop-3 _ _ _ _ _ (l .inv .3) (l .inv .1) (c .before .before .before .before .before .before .before .before .loop-test .taken) (e .result) (e .ensures) (a .0) (a .1 .0) (asks-at (c .before .before)) (c .before .if3 .taken)
+    c .ran5 .ensures ∙ stop-3 _ _ _ _ _ _ (l .inv .3) (l .inv .1) (c .before .before .before .before .before .before .before .before .loop-test .taken) (e .result) (e .ensures) (a .0) (a .1 .0) (asks-at (c .before .before)) (c .before .if3 .taken)
 
 -- src/lib.rt:135:22
 mul-record : tie.Need-mul-record Inv-loop μ-loop
@@ -197,7 +198,7 @@ returns-6 c = let l = c .before .before .before .before .before .before .before 
     let e = c .before .before .before .before .before .before .before .before .before .before .entry-of in
     let a = c .before .before .before .before .before .before .before .before .worker .given .0 in
     let v = c .before .before .before .before .verdict-of in
-    c .ran6 .ensures ∙ stop _ _ _ _ _ (l .inv .3) (l .inv .1) (c .before .before .before .before .before .before .before .before .before .before .before .before .before .loop-test .taken) (e .result) (e .ensures) (a .0) (a .1 .0) (asks-at (c .before .before .before .before .before .before .before)) (v .result) (c .before .before .before .before .before .before .if3 .left) (v .ensures) (c .before .before .verdict .given .0 .0) (search needs)
+    c .ran6 .ensures ∙ stop _ _ _ _ _ _ (l .inv .3) (l .inv .1) (c .before .before .before .before .before .before .before .before .before .before .before .before .before .loop-test .taken) (e .result) (e .ensures) (a .0) (a .1 .0) (asks-at (c .before .before .before .before .before .before .before)) (v .result) (c .before .before .before .before .before .before .if3 .left) (v .ensures) (c .before .before .verdict .given .0 .0) (search needs)
 
 -- src/lib.rt:142:28
 enum-known-verdict-2 : tie.Need-enum-known-verdict-2 Inv-loop μ-loop
@@ -231,7 +232,7 @@ loop-again c = let l = c .before .before .before .before .before .before .before
     let a = c .before .before .before .before .before .before .before .before .worker .given .0 in
     let v = c .before .before .before .before .verdict-of in
     let g = c .before .before .before .before .before .before .if3 .left in
-    (search needs, l .inv .1, started-unbroken _ (l .inv .2) (a .0) g (c .before .before .verdict2 .given .0 .0) _ (c .first-place .ensures), start _ _ _ _ _ (l .inv .3) (l .inv .1) (c .before .before .before .before .before .before .before .before .before .before .before .before .before .loop-test .taken) (e .result) (e .ensures) (a .0) (a .1 .0) (asks-at (c .before .before .before .before .before .before .before)) (v .result) g (v .ensures) (c .before .before .verdict2 .given .0 .0) _ (search needs) (c .first-place .ensures))
+    (search needs, l .inv .1, started-unbroken _ (l .inv .2) (a .0) g (c .before .before .verdict2 .given .0 .0) _ (c .first-place .ensures), start _ _ _ _ _ _ (l .inv .3) (l .inv .1) (c .before .before .before .before .before .before .before .before .before .before .before .before .before .loop-test .taken) (e .result) (e .ensures) (a .0) (a .1 .0) (asks-at (c .before .before .before .before .before .before .before)) (v .result) g (v .ensures) (c .before .before .verdict2 .given .0 .0) _ (search needs) (c .first-place .ensures))
 
 -- src/lib.rt:146:27
 enum-known-verdict-3 : tie.Need-enum-known-verdict-3 Inv-loop μ-loop
@@ -296,7 +297,7 @@ loop-again-2 c = let l = c .before .before .before .before .before .before .befo
     let v = c .before .before .before .before .before .before .before .before .before .before .verdict-of in
     let g = c .before .before .before .before .before .before .before .before .before .before .before .before .if3 .left in
     let h = c .before .before .before .act-at in
-    (bound (c .before .before .before .before .before .before .before .before .before .before .before .before .before .before .before .before .before .before .before .loop-test .taken), l .inv .1, moved-unbroken _ (l .inv .2) (a .0) g _ (h .result) _ _ (busy-at (c .before .before .before .before .before .before .before)) (h .ensures) _ (c .record-after .ensures), move _ _ _ _ _ (l .inv .3) (l .inv .1) (c .before .before .before .before .before .before .before .before .before .before .before .before .before .before .before .before .before .before .before .loop-test .taken) (e .result) (e .ensures) (a .0) (a .1 .0) (asks-at (c .before .before .before .before .before .before .before .before .before .before .before .before .before)) (v .result) g (v .ensures) (c .before .before .before .before .before .before .before .before .verdict3 .given .0 .0) (c .before .before .before .before .before .spot .result) (h .result) (moves-at (c .before .before .before .before .before .before .before)) (spot-at (c .before .before .before .before .before)) (h .ensures) _ (c .record-after .ensures))
+    (bound (c .before .before .before .before .before .before .before .before .before .before .before .before .before .before .before .before .before .before .before .loop-test .taken), l .inv .1, moved-unbroken _ (l .inv .2) (a .0) g _ _ (h .result) _ _ (busy-at (c .before .before .before .before .before .before .before)) (h .ensures) _ (c .record-after .ensures), move _ _ _ _ _ _ (l .inv .3) (l .inv .1) (c .before .before .before .before .before .before .before .before .before .before .before .before .before .before .before .before .before .before .before .loop-test .taken) (e .result) (e .ensures) (a .0) (a .1 .0) (asks-at (c .before .before .before .before .before .before .before .before .before .before .before .before .before)) (v .result) g (v .ensures) (c .before .before .before .before .before .before .before .before .verdict3 .given .0 .0) (c .before .before .before .before .before .spot .result) (h .result) (moves-at (c .before .before .before .before .before .before .before)) (spot-at (c .before .before .before .before .before)) (h .ensures) _ (c .record-after .ensures))
 
 -- src/lib.rt:162:5
 ran-requires-7 : tie.Need-ran-requires-7 Inv-loop μ-loop
@@ -304,7 +305,7 @@ ran-requires-7 c κs = search needs
 
 -- src/lib.rt:109:1
 returns-7 : tie.Need-returns-7 Inv-loop μ-loop
-returns-7 c = c .ran7 .ensures ∙ ended _ _ _ _ _ (c .before .before .loop .inv .3) (c .before .before .loop .inv .1) (c .before .loop-test .left)
+returns-7 c = c .ran7 .ensures ∙ ended _ _ _ _ _ _ (c .before .before .loop .inv .3) (c .before .before .loop .inv .1) (c .before .loop-test .left)
 
 pub run-spec : {M : Type 1} → statement M
 run-spec =

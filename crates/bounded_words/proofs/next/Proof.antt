@@ -20,8 +20,8 @@ later-requires : tie.Need-later-requires
 later-requires c κs = search needs
 
 -- src/lib.rt:65:21
-sub-t7 : tie.Need-sub-t7
-sub-t7 c = search needs
+sub-t8 : tie.Need-sub-t8
+sub-t8 c = search needs
 
 -- src/lib.rt:65:9
 later-requires-2 : tie.Need-later-requires-2
@@ -38,4 +38,4 @@ returns-2 c = search (needs, next-high)
 pub next-spec : {M : Type 1} → statement M
 next-spec =
     tie.close
-    (tie.spec index-requires add-if1 later-requires sub-t7 later-requires-2 returns returns-2)
+    (tie.spec index-requires add-if1 later-requires sub-t8 later-requires-2 returns returns-2)

@@ -7,7 +7,8 @@ use Rattle.replay_bounded.proofs.play.steps.Statement.{statement}
 use Rattle.replay_bounded.proofs.play.steps.Tie as tie
 use Rattle.replay_bounded.proofs.play.steps.Reads as reads
 use Rattle.replay_bounded.proofs.play.steps.Lts as lts
-use Rattle.bounded.proofs.run.Reads as run-reads
+use Rattle.bounded_steps.proofs.step.Reads as step-reads
+use Rattle.replay_bounded.proofs.play.width.Reads as width-reads
 use Rattle.replay_bounded.proofs.play.counted.Reads as counted-reads
 use Rattle.replay_bounded.proofs.play.line_unless.Reads as line-unless-reads
 use Rattle.replay_bounded.proofs.play.next_place.Reads as next-place-reads
@@ -15,10 +16,10 @@ use Rattle.bounded_text_machine.proofs.numbers.Reads as numbers-reads
 use Rattle.replay_bounded.proofs.play.record_of.Reads as record-of-reads
 
 abbrev Inv-loop : tie.InvT-loop
-Inv-loop o list from out₀ m₀ place₀ refusal₀ at₀ s₀ last i₀ out m place refusal at s i = (length out ≡ length out₀) × (last < length list)
+Inv-loop o list from out₀ m₀ place₀ refusal₀ at₀ s₀ last bits i₀ out m place refusal at s i = (length out ≡ length out₀) × (last < length list)
 
 abbrev μ-loop : tie.MeasureT-loop
-μ-loop o list from out₀ m₀ place₀ refusal₀ at₀ s₀ last i₀ out m place refusal at s i = last - i
+μ-loop o list from out₀ m₀ place₀ refusal₀ at₀ s₀ last bits i₀ out m place refusal at s i = last - i
 
 -- src/play.rt:123:9
 returns : tie.Need-returns Inv-loop μ-loop
@@ -29,6 +30,9 @@ sub-last : tie.Need-sub-last Inv-loop μ-loop
 sub-last c = search needs
 
 -- src/play.rt:127:5
+width-requires : tie.Need-width-requires Inv-loop μ-loop
+width-requires c κs = search needs
+
 loop-holds : tie.Need-loop-holds Inv-loop μ-loop
 loop-holds c = search needs
 
@@ -60,13 +64,9 @@ add-i c = search needs
 record-of-requires : tie.Need-record-of-requires Inv-loop μ-loop
 record-of-requires c κs = search needs
 
--- src/play.rt:134:35
-slice-aggregate-run : tie.Need-slice-aggregate-run Inv-loop μ-loop
-slice-aggregate-run c = search needs
-
 -- src/play.rt:134:13
-run-requires : tie.Need-run-requires Inv-loop μ-loop
-run-requires c κs = search needs
+step-requires : tie.Need-step-requires Inv-loop μ-loop
+step-requires c κs = search needs
 
 -- src/play.rt:137:13
 record-of-requires-2 : tie.Need-record-of-requires-2 Inv-loop μ-loop
@@ -90,11 +90,11 @@ next-place-requires c κs = search needs
 
 -- src/play.rt:127:5
 loop-less : tie.Need-loop-less Inv-loop μ-loop
-loop-less c = omega (arith, c .before .before .before .before .before .before .before .before .before .before .before .before .before .before .before .loop-test .taken)
+loop-less c = omega (arith, c .before .before .before .before .before .before .before .before .before .before .before .before .before .before .loop-test .taken)
 
 -- src/play.rt:127:5
 loop-again : tie.Need-loop-again Inv-loop μ-loop
-loop-again c = (omega (arith, c .before .before .before .before .before .before .before .before .before .before .before .before .before .before .before .before .loop .inv .0), c .before .before .before .before .before .before .before .before .before .before .before .before .before .before .before .before .loop .inv .1)
+loop-again c = (omega (arith, c .before .before .before .before .before .before .before .before .before .before .before .before .before .before .before .loop .inv .0), c .before .before .before .before .before .before .before .before .before .before .before .before .before .before .before .loop .inv .1)
 
 -- src/play.rt:116:1
 same-length : tie.Need-same-length Inv-loop μ-loop
@@ -120,6 +120,7 @@ steps-spec =
     μ-loop
     returns
     sub-last
+    width-requires
     loop-holds
     mul-first
     shared-slice-read-first
@@ -128,8 +129,7 @@ steps-spec =
     shared-slice-read-second
     add-i
     record-of-requires
-    slice-aggregate-run
-    run-requires
+    step-requires
     record-of-requires-2
     counted-requires
     numbers-requires

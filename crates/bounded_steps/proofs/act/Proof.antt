@@ -1,10 +1,10 @@
-use Rattle.bounded.proofs.Steps.{act-6, act-9, act-step}
+use Rattle.bounded_steps.proofs.Steps.{act-6, act-9, act-step}
 use borrow.Author.Needs.{needs}
-use Rattle.bounded.proofs.act.Statement.{statement}
-use Rattle.bounded.proofs.act.Tie as tie
-use Rattle.bounded.proofs.act.Reads as reads
-use Rattle.bounded.proofs.act.Lts as lts
-use Rattle.bounded.proofs.step.Reads as step-reads
+use Rattle.bounded_steps.proofs.act.Statement.{statement}
+use Rattle.bounded_steps.proofs.act.Tie as tie
+use Rattle.bounded_steps.proofs.act.Reads as reads
+use Rattle.bounded_steps.proofs.act.Lts as lts
+use Rattle.bounded_steps.proofs.step.Reads as step-reads
 use Rattle.bounded_machine.proofs.broken.Reads as broken-reads
 use Rattle.bounded_machine.proofs.refuse.Reads as refuse-reads
 

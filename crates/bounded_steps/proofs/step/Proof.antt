@@ -1,10 +1,10 @@
-use Rattle.bounded.proofs.Steps.{one-entry}
+use Rattle.bounded_steps.proofs.Steps.{one-entry}
 use borrow.Author.Needs.{needs}
-use Rattle.bounded.proofs.step.Statement.{statement}
-use Rattle.bounded.proofs.step.Tie as tie
-use Rattle.bounded.proofs.step.Reads as reads
-use Rattle.bounded.proofs.step.Lts as lts
-use Rattle.bounded.proofs.run.Reads as run-reads
+use Rattle.bounded_steps.proofs.step.Statement.{statement}
+use Rattle.bounded_steps.proofs.step.Tie as tie
+use Rattle.bounded_steps.proofs.step.Reads as reads
+use Rattle.bounded_steps.proofs.step.Lts as lts
+use Rattle.bounded_runs.proofs.run.Reads as run-reads
 
 -- src/lib.rt:166:20
 slice-aggregate-run : tie.Need-slice-aggregate-run

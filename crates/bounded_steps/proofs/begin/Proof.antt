@@ -1,10 +1,10 @@
-use Rattle.bounded.proofs.Steps.{begin-6, begin-9, begin-step}
+use Rattle.bounded_steps.proofs.Steps.{begin-6, begin-9, begin-step}
 use borrow.Author.Needs.{needs}
-use Rattle.bounded.proofs.begin.Statement.{statement}
-use Rattle.bounded.proofs.begin.Tie as tie
-use Rattle.bounded.proofs.begin.Reads as reads
-use Rattle.bounded.proofs.begin.Lts as lts
-use Rattle.bounded.proofs.step.Reads as step-reads
+use Rattle.bounded_steps.proofs.begin.Statement.{statement}
+use Rattle.bounded_steps.proofs.begin.Tie as tie
+use Rattle.bounded_steps.proofs.begin.Reads as reads
+use Rattle.bounded_steps.proofs.begin.Lts as lts
+use Rattle.bounded_steps.proofs.step.Reads as step-reads
 use Rattle.bounded_machine.proofs.broken.Reads as broken-reads
 use Rattle.bounded_machine.proofs.refuse.Reads as refuse-reads
 

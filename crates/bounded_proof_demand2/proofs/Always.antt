@@ -1,0 +1,66 @@
+-- Of 64 bits every schedule keeps the window: the meter ends long before a turn.
+use mathlib.Core.Path.{_≡_, refl, ap, _∙_, subst, sym}
+use mathlib.Core.List.{List, [], _++_, append-nil}
+use Prim.Native.Nat.{ℕ, _+_, _*_, _-_, _≤_, _<_}
+use native.Mathlib.Omega.{arith}
+use native.Mathlib.Nat.{mul-le-mul-right}
+use lib.ListN.{length, length-append}
+use Rattle.queue_entries.specs.Limits.{meterMost}
+use Rattle.queue_entries.specs.declared.Entry.{Entry}
+use Rattle.bounded_words.specs.declared.Fixed.{Fixed}
+use Rattle.bounded_words.specs.declared.Width.{Width}
+use Rattle.bounded_words.specs.declared.Width.the-variants.{SixtyFour}
+use Rattle.bounded_words.specs.Words.{markOf}
+use Rattle.bounded_machine.specs.declared.Machine.{Machine}
+use Rattle.bounded_machine.specs.declared.Event.{Event}
+use Rattle.bounded_machine.specs.Machine.{freshOf}
+use Rattle.bounded_machine.specs.Turn.{begun, actedBy, stored}
+use Rattle.bounded_demands.specs.Notions.{document01, Allowed, tally, since, turnLength, InWindow, KeepsWindow}
+use Rattle.bounded_proof_each_act.proofs.Stamps.{fixed}
+use Rattle.bounded_proof_demand2.proofs.Turns.{Turned, began, did}
+use Rattle.bounded_proof_demand2.proofs.Window.{since-claims, turn-is}
+use Rattle.bounded_proof_demand2.proofs.Pictured.{Base}
+use Rattle.bounded_proof_demand2.proofs.Reached.{lapsOf, base-of, long, along-any}
+
+-- What is kept along any history.
+pub record Metered (c : ℕ) (m : Machine) (h : List Event) : Type 0 where
+  pub meter : m .meter ≡ length h
+  pub few : m .meter ≤ meterMost
+  pub rule : m .ring .fixed ≡ fixed c (markOf c) (m .ring .fixed .edition)
+
+pub metered-kept : (bits : Width) (c : ℕ) (m : Machine) (h : List Event) (en : Entry) (next : Machine) (acts : List Event) → Metered c m h → Turned bits m en next acts
+    → Metered c next (h ++ acts)
+unfolding begun actedBy stored
+metered-kept bits c m h en next acts o (began w call l idle) = record { meter = o .meter ∙ ap length (sym (append-nil h)); few = o .few; rule = o .rule }
+metered-kept bits c m h en next acts o (did w lose l busy early) =
+    record { meter = omega (arith, o .meter, length-append h acts); few = omega arith; rule = o .rule }
+
+fresh-metered : (c workers edition : ℕ) → Metered c (freshOf c workers edition) []
+unfolding freshOf
+fresh-metered c workers edition = record { meter = refl; few = omega arith; rule = refl }
+
+module _ (c workers edition : ℕ) (a : Allowed c workers edition) where
+  abbrev n : ℕ
+  n = lapsOf SixtyFour c
+
+  base : Base SixtyFour c (lapsOf SixtyFour c) workers
+  base = base-of SixtyFour c workers edition a
+
+  in-window : (m : Machine) (h : List Event) → Metered c m h → InWindow SixtyFour m h
+  in-window m h o w held =
+      let some : 1 ≤ c = a .slot-some in
+      let wide : meterMost + 2 * c < lapsOf SixtyFour c * c = omega (arith, mul-le-mul-right (lapsOf SixtyFour c) some, long c workers edition a, a .slot-most) in
+      let q = since-claims w h in
+      let turn = turn-is SixtyFour c (markOf c) (lapsOf SixtyFour c) (m .ring .fixed .edition) (base .ground) in
+      subst (λ (f : Fixed). (tally (since w h) .tail .0 < turnLength SixtyFour f - 2 * f .capacity) × (tally (since w h) .head .0 < turnLength SixtyFour f - 2 * f .capacity)) (sym (o .rule))
+      (omega (arith, q .0, o .meter, o .few, turn), omega (arith, q .1, o .meter, o .few, turn))
+
+  pub always-from : (m : Machine) (h : List Event) → Metered c m h → (s : List ℕ) → KeepsWindow document01 m h s
+  always-from m h o s before after e =
+      in-window _ _ (along-any SixtyFour (Metered c) (metered-kept SixtyFour c) before m h 0 o)
+
+  pub always : (s : List ℕ) → KeepsWindow document01 (freshOf c workers edition) [] s
+  always = always-from (freshOf c workers edition) [] (fresh-metered c workers edition)
+
+  pub metered-after : (s : List ℕ) → Metered c (document01 .run (freshOf c workers edition) 0 s .machine) (document01 .history (freshOf c workers edition) s)
+  metered-after s = along-any SixtyFour (Metered c) (metered-kept SixtyFour c) s (freshOf c workers edition) [] 0 (fresh-metered c workers edition)

@@ -1,0 +1,4 @@
+pub mod Paths
+pub mod Rounds
+pub mod Kept
+pub mod Asleep
