@@ -22,7 +22,7 @@ struct Next {
     status: u8,
 }
 
-fn next(more: bool, offset: u64, line: u64, at: usize, status: u8) -> Next {
+fn stands(more: bool, offset: u64, line: u64, at: usize, status: u8) -> Next {
     Next {
         more: more,
         offset: offset,
@@ -35,7 +35,7 @@ fn next(more: bool, offset: u64, line: u64, at: usize, status: u8) -> Next {
 fn after(s: Survey, at: usize, status: u8) -> Next {
     let r = s.reading;
     let scan = r.scan;
-    next(r.event == text_numbers::MARK, r.offset, scan.line, at, status)
+    stands(r.event == text_numbers::MARK, r.offset, scan.line, at, status)
 }
 
 fn surveyed(o: Options, fd: i32, from: Next) -> Survey {
@@ -56,7 +56,7 @@ fn look(o: Options, fd: i32, name: &[u8], from: Next) -> Next {
     if is_sound(s, name) {
         after(s, 0, from.status)
     } else {
-        next(false, 0, 0, 0, UNREADABLE)
+        stands(false, 0, 0, 0, UNREADABLE)
     }
 }
 
@@ -94,7 +94,7 @@ fn worse(status: u8, refused: bool) -> u8 {
 fn one(o: Options, fd: i32, name: &[u8], from: Next, out: &mut [u8]) -> Next {
     let s = surveyed(o, fd, from);
     if is_sound(s, name) {} else {
-        return next(false, 0, 0, 0, UNREADABLE);
+        return stands(false, 0, 0, 0, UNREADABLE);
     }
     let begun = replay_input::source::begun(from.offset, from.line, 0);
     let p = play(o, fd, begun, replay_survey::refused_whole(s), out, from.at);
@@ -117,7 +117,7 @@ fn unless_at_end(fd: i32, n: Next) -> Next {
 
 // Of many, each is read before the first is run, so that nothing is written where one cannot be read.
 fn look_in(o: Options, fd: i32, name: &[u8]) -> u8 {
-    let mut n = next(true, 0, 1, 0, WALKED);
+    let mut n = stands(true, 0, 1, 0, WALKED);
     let mut turns = u64::MAX;
     while turns > 0 && n.more {
         n = look(o, fd, name, n);
@@ -128,7 +128,7 @@ fn look_in(o: Options, fd: i32, name: &[u8]) -> u8 {
 }
 
 fn run_in(o: Options, fd: i32, name: &[u8], out: &mut [u8]) -> u8 {
-    let mut n = next(true, 0, 1, 0, WALKED);
+    let mut n = stands(true, 0, 1, 0, WALKED);
     let mut turns = u64::MAX;
     while turns > 0 && n.more {
         n = one(o, fd, name, n, out);

@@ -3,7 +3,7 @@ use Rattle.walk.proofs.many.look_in.Statement.{statement}
 use Rattle.walk.proofs.many.look_in.Tie as tie
 use Rattle.walk.proofs.many.look_in.Reads as reads
 use Rattle.walk.proofs.many.look_in.Lts as lts
-use Rattle.walk.proofs.many.next.Reads as next-reads
+use Rattle.walk.proofs.many.stands.Reads as stands-reads
 use Rattle.walk.proofs.many.look.Reads as look-reads
 use Rattle.walk.proofs.many.unless_at_end.Reads as unless-at-end-reads
 
@@ -14,8 +14,8 @@ abbrev μ-loop : tie.MeasureT-loop
 μ-loop o fd name n₀ turns₀ n turns = turns
 
 -- src/many.rt:299:9
-next-requires : tie.Need-next-requires Inv-loop μ-loop
-next-requires c κs = search needs
+stands-requires : tie.Need-stands-requires Inv-loop μ-loop
+stands-requires c κs = search needs
 
 -- src/many.rt:301:5
 loop-holds : tie.Need-loop-holds Inv-loop μ-loop
@@ -55,7 +55,7 @@ look-in-spec =
     (tie.spec
     Inv-loop
     μ-loop
-    next-requires
+    stands-requires
     loop-holds
     look-requires
     unless-at-end-requires
