@@ -35,7 +35,13 @@ fn stands(more: bool, offset: u64, line: u64, at: usize, status: u8) -> Next {
 fn after(s: Survey, at: usize, status: u8) -> Next {
     let r = s.reading;
     let scan = r.scan;
-    stands(r.event == text_numbers::MARK, r.offset, scan.line, at, status)
+    stands(
+        r.event == text_numbers::MARK,
+        r.offset,
+        scan.line,
+        at,
+        status,
+    )
 }
 
 fn surveyed(o: Options, fd: i32, from: Next) -> Survey {

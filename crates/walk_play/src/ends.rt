@@ -124,7 +124,15 @@ fn shortest(out: &mut [u8], at: usize, acts: &[u8]) -> usize {
     crate::list::entries(out, q, acts)
 }
 
-fn row(out: &mut [u8], at: usize, m: Machine, list: &[u8], k: u64, table: &[u64], i: usize) -> usize {
+fn row(
+    out: &mut [u8],
+    at: usize,
+    m: Machine,
+    list: &[u8],
+    k: u64,
+    table: &[u64],
+    i: usize,
+) -> usize {
     let place = walk_ends::number(table, i, walk_ends::PLACE) as usize;
     let acts = crate::list::acts_at(list, place);
     let p = name(out, at, after(m, acts), k);
@@ -135,7 +143,15 @@ fn row(out: &mut [u8], at: usize, m: Machine, list: &[u8], k: u64, table: &[u64]
     text_output::settle(out, s)
 }
 
-fn rows(out: &mut [u8], at: usize, m: Machine, list: &[u8], k: u64, table: &[u64], n: usize) -> usize {
+fn rows(
+    out: &mut [u8],
+    at: usize,
+    m: Machine,
+    list: &[u8],
+    k: u64,
+    table: &[u64],
+    n: usize,
+) -> usize {
     let mut p = at;
     let mut i = 0;
     while i < n {

@@ -132,5 +132,13 @@ fn begin(begun: Reading) -> Loading {
 pub fn load(edition: u64, fd: i32, many: bool, begun: Reading, whole: Whole) -> Loaded {
     let mut bytes = [0u8; replay_input::source::BYTES];
     let mut list = [1u64; replay_input::source::NUMBERS];
-    all(begin(begun), edition, fd, many, whole, &mut bytes, &mut list)
+    all(
+        begin(begun),
+        edition,
+        fd,
+        many,
+        whole,
+        &mut bytes,
+        &mut list,
+    )
 }

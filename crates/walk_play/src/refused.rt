@@ -2,9 +2,17 @@
 
 fn of_walk(out: &mut [u8], at: usize, refusal: u64, numbers: &[u64]) -> usize {
     match refusal {
-        19 => text_output::text(out, at, b"refused 19: more than 3 workers, or a depth above 12"),
+        19 => text_output::text(
+            out,
+            at,
+            b"refused 19: more than 3 workers, or a depth above 12",
+        ),
         20 => text_output::form(out, at, b"refused 20: worker # is idle", numbers),
-        21 => text_output::text(out, at, b"refused 21: fewer acts left on the meter than the depth"),
+        21 => text_output::text(
+            out,
+            at,
+            b"refused 21: fewer acts left on the meter than the depth",
+        ),
         22 => text_output::form(
             out,
             at,
@@ -24,8 +32,18 @@ fn of_entry(out: &mut [u8], at: usize, refusal: u64, numbers: &[u64]) -> usize {
             b"refused 4: entry #: a call begun by a busy worker",
             numbers,
         ),
-        5 => text_output::form(out, at, b"refused 5: entry #: an act of an idle worker", numbers),
-        7 => text_output::form(out, at, b"refused 7: entry #: no act left on the meter", numbers),
+        5 => text_output::form(
+            out,
+            at,
+            b"refused 5: entry #: an act of an idle worker",
+            numbers,
+        ),
+        7 => text_output::form(
+            out,
+            at,
+            b"refused 7: entry #: no act left on the meter",
+            numbers,
+        ),
         8 => text_output::form(
             out,
             at,
