@@ -59,6 +59,7 @@ use Rattle.bounded_demands.specs.Notions.{Face, Definition, ofWidth, All
 use Rattle.bounded_demands.specs.Foretold.{foretold, Telling, toldIn, tellings, asForetold}
 use Rattle.bounded_demands.specs.Eight.{closedF, caseF}
 use Rattle.bounded_demands.specs.Attained.{Case, seenIn, attained, exactly}
+use Rattle.bounded_demands.specs.Walkings.{Walking, walkings, walked}
 use Rattle.bounded_demands.specs.Shelves.{Shelf, stockAtMost, fullest}
 use Rattle.bounded_demands.specs.Notions.{goesBack, WayBack, watches, causesIn, Caused, otherHand, deed, DoneSince, LatestBy, Tells, Alone, goingsBack}
 use Rattle.bounded_demands.specs.Retries.{Retry, retries, lastIn, backBy, onlyOwn}
@@ -557,3 +558,7 @@ pub record WalkTold : Type 0 where
   pub answer : (m : Machine) (depth : ℕ) (buffer : List ℕ) (x y : Told) (a b : List ℕ)
       → x ≡ walkTold m depth buffer → y ≡ walkTold m depth buffer → a ≡ listed m depth buffer → b ≡ listed m depth buffer → (x ≡ y) × (a ≡ b)
   pub size : (m : Machine) (depth : ℕ) (x y : Sized) → x ≡ sizeOf m depth → y ≡ sizeOf m depth → x ≡ y
+
+-- Two pushes on one slot, a push and a pop, and case F's force_push and close: so many sequences.
+abbrev pub WalksCounted : Type 0
+WalksCounted = map walked walkings ≡ map (λ (w : Walking). w .sequences) walkings
