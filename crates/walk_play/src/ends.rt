@@ -71,6 +71,7 @@ fn key_of(m: Machine, k: u64) -> [u64; 6] {
 
 fn counted(m: Machine, list: &[u8], at: usize, k: u64, table: &mut [u64], rows: usize) -> usize {
     let acts = crate::list::acts_at(list, at);
+    crate::progress::past(at, acts.len());
     let key = key_of(after(m, acts), k);
     walk_ends::count(table, rows, key, acts.len() as u64, at as u64)
 }

@@ -2,5 +2,6 @@
 pub mod ends;
 pub mod list;
 pub mod load;
+pub mod progress;
 pub mod refused;
 pub mod tell;

@@ -71,7 +71,7 @@ pub fn meaning(out: &mut [u8], at: usize, refusal: u64, numbers: &[u64]) -> usiz
     }
 }
 
-fn on_error(text: &[u8], n: usize) {
+pub fn on_error(text: &[u8], n: usize) {
     if n <= text.len() {
         io::write_all(libc::STDERR_FILENO, &text[..n]);
     }
