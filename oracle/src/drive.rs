@@ -1,8 +1,9 @@
 //! Runs schedules through the module under test and compares its output with the judge's.
 
 use crate::queue::Queue;
-use crate::schedule::{self, run, Schedule, Show};
+use crate::schedule::{self, Schedule, Show};
 use crate::tally::Tally;
+use crate::walk::{self, Walk};
 use std::fs;
 use std::io::{Read, Write};
 use std::path::PathBuf;
@@ -10,7 +11,7 @@ use std::process::{Command, Stdio};
 use std::thread;
 
 /// The command that runs the module: words separated by white space. It reads a schedule on its standard input and prints what
-/// `replay` prints; if it takes many, schedules are separated by a line `%` and each output is followed by one.
+/// the program prints; if it takes many, schedules are separated by a line `%` and each output is followed by one.
 pub struct Module {
     pub command: String,
     pub many: bool,
@@ -58,6 +59,32 @@ impl Module {
     }
 }
 
+/// The program that the module stands for.
+#[derive(Clone, Copy)]
+pub enum Program {
+    Replay(Show),
+    Walk(Walk),
+}
+
+impl Program {
+    /// What it must print, or the line with which it refuses.
+    pub fn prints(self, schedule: &Schedule, tally: &mut Tally) -> Result<String, String> {
+        match self {
+            Program::Replay(show) => Ok(schedule::run(schedule, show, tally)),
+            Program::Walk(walk) => walk::run(schedule, walk, tally),
+        }
+    }
+
+    /// What it must print as one of many.
+    pub fn prints_in_place(self, schedule: &Schedule, tally: &mut Tally) -> String {
+        self.prints(schedule, tally).unwrap_or_else(|refused| refused + "\n")
+    }
+
+    pub fn shows_causes(self) -> bool {
+        matches!(self, Program::Replay(Show { causes: true, .. }))
+    }
+}
+
 /// A differential run: schedules are judged as they come and compared in batches. Without a module they are only counted.
 pub struct Run {
     pub queue: Queue,
@@ -66,7 +93,7 @@ pub struct Run {
     pub batch: usize,
     /// Where a difference is kept.
     pub save: PathBuf,
-    pub show: Show,
+    pub program: Program,
     pub tally: Tally,
     waiting: Vec<Schedule>,
     expected: Vec<String>,
@@ -81,7 +108,7 @@ impl Run {
             module,
             batch,
             save,
-            show: Show::default(),
+            program: Program::Replay(Show::default()),
             tally,
             waiting: Vec::new(),
             expected: Vec::new(),
@@ -95,7 +122,7 @@ impl Run {
     }
 
     pub fn add(&mut self, schedule: Schedule) -> Result<(), String> {
-        let expected = run(&schedule, self.show, &mut self.tally);
+        let expected = self.program.prints_in_place(&schedule, &mut self.tally);
         if self.module.is_none() {
             return Ok(());
         }
@@ -128,11 +155,11 @@ impl Run {
 
     /// Keeps the smallest prefix that shows the difference, and says where.
     fn difference(&self, module: &Module, schedule: &Schedule, batch: &[Schedule]) -> Result<String, String> {
-        let Some(smallest) = smallest(module, schedule, self.show)? else {
+        let Some(smallest) = smallest(module, schedule, self.program)? else {
             self.keep("batch.in", &schedule::join(batch))?;
             return Ok("the module differs, but only after the schedules before it: batch.in is the whole batch".into());
         };
-        let expected = expected(&smallest, self.show);
+        let expected = expected(&smallest, self.program);
         let printed = module.output(&smallest)?;
         self.keep("difference.in", &smallest.text())?;
         self.keep("difference.expected", &expected)?;
@@ -150,15 +177,15 @@ impl Run {
     }
 }
 
-fn expected(schedule: &Schedule, show: Show) -> String {
-    run(schedule, show, &mut Tally::new(schedule.making.queue()))
+fn expected(schedule: &Schedule, program: Program) -> String {
+    program.prints_in_place(schedule, &mut Tally::new(schedule.making.queue()))
 }
 
 /// The smallest prefix after which the module differs, by halving: it differs, and one entry less does not. None if the module
 /// does not differ on the schedule alone.
-fn smallest(module: &Module, schedule: &Schedule, show: Show) -> Result<Option<Schedule>, String> {
+fn smallest(module: &Module, schedule: &Schedule, program: Program) -> Result<Option<Schedule>, String> {
     let differs =
-        |schedule: &Schedule| -> Result<bool, String> { Ok(module.output(schedule)? != expected(schedule, show)) };
+        |schedule: &Schedule| -> Result<bool, String> { Ok(module.output(schedule)? != expected(schedule, program)) };
     if !differs(schedule)? {
         return Ok(None);
     }

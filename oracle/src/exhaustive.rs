@@ -23,12 +23,12 @@ pub enum Extent {
 
 /// How the queue stands when the calls begin.
 #[derive(Clone, Copy, Debug)]
-struct Preload {
+pub struct Preload {
     making: Making,
     /// Items pushed and popped before.
-    gone: u64,
-    held: u64,
-    closed: bool,
+    pub gone: u64,
+    pub held: u64,
+    pub closed: bool,
 }
 
 pub fn drive(run: &mut Run, extent: Extent) -> Result<(), String> {
@@ -42,12 +42,9 @@ pub fn drive(run: &mut Run, extent: Extent) -> Result<(), String> {
 }
 
 /// How the queue stands, and the codes of the calls, one for each worker.
-fn cases(queue: Queue) -> Vec<(Preload, Vec<u64>)> {
+pub fn cases(queue: Queue) -> Vec<(Preload, Vec<u64>)> {
     match queue {
-        Queue::Bounded { .. } => {
-            let rings = [1, 2].map(|capacity| queue.making(capacity));
-            rings.iter().flat_map(|ring| crossed(&preloads(*ring, &[0, 1]), &pairs())).collect()
-        }
+        Queue::Bounded { .. } => crossed(&rings(queue), &pairs()),
         Queue::Single => crossed(&preloads(Making::Single, &[1]), &threes()),
         Queue::Unbounded => {
             let of = |gone, held| Preload { making: Making::Unbounded, gone, held, closed: false };
@@ -64,6 +61,13 @@ fn cases(queue: Queue) -> Vec<(Preload, Vec<u64>)> {
             all
         }
     }
+}
+
+/// Rings of one and two slots, as the calls find them.
+pub fn rings(queue: Queue) -> Vec<Preload> {
+    let Queue::Bounded { .. } = queue else { return Vec::new() };
+    let rings = [1, 2].map(|capacity| queue.making(capacity));
+    rings.iter().flat_map(|ring| preloads(*ring, &[0, 1])).collect()
 }
 
 fn crossed(preloads: &[Preload], calls: &[Vec<u64>]) -> Vec<(Preload, Vec<u64>)> {
@@ -120,7 +124,7 @@ fn compact(run: &mut Run, preload: Preload, calls: &[u64]) -> Result<(), String>
     while let Some(path) = open.pop_front() {
         let (schedule, machine) = walked(preload, calls, &path);
         run.add(schedule)?;
-        if seen.insert(snapshot(&machine, run.show.causes)) {
+        if seen.insert(snapshot(&machine, run.program.shows_causes())) {
             open.extend(options(&machine).iter().map(|option| [path.as_slice(), &[*option]].concat()));
         }
     }
@@ -137,7 +141,7 @@ fn walked(preload: Preload, calls: &[u64], path: &[u64]) -> (Schedule, Machine) 
     (schedule, machine)
 }
 
-fn begun(preload: Preload, calls: &[u64]) -> (Schedule, Machine) {
+pub fn begun(preload: Preload, calls: &[u64]) -> (Schedule, Machine) {
     let workers = calls.len() as u64;
     let mut schedule = Schedule::new(preload.making, workers);
     let mut machine = Machine::make(preload.making, workers).expect("within the limits");
@@ -162,7 +166,7 @@ fn begun(preload: Preload, calls: &[u64]) -> (Schedule, Machine) {
 }
 
 /// The first words of the acts that are not refused.
-fn options(machine: &Machine) -> Vec<u64> {
+pub fn options(machine: &Machine) -> Vec<u64> {
     let mut options = Vec::new();
     for worker in 0..machine.workers() as u64 {
         match machine.pending(worker) {

@@ -36,6 +36,7 @@ pub mod stage;
 pub mod state;
 pub mod tally;
 pub mod turns;
+pub mod walk;
 
 use std::ops::{Deref, DerefMut};
 

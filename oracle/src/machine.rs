@@ -90,6 +90,11 @@ impl Machine {
         self.meter
     }
 
+    /// How many acts there are before refusal 7.
+    pub fn acts_left(&self) -> u64 {
+        METER_LIMIT.saturating_sub(self.meter)
+    }
+
     /// The items claimed at tail whose value is not yet read out.
     pub fn stock(&self) -> u64 {
         self.stock
@@ -318,11 +323,12 @@ mod tests {
         ] {
             let mut machine = Machine::make(making, 2).unwrap_or_else(|_| panic!("refused"));
             machine.meter = METER_LIMIT - 1;
+            assert_eq!(machine.acts_left(), 1);
             assert_eq!(
                 [(0, 5), (8, 0), (8, 0), (9, 0), (24, 0), (16, 6)].map(|(a, b)| machine.enter(a, b)),
                 [0, 0, 7, 7, 5, 0]
             );
-            assert_eq!(machine.meter, METER_LIMIT);
+            assert_eq!((machine.meter, machine.acts_left()), (METER_LIMIT, 0));
             assert_eq!(machine.state(0), Some(after));
         }
     }

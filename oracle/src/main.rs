@@ -1,10 +1,11 @@
 //! The judge's commands. README.md says what they are for.
 
-use oracle::drive::{first_difference, Module, Run};
+use oracle::drive::{first_difference, Module, Program, Run};
 use oracle::exhaustive::Extent;
 use oracle::queue::{Bits, Queue};
 use oracle::schedule::{run, split, Schedule, Show, SEPARATOR};
 use oracle::tally::Tally;
+use oracle::walk::{self, Walk};
 use oracle::{exhaustive, interleaved, list, sequential, turns};
 use std::io::Read;
 use std::path::Path;
@@ -13,12 +14,14 @@ use std::time::Instant;
 use std::{env, fs};
 
 const USAGE: &str =
-    "Each command takes --queue bounded|single|unbounded, bounded unless told, and for bounded --edition N, 1 unless told, --bits 16|64, 64 unless told, and, but for list, --causes, --losses and --stock.
+    "Each command takes --queue bounded|single|unbounded, bounded unless told, and for bounded --edition N, 1 unless told, --bits 16|64, 64 unless told, and, but for list, walk and walks, --causes, --losses and --stock.
 judge expect FILE|- [--quiet] [--many]
 judge sequential --calls N --seed S [--module CMD [--many]] [--batch ENTRIES] [--save DIR]
 judge interleaved --acts N --seed S [--closing] [--module CMD [--many]] [--batch ENTRIES] [--save DIR]
 judge turns --turns N --seed S --bits 16 [--capacity N] [--module CMD [--many]] [--batch ENTRIES] [--save DIR]
 judge exhaustive [--compact | --depth ACTS] [--module CMD [--many]] [--batch ENTRIES] [--save DIR]
+judge walk FILE|- [--depth N] [--list] [--buffer BYTES] [--many]
+judge walks [--depth N] [--list] [--workers 2|3] [--module CMD --many] [--batch ENTRIES] [--save DIR]
 judge list --seed S [--to DIR]
 judge check-against FILE.out FILE.in";
 
@@ -37,7 +40,7 @@ fn command(arguments: &[String]) -> Result<(), String> {
     let (name, rest) = arguments.split_first().ok_or(USAGE)?;
     let options = Options::parse(rest)?;
     match name.as_str() {
-        "expect" => expect(&options),
+        "expect" => expect(&options, Program::Replay(options.show()?)),
         "sequential" => {
             driven(&options, |run| sequential::drive(run, options.number("calls")?, options.number("seed")?))
         }
@@ -50,6 +53,8 @@ fn command(arguments: &[String]) -> Result<(), String> {
             turns::drive(run, options.number("turns")?, options.number("seed")?, capacities)
         }),
         "exhaustive" => driven(&options, |run| exhaustive::drive(run, extent(&options)?)),
+        "walk" => expect(&options, Program::Walk(walk_asked(&options)?)),
+        "walks" => driven(&options, |run| walk::drive(run, walk_asked(&options)?, options.optional_number("workers")?)),
         "list" => write_list(&options),
         "check-against" => check_against(&options),
         _ => Err(USAGE.into()),
@@ -71,12 +76,12 @@ impl Options {
         while let Some(argument) = arguments.next() {
             match argument.strip_prefix("--") {
                 None => options.plain.push(argument),
-                Some(flag @ ("quiet" | "many" | "compact" | "closing" | "causes" | "losses" | "stock")) => {
+                Some(flag @ ("quiet" | "many" | "compact" | "closing" | "causes" | "losses" | "stock" | "list")) => {
                     options.flags.push(flag.into());
                 }
                 Some(
                     name @ ("calls" | "acts" | "seed" | "module" | "batch" | "save" | "to" | "depth" | "queue"
-                    | "edition" | "bits" | "turns" | "capacity"),
+                    | "edition" | "bits" | "turns" | "capacity" | "buffer" | "workers"),
                 ) => {
                     let value = arguments.next().ok_or(format!("--{name} needs a value"))?;
                     options.values.push((name.into(), value));
@@ -134,8 +139,12 @@ impl Options {
         }
     }
 
+    fn optional_number(&self, name: &str) -> Result<Option<u64>, String> {
+        self.value(name).map(|_| self.number(name)).transpose()
+    }
+
     fn number_or(&self, name: &str, default: u64) -> Result<u64, String> {
-        self.value(name).map_or(Ok(default), |_| self.number(name))
+        Ok(self.optional_number(name)?.unwrap_or(default))
     }
 }
 
@@ -148,23 +157,27 @@ fn read(path: &str) -> Result<String, String> {
     done.map(|()| text).map_err(|error| format!("{path}: {error}"))
 }
 
-/// Prints what `replay` must print.
-fn expect(options: &Options) -> Result<(), String> {
+/// Prints what a program must print.
+fn expect(options: &Options, program: Program) -> Result<(), String> {
     let [path] = options.plain.as_slice() else {
         return Err(USAGE.into());
     };
     let text = read(path)?;
     let queue = options.queue()?;
-    let show = options.show()?;
     let mut tally = Tally::new(queue);
     if !options.flag("many") {
-        print!("{}", run(&Schedule::parse(queue, &text)?, show, &mut tally));
+        print!("{}", program.prints(&Schedule::parse(queue, &text)?, &mut tally)?);
         return Ok(());
     }
     for schedule in Schedule::parse_many(queue, &text)? {
-        println!("{}{SEPARATOR}", run(&schedule, show, &mut tally));
+        println!("{}{SEPARATOR}", program.prints_in_place(&schedule, &mut tally));
     }
     Ok(())
+}
+
+fn walk_asked(options: &Options) -> Result<Walk, String> {
+    let depth = options.number_or("depth", walk::DEPTH_MOST)?;
+    Ok(Walk { depth, list: options.flag("list"), buffer: options.optional_number("buffer")? })
 }
 
 /// A differential run with its counts and its time.
@@ -175,12 +188,12 @@ fn driven(options: &Options, drive: impl FnOnce(&mut Run) -> Result<(), String>)
     let batch = options.number_or("batch", 50_000)? as usize;
     let save = options.value("save").unwrap_or("differences").into();
     let mut run = Run::new(options.queue()?, module, batch.max(10), save);
-    run.show = Show { quiet: false, ..options.show()? };
+    run.program = Program::Replay(Show { quiet: false, ..options.show()? });
     let start = Instant::now();
     let result = drive(&mut run);
     let seconds = start.elapsed().as_secs_f64();
     print!("{}", run.tally);
-    if run.show.causes {
+    if run.program.shows_causes() {
         print!("{}", run.tally.backs);
     }
     println!("{:.1} s, {:.0} acts a second", seconds, run.tally.acts as f64 / seconds);

@@ -146,7 +146,7 @@ fn run_on(mut machine: Machine, schedule: &Schedule, show: Show, out: &mut Strin
 }
 
 /// Place and refusal of a schedule of which nothing is run, on a machine that is not broken: 11, then 9 at its first place.
-fn refused_whole(schedule: &Schedule) -> Option<(usize, Refusal)> {
+pub fn refused_whole(schedule: &Schedule) -> Option<(usize, Refusal)> {
     if schedule.words.len() % 2 == 1 {
         return Some((0, 11));
     }

@@ -26,6 +26,9 @@ pub struct Tally {
     queue: Queue,
     pub schedules: u64,
     pub acts: u64,
+    /// Sequences that walks listed, and the bytes of their lists.
+    pub sequences: u64,
+    pub sequence_bytes: u64,
     /// Marks that F7 met in tail: edition 1 wipes them out, edition 2 keeps them.
     pub closes_met: u64,
     /// Entries after which a worker stood in a place or was idle with an answer.
@@ -46,6 +49,8 @@ impl Tally {
             queue,
             schedules: 0,
             acts: 0,
+            sequences: 0,
+            sequence_bytes: 0,
             closes_met: 0,
             places: [0; KINDS],
             answers: [[0; KINDS]; 8],
@@ -102,6 +107,8 @@ impl Tally {
     pub fn add(&mut self, other: &Tally) {
         self.schedules += other.schedules;
         self.acts += other.acts;
+        self.sequences += other.sequences;
+        self.sequence_bytes += other.sequence_bytes;
         self.closes_met += other.closes_met;
         self.items_met += other.items_met;
         self.backs.add(&other.backs);
@@ -120,6 +127,9 @@ fn add_all(to: &mut [u64], from: &[u64]) {
 impl fmt::Display for Tally {
     fn fmt(&self, f: &mut fmt::Formatter<'_>) -> fmt::Result {
         writeln!(f, "{} schedules, {} entries, {} acts", self.schedules, self.refusals[0], self.acts)?;
+        if self.sequences > 0 {
+            writeln!(f, "{} sequences in {} bytes", self.sequences, self.sequence_bytes)?;
+        }
         for kind in self.queue.places() {
             writeln!(f, "place {} {}", kind.name(), self.times_at(kind))?;
         }

@@ -1,9 +1,10 @@
 //! What short random runs reach, that each retry in them has a cause, and that each shared word has its right name.
 
-use oracle::drive::Run;
+use oracle::drive::{Program, Run};
 use oracle::exhaustive::{self, Extent};
 use oracle::machine::Machine;
 use oracle::queue::{Bits, Queue};
+use oracle::schedule::Show;
 use oracle::stage::{Action, Word};
 use oracle::tally::Tally;
 use oracle::{interleaved, turns};
@@ -34,7 +35,7 @@ fn every_place_answer_and_refusal() {
 fn every_retry_has_a_cause() {
     for edition in [1, 2] {
         let mut run = Run::new(Queue::ring(edition, Bits::SixtyFour), None, 1000, "differences".into());
-        run.show.causes = true;
+        run.program = Program::Replay(Show { causes: true, ..Show::default() });
         interleaved::drive(&mut run, 500_000, 9, true).unwrap();
         interleaved::drive(&mut run, 1_000_000, 9, false).unwrap();
         exhaustive::drive(&mut run, Extent::Compact).unwrap();
@@ -51,7 +52,7 @@ fn every_retry_has_a_cause() {
 fn every_retry_has_a_cause_within_the_window() {
     for edition in [1, 2] {
         let mut run = Run::new(Queue::ring(edition, Bits::Sixteen), None, 1000, "differences".into());
-        run.show.causes = true;
+        run.program = Program::Replay(Show { causes: true, ..Show::default() });
         turns::drive(&mut run, 3, 9, 1..=4).unwrap();
         let backs = &run.tally.backs;
         assert_eq!(backs.times("none"), 0, "{backs}");

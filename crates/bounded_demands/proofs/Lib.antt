@@ -8,3 +8,4 @@ pub mod Shelves
 pub mod Retries
 pub mod Narrow
 pub mod Window
+pub mod Walkings

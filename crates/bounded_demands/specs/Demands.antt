@@ -3,9 +3,9 @@
 -- what not.
 use Prim.Native.Nat.{ℕ, suc, _+_, _*_, _-_, _%_, _≤_, _<_}
 use mathlib.Core.Bool.{Bool, true, false}
-use mathlib.Core.List.{List, [], _∷_, _++_, map}
+use mathlib.Core.List.{List, [], _∷_, _++_, map, List·Memᴰ}
 use mathlib.Core.Path.{_≡_}
-use lib.ListN.{length, take}
+use lib.ListN.{length, take, drop}
 use Rattle.queue_entries.specs.Limits.{workersMost, meterMost}
 use Rattle.queue_entries.specs.declared.Call.{Call}
 use Rattle.queue_entries.specs.declared.Told.{Told}
@@ -36,7 +36,7 @@ use Rattle.bounded_machine.specs.Machine.{freshOf, recordOf, placeOf}
 use Rattle.bounded_machine.specs.Broken.{brokenOf, allIdle}
 use Rattle.bounded_machine.specs.Contents.{countIn, contentsOf, contentsRefusal, written, capacityRefusal, capacityOf}
 use Rattle.bounded_machine.specs.Turn.{byWords, bySchedule}
-use Rattle.bounded_machine.specs.Run.{runOfBy}
+use Rattle.bounded_machine.specs.Run.{runFrom, runOfBy}
 use Rattle.bounded_machine.specs.History.{eventsOf, movedOf, readsAt, stockOf, untakenOf}
 use Rattle.bounded_causes.specs.declared.Deed.{Deed}
 use Rattle.bounded_causes.specs.declared.Causes.{Causes}
@@ -48,10 +48,18 @@ use Rattle.bounded_widths.specs.declared.Machine as widths
 use Rattle.bounded_widths.specs.Widths.{widened, narrowed}
 use Rattle.bounded_narrow.specs.Narrow as narrow
 use Rattle.bounded_stock.specs.Stock.{talliedOf}
+use Rattle.queue_walks.specs.Listed.{bytesOf}
+use Rattle.queue_walks.specs.Meaning.{Before, InOrder}
+use Rattle.bounded_walkers.specs.Walkers.{walkOf}
+use Rattle.bounded_walks.specs.declared.Sized.{Sized}
+use Rattle.bounded_walks.specs.declared.Sized.the-variants.{Sequences}
+use Rattle.bounded_walks.specs.Walks.{walkRefusal, walkTold, listed, sizeOf}
+use Rattle.bounded_demands.specs.Notions.{Tried, entriesOf}
 use Rattle.bounded_demands.specs.Notions.{Face, Definition, ofWidth, Allowed, machineAfter, actsOf, Acts, acts, InHand, HandsOut, Reads, Truth, itemsOf, takersOf, LatestIn, ItemIn, WrittenIn, CallClaim, tally, waiting, stock, unreadBy, lesser, Exchanges, lostIn, struck, Fifo, Words, Plain, since, turnLength, windowLength, KeepsWindow, rounds, sleepingPush, sleepingPop, valueAt, queueAnswer, LenAnswers, mostOf, OtherHand, passed, ownActs, LetsGo, has, ClosesYes, NoClaims, ClaimsOn}
 use Rattle.bounded_demands.specs.Foretold.{foretold, Telling, toldIn, tellings, asForetold}
 use Rattle.bounded_demands.specs.Eight.{closedF, caseF}
 use Rattle.bounded_demands.specs.Attained.{Case, seenIn, attained, exactly}
+use Rattle.bounded_demands.specs.Walkings.{Walking, walkings, walked}
 use Rattle.bounded_demands.specs.Shelves.{Shelf, stockAtMost, fullest}
 use Rattle.bounded_demands.specs.Notions.{goesBack, WayBack, watches, causesIn, Caused, otherHand, deed, DoneSince, LatestBy, Tells, Alone, goingsBack}
 use Rattle.bounded_demands.specs.Retries.{Retry, retries, lastIn, backBy, onlyOwn}
@@ -524,3 +532,33 @@ pub record SameNumbers : Type 0 where
   pub again : (m : Machine) → widened (narrowed m) ≡ m
   pub reaches : (capacity workers edition : ℕ) → Allowed capacity workers edition → (s : List ℕ) → length s % 2 ≡ 0 → Readable entryOf s
       → widened (narrow.runOf (narrowed (freshOf capacity workers edition)) s .machine) ≡ machineAfter (ofWidth Sixteen) capacity workers edition s
+
+-- ==== Every schedule of a small case (document 02, item 10). A walk: what it lists of so many acts from a machine.
+
+pub record WalksAll (walk : ℕ → Machine → List (List ℕ)) : Type 0 where
+  -- What is listed goes so, act by act; what goes so is listed.
+  pub goes : (depth : ℕ) (m : Machine) (s : List ℕ) → List·Memᴰ s (walk depth m) → Tried depth m s
+  pub whole : (depth : ℕ) (m : Machine) (s : List ℕ) → Tried depth m s → List·Memᴰ s (walk depth m)
+  -- Each is before those after it: lowest worker first, code 8 before code 9, at every place. What is before another is not the same, so none is there twice.
+  pub order : (depth : ℕ) (m : Machine) → brokenOf m ≡ false → InOrder (walk depth m)
+  pub once : (s : List ℕ) → Before s s → ⊥
+  -- As the entries of a schedule, each runs to its end: what holds under every schedule holds along it.
+  pub runs : (depth : ℕ) (m : Machine) → brokenOf m ≡ false → (s : List ℕ) → List·Memᴰ s (walk depth m) → runFrom m 0 (entriesOf s) .refusal ≡ 0
+  -- Depth 0 lists one empty sequence.
+  pub none : (m : Machine) → walk 0 m ≡ [] ∷ []
+
+-- What it answers, and what it leaves in the buffer.
+pub record WalkTold : Type 0 where
+  pub numbered : (m : Machine) (depth room : ℕ) → has (0 ∷ 6 ∷ 19 ∷ 20 ∷ 21 ∷ 22 ∷ []) (walkRefusal m depth room) ≡ true
+  pub unchanged : (m : Machine) (depth : ℕ) (buffer : List ℕ) → (walkRefusal m depth (length buffer) ≡ 0 → ⊥) → listed m depth buffer ≡ buffer
+  pub filled : (m : Machine) (depth : ℕ) (buffer : List ℕ) → walkRefusal m depth (length buffer) ≡ 0
+      → (take (length (bytesOf (walkOf depth m))) (listed m depth buffer) ≡ bytesOf (walkOf depth m)) × (drop (length (bytesOf (walkOf depth m))) (listed m depth buffer) ≡ drop (length (bytesOf (walkOf depth m))) buffer)
+  -- a host that lends as many bytes as `size` told is not refused for them
+  pub fits : (m : Machine) (depth sequences bytes : ℕ) → sizeOf m depth ≡ Sequences sequences bytes → walkRefusal m depth bytes ≡ 0
+  pub answer : (m : Machine) (depth : ℕ) (buffer : List ℕ) (x y : Told) (a b : List ℕ)
+      → x ≡ walkTold m depth buffer → y ≡ walkTold m depth buffer → a ≡ listed m depth buffer → b ≡ listed m depth buffer → (x ≡ y) × (a ≡ b)
+  pub size : (m : Machine) (depth : ℕ) (x y : Sized) → x ≡ sizeOf m depth → y ≡ sizeOf m depth → x ≡ y
+
+-- Two pushes on one slot, a push and a pop, and case F's force_push and close: so many sequences.
+abbrev pub WalksCounted : Type 0
+WalksCounted = map walked walkings ≡ map (λ (w : Walking). w .sequences) walkings

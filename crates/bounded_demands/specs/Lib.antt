@@ -1,4 +1,5 @@
 pub mod Notions
+pub mod Walkings
 pub mod Demands
 pub mod Eight
 pub mod Foretold

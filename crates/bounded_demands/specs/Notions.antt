@@ -14,6 +14,7 @@ use Rattle.queue_entries.specs.declared.Order.the-variants.{Begin, Act}
 use Rattle.queue_entries.specs.declared.Entry.{Entry}
 use Rattle.queue_entries.specs.declared.Entry.the-variants.{Unreadable, Asks}
 use Rattle.queue_entries.specs.Entries.{entryOf}
+use Rattle.queue_walks.specs.Meaning.{Goes}
 use Rattle.bounded_words.specs.declared.Stamp.{Stamp}
 use Rattle.bounded_words.specs.declared.Fixed.{Fixed}
 use Rattle.bounded_words.specs.declared.Width.{Width}
@@ -40,7 +41,8 @@ use Rattle.bounded_machine.specs.declared.Moved.{Moved}
 use Rattle.bounded_machine.specs.declared.Moved.the-variants.{Neither, Tail, Head}
 use Rattle.bounded_machine.specs.declared.Tally.{Tally}
 use Rattle.bounded_machine.specs.Machine.{slot, machineOf, freshOf, blank, placeOf, accepted}
-use Rattle.bounded_machine.specs.Turn.{Table, beginner, turnOfBy}
+use Rattle.bounded_machine.specs.Broken.{allIdle}
+use Rattle.bounded_machine.specs.Turn.{Table, beginner, turnOfBy, turnOf}
 use Rattle.bounded_machine.specs.Run.{ran, runWith, runAt, runFrom, runOf}
 use Rattle.bounded_machine.specs.History.{historyWith, movedOf, untallied, tallyOf, stockOf}
 use Rattle.bounded.specs.Bounded as bounded
@@ -722,3 +724,15 @@ Alone w (e ∷ h) = (e .worker ≡ w) × (e .loss ≢ BySchedule) × Alone w h
 unfoldable pub goingsBack : List Event → ℕ
 goingsBack [] = 0
 goingsBack (e ∷ h) = cond (goesBack e) 1 0 + goingsBack h
+
+-- ---- walks (document 02, item 10)
+
+-- A sequence of exactly so many acts from this machine, or ending sooner because all workers are idle and not before; each act, code 8 or 9 of a
+-- worker, is accepted where it stands.
+abbrev pub Tried : ℕ → Machine → List ℕ → Type 0
+Tried = Goes (λ (d : Did). d .refusal) (λ (d : Did). d .machine) turnOf (λ (m : Machine). m .count) (λ (m : Machine). allIdle (m .workers))
+
+-- Its acts, bytes of 16 × code + worker, as the entries of a schedule.
+unfoldable pub entriesOf : List ℕ → List ℕ
+entriesOf [] = []
+entriesOf (act ∷ s) = (16 * (act % 16) + act / 16) ∷ 0 ∷ entriesOf s

@@ -30,6 +30,10 @@ use Rattle.bounded_demands.proofs.Retries.{each-needed}
 use Rattle.bounded_proof_causes.proofs.Causes.{every-retry, eight-ways}
 use Rattle.bounded_proof_causes.proofs.Alone.{alone-back-once}
 use Rattle.bounded_proof_causes.proofs.Said.{kept-as-said}
+use Rattle.bounded_walkers.specs.Walkers.{walkOf}
+use Rattle.bounded_demands.specs.Demands.{WalksAll, WalkTold, WalksCounted}
+use Rattle.bounded_demands.proofs.Walkings.{walks-counted}
+use Rattle.bounded_proof_walks.proofs.Walks.{walks-all, walk-told}
 
 -- 1. Any machine, entry or schedule handed in gets an answer or a numbered refusal (the functions of crates bounded and bounded_narrow have no
 -- `requires`); a refused step changes nothing; only one answer meets a promise.
@@ -73,3 +77,7 @@ sixteen-bits = (within-the-window Sixteen, act-by-act Sixteen, whole-schedules S
 -- The window: as long as document 02 says, met through any number of turns, and needed.
 pub window : WindowLengths × AloneKeeps (ofWidth Sixteen) × RoundsClaim (ofWidth Sixteen) × NotIdle
 window = (window-lengths, alone-keeps Sixteen, rounds-claim Sixteen, not-idle)
+
+-- Walks: the list has every sequence of acts that goes so and no other, in order; what is answered and left in the buffer; and how many there are of some.
+pub every-sequence : WalksAll walkOf × WalkTold × WalksCounted
+every-sequence = (walks-all, walk-told, walks-counted)

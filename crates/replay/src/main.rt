@@ -54,7 +54,7 @@ fn run(o: Options) -> u8 {
         return many::RAN;
     }
     if o.wrong != 0 {
-        replay_options::complain(o.wrong);
+        replay_options::complain(b"replay", o.wrong);
         return many::UNREADABLE;
     }
     if o.file != 0 {
@@ -65,5 +65,5 @@ fn run(o: Options) -> u8 {
 
 fn main() {
     let o = replay_options::read();
-    replay_options::tell(o, run(o));
+    replay_options::tell(o.tells, run(o));
 }

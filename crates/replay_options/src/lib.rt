@@ -127,10 +127,14 @@ fn with_queue(before: Options, i: usize, word: &[u8]) -> Options {
     o
 }
 
-// The edition's number after --edition, read as the numbers of a schedule are.
-fn with_edition(before: Options, i: usize, word: &[u8]) -> Options {
-    let mut o = before;
-    o.numbering = false;
+// A number that an argument gives, or that it gives none.
+pub struct Given {
+    pub ok: bool,
+    pub number: u64,
+}
+
+// Read as the numbers of a schedule are.
+pub fn number_in(word: &[u8]) -> Given {
     let mut numbers = [0; 2];
     let first = text_numbers::start(1);
     let digits = text_numbers::read_piece(first, false, word, &mut numbers, 0);
@@ -139,10 +143,27 @@ fn with_edition(before: Options, i: usize, word: &[u8]) -> Options {
         || end.event != text_numbers::NOTHING
         || end.count != 1
     {
-        o.wrong = i;
-        return o;
+        return Given {
+            ok: false,
+            number: 0,
+        };
     }
-    o.edition = numbers[0];
+    Given {
+        ok: true,
+        number: numbers[0],
+    }
+}
+
+// The edition's number after --edition.
+fn with_edition(before: Options, i: usize, word: &[u8]) -> Options {
+    let mut o = before;
+    o.numbering = false;
+    let given = number_in(word);
+    if given.ok {
+        o.edition = given.number;
+    } else {
+        o.wrong = i;
+    }
     o
 }
 
@@ -274,12 +295,13 @@ pub fn read() -> Options {
     o
 }
 
-pub fn complain(i: usize) {
+pub fn complain(program: &[u8], i: usize) {
     let mut word = io::buffer();
     let n = os::arg(i, &mut word);
+    io::write_all(libc::STDERR_FILENO, program);
     io::write_all(
         libc::STDERR_FILENO,
-        b"replay: no use for this argument (see --help): ",
+        b": no use for this argument (see --help): ",
     );
     io::write_all(libc::STDERR_FILENO, &word[..n]);
     io::write_all(libc::STDERR_FILENO, b"\n");
@@ -289,8 +311,8 @@ pub fn complain(i: usize) {
 const STATUS_FILENO: i32 = 3;
 
 // 0: run to its end. 1: refused. 2: the input or the arguments cannot be read.
-pub fn tell(o: Options, status: u8) {
-    if o.tells {
+pub fn tell(asked: bool, status: u8) {
+    if asked {
         let digit = [b'0' + status % 3];
         io::write_all(STATUS_FILENO, &digit);
     }

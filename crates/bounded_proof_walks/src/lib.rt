@@ -1,0 +1,1 @@
+// The proofs of what is said of walks (bounded_demands). No code.

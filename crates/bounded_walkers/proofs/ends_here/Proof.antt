@@ -1,0 +1,22 @@
+use Rattle.bounded_walkers.proofs.Acting.{ends-at-0, ends-idle}
+use borrow.Author.Needs.{needs}
+use Rattle.bounded_walkers.proofs.ends_here.Statement.{statement}
+use Rattle.bounded_walkers.proofs.ends_here.Tie as tie
+use Rattle.bounded_walkers.proofs.ends_here.Reads as reads
+use Rattle.bounded_walkers.proofs.ends_here.Lts as lts
+use Rattle.bounded_machine.proofs.all_idle.Reads as all-idle-reads
+
+-- src/lib.rt:111:9
+all-idle-requires : tie.Need-all-idle-requires
+all-idle-requires c κs = search needs
+
+-- src/lib.rt:104:1
+returns : tie.Need-returns
+returns c = search (needs, ends-at-0, ends-idle)
+
+-- src/lib.rt:104:1
+returns-2 : tie.Need-returns-2
+returns-2 c = search (needs, ends-at-0, ends-idle)
+
+pub ends-here-spec : {M : Type 1} → statement M
+ends-here-spec = tie.close (tie.spec all-idle-requires returns returns-2)

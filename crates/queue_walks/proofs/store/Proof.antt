@@ -1,0 +1,26 @@
+use mathlib.Core.Path.{sym}
+use lib.Seq.{set-out}
+use borrow.Author.Needs.{needs}
+use Rattle.queue_walks.proofs.store.Statement.{statement}
+use Rattle.queue_walks.proofs.store.Tie as tie
+use Rattle.queue_walks.proofs.store.Reads as reads
+use Rattle.queue_walks.proofs.store.Lts as lts
+
+-- src/lib.rt:26:9
+slice-write-out : tie.Need-slice-write-out
+slice-write-out c = search needs
+
+-- src/lib.rt:22:1
+same-length : tie.Need-same-length
+same-length c = search needs
+
+-- src/lib.rt:22:1
+returns : tie.Need-returns
+returns c = search needs
+
+-- src/lib.rt:22:1
+returns-2 : tie.Need-returns-2
+returns-2 c = sym (set-out _ _ _ (c .if1 .left))
+
+pub store-spec : {M : Type 1} → statement M
+store-spec = tie.close (tie.spec slice-write-out same-length returns returns-2)

@@ -1,0 +1,76 @@
+use Prim.Native.Nat.{_≤_, _<_, _-_, _+_}
+use mathlib.Core.Path.{_≡_}
+use lib.ListN.{length}
+use native.Mathlib.Omega.{arith}
+use borrow.Author.Needs.{needs}
+use Rattle.walk.proofs.many.run_in.Statement.{statement}
+use Rattle.walk.proofs.many.run_in.Tie as tie
+use Rattle.walk.proofs.many.run_in.Reads as reads
+use Rattle.walk.proofs.many.run_in.Lts as lts
+use Rattle.walk.proofs.many.stands.Reads as stands-reads
+use Rattle.walk.proofs.many.one.Reads as one-reads
+use Rattle.walk.proofs.many.unless_at_end.Reads as unless-at-end-reads
+use Rattle.text_output.proofs.flush.Reads as flush-reads
+
+abbrev Inv-loop : tie.InvT-loop
+Inv-loop o fd name out₀ n₀ turns₀ out n turns = length out ≡ length out₀
+
+abbrev μ-loop : tie.MeasureT-loop
+μ-loop o fd name out₀ n₀ turns₀ out n turns = turns
+
+-- src/many.rt:215:5
+stands-requires : tie.Need-stands-requires Inv-loop μ-loop
+stands-requires c κs = search needs
+
+-- src/many.rt:215:5
+loop-holds : tie.Need-loop-holds Inv-loop μ-loop
+loop-holds c = search needs
+
+-- src/many.rt:216:9
+one-requires : tie.Need-one-requires Inv-loop μ-loop
+one-requires c κs = search needs
+
+-- src/many.rt:217:9
+unless-at-end-requires : tie.Need-unless-at-end-requires Inv-loop μ-loop
+unless-at-end-requires c κs = search needs
+
+-- src/many.rt:218:9
+sub-turns : tie.Need-sub-turns Inv-loop μ-loop
+sub-turns c = search needs
+
+-- src/many.rt:215:5
+loop-less : tie.Need-loop-less Inv-loop μ-loop
+loop-less c = search needs
+
+-- src/many.rt:215:5
+loop-again : tie.Need-loop-again Inv-loop μ-loop
+loop-again c = search needs
+
+-- src/many.rt:220:5
+flush-requires : tie.Need-flush-requires Inv-loop μ-loop
+flush-requires c κs = search needs
+
+-- src/many.rt:207:1
+same-length : tie.Need-same-length Inv-loop μ-loop
+same-length c = search needs
+
+-- src/many.rt:207:1
+returns : tie.Need-returns Inv-loop μ-loop
+returns c = search needs
+
+pub run-in-spec : {M : Type 1} → statement M
+run-in-spec =
+    tie.close
+    (tie.spec
+    Inv-loop
+    μ-loop
+    stands-requires
+    loop-holds
+    one-requires
+    unless-at-end-requires
+    sub-turns
+    loop-less
+    loop-again
+    flush-requires
+    same-length
+    returns)

@@ -1,0 +1,18 @@
+// How far it has come through a list, told to a terminal now and then: a list of half a million bytes takes about a second.
+const STRIDE: usize = 524288;
+
+fn tell(at: usize) {
+    if libc::isatty(libc::STDERR_FILENO) == 1 {
+        let mut text = [0u8; 64];
+        let p = text_output::form(&mut text, 0, b"# bytes of the list\n", &[at as u64]);
+        crate::refused::on_error(&text, p);
+    }
+}
+
+// Past the sequence of so many acts that stands at this byte.
+pub fn past(at: usize, acts: usize) {
+    let left = STRIDE - at % STRIDE;
+    if left <= acts {
+        tell(at);
+    }
+}

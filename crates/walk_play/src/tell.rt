@@ -1,0 +1,107 @@
+// The walk from a machine, and what is told of it.
+use bounded_machine::Machine;
+use bounded_walks::Sized;
+use queue_entries::Told;
+use replay_survey::Played;
+
+// The longest list, in bytes.
+const BUFFER: usize = 4194304;
+
+pub struct Asked {
+    pub depth: u64,
+    pub list: bool,
+    pub many: bool,
+}
+
+fn played(at: usize, refused: bool) -> Played {
+    Played {
+        at: at,
+        refused: refused,
+    }
+}
+
+fn is_idle(m: Machine, w: u64) -> bool {
+    let c = bounded_text_places::code::of(bounded_text_machine::place_of(m, w));
+    c.case == 0
+}
+
+// The lowest idle worker of at most three, of which one is idle.
+fn idle_worker(m: Machine) -> u64 {
+    if is_idle(m, 0) {
+        return 0;
+    }
+    if is_idle(m, 1) {
+        return 1;
+    }
+    2
+}
+
+fn refused(out: &mut [u8], at: usize, o: Asked, m: Machine, refusal: u64) -> Played {
+    let p = crate::refused::tell(out, at, o.many, refusal, &[idle_worker(m)]);
+    played(p, true)
+}
+
+fn told(out: &mut [u8], at: usize, o: Asked, m: Machine, sequences: u64, list: &[u8]) -> usize {
+    if o.list {
+        return crate::list::lines(out, at, list);
+    }
+    let p = text_output::form(
+        out,
+        at,
+        b"walked depth=# sequences=# bytes=#\n",
+        &[o.depth, sequences, list.len() as u64],
+    );
+    crate::ends::lines(out, p, m, list)
+}
+
+fn told_first(
+    out: &mut [u8],
+    at: usize,
+    o: Asked,
+    m: Machine,
+    sequences: u64,
+    buffer: &[u8],
+    n: usize,
+) -> usize {
+    if n <= buffer.len() {
+        return told(out, at, o, m, sequences, &buffer[..n]);
+    }
+    at
+}
+
+fn listed(out: &mut [u8], at: usize, o: Asked, m: Machine, n: usize, buffer: &mut [u8]) -> usize {
+    match bounded_walks::walk(m, o.depth, buffer) {
+        Told::Number(sequences) => told_first(out, at, o, m, sequences, buffer, n),
+        Told::Refused(_) => at,
+    }
+}
+
+// A function of its own, since a check of what is done with so long an array would count its bytes.
+fn room() -> [u8; BUFFER] {
+    [0; BUFFER]
+}
+
+fn walked(out: &mut [u8], at: usize, o: Asked, m: Machine, n: usize) -> usize {
+    let mut buffer = room();
+    listed(out, at, o, m, n, &mut buffer)
+}
+
+// A list that is longer than the buffer is told with its numbers.
+pub fn walk(out: &mut [u8], at: usize, o: Asked, m: Machine) -> Played {
+    match bounded_walks::size(m, o.depth) {
+        Sized::Refused(refusal) => refused(out, at, o, m, refusal),
+        Sized::Sequences(sequences, bytes) => {
+            if (BUFFER as u64) < bytes {
+                let p = crate::refused::tell(
+                    out,
+                    at,
+                    o.many,
+                    22,
+                    &[sequences, bytes, BUFFER as u64],
+                );
+                return played(p, true);
+            }
+            played(walked(out, at, o, m, bytes as usize), false)
+        }
+    }
+}
