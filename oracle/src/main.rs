@@ -16,10 +16,10 @@ use std::{env, fs};
 const USAGE: &str =
     "Each command takes --queue bounded|single|unbounded, bounded unless told, and for bounded --edition N, 1 unless told, --bits 16|64, 64 unless told, and, but for list, walk and walks, --causes, --losses and --stock.
 judge expect FILE|- [--quiet] [--many]
-judge sequential --calls N --seed S [--module CMD [--many]] [--batch ENTRIES] [--save DIR]
-judge interleaved --acts N --seed S [--closing] [--module CMD [--many]] [--batch ENTRIES] [--save DIR]
-judge turns --turns N --seed S --bits 16 [--capacity N] [--module CMD [--many]] [--batch ENTRIES] [--save DIR]
-judge exhaustive [--compact | --depth ACTS] [--module CMD [--many]] [--batch ENTRIES] [--save DIR]
+judge sequential --calls N --seed S [--quiet] [--module CMD [--many]] [--batch ENTRIES] [--save DIR]
+judge interleaved --acts N --seed S [--closing] [--quiet] [--module CMD [--many]] [--batch ENTRIES] [--save DIR]
+judge turns --turns N --seed S --bits 16 [--capacity N] [--quiet] [--module CMD [--many]] [--batch ENTRIES] [--save DIR]
+judge exhaustive [--compact | --depth ACTS] [--quiet] [--module CMD [--many]] [--batch ENTRIES] [--save DIR]
 judge walk FILE|- [--depth N] [--list] [--buffer BYTES] [--many]
 judge walks [--depth N] [--list] [--workers 2|3] [--module CMD --many] [--batch ENTRIES] [--save DIR]
 judge list --seed S [--to DIR]
@@ -188,7 +188,7 @@ fn driven(options: &Options, drive: impl FnOnce(&mut Run) -> Result<(), String>)
     let batch = options.number_or("batch", 50_000)? as usize;
     let save = options.value("save").unwrap_or("differences").into();
     let mut run = Run::new(options.queue()?, module, batch.max(10), save);
-    run.program = Program::Replay(Show { quiet: false, ..options.show()? });
+    run.program = Program::Replay(options.show()?);
     let start = Instant::now();
     let result = drive(&mut run);
     let seconds = start.elapsed().as_secs_f64();

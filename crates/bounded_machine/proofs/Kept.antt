@@ -308,17 +308,17 @@ module _ (f : Fixed) (n : ℕ) (r : Worker) (b : Bool) (h : recordFits f n r b �
   unfolding recordFits
   past-words = then (ltb n (r .differed)) _ h
 
-  few-differed : r .differed ≤ n
+  pub few-differed : r .differed ≤ n
   unfolding recordFits
   few-differed = ltb-false n (r .differed) (first-clear (ltb n (r .differed)) _ h)
 
-  few-failed : r .failed ≤ n
+  pub few-failed : r .failed ≤ n
   few-failed = ltb-false n (r .failed) (first-clear (ltb n (r .failed)) _ past-words)
 
   pub place-of : placeFits f (r .place) b ≡ true
   place-of = then (ltb n (r .failed)) _ past-words
 
-  of-record : viewOf (r .place) .busy ≡ true → fitsOf f (viewOf (r .place) .held) ≡ true
+  pub of-record : viewOf (r .place) .busy ≡ true → fitsOf f (viewOf (r .place) .held) ≡ true
   unfolding placeFits
   of-record q = both-right b (fitsOf f (viewOf (r .place) .held)) (sym (simp q) ∙ place-of)
 

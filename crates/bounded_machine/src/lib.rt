@@ -176,7 +176,7 @@ pub fn blank() -> Machine
 
 // Broken, part by part.
 
-fn by_rule(f: Fixed) -> bool
+pub fn by_rule(f: Fixed) -> bool
     requires { ⌜ f .capacity ≤ slotsMost ⌝ }
     ensures { λ r. ⌜ r ≡ byRule f ⌝ }
 {
@@ -188,7 +188,7 @@ fn by_rule(f: Fixed) -> bool
     }
 }
 
-fn ends_fit(f: Fixed, e: Ends) -> bool
+pub fn ends_fit(f: Fixed, e: Ends) -> bool
     requires { ⌜ Fair f ⌝ }
     ensures { λ r. ⌜ r ≡ endsFit f e ⌝ }
 {
@@ -221,7 +221,7 @@ fn place_fits(f: Fixed, p: Place, counted: bool) -> bool
     }
 }
 
-fn record_fits(f: Fixed, meter: u64, r: Worker, counted: bool) -> bool
+pub fn record_fits(f: Fixed, meter: u64, r: Worker, counted: bool) -> bool
     requires { ⌜ Fair f ⌝ }
     ensures { λ b. ⌜ b ≡ recordFits f meter r counted ⌝ }
 {

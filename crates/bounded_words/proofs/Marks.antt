@@ -49,6 +49,8 @@ pub record Ruled (f : Fixed) : Type 0 where
   pub twice : f .lap ≡ f .mark * 2
   pub laps : (bits : Width) → f .lap ∣ widthOf bits
   pub marks : (bits : Width) → f .mark ∣ widthOf bits
+  pub power : ℕ
+  pub is : f .mark ≡ 2 ^ power
 
 -- a power that fits
 exponent : (k : ℕ) → 2 ^ k < 2 ^ 15 → k ≤ 14
@@ -76,6 +78,8 @@ ruled f some most m l =
       twice = omega arith;
       laps = λ bits. subst (λ (x : ℕ). x ∣ widthOf bits) (sym lap-is) (fits-width (s .power + 1) (omega (arith, below)) bits);
       marks = λ bits. subst (λ (x : ℕ). x ∣ widthOf bits) (sym mark-is-power) (fits-width (s .power) (omega (arith, below)) bits);
+      power = s .power;
+      is = mark-is-power;
     }
   where
     s : Smallest (f .capacity + 1) (markOf (f .capacity))
@@ -91,4 +95,4 @@ ruled f some most m l =
     below = exponent (s .power) (omega (arith, s .is, s .least))
 
 pub fair : (f : Fixed) → Ruled f → Fair f
-fair f r = let h = r .room in let s = r .small in record { positive = omega arith; small = omega arith }
+fair f r = let h = r .room in let s = r .small in record { positive = omega arith; small = omega arith; power = r .power; is = r .is }

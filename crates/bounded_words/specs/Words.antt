@@ -82,6 +82,8 @@ lapBehindOnePast bits f s t = lapBehind bits f s (plus bits t 1)
 pub record Fair (f : Fixed) : Type 0 where
   pub positive : 0 < f .mark
   pub small : f .mark < 2 ^ 63
+  pub power : ℕ
+  pub is : f .mark ≡ 2 ^ power
 
 -- The index of a word, with its two bounds.
 pub record Indexed (f : Fixed) (w : Stamp) (i : ℕ) : Type 0 where

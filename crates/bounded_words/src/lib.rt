@@ -49,7 +49,7 @@ pub fn index(f: Fixed, w: Stamp) -> u64
     requires { ⌜ Fair f ⌝ }
     ensures { λ r. ⌜ Indexed f w r ⌝ }
 {
-    w.0 % f.mark
+    w.0 & (f.mark - 1)
 }
 
 // The word of this width that a sum leaves.
@@ -91,7 +91,7 @@ pub fn marked(f: Fixed, w: Stamp) -> bool
     requires { ⌜ Fair f ⌝ }
     ensures { λ r. ⌜ r ≡ markedOf f w ⌝ }
 {
-    w.0 / f.mark % 2 == 1
+    w.0 & f.mark != 0
 }
 
 // `w & !mark`
@@ -99,11 +99,7 @@ pub fn unmarked(f: Fixed, w: Stamp) -> Stamp
     requires { ⌜ Fair f ⌝ }
     ensures { λ r. ⌜ r ≡ unmarkedOf f w ⌝ }
 {
-    if w.0 / f.mark % 2 == 1 {
-        Stamp(w.0 - f.mark)
-    } else {
-        w
-    }
+    if marked(f, w) { Stamp(w.0 - f.mark) } else { w }
 }
 
 // `w | mark`
@@ -111,7 +107,7 @@ pub fn with_mark(bits: Width, f: Fixed, w: Stamp) -> Stamp
     requires { ⌜ Fair f ⌝ }
     ensures { λ r. ⌜ r ≡ withMark bits f w ⌝ }
 {
-    if w.0 / f.mark % 2 == 1 {
+    if marked(f, w) {
         w
     } else {
         later(bits, w, f.mark)

@@ -24,21 +24,7 @@ fn run_file(o: Options) -> u8 {
     status
 }
 
-// The schedule that a tape stands for is run as its text is.
-fn run_tape(o: Options, fd: i32, name: &[u8]) -> u8 {
-    let text = tape_reads::text_of(fd, name, queue::before(o) == 0);
-    if text.status != many::RAN {
-        return text.status;
-    }
-    let status = many::run_all(o, text.fd, name);
-    libc::close(text.fd);
-    status
-}
-
 fn run_from(o: Options, fd: i32, name: &[u8]) -> u8 {
-    if o.tape {
-        return run_tape(o, fd, name);
-    }
     let kept = replay_input::source::kept(fd, name);
     if kept < 0 {
         return many::UNREADABLE;

@@ -28,13 +28,13 @@ fn first() -> Next {
     }
 }
 
-fn stop() -> Next {
+fn stop(status: u8) -> Next {
     Next {
         more: false,
         offset: 0,
         line: 0,
         at: 0,
-        status: UNREADABLE,
+        status: status,
     }
 }
 
@@ -57,18 +57,35 @@ fn surveyed(o: Options, fd: i32, from: Next) -> Survey {
         o.many,
         crate::queue::before(o),
         crate::queue::barred(o),
+        o.tape,
         from.offset,
         from.line,
     )
 }
 
+// Says what is wrong, and answers the status.
+fn said(s: Survey, name: &[u8]) -> u8 {
+    let r = s.reading;
+    if r.event == replay_input::source::REFUSED {
+        let p = r.tape;
+        tape_files::say::refused_tape(p.number, p.byte);
+        return REFUSED;
+    }
+    if replay_survey::is_sound(s, name) {
+        RAN
+    } else {
+        UNREADABLE
+    }
+}
+
 // Read once, and not run.
 fn look(o: Options, fd: i32, name: &[u8], from: Next) -> Next {
     let s = surveyed(o, fd, from);
-    if replay_survey::is_sound(s, name) {
+    let status = said(s, name);
+    if status == RAN {
         after(s, 0, from.status)
     } else {
-        stop()
+        stop(status)
     }
 }
 
@@ -78,10 +95,16 @@ fn worse(status: u8, refused: bool) -> u8 {
 
 fn one(o: Options, fd: i32, name: &[u8], from: Next, out: &mut [u8]) -> Next {
     let s = surveyed(o, fd, from);
-    if replay_survey::is_sound(s, name) {} else {
-        return stop();
+    let status = said(s, name);
+    if status != RAN {
+        return stop(status);
     }
-    let begun = replay_input::source::begun(from.offset, from.line, crate::queue::before(o));
+    let begun = replay_input::source::begun(
+        o.tape,
+        from.offset,
+        from.line,
+        crate::queue::before(o),
+    );
     let whole = replay_survey::refused_whole(s);
     let p = crate::queue::play(o, fd, begun, whole, out, from.at);
     after(s, p.at, worse(from.status, p.refused))
@@ -126,8 +149,9 @@ fn run_in(o: Options, fd: i32, name: &[u8], out: &mut [u8]) -> u8 {
 
 pub fn run_all(o: Options, fd: i32, name: &[u8]) -> u8 {
     if o.many {
-        if look_in(o, fd, name) == UNREADABLE {
-            return UNREADABLE;
+        let status = look_in(o, fd, name);
+        if status != RAN {
+            return status;
         }
     }
     let mut out = io::large_buffer();

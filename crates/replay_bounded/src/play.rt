@@ -1,8 +1,10 @@
 // A machine, run pair by pair. The first pair of numbers makes it; every other is an entry.
 use bounded_machine::Machine;
-use bounded_places::Answer;
-use bounded_places::Place;
+use bounded_machine::Ring;
+use bounded_places::Ends;
+use bounded_places::Slot;
 use bounded_places::Worker;
+use bounded_words::Fixed;
 use bounded_words::Width;
 use replay_bounded_counts::summary::Summary;
 use replay_input::source::Reading;
@@ -72,20 +74,6 @@ fn make(o: Options, capacity: u64, workers: u64, whole: Whole, out: &mut [u8], a
     let did = bounded::make(capacity, workers, o.edition);
     let end = text_output::form(out, at, b"made #\n", &[did.refusal]);
     made(did.machine, whole, end)
-}
-
-// The record of a worker; idle without an answer where there is none.
-fn record_of(m: Machine, w: u64) -> Worker {
-    let workers = m.workers;
-    let i = w as usize;
-    if i < queue_entries::WORKERS {
-        return workers[i];
-    }
-    Worker {
-        place: Place::Idle(Answer::Nothing),
-        differed: 0,
-        failed: 0,
-    }
 }
 
 // The summary after an entry of this first word, which led its worker from one record to the other.
@@ -178,9 +166,36 @@ fn width(o: Options) -> Width {
     }
 }
 
-// Entry by entry, with what is asked after each.
+fn holding(
+    f: Fixed,
+    ends: Ends,
+    slots: [Slot; bounded_words::SLOTS],
+    workers: [Worker; queue_entries::WORKERS],
+    count: u64,
+    meter: u64,
+) -> Machine {
+    Machine {
+        ring: Ring {
+            fixed: f,
+            ends: ends,
+            slots: slots,
+        },
+        workers: workers,
+        count: count,
+        meter: meter,
+    }
+}
+
+// Entry by entry, with what is asked after each. Each entry goes to its record and its slot alone: no machine is copied for it.
 fn steps(r: Run, o: Options, list: &[u64], from: usize, out: &mut [u8]) -> Run {
-    let mut m = r.machine;
+    let m = r.machine;
+    let ring = m.ring;
+    let f = ring.fixed;
+    let mut ends = ring.ends;
+    let mut slots = ring.slots;
+    let mut workers = m.workers;
+    let count = m.count;
+    let mut meter = m.meter;
     let mut place = r.place;
     let mut refusal = r.refusal;
     let mut at = r.at;
@@ -195,12 +210,27 @@ fn steps(r: Run, o: Options, list: &[u64], from: usize, out: &mut [u8]) -> Run {
         let first = list[i];
         let second = list[i + 1];
         i += 2;
-        let w = first / 16;
-        let before = record_of(m, w);
-        let did = bounded_steps::step(bits, m, first, second);
-        m = did.machine;
-        refusal = did.refusal;
-        let after = record_of(m, w);
+        let w = bounded_entries::worker_of(first, queue_entries::WORKERS);
+        let before = workers[w];
+        let k = bounded_entries::slot_for(f, meter, before);
+        let t = bounded_entries::step_on(
+            bits,
+            f,
+            ends,
+            slots[k],
+            before,
+            meter,
+            count as usize,
+            first,
+            second,
+        );
+        let slot = t.slot;
+        let after = t.worker;
+        ends = t.ends;
+        slots[k] = slot;
+        workers[w] = after;
+        meter = t.meter;
+        refusal = t.refusal;
         s = counted(o, s, refusal, first, before, after);
         at = line_unless(
             o,
@@ -208,15 +238,15 @@ fn steps(r: Run, o: Options, list: &[u64], from: usize, out: &mut [u8]) -> Run {
             at,
             place,
             refusal,
-            w,
-            bounded_text_machine::numbers(m),
+            first / 16,
+            bounded_text_machine::numbers_of(f, ends, count, meter),
             after,
             s,
         );
         place = next_place(place, refusal);
     }
     Run {
-        machine: m,
+        machine: holding(f, ends, slots, workers, count, meter),
         made: true,
         place: place,
         refusal: refusal,
@@ -337,18 +367,6 @@ fn finish(r: Run, o: Options, out: &mut [u8]) -> usize {
     tell_end(r.summary, o, out, t)
 }
 
-// A schedule under way: where its text is read, and what was run of it.
-struct Playing {
-    reading: Reading,
-    run: Run,
-}
-
-fn goes_on(p: Playing) -> bool {
-    let reading = p.reading;
-    let run = p.run;
-    replay_input::source::goes_on(reading.event, run.refusal)
-}
-
 // One piece of the schedule.
 fn some(r: Run, o: Options, whole: Whole, list: &[u64], n: usize, out: &mut [u8]) -> Run {
     let before = r.place;
@@ -357,49 +375,25 @@ fn some(r: Run, o: Options, whole: Whole, list: &[u64], n: usize, out: &mut [u8]
     after
 }
 
-fn read_and_run(
-    p: Playing,
-    o: Options,
-    fd: i32,
-    whole: Whole,
-    bytes: &mut [u8],
-    list: &mut [u64],
-    out: &mut [u8],
-) -> Playing {
-    let before = p.reading;
-    let run = p.run;
-    let reading = replay_input::source::next(fd, o.many, before, bytes, list);
-    let after = some(run, o, whole, list, reading.count, out);
-    Playing {
-        reading: reading,
-        run: after,
-    }
-}
-
 fn all(
-    begin: Playing,
     o: Options,
     fd: i32,
+    begun: Reading,
     whole: Whole,
     bytes: &mut [u8],
     list: &mut [u64],
     out: &mut [u8],
+    at: usize,
 ) -> Run {
-    let mut p = begin;
+    let mut run = start(at);
+    let mut reading = begun;
     let mut turns = u64::MAX;
-    while turns > 0 && goes_on(p) {
+    while turns > 0 && replay_input::source::goes_on(reading.event, run.refusal) {
         turns -= 1;
-        p = read_and_run(p, o, fd, whole, bytes, list, out);
+        reading = replay_input::source::next(fd, o.many, reading, bytes, list);
+        run = some(run, o, whole, list, reading.count, out);
     }
-    let run = p.run;
     run
-}
-
-fn begin(begun: Reading, at: usize) -> Playing {
-    Playing {
-        reading: begun,
-        run: start(at),
-    }
 }
 
 // A schedule, read piece by piece and run to its end or to its first refusal.
@@ -413,7 +407,7 @@ pub fn play(
 ) -> Played {
     let mut bytes = [0u8; replay_input::source::BYTES];
     let mut list = [1u64; replay_input::source::NUMBERS];
-    let run = all(begin(begun, at), o, fd, whole, &mut bytes, &mut list, out);
+    let run = all(o, fd, begun, whole, &mut bytes, &mut list, out, at);
     Played {
         at: finish(run, o, out),
         refused: run.refusal != 0,

@@ -1,25 +1,30 @@
-// The bytes of a schedule. They are read twice, first to see whether every number is one and how many there are, so that
-// what can't be read is known before anything runs, in a fixed amount of memory. What can't be read twice is kept in a
+// The bytes of a schedule, which is a text or a tape. They are read twice, first to see whether every number is one and how many there are,
+// so that what can't be read is known before anything runs, in a fixed amount of memory. What can't be read twice is kept in a
 // file that has no name.
 use text_numbers::Piece;
 use text_numbers::Scan;
 
-// A piece of text, and room for the numbers in it with one left over from the piece before.
-pub const BYTES: usize = 16384;
+// A piece of the input, and room for the numbers in it: of a text with one left over from the piece before, of a tape with two before its entries.
+pub const BYTES: usize = tape_pieces::WINDOW;
 
-pub const NUMBERS: usize = 8200;
+pub const NUMBERS: usize = tape_pieces::WORDS + 8;
 
-// Beside the events of `scan`: the input's end, and a read that failed.
+// Beside the events of `scan`: the input's end, a read that failed, and a tape that is refused.
 pub const END: u64 = 5;
 
 pub const FAILED: u64 = 6;
 
-// Where a reading stands: the offset of the next byte, the numbers of the last piece, and what ended it.
+pub const REFUSED: u64 = 7;
+
+// Where a reading stands: the numbers of the last piece, and what ended it.
 pub struct Reading {
+    // of a text, with the offset of the next byte
     pub scan: Scan,
     pub offset: u64,
     pub count: usize,
     pub event: u64,
+    pub is_tape: bool,
+    pub tape: tape_pieces::Piece,
 }
 
 pub fn to_offset(n: u64) -> i64 {
@@ -30,12 +35,15 @@ pub fn to_offset(n: u64) -> i64 {
     }
 }
 
-pub fn start(offset: u64, line: u64) -> Reading {
+// Of a text from this offset and line on, or of a tape.
+pub fn start(is_tape: bool, offset: u64, line: u64) -> Reading {
     Reading {
         scan: text_numbers::start(line),
         offset: offset,
         count: 0,
         event: text_numbers::NOTHING,
+        is_tape: is_tape,
+        tape: tape_pieces::start(),
     }
 }
 
@@ -46,18 +54,17 @@ fn after(piece: Piece, offset: u64, event: u64) -> Reading {
         offset: offset,
         count: piece.count,
         event: event,
+        is_tape: false,
+        tape: tape_pieces::start(),
     }
 }
 
 // The reading as it was, with the numbers that are now there and what ended it.
 fn stopped(r: Reading, count: usize, event: u64) -> Reading {
-    let scan = r.scan;
-    Reading {
-        scan: scan,
-        offset: r.offset,
-        count: count,
-        event: event,
-    }
+    let mut after = r;
+    after.count = count;
+    after.event = event;
+    after
 }
 
 // The input's end ends a line. It is the event unless that line's end was one; the reading stands where the input ended.
@@ -71,8 +78,81 @@ fn ended(r: Reading, many: bool, list: &mut [u64], left: usize) -> Reading {
     after(piece, r.offset, piece.event)
 }
 
-// Reads once. The list keeps its first `left` numbers.
-pub fn turn(
+fn event_of(state: u64) -> u64 {
+    match state {
+        tape_pieces::GOING => text_numbers::NOTHING,
+        tape_pieces::DONE => END,
+        tape_pieces::REFUSED => REFUSED,
+        _ => FAILED,
+    }
+}
+
+fn with_piece(r: Reading, p: tape_pieces::Piece, count: usize) -> Reading {
+    let scan = r.scan;
+    Reading {
+        scan: scan,
+        offset: r.offset,
+        count: count,
+        event: event_of(p.state),
+        is_tape: true,
+        tape: p,
+    }
+}
+
+fn put(list: &mut [u64], i: usize, number: u64) {
+    if i < list.len() {
+        list[i] = number;
+    }
+}
+
+// The first entries, after room for two numbers.
+fn first_entries(fd: i32, bytes: &mut [u8], list: &mut [u64]) -> tape_pieces::Piece {
+    libc::lseek(fd, 0, libc::SEEK_SET);
+    if list.len() < 2 {
+        return tape_pieces::start();
+    }
+    tape_pieces::next(fd, tape_pieces::start(), bytes, &mut list[2..])
+}
+
+// The number that is left, or the capacity.
+fn first_number(list: &[u64], left: usize, capacity: u64) -> u64 {
+    if 0 < left {
+        if 0 < list.len() {
+            return list[0];
+        }
+    }
+    capacity
+}
+
+fn put_head(list: &mut [u64], left: usize, capacity: u64, workers: u64) {
+    let first = first_number(list, left, capacity);
+    put(list, 0, first);
+    put(list, 1, workers);
+}
+
+fn tape_begun(fd: i32, r: Reading, bytes: &mut [u8], list: &mut [u64], left: usize) -> Reading {
+    let p = first_entries(fd, bytes, list);
+    put_head(list, left, p.capacity, p.workers);
+    with_piece(r, p, std::num::wrapping_add_usize(p.count, 2))
+}
+
+fn tape_turn(fd: i32, r: Reading, bytes: &mut [u8], list: &mut [u64], left: usize) -> Reading {
+    let before = r.tape;
+    if before.state == tape_pieces::NEW {
+        return tape_begun(fd, r, bytes, list, left);
+    }
+    let p = tape_pieces::next(fd, before, bytes, list);
+    with_piece(r, p, p.count)
+}
+
+fn text_read(r: Reading, many: bool, bytes: &[u8], list: &mut [u64], left: usize) -> Reading {
+    let scan = r.scan;
+    let piece = text_numbers::read_piece(scan, many, bytes, list, left);
+    let offset = std::num::wrapping_add_u64(r.offset, piece.used as u64);
+    after(piece, offset, piece.event)
+}
+
+fn text_turn(
     fd: i32,
     many: bool,
     r: Reading,
@@ -88,10 +168,22 @@ pub fn turn(
         return ended(r, many, list, left);
     }
     let n = io::count(got, bytes);
-    let scan = r.scan;
-    let piece = text_numbers::read_piece(scan, many, &bytes[..n], list, left);
-    let offset = std::num::wrapping_add_u64(r.offset, piece.used as u64);
-    after(piece, offset, piece.event)
+    text_read(r, many, &bytes[..n], list, left)
+}
+
+// Reads once. The list keeps its first `left` numbers.
+pub fn turn(
+    fd: i32,
+    many: bool,
+    r: Reading,
+    bytes: &mut [u8],
+    list: &mut [u64],
+    left: usize,
+) -> Reading {
+    if r.is_tape {
+        return tape_turn(fd, r, bytes, list, left);
+    }
+    text_turn(fd, many, r, bytes, list, left)
 }
 
 // The number that has no pair yet goes to the list's start, and is the one that the next piece leaves there.
@@ -107,8 +199,8 @@ pub fn carry(list: &mut [u64], count: usize) -> usize {
 }
 
 // Of a schedule that is read to be run: so many numbers, none or one, stand in the list before its first.
-pub fn begun(offset: u64, line: u64, before: usize) -> Reading {
-    let mut r = start(offset, line);
+pub fn begun(is_tape: bool, offset: u64, line: u64, before: usize) -> Reading {
+    let mut r = start(is_tape, offset, line);
     r.count = before;
     r
 }

@@ -263,18 +263,6 @@ fn finish(r: Run, o: Asked, out: &mut [u8]) -> usize {
     text_output::settle(out, v)
 }
 
-// A schedule under way: where its text is read, and what was run of it.
-struct Playing {
-    reading: Reading,
-    run: Run,
-}
-
-fn goes_on(p: Playing) -> bool {
-    let reading = p.reading;
-    let run = p.run;
-    replay_input::source::goes_on(reading.event, run.refusal)
-}
-
 // One piece of the schedule.
 fn some(r: Run, o: Asked, whole: Whole, list: &[u64], n: usize, out: &mut [u8]) -> Run {
     let before = r.place;
@@ -283,56 +271,32 @@ fn some(r: Run, o: Asked, whole: Whole, list: &[u64], n: usize, out: &mut [u8]) 
     after
 }
 
-fn read_and_run(
-    p: Playing,
-    o: Asked,
-    fd: i32,
-    whole: Whole,
-    bytes: &mut [u8],
-    list: &mut [u64],
-    out: &mut [u8],
-) -> Playing {
-    let before = p.reading;
-    let run = p.run;
-    let reading = replay_input::source::next(fd, o.many, before, bytes, list);
-    let after = some(run, o, whole, list, reading.count, out);
-    Playing {
-        reading: reading,
-        run: after,
-    }
-}
-
 fn all(
-    begin: Playing,
     o: Asked,
     fd: i32,
+    begun: Reading,
     whole: Whole,
     bytes: &mut [u8],
     list: &mut [u64],
     out: &mut [u8],
+    at: usize,
 ) -> Run {
-    let mut p = begin;
+    let mut run = start(at);
+    let mut reading = begun;
     let mut turns = u64::MAX;
-    while turns > 0 && goes_on(p) {
+    while turns > 0 && replay_input::source::goes_on(reading.event, run.refusal) {
         turns -= 1;
-        p = read_and_run(p, o, fd, whole, bytes, list, out);
+        reading = replay_input::source::next(fd, o.many, reading, bytes, list);
+        run = some(run, o, whole, list, reading.count, out);
     }
-    let run = p.run;
     run
-}
-
-fn begin(begun: Reading, at: usize) -> Playing {
-    Playing {
-        reading: begun,
-        run: start(at),
-    }
 }
 
 // A schedule, read piece by piece and run to its end or to its first refusal.
 pub fn play(o: Asked, fd: i32, begun: Reading, whole: Whole, out: &mut [u8], at: usize) -> Played {
     let mut bytes = [0u8; replay_input::source::BYTES];
     let mut list = [1u64; replay_input::source::NUMBERS];
-    let run = all(begin(begun, at), o, fd, whole, &mut bytes, &mut list, out);
+    let run = all(o, fd, begun, whole, &mut bytes, &mut list, out, at);
     Played {
         at: finish(run, o, out),
         refused: run.refusal != 0,

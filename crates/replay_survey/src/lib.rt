@@ -92,11 +92,19 @@ fn survey_in(fd: i32, many: bool, begin: Survey, bytes: &mut [u8], list: &mut [u
 }
 
 // Of the schedule that begins at this offset and line; so many numbers, each 1, are put before it: none or one.
-pub fn surveyed(fd: i32, many: bool, before: usize, barred: u64, offset: u64, line: u64) -> Survey {
+pub fn surveyed(
+    fd: i32,
+    many: bool,
+    before: usize,
+    barred: u64,
+    is_tape: bool,
+    offset: u64,
+    line: u64,
+) -> Survey {
     let mut bytes = [0u8; replay_input::source::BYTES];
     let mut list = [1u64; replay_input::source::NUMBERS];
     let begin = Survey {
-        reading: replay_input::source::start(offset, line),
+        reading: replay_input::source::start(is_tape, offset, line),
         barred: barred,
         pairs: 0,
         left: before,

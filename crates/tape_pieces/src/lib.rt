@@ -1,26 +1,35 @@
-// A tape piece by piece, in a fixed amount of memory. The whole fields of a window are made a tape of their own, with the tape's first
-// field before them and an end behind them, and `tapes::read` reads that.
-ghost use Prim.Native.Nat.{_≤_};
-ghost use lib.ListN.{length};
-use tapes::Reading;
+// A tape piece by piece, in a fixed amount of memory: the fields that stand whole in a window, and then what is left of it with the bytes that follow.
+ghost use mathlib.Core.Bool.{false};
+ghost use mathlib.Core.Path.{_≡_};
+ghost use Prim.Native.Nat.{_≤_, _-_, _/_};
+ghost use lib.ListN.{length, take, drop};
+ghost use Rattle.tapes_fields.specs.Judged.{fieldIn};
+ghost use Rattle.tapes.specs.Heard.{hearFrom};
+ghost use Rattle.tape_pieces.specs.Stretches.{passed};
+use tapes_fields::Field;
 use tapes_fields::Head;
+use tapes_numbers::Variant;
 
-// A window of so many bytes, three of them for the end, and the words of as many entries as it can have.
-pub const WINDOW: usize = 16387;
+// A window, and the words of as many entries as it can have.
+pub const WINDOW: usize = 65536;
 
-pub const WORDS: usize = 8192;
+pub const WORDS: usize = 32768;
 
-// More is to come; the tape has ended; it is refused; its bytes can't be had.
-pub const GOING: u64 = 0;
+// Nothing was read; more is to come; the tape has ended; it is refused; its bytes can't be had.
+pub const NEW: u64 = 0;
 
-pub const DONE: u64 = 1;
+pub const GOING: u64 = 1;
 
-pub const REFUSED: u64 = 2;
+pub const DONE: u64 = 2;
 
-pub const FAILED: u64 = 3;
+pub const REFUSED: u64 = 3;
+
+pub const FAILED: u64 = 4;
 
 pub struct Piece {
     pub state: u64,
+    // of the first field
+    pub variant: Variant,
     pub capacity: u64,
     pub workers: u64,
     // how many words there are, at their buffer's start
@@ -28,22 +37,31 @@ pub struct Piece {
     // of a refusal
     pub number: u64,
     pub byte: u64,
-    // how many bytes are in the window, and which byte of the tape its first one would be
+    // how many bytes are left in the window, and which byte of the tape its first one is
     pub have: usize,
     pub base: u64,
 }
 
-pub fn start() -> Piece {
+fn begun(v: Variant, capacity: u64, workers: u64) -> Piece {
     Piece {
-        state: GOING,
-        capacity: 0,
-        workers: 0,
+        state: NEW,
+        variant: v,
+        capacity: capacity,
+        workers: workers,
         count: 0,
         number: 0,
         byte: 0,
         have: 0,
         base: 0,
     }
+}
+
+pub fn start() -> Piece {
+    begun(Variant::BigEndian, 0, 0)
+}
+
+pub fn goes_on(p: Piece) -> bool {
+    p.state <= GOING
 }
 
 fn failed(before: Piece) -> Piece {
@@ -59,15 +77,6 @@ fn refused(before: Piece, number: u64, at: usize) -> Piece {
     p.count = 0;
     p.number = number;
     p.byte = std::num::wrapping_add_u64(p.base, at as u64);
-    p
-}
-
-fn heard(before: Piece, state: u64, capacity: u64, workers: u64, count: usize) -> Piece {
-    let mut p = before;
-    p.state = state;
-    p.capacity = capacity;
-    p.workers = workers;
-    p.count = count;
     p
 }
 
@@ -115,145 +124,177 @@ fn fill(fd: i32, window: &mut [u8], have: usize) -> Filled
     }
 }
 
-fn put(to: &mut [u8], i: usize, b: u8) {
-    if i < to.len() {
-        to[i] = b;
+// The entries that stand one after another: where they end, how many words they are, and whether the words found no room.
+struct Stretch {
+    at: usize,
+    count: usize,
+    full: bool,
+    // what stands there, which is no entry
+    next: Field,
+}
+
+// The whole is heard as these entries, and then as what stands behind them is.
+fn entries(bytes: &[u8], v: Variant, from: usize, words: &mut [u64]) -> Stretch
+    ensures heard { λ r. ⌜ passed (take (r .count) (now (words .exit))) (hearFrom (length (now (bytes .entry)) - r .count / 2) v (r .at) (drop (r .at) (now (bytes .entry)))) ≡ hearFrom (length (now (bytes .entry))) v from (drop from (now (bytes .entry))) ⌝ }
+    ensures next { λ r. ⌜ (r .full ≡ false → r .next ≡ fieldIn v (drop (r .at) (now (bytes .entry)))) ⌝ }
+{
+    let mut at = from;
+    let mut n = 0;
+    while n + 1 < words.len() {
+        if bytes.len() < at {
+            return Stretch {
+                at: at,
+                count: n,
+                full: false,
+                next: Field::Fault(12),
+            };
+        }
+        let f = tapes_fields::field_in(&bytes[at..], v);
+        match f {
+            Field::Entry(first, item) => {
+                words[n] = first;
+                words[n + 1] = item;
+                at += tapes_fields::size(first);
+                n += 2;
+            }
+            Field::Fault(number) => {
+                return Stretch {
+                    at: at,
+                    count: n,
+                    full: false,
+                    next: Field::Fault(number),
+                };
+            }
+            Field::End => {
+                return Stretch {
+                    at: at,
+                    count: n,
+                    full: false,
+                    next: Field::End,
+                };
+            }
+        }
+    }
+    Stretch {
+        at: at,
+        count: n,
+        full: true,
+        next: Field::Fault(12),
     }
 }
 
-fn copy(from: &[u8], to: &mut [u8]) {
+fn move_one(window: &mut [u8], from: usize, i: usize) {
+    if from < window.len() {
+        if i < window.len() - from {
+            window[i] = window[from + i];
+        }
+    }
+}
+
+// So many bytes from this place on go to the window's start.
+fn move_down(window: &mut [u8], from: usize, many: usize) {
     let mut i = 0;
-    while i < from.len() {
-        put(to, i, from[i]);
+    while i < many {
+        move_one(window, from, i);
         i += 1;
     }
 }
 
-// An end, in the tape's variant, at this byte of the window; then the tape that there is.
-fn read_closed(window: &mut [u8], at: usize, words: &mut [u64]) -> Reading {
-    let h = tapes_fields::head_in(window);
-    match h {
-        Head::Fault(number) => Reading::Refused(number, 0),
-        Head::Makes(v, _, _) => {
-            if window.len() < 3 {
-                return Reading::Refused(12, 0);
-            }
-            if window.len() - 3 < at {
-                return Reading::Refused(12, at);
-            }
-            let end = at + 3;
-            tapes_fields::put_end(&mut window[at..], v);
-            tapes::read(&window[..end], words)
-        }
-    }
-}
-
-// The words of the whole fields before this byte of the window.
-fn whole_fields(p: Piece, window: &mut [u8], at: usize, words: &mut [u64]) -> Piece {
-    let r = read_closed(window, at, words);
-    match r {
-        Reading::Refused(number, place) => refused(p, number, place),
-        Reading::Schedule(_, capacity, workers, count) => heard(p, GOING, capacity, workers, count),
-    }
-}
-
-// The window's bytes from here on are not a whole field yet, and go to its start, after the first field.
-fn kept(before: Piece, from: usize, have: usize) -> Piece {
+// The window's bytes from here on are not a whole field yet, and go to its start.
+fn kept(before: Piece, window: &mut [u8], at: usize, have: usize, count: usize) -> Piece {
     let mut p = before;
-    if from < 7 {
+    if have < at {
         return failed(p);
     }
-    if have < from {
-        return failed(p);
-    }
-    if 16 < have - from {
-        return failed(p);
-    }
-    p.have = 7 + (have - from);
-    p.base = std::num::wrapping_add_u64(p.base, (from - 7) as u64);
+    move_down(window, at, have - at);
+    p.state = GOING;
+    p.count = count;
+    p.have = have - at;
+    p.base = std::num::wrapping_add_u64(p.base, at as u64);
     p
 }
 
-fn save(window: &[u8], from: usize, to: usize, rest: &mut [u8]) {
-    if to <= window.len() {
-        if from <= to {
-            copy(&window[from..to], rest);
-        }
-    }
-}
-
-fn restore(rest: &[u8], window: &mut [u8]) {
-    if 7 <= window.len() {
-        copy(rest, &mut window[7..]);
-    }
-}
-
-// The whole fields before this byte of the window, and then what stays of it.
-fn split(p: Piece, window: &mut [u8], at: usize, have: usize, words: &mut [u64]) -> Piece {
-    let mut rest = [0u8; 16];
-    save(window, at, have, &mut rest);
-    let q = whole_fields(p, window, at, words);
-    restore(&rest, window);
-    kept(q, at, have)
-}
-
-fn read_some(window: &[u8], have: usize, words: &mut [u64]) -> Reading {
-    if have <= window.len() {
-        return tapes::read(&window[..have], words);
-    }
-    Reading::Refused(12, 0)
-}
-
 // A tape whose end was met; what follows it is not in a full window.
-fn ended(fd: i32, p: Piece, f: Filled, capacity: u64, workers: u64, count: usize) -> Piece {
+fn ended(fd: i32, before: Piece, at: usize, f: Filled, count: usize) -> Piece {
+    let mut p = before;
     let mut byte = [0u8; 1];
+    let end = std::num::wrapping_add_usize(at, 3);
+    if end != f.have {
+        return refused(p, 15, end);
+    }
     let more = some(fd, &mut byte);
     if more.failed {
         return failed(p);
     }
-    if more.ended {
-        return heard(p, DONE, capacity, workers, count);
+    if !more.ended {
+        return refused(p, 15, end);
     }
-    refused(p, 15, f.have)
+    p.state = DONE;
+    p.count = count;
+    p
 }
 
-// A full window whose last field is cut has more to come; anything else is what the whole tape has.
-fn piece_of(fd: i32, p: Piece, f: Filled, window: &mut [u8], words: &mut [u64]) -> Piece {
-    let have = f.have;
-    let r = read_some(window, have, words);
-    match r {
-        Reading::Schedule(_, capacity, workers, count) => {
-            ended(fd, p, f, capacity, workers, count)
-        }
-        Reading::Refused(number, at) => {
+// A field that is cut where the input goes on has more to come.
+fn after(fd: i32, p: Piece, f: Filled, window: &mut [u8], e: Stretch) -> Piece {
+    let next = e.next;
+    match next {
+        Field::Fault(number) => {
+            if e.full {
+                return kept(p, window, e.at, f.have, e.count);
+            }
             if f.ended || number != 12 {
-                refused(p, number, at)
+                refused(p, number, e.at)
             } else {
-                split(p, window, at, have, words)
+                kept(p, window, e.at, f.have, e.count)
             }
         }
+        Field::End => ended(fd, p, e.at, f, e.count),
+        Field::Entry(_, _) => failed(p),
     }
 }
 
-fn next_in(fd: i32, p: Piece, window: &mut [u8], limit: usize, words: &mut [u64]) -> Piece {
-    if window.len() < limit {
+fn entries_in(window: &[u8], have: usize, v: Variant, from: usize, words: &mut [u64]) -> Stretch {
+    if have <= window.len() {
+        return entries(&window[..have], v, from, words);
+    }
+    entries(window, v, from, words)
+}
+
+fn later(fd: i32, p: Piece, f: Filled, window: &mut [u8], from: usize, words: &mut [u64]) -> Piece {
+    let v = p.variant;
+    let e = entries_in(window, f.have, v, from, words);
+    after(fd, p, f, window, e)
+}
+
+fn head_in(window: &[u8], have: usize) -> Head {
+    if have <= window.len() {
+        return tapes_fields::head_in(&window[..have]);
+    }
+    Head::Fault(12)
+}
+
+fn first(fd: i32, before: Piece, f: Filled, window: &mut [u8], words: &mut [u64]) -> Piece {
+    let h = head_in(window, f.have);
+    match h {
+        Head::Fault(number) => refused(before, number, 0),
+        Head::Makes(v, capacity, workers) => {
+            later(fd, begun(v, capacity, workers), f, window, 7, words)
+        }
+    }
+}
+
+// The next piece: its words stand in the buffer; both buffers are as long as said above, or longer.
+pub fn next(fd: i32, p: Piece, window: &mut [u8], words: &mut [u64]) -> Piece {
+    if window.len() < p.have || words.len() < 2 {
         return failed(p);
     }
-    if limit < p.have {
-        return failed(p);
-    }
-    let f = fill(fd, &mut window[..limit], p.have);
+    let f = fill(fd, window, p.have);
     if f.failed {
         return failed(p);
     }
-    piece_of(fd, p, f, window, words)
-}
-
-// The next piece: its words stand in the buffer; both buffers are as long as said above.
-pub fn next(fd: i32, p: Piece, window: &mut [u8], words: &mut [u64]) -> Piece {
-    if window.len() < 3 {
-        return failed(p);
+    if p.state == NEW {
+        first(fd, p, f, window, words)
+    } else {
+        later(fd, p, f, window, 0, words)
     }
-    let limit = window.len() - 3;
-    next_in(fd, p, window, limit, words)
 }

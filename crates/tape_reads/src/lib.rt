@@ -2,7 +2,7 @@
 use tape_pieces::Piece;
 
 // Beside the states of a piece: its text could not be kept, and that was said.
-const STUCK: u64 = 4;
+const STUCK: u64 = 5;
 
 fn put(to: i32, out: &[u8], n: usize) -> bool {
     if n <= out.len() {
@@ -55,13 +55,9 @@ fn put_some(to: i32, words: &[u64], n: usize, out: &mut [u8]) -> bool {
     false
 }
 
-// The first line. A schedule of the one-slot queue has no capacity.
-fn put_head(to: i32, p: Piece, with_capacity: bool, out: &mut [u8]) -> bool {
-    if with_capacity {
-        let n = text_output::form(out, 0, b"# #\n", &[p.capacity, p.workers]);
-        return put(to, out, n);
-    }
-    let n = text_output::form(out, 0, b"#\n", &[p.workers]);
+// The first line.
+fn put_head(to: i32, p: Piece, out: &mut [u8]) -> bool {
+    let n = text_output::form(out, 0, b"# #\n", &[p.capacity, p.workers]);
     put(to, out, n)
 }
 
@@ -81,16 +77,9 @@ fn turn(
     p
 }
 
-fn first_turn(
-    from: i32,
-    to: i32,
-    with_capacity: bool,
-    window: &mut [u8],
-    words: &mut [u64],
-    out: &mut [u8],
-) -> Piece {
+fn first_turn(from: i32, to: i32, window: &mut [u8], words: &mut [u64], out: &mut [u8]) -> Piece {
     let mut p = tape_pieces::next(from, tape_pieces::start(), window, words);
-    if put_head(to, p, with_capacity, out) {} else {
+    if put_head(to, p, out) {} else {
         p.state = STUCK;
     }
     if put_some(to, words, p.count, out) {} else {
@@ -99,28 +88,21 @@ fn first_turn(
     p
 }
 
-fn all(
-    from: i32,
-    to: i32,
-    with_capacity: bool,
-    window: &mut [u8],
-    words: &mut [u64],
-    out: &mut [u8],
-) -> Piece {
-    let mut p = first_turn(from, to, with_capacity, window, words, out);
+fn all(from: i32, to: i32, window: &mut [u8], words: &mut [u64], out: &mut [u8]) -> Piece {
+    let mut p = first_turn(from, to, window, words, out);
     let mut turns = u64::MAX;
-    while turns > 0 && p.state == tape_pieces::GOING {
+    while turns > 0 && tape_pieces::goes_on(p) {
         turns -= 1;
         p = turn(from, p, to, window, words, out);
     }
     p
 }
 
-fn read(from: i32, to: i32, with_capacity: bool) -> Piece {
+fn read(from: i32, to: i32) -> Piece {
     let mut window = [0u8; tape_pieces::WINDOW];
     let mut words = [0u64; tape_pieces::WORDS];
     let mut out = io::large_buffer();
-    all(from, to, with_capacity, &mut window, &mut words, &mut out)
+    all(from, to, &mut window, &mut words, &mut out)
 }
 
 fn status_of(p: Piece, name: &[u8]) -> u8 {
@@ -140,18 +122,18 @@ fn status_of(p: Piece, name: &[u8]) -> u8 {
 }
 
 // The status; where it is 0, a file without a name that has the text.
-pub struct Text {
-    pub status: u8,
-    pub fd: i32,
+struct Text {
+    status: u8,
+    fd: i32,
 }
 
 // The text of a tape; what is wrong with the tape is said.
-pub fn text_of(from: i32, name: &[u8], with_capacity: bool) -> Text {
+fn text_of(from: i32, name: &[u8]) -> Text {
     let to = replay_input::source::nameless();
     if to < 0 {
         return Text { status: 2, fd: to };
     }
-    let status = status_of(read(from, to, with_capacity), name);
+    let status = status_of(read(from, to), name);
     if status != 0 {
         libc::close(to);
     }
@@ -163,7 +145,7 @@ pub fn text_of(from: i32, name: &[u8], with_capacity: bool) -> Text {
 
 // The text to standard output; answers the status.
 pub fn run(from: i32, name: &[u8]) -> u8 {
-    let text = text_of(from, name, true);
+    let text = text_of(from, name);
     if text.status != 0 {
         return text.status;
     }

@@ -3,6 +3,11 @@ use replay_input::source::Reading;
 use tapes::Writing;
 use tapes_numbers::Variant;
 
+// A piece of text and room for its numbers, so few that their tape, 12 bytes to two of them at the most, has room in a large buffer.
+const BYTES: usize = 16384;
+
+const NUMBERS: usize = 8200;
+
 // Where the reading of the numbers stands, and what it has brought.
 struct Work {
     reading: Reading,
@@ -23,7 +28,7 @@ struct Work {
 
 fn start() -> Work {
     Work {
-        reading: replay_input::source::start(0, 1),
+        reading: replay_input::source::start(false, 0, 1),
         left: 0,
         begun: false,
         capacity: 0,
@@ -146,6 +151,13 @@ fn read_on(before: Work, reading: Reading, left: usize) -> Work {
     w
 }
 
+// The numbers of a reading.
+fn taken_in(w: Work, r: Reading, v: Variant, to: i32, list: &mut [u64], tape: &mut [u8]) -> Work {
+    let after = with_some(w, v, to, list, r.count, tape);
+    let left = replay_input::source::carry(list, r.count);
+    read_on(after, r, left)
+}
+
 fn turn(
     from: i32,
     w: Work,
@@ -157,9 +169,7 @@ fn turn(
 ) -> Work {
     let before = w.reading;
     let r = replay_input::source::turn(from, false, before, bytes, list, w.left);
-    let after = with_some(w, v, to, list, r.count, tape);
-    let left = replay_input::source::carry(list, r.count);
-    read_on(after, r, left)
+    taken_in(w, r, v, to, list, tape)
 }
 
 fn goes_on(w: Work) -> bool {
@@ -189,8 +199,8 @@ fn all(
 }
 
 fn worked(from: i32, v: Variant, to: i32) -> Work {
-    let mut bytes = [0u8; replay_input::source::BYTES];
-    let mut list = [0u64; replay_input::source::NUMBERS];
+    let mut bytes = [0u8; BYTES];
+    let mut list = [0u64; NUMBERS];
     let mut tape = io::large_buffer();
     all(from, v, to, &mut bytes, &mut list, &mut tape)
 }

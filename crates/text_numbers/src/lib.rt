@@ -1,6 +1,7 @@
 // Numbers out of text, byte by byte: unsigned decimal numbers separated by white space; `#` starts a comment to the end of
 // its line. Where several schedules stand in one text, a line with a single `%` ends one.
-ghost use Prim.Native.Nat.{_≤_};
+ghost use Prim.Native.Nat.{_≤_, _+_};
+ghost use mathlib.Core.Path.{_≡_};
 
 // What a byte brought.
 pub const NOTHING: u64 = 0;
@@ -95,6 +96,7 @@ fn is_digit(b: u8) -> bool {
 
 fn digit_of(b: u8) -> u64
     requires { ⌜ 48 ≤ b ⌝ }
+    ensures { λ r. ⌜ r + 48 ≡ b ⌝ }
 {
     (b - 48) as u64
 }
@@ -210,19 +212,140 @@ fn stop_of(event: u64) -> u64 {
     if event < MARK { NOTHING } else { event }
 }
 
+// Digits in a row: their number, and where they end.
+struct Digits {
+    value: u64,
+    end: usize,
+}
+
+struct Next {
+    digit: bool,
+    value: u64,
+}
+
+// A digit more, as long as the sum surely fits 64 bits; digits past that are read byte by byte.
+fn with_next(v: u64, b: u8) -> Next {
+    if v < 100000000000000000 {
+        if 48 <= b {
+            if b <= 57 {
+                return Next {
+                    digit: true,
+                    value: 10 * v + digit_of(b),
+                };
+            }
+        }
+    }
+    Next {
+        digit: false,
+        value: v,
+    }
+}
+
+fn digits_at(bytes: &[u8], from: usize) -> Digits {
+    let mut value = 0;
+    let mut i = from;
+    while i < bytes.len() {
+        let next = with_next(value, bytes[i]);
+        if next.digit {} else {
+            return Digits {
+                value: value,
+                end: i,
+            };
+        }
+        value = next.value;
+        i += 1;
+    }
+    Digits {
+        value: value,
+        end: i,
+    }
+}
+
+fn is_between(s: Scan) -> bool {
+    let state = s.state;
+    match state {
+        State::Between => true,
+        State::Digits => false,
+        State::Comment => false,
+        State::Percent => false,
+    }
+}
+
+// A whole number with the byte that ends it, which is what most text is made of; the place after it is 0 where there is none.
+struct Plain {
+    scan: Scan,
+    value: u64,
+    next: usize,
+}
+
+fn no_plain(s: Scan) -> Plain {
+    Plain {
+        scan: s,
+        value: 0,
+        next: 0,
+    }
+}
+
+fn ended_by(s: Scan, d: Digits, from: usize, b: u8) -> Plain {
+    let next = std::num::wrapping_add_usize(d.end, 1);
+    if b == b'\n' {
+        return Plain {
+            scan: start(up(s.line)),
+            value: d.value,
+            next: next,
+        };
+    }
+    if b == b' ' {
+        let wide = std::num::wrapping_sub_usize(next, from) as u64;
+        return Plain {
+            scan: Scan {
+                state: State::Between,
+                value: 0,
+                line: s.line,
+                column: std::num::wrapping_add_u64(s.column, wide),
+                start: s.column,
+            },
+            value: d.value,
+            next: next,
+        };
+    }
+    no_plain(s)
+}
+
+fn plain_at(s: Scan, bytes: &[u8], from: usize) -> Plain {
+    if is_between(s) {
+        let d = digits_at(bytes, from);
+        let end = d.end;
+        if from < end && end < bytes.len() {
+            return ended_by(s, d, from, bytes[end]);
+        }
+    }
+    no_plain(s)
+}
+
 // A piece of text, to its end or to the first event that is no number. The list has room for a number to each two bytes.
 pub fn read_piece(s: Scan, many: bool, bytes: &[u8], list: &mut [u64], count: usize) -> Piece {
     let mut scan = s;
     let mut kept = count;
     let mut event = NOTHING;
     let mut i = 0;
-    while i < bytes.len() && event < MARK {
-        let saw = byte(scan, many, bytes[i]);
-        let after = saw.scan;
-        scan = after;
-        event = saw.event;
-        kept = keep(list, kept, event, saw.number);
-        i += 1;
+    let n = bytes.len();
+    while i < n && event < MARK {
+        let plain = plain_at(scan, bytes, i);
+        if i < plain.next {
+            let after = plain.scan;
+            scan = after;
+            event = NUMBER;
+            kept = keep(list, kept, event, plain.value);
+            i = plain.next;
+        } else {
+            let saw = byte(scan, many, bytes[i]);
+            let after = saw.scan;
+            scan = after;
+            event = saw.event;
+            kept = keep(list, kept, event, saw.number);
+            i += 1;
+        }
     }
     Piece {
         scan: scan,

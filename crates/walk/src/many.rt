@@ -45,7 +45,7 @@ fn after(s: Survey, at: usize, status: u8) -> Next {
 }
 
 fn surveyed(o: Options, fd: i32, from: Next) -> Survey {
-    replay_survey::surveyed(fd, o.many, 0, 16, from.offset, from.line)
+    replay_survey::surveyed(fd, o.many, 0, 16, false, from.offset, from.line)
 }
 
 fn numbers(s: Survey) -> u64 {
@@ -75,7 +75,7 @@ fn asked(o: Options) -> Asked {
 }
 
 fn play(o: Options, fd: i32, begun: Reading, whole: Whole, out: &mut [u8], at: usize) -> Played {
-    let l = walk_play::load::load(o.edition, fd, o.many, begun, whole);
+    let l = walk_load::load(o.edition, fd, o.many, begun, whole);
     if l.refusal != 0 {
         return Played {
             at: walk_play::refused::tell(out, at, o.many, l.refusal, &[l.place]),
@@ -102,7 +102,7 @@ fn one(o: Options, fd: i32, name: &[u8], from: Next, out: &mut [u8]) -> Next {
     if is_sound(s, name) {} else {
         return stands(false, 0, 0, 0, UNREADABLE);
     }
-    let begun = replay_input::source::begun(from.offset, from.line, 0);
+    let begun = replay_input::source::begun(false, from.offset, from.line, 0);
     let p = play(o, fd, begun, replay_survey::refused_whole(s), out, from.at);
     let at = mark(out, p.at, o.many);
     after(s, at, worse(from.status, p.refused))

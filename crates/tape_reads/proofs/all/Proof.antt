@@ -7,12 +7,13 @@ use Rattle.tape_reads.proofs.all.Reads as reads
 use Rattle.tape_reads.proofs.all.Lts as lts
 use Rattle.tape_reads.proofs.first_turn.Reads as first-turn-reads
 use Rattle.tape_reads.proofs.turn.Reads as turn-reads
+use Rattle.tape_pieces.proofs.goes_on.Reads as goes-on-reads
 
 abbrev Inv-loop : tie.InvT-loop
-Inv-loop from to with-capacity window₀ words₀ out₀ p₀ turns₀ window words out p turns = (length window ≡ length window₀) × (length words ≡ length words₀) × (length out ≡ length out₀)
+Inv-loop from to window₀ words₀ out₀ p₀ turns₀ window words out p turns = (length window ≡ length window₀) × (length words ≡ length words₀) × (length out ≡ length out₀)
 
 abbrev μ-loop : tie.MeasureT-loop
-μ-loop from to with-capacity window₀ words₀ out₀ p₀ turns₀ window words out p turns = turns
+μ-loop from to window₀ words₀ out₀ p₀ turns₀ window words out p turns = turns
 
 -- src/lib.rt:110:9
 first-turn-requires : tie.Need-first-turn-requires Inv-loop μ-loop
@@ -21,6 +22,10 @@ first-turn-requires c κs = search needs
 -- src/lib.rt:112:5
 loop-holds : tie.Need-loop-holds Inv-loop μ-loop
 loop-holds c = search needs
+
+-- src/lib.rt:108:24
+goes-on-requires : tie.Need-goes-on-requires Inv-loop μ-loop
+goes-on-requires c κs = search needs
 
 -- src/lib.rt:113:9
 sub-turns : tie.Need-sub-turns Inv-loop μ-loop
@@ -78,6 +83,7 @@ all-spec =
     μ-loop
     first-turn-requires
     loop-holds
+    goes-on-requires
     sub-turns
     turn-requires
     loop-less

@@ -1,0 +1,364 @@
+//! The job of `replay` as a plain Rust program: document 01's machine and tables, written for speed and nothing else.
+//! It is what the proved port is measured against by bench/run, and compared with by tests/bench.
+
+pub const METER: u64 = 4_294_967_295;
+
+#[derive(Clone, Copy, PartialEq)]
+pub enum Answer {
+    Nothing,
+    Pushed,
+    Full(u64),
+    Closed(u64),
+    Displaced(u64),
+    Popped(u64),
+    Empty,
+    PopClosed,
+    Len(u64),
+    Yes,
+    No,
+}
+
+#[derive(Clone, Copy, PartialEq)]
+pub enum Place {
+    Idle(Answer),
+    P1 { force: bool, item: u64 },
+    P2 { force: bool, t: u64, item: u64 },
+    P3 { force: bool, t: u64, item: u64 },
+    P4 { t: u64, item: u64 },
+    P5 { t: u64 },
+    P6 { t: u64, item: u64 },
+    F6 { t: u64, item: u64 },
+    F7 { t: u64, item: u64 },
+    F8 { t: u64, item: u64 },
+    F9 { t: u64, old: u64 },
+    O1,
+    O2 { h: u64 },
+    O3 { h: u64 },
+    O4 { h: u64 },
+    O5 { h: u64, value: u64 },
+    O6 { h: u64 },
+    Len1,
+    Len2 { t: u64 },
+    Len3 { t: u64, h: u64 },
+    Empty1,
+    Empty2 { h: u64 },
+    Full1,
+    Full2 { t: u64 },
+    Close1,
+    IsClosed1,
+}
+
+use Answer::*;
+use Place::*;
+
+#[derive(Clone, Copy)]
+pub struct Slot {
+    pub stamp: u64,
+    pub value: u64,
+}
+
+#[derive(Clone, Copy)]
+pub struct Worker {
+    pub place: Place,
+    /// Exchanges of the present call lost because the words differed, and by the schedule.
+    pub differed: u64,
+    pub failed: u64,
+}
+
+pub struct Machine {
+    pub capacity: u64,
+    mark: u64,
+    lap: u64,
+    keeps_mark: bool,
+    pub head: u64,
+    pub tail: u64,
+    pub slots: Vec<Slot>,
+    pub workers: Vec<Worker>,
+    pub meter: u64,
+}
+
+impl Machine {
+    /// A fresh machine, or refusal 1, 2 or 18.
+    pub fn new(capacity: u64, workers: u64, edition: u64) -> Result<Machine, u64> {
+        if !(1..=1024).contains(&capacity) {
+            return Err(1);
+        }
+        if !(1..=16).contains(&workers) {
+            return Err(2);
+        }
+        if !(1..=2).contains(&edition) {
+            return Err(18);
+        }
+        let mark = (capacity + 1).next_power_of_two();
+        Ok(Machine {
+            capacity,
+            mark,
+            lap: 2 * mark,
+            keeps_mark: edition == 2,
+            head: 0,
+            tail: 0,
+            slots: (0..capacity).map(|stamp| Slot { stamp, value: 0 }).collect(),
+            workers: vec![Worker { place: Idle(Nothing), differed: 0, failed: 0 }; workers as usize],
+            meter: 0,
+        })
+    }
+
+    fn index(&self, w: u64) -> u64 {
+        w & (self.mark - 1)
+    }
+
+    fn next(&self, w: u64) -> u64 {
+        let i = self.index(w);
+        if i + 1 < self.capacity { w.wrapping_add(1) } else { (w - i).wrapping_add(self.lap) }
+    }
+
+    fn marked(&self, w: u64) -> bool {
+        w & self.mark != 0
+    }
+
+    fn unmarked(&self, w: u64) -> u64 {
+        w & !self.mark
+    }
+
+    fn slot(&mut self, w: u64) -> &mut Slot {
+        let i = self.index(w) as usize;
+        &mut self.slots[i]
+    }
+
+    fn count(&self, t: u64, h: u64) -> u64 {
+        let (tix, hix) = (self.index(t), self.index(h));
+        if hix < tix {
+            tix - hix
+        } else if hix > tix {
+            self.capacity - hix + tix
+        } else if self.unmarked(t) == h {
+            0
+        } else {
+            self.capacity
+        }
+    }
+
+    fn after_tail(&self, force: bool, t: u64, item: u64) -> Place {
+        if self.marked(t) { Idle(Closed(item)) } else { P2 { force, t, item } }
+    }
+
+    /// One act of the worker that stands at `place`; `lose`: its weak exchange fails.
+    #[inline(always)]
+    fn act(&mut self, worker: &mut Worker, lose: bool) {
+        worker.place = match worker.place {
+            Idle(a) => Idle(a),
+            P1 { force, item } => self.after_tail(force, self.tail, item),
+            P2 { force, t, item } => {
+                let s = self.slot(t).stamp;
+                if s == t {
+                    P3 { force, t, item }
+                } else if s.wrapping_add(self.lap) == t.wrapping_add(1) {
+                    if force { F6 { t, item } } else { P6 { t, item } }
+                } else {
+                    P1 { force, item }
+                }
+            }
+            P3 { force, t, item } => {
+                if self.tail != t {
+                    worker.differed += 1;
+                    self.after_tail(force, self.tail, item)
+                } else if lose {
+                    worker.failed += 1;
+                    P2 { force, t, item }
+                } else {
+                    self.tail = self.next(t);
+                    P4 { t, item }
+                }
+            }
+            P4 { t, item } => {
+                self.slot(t).value = item;
+                P5 { t }
+            }
+            P5 { t } => {
+                self.slot(t).stamp = t.wrapping_add(1);
+                Idle(Pushed)
+            }
+            P6 { t, item } => {
+                if self.head.wrapping_add(self.lap) == t { Idle(Full(item)) } else { P1 { force: false, item } }
+            }
+            F6 { t, item } => {
+                if self.head != t.wrapping_sub(self.lap) {
+                    worker.differed += 1;
+                    P1 { force: true, item }
+                } else if lose {
+                    worker.failed += 1;
+                    P1 { force: true, item }
+                } else {
+                    self.head = self.next(t).wrapping_sub(self.lap);
+                    F7 { t, item }
+                }
+            }
+            F7 { t, item } => {
+                let kept = if self.keeps_mark { self.tail & self.mark } else { 0 };
+                self.tail = self.next(t) | kept;
+                F8 { t, item }
+            }
+            F8 { t, item } => {
+                let slot = self.slot(t);
+                let old = slot.value;
+                slot.value = item;
+                F9 { t, old }
+            }
+            F9 { t, old } => {
+                self.slot(t).stamp = t.wrapping_add(1);
+                Idle(Displaced(old))
+            }
+            O1 => O2 { h: self.head },
+            O2 { h } => {
+                let s = self.slot(h).stamp;
+                if s == h.wrapping_add(1) {
+                    O3 { h }
+                } else if s == h {
+                    O6 { h }
+                } else {
+                    O1
+                }
+            }
+            O3 { h } => {
+                if self.head != h {
+                    worker.differed += 1;
+                    O2 { h: self.head }
+                } else if lose {
+                    worker.failed += 1;
+                    O2 { h }
+                } else {
+                    self.head = self.next(h);
+                    O4 { h }
+                }
+            }
+            O4 { h } => O5 { h, value: self.slot(h).value },
+            O5 { h, value } => {
+                self.slot(h).stamp = h.wrapping_add(self.lap);
+                Idle(Popped(value))
+            }
+            O6 { h } => {
+                if self.unmarked(self.tail) != h {
+                    O1
+                } else if self.marked(self.tail) {
+                    Idle(PopClosed)
+                } else {
+                    Idle(Empty)
+                }
+            }
+            Len1 => Len2 { t: self.tail },
+            Len2 { t } => Len3 { t, h: self.head },
+            Len3 { t, h } => if self.tail == t { Idle(Len(self.count(t, h))) } else { Len1 },
+            Empty1 => Empty2 { h: self.head },
+            Empty2 { h } => yes_no(self.unmarked(self.tail) == h),
+            Full1 => Full2 { t: self.tail },
+            Full2 { t } => yes_no(self.head.wrapping_add(self.lap) == self.unmarked(t)),
+            Close1 => {
+                let clear = !self.marked(self.tail);
+                self.tail |= self.mark;
+                yes_no(clear)
+            }
+            IsClosed1 => yes_no(self.marked(self.tail)),
+        };
+    }
+
+    /// One entry, read already: 0, or the refusal.
+    #[inline(always)]
+    pub fn step(&mut self, first: u64, item: u64) -> u64 {
+        let w = (first / 16) as usize;
+        let Some(&worker) = self.workers.get(w) else { return 3 };
+        let mut worker = worker;
+        let code = first % 16;
+        let busy = !matches!(worker.place, Idle(_));
+        if code < 8 {
+            if busy {
+                return 4;
+            }
+            worker = Worker { place: begin(code, item), differed: 0, failed: 0 };
+        } else {
+            if !busy {
+                return 5;
+            }
+            if self.meter >= METER {
+                return 7;
+            }
+            let lose = code == 9;
+            if lose && !matches!(worker.place, P3 { .. } | F6 { .. } | O3 { .. }) {
+                return 8;
+            }
+            self.act(&mut worker, lose);
+            self.meter += 1;
+        }
+        self.workers[w] = worker;
+        0
+    }
+
+    /// A schedule to its end or to its first refusal: the refusal, and how many entries were run.
+    pub fn run(&mut self, schedule: &[u64]) -> (u64, u64) {
+        if schedule.len() % 2 == 1 {
+            return (11, 0);
+        }
+        if let Some(at) = unreadable(schedule) {
+            return (9, at);
+        }
+        for (i, entry) in schedule.chunks_exact(2).enumerate() {
+            let refusal = self.step(entry[0], entry[1]);
+            if refusal != 0 {
+                return (refusal, i as u64);
+            }
+        }
+        (0, schedule.len() as u64 / 2)
+    }
+
+    /// What `Drop` would meet, or refusal 4.
+    pub fn contents(&self) -> Result<Vec<u64>, u64> {
+        if self.workers.iter().any(|w| !matches!(w.place, Idle(_))) {
+            return Err(4);
+        }
+        let from = self.index(self.head);
+        Ok((0..self.count(self.tail, self.head)).map(|k| self.slots[((from + k) % self.capacity) as usize].value).collect())
+    }
+}
+
+/// The place of the first entry that cannot be read.
+pub fn unreadable(schedule: &[u64]) -> Option<u64> {
+    schedule.chunks_exact(2).position(|e| e[0] % 16 > 9 || (e[0] % 16 > 1 && e[1] != 0)).map(|at| at as u64)
+}
+
+fn yes_no(yes: bool) -> Place {
+    Idle(if yes { Yes } else { No })
+}
+
+fn begin(code: u64, item: u64) -> Place {
+    match code {
+        0 => P1 { force: false, item },
+        1 => P1 { force: true, item },
+        2 => O1,
+        3 => Len1,
+        4 => Empty1,
+        5 => Full1,
+        6 => Close1,
+        _ => IsClosed1,
+    }
+}
+
+/// The numbers of a text: white space between them, # to the end of a line.
+pub fn numbers(text: &[u8]) -> Option<Vec<u64>> {
+    let mut list = Vec::with_capacity(text.len() / 3);
+    let mut i = 0;
+    while i < text.len() {
+        match text[i] {
+            b' ' | b'\n' | b'\t' | b'\r' => i += 1,
+            b'#' => i += text[i..].iter().position(|&c| c == b'\n').unwrap_or(text.len() - i),
+            b'0'..=b'9' => {
+                let mut n: u64 = 0;
+                while i < text.len() && text[i].is_ascii_digit() {
+                    n = n.checked_mul(10)?.checked_add((text[i] - b'0') as u64)?;
+                    i += 1;
+                }
+                list.push(n);
+            }
+            _ => return None,
+        }
+    }
+    Some(list)
+}
