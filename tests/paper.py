@@ -8,7 +8,7 @@ with the other queues is read in paper_entries.py.
 from dataclasses import dataclass, replace
 from typing import NamedTuple, Optional
 
-from paper_entries import ACT_CODES, MOST_METER, MOST_WORKERS, Entries, busy, busy_past_the_count, out_of_limits
+from paper_entries import ACT_CODES, MOST_LENT, MOST_METER, MOST_WORKERS, Entries, busy, busy_past_the_count, out_of_limits
 
 WIDTHS = {64: 2**64, 16: 65_536}
 MOST_SLOTS = 1024
@@ -93,17 +93,18 @@ class Machine:
     workers: list
     count: int
     meter: int
+    most: int = MOST_WORKERS  # records that there can be; where they are lent, MOST_LENT
 
 
-def blank(bits=64):
+def blank(bits=64, most=MOST_WORKERS):
     ring = Ring(capacity=0, mark=0, lap=0, edition=0, head=0, tail=0, slots=[Slot()] * MOST_SLOTS, wide=WIDTHS[bits])
-    return Machine(ring, workers=[Worker()] * MOST_WORKERS, count=0, meter=0)
+    return Machine(ring, workers=[Worker()] * most, count=0, meter=0, most=most)
 
 
-def fresh(capacity, count, edition, bits):
+def fresh(capacity, count, edition, bits, most):
     slots = [Slot(stamp=i) if i < capacity else Slot() for i in range(MOST_SLOTS)]
     ring = Ring(capacity, mark_of(capacity), lap_of(capacity), edition, head=0, tail=0, slots=slots, wide=WIDTHS[bits])
-    return replace(blank(bits), ring=ring, count=count)
+    return replace(blank(bits, most), ring=ring, count=count)
 
 
 def copy_of(machine):
@@ -412,7 +413,7 @@ def losses_amiss(machine):
 
 def broken(machine):
     ring = machine.ring
-    if out_of_limits(ring.capacity, MOST_SLOTS) or out_of_limits(machine.count, MOST_WORKERS):
+    if out_of_limits(ring.capacity, MOST_SLOTS) or out_of_limits(machine.count, machine.most):
         return True
     if out_of_limits(ring.edition, MOST_EDITIONS):
         return True
@@ -425,14 +426,14 @@ def broken(machine):
     return losses_amiss(machine) or busy_past_the_count(machine)
 
 
-def make(capacity, count, edition, bits=64):
+def make(capacity, count, edition, bits=64, most=MOST_WORKERS):
     if out_of_limits(capacity, MOST_SLOTS):
-        return 1, blank(bits)
-    if out_of_limits(count, MOST_WORKERS):
-        return 2, blank(bits)
+        return 1, blank(bits, most)
+    if out_of_limits(count, most):
+        return 2, blank(bits, most)
     if out_of_limits(edition, MOST_EDITIONS):
-        return 18, blank(bits)
-    return 0, fresh(capacity, count, edition, bits)
+        return 18, blank(bits, most)
+    return 0, fresh(capacity, count, edition, bits, most)
 
 
 def begun(call, item):

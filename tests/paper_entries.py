@@ -8,6 +8,7 @@ from dataclasses import dataclass
 from typing import Callable
 
 MOST_WORKERS = 16
+MOST_LENT = 64  # records that a host lends: document 02, item 11
 MOST_METER = 4_294_967_295
 
 

@@ -1,6 +1,8 @@
 fn main() {
     let here = std::env::var("CARGO_MANIFEST_DIR").unwrap();
     println!("cargo:rustc-link-search=native={here}/../../target/native");
-    println!("cargo:rustc-link-lib=static=bench_run");
-    println!("cargo:rerun-if-changed={here}/../../target/native/libbench_run.a");
+    for library in ["bench_run", "bench_lent"] {
+        println!("cargo:rustc-link-lib=static={library}");
+        println!("cargo:rerun-if-changed={here}/../../target/native/lib{library}.a");
+    }
 }

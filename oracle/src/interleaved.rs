@@ -1,4 +1,4 @@
-//! Random schedules of 1 to 16 workers. What is likely changes from phase to phase, so that queues run full and empty, exchanges
+//! Random schedules of 1 to 16 workers, 17 to 64 whose records are lent. What is likely changes from phase to phase, so that queues run full and empty, exchanges
 //! are lost, and workers sleep over whole laps with stale words in hand.
 
 use crate::call::Entry;
@@ -86,7 +86,7 @@ pub fn drive(run: &mut Run, acts: u64, seed: u64, closing: bool) -> Result<(), S
             schedule_closed(&mut random, making, workers, 0, length, close_from)
         } else {
             let making = Making::random(run.queue, &mut random);
-            let workers = 1 + random.below(16) as u64;
+            let workers = run.queue.workers(&mut random);
             // One process for each schedule wants long ones.
             let length = if run.many() { 100 + random.below(most_entries(making)) } else { run.batch };
             let held = held_at_first(making, &mut random);
@@ -230,7 +230,8 @@ pub fn any_entry(random: &mut Random, workers: u64) -> (u64, u64) {
 /// A making refused, or an odd number of words, or both.
 pub fn refused_whole(queue: Queue, random: &mut Random) -> Schedule {
     let making = Making::among(queue, random, &[0, 1, 2, 257, 1024, 1025, u64::MAX]);
-    let workers = random.pick(&[0, 1, 2, 16, 17, 64, u64::MAX]);
+    let most = queue.workers_most();
+    let workers = random.pick(&[0, 1, 2, most, most + 1, 64, u64::MAX]);
     let mut schedule = Schedule::new(making, workers);
     for _ in 0..random.below(3) {
         schedule.push(random.below(10) as u64, 0);

@@ -14,7 +14,7 @@ use std::time::Instant;
 use std::{env, fs};
 
 const USAGE: &str =
-    "Each command takes --queue bounded|single|unbounded, bounded unless told, and for bounded --edition N, 1 unless told, --bits 16|64, 64 unless told, and, but for list, walk and walks, --causes, --losses and --stock.
+    "Each command takes --queue bounded|single|unbounded, bounded unless told, and for bounded --edition N, 1 unless told, --bits 16|64, 64 unless told, and --lent, and, but for list, walk and walks, --causes, --losses and --stock.
 judge expect FILE|- [--quiet] [--many]
 judge sequential --calls N --seed S [--quiet] [--module CMD [--many]] [--batch ENTRIES] [--save DIR]
 judge interleaved --acts N --seed S [--closing] [--quiet] [--module CMD [--many]] [--batch ENTRIES] [--save DIR]
@@ -76,7 +76,7 @@ impl Options {
         while let Some(argument) = arguments.next() {
             match argument.strip_prefix("--") {
                 None => options.plain.push(argument),
-                Some(flag @ ("quiet" | "many" | "compact" | "closing" | "causes" | "losses" | "stock" | "list")) => {
+                Some(flag @ ("quiet" | "many" | "compact" | "closing" | "causes" | "losses" | "stock" | "list" | "lent")) => {
                     options.flags.push(flag.into());
                 }
                 Some(
@@ -109,8 +109,9 @@ impl Options {
         let name = self.value("queue").unwrap_or("bounded");
         match Queue::named(name).ok_or(format!("--queue: no such queue: {name}\n{USAGE}"))? {
             Queue::Bounded { edition, .. } => {
-                Ok(Queue::Bounded { edition: self.number_or("edition", edition)?, bits: self.bits()? })
+                Ok(Queue::Bounded { edition: self.number_or("edition", edition)?, bits: self.bits()?, lent: self.flag("lent") })
             }
+            other if self.flag("lent") => Err(format!("--lent: {other:?} lends none\n{USAGE}")),
             other => match ["edition", "bits"].into_iter().find(|name| self.value(name).is_some()) {
                 Some(name) => Err(format!("--{name}: {other:?} has none\n{USAGE}")),
                 None => Ok(other),

@@ -10,7 +10,8 @@ use crate::state::Kind;
 
 #[derive(Clone, Copy, Debug, PartialEq, Eq)]
 pub enum Queue {
-    Bounded { edition: u64, bits: Bits },
+    /// `lent`: its records are lent, up to 64 of them (document 02, item 11).
+    Bounded { edition: u64, bits: Bits, lent: bool },
     Single,
     Unbounded,
 }
@@ -57,7 +58,7 @@ impl Queue {
     ];
 
     pub const fn ring(edition: u64, bits: Bits) -> Queue {
-        Queue::Bounded { edition, bits }
+        Queue::Bounded { edition, bits, lent: false }
     }
 
     pub fn named(name: &str) -> Option<Queue> {
@@ -77,8 +78,11 @@ impl Queue {
         let name = format!("--queue {}", self.facts().name);
         match self {
             Queue::RING => String::new(),
-            Queue::Bounded { edition, bits: Bits::SixtyFour } => format!("{name} --edition {edition}"),
-            Queue::Bounded { edition, bits: Bits::Sixteen } => format!("{name} --edition {edition} --bits 16"),
+            Queue::Bounded { edition, bits, lent } => {
+                let bits = if bits == Bits::Sixteen { " --bits 16" } else { "" };
+                let lent = if lent { " --lent" } else { "" };
+                format!("{name} --edition {edition}{bits}{lent}")
+            }
             _ => name,
         }
     }
@@ -86,9 +90,24 @@ impl Queue {
     /// A making of this queue; the capacity is a ring's.
     pub fn making(self, capacity: u64) -> Making {
         match self {
-            Queue::Bounded { edition, bits } => Making::Bounded { capacity, edition, bits },
+            Queue::Bounded { edition, bits, lent } => Making::Bounded { capacity, edition, bits, lent },
             Queue::Single => Making::Single,
             Queue::Unbounded => Making::Unbounded,
+        }
+    }
+
+    pub fn workers_most(self) -> u64 {
+        match self {
+            Queue::Bounded { lent: true, .. } => 64,
+            _ => 16,
+        }
+    }
+
+    /// How many workers there are in a random run: with records that are lent, more than a machine holds.
+    pub fn workers(self, random: &mut Random) -> u64 {
+        match self {
+            Queue::Bounded { lent: true, .. } => 17 + random.below(48) as u64,
+            _ => 1 + random.below(16) as u64,
         }
     }
 
@@ -100,7 +119,7 @@ impl Queue {
 /// What a machine is made of, beside its workers.
 #[derive(Clone, Copy, Debug, PartialEq, Eq)]
 pub enum Making {
-    Bounded { capacity: u64, edition: u64, bits: Bits },
+    Bounded { capacity: u64, edition: u64, bits: Bits, lent: bool },
     Single,
     Unbounded,
 }
@@ -112,7 +131,7 @@ pub const CAPACITIES: [u64; 13] = [1, 2, 3, 4, 5, 7, 8, 255, 256, 257, 512, 1023
 impl Making {
     pub fn queue(self) -> Queue {
         match self {
-            Making::Bounded { edition, bits, .. } => Queue::Bounded { edition, bits },
+            Making::Bounded { edition, bits, lent, .. } => Queue::Bounded { edition, bits, lent },
             Making::Single => Queue::Single,
             Making::Unbounded => Queue::Unbounded,
         }
@@ -123,11 +142,11 @@ impl Making {
         if matches!(self, Making::Bounded { capacity, .. } if !(1..=SLOTS_MOST).contains(&capacity)) {
             return Err(1);
         }
-        if !(1..=16).contains(&workers) {
+        if !(1..=self.queue().workers_most()).contains(&workers) {
             return Err(2);
         }
         match self {
-            Making::Bounded { capacity, edition, bits } => {
+            Making::Bounded { capacity, edition, bits, .. } => {
                 Ok(Box::new(Ring::new(capacity as usize, edition, bits).ok_or(18_u64)?))
             }
             Making::Single => Ok(Box::new(OneSlot::new())),

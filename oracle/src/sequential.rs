@@ -32,7 +32,7 @@ pub fn drive(run: &mut Run, calls: u64, seed: u64) -> Result<(), String> {
 }
 
 pub fn schedule(random: &mut Random, making: Making, calls: usize) -> Schedule {
-    let workers = random.pick(&[1, 1, 2, 16]);
+    let workers = random.pick(&[1, 1, 2, making.queue().workers_most()]);
     let mut schedule = Schedule::new(making, workers);
     let mut machine = Machine::make(making, workers).expect("within the limits");
     // The queue stays closed, so closing comes late; some of what follows empties it.

@@ -80,10 +80,15 @@ pub struct Machine {
 impl Machine {
     /// A fresh machine, or refusal 1, 2 or 18.
     pub fn new(capacity: u64, workers: u64, edition: u64) -> Result<Machine, u64> {
+        Machine::of_at_most(16, capacity, workers, edition)
+    }
+
+    /// The same of up to so many workers.
+    pub fn of_at_most(most: u64, capacity: u64, workers: u64, edition: u64) -> Result<Machine, u64> {
         if !(1..=1024).contains(&capacity) {
             return Err(1);
         }
-        if !(1..=16).contains(&workers) {
+        if !(1..=most).contains(&workers) {
             return Err(2);
         }
         if !(1..=2).contains(&edition) {
@@ -259,6 +264,33 @@ impl Machine {
             }
             IsClosed1 => yes_no(self.marked(self.tail)),
         };
+    }
+
+    fn inside(&self, w: u64) -> bool {
+        self.index(w) < self.capacity
+    }
+
+    /// What refusal 6 tests, of the constants, the ends and every record.
+    pub fn broken(&self) -> bool {
+        let mark = (self.capacity + 1).next_power_of_two();
+        if !(1..=1024).contains(&self.capacity) || self.mark != mark || self.lap != 2 * mark {
+            return true;
+        }
+        if self.marked(self.head) || !self.inside(self.head) || !self.inside(self.tail) {
+            return true;
+        }
+        self.workers.iter().any(|w| {
+            w.differed > self.meter
+                || w.failed > self.meter
+                || !match w.place {
+                    P2 { t: e, .. } | P3 { t: e, .. } | P4 { t: e, .. } | P5 { t: e } | P6 { t: e, .. } | F6 { t: e, .. } | F7 { t: e, .. } | F8 { t: e, .. } | F9 { t: e, .. } | O2 { h: e } | O3 { h: e } | O4 { h: e } | O5 { h: e, .. } | O6 { h: e } => {
+                        !self.marked(e) && self.inside(e)
+                    }
+                    Len2 { t } => self.inside(t),
+                    Len3 { t, h } => self.inside(t) && self.inside(h),
+                    _ => true,
+                }
+        })
     }
 
     /// One entry, read already: 0, or the refusal.

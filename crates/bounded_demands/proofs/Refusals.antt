@@ -7,14 +7,11 @@ use native.Mathlib.Omega.{arith}
 use native.Mathlib.Nat.{zero-mod}
 use lib.Dec.{ltb}
 use lib.ListN.{length, getD-replicate}
-use borrow.Author.Tests.{ne-eqb, eq-eqb, lt-ltb, ltb-true}
+use borrow.Author.Tests.{ne-eqb, eq-eqb, lt-ltb}
 use Rattle.queue_entries.specs.Limits.{workersMost, inLimits}
-use Rattle.queue_entries.specs.declared.Order.{Order}
 use Rattle.queue_entries.specs.declared.Entry.{Entry}
 use Rattle.queue_entries.specs.declared.Entry.the-variants.{Unreadable, Asks}
 use Rattle.queue_entries.specs.Entries.{entryOf}
-use Rattle.queue_entries.specs.declared.Verdict.{Verdict}
-use Rattle.queue_entries.specs.declared.Verdict.the-variants.{Refuse, Start, Move}
 use Rattle.queue_schedules.proofs.Schedules.{Queue, schedule-first, schedule-read, schedule-kept, schedule-unread, schedule-keeps}
 use Rattle.bounded_words.specs.declared.Width.{Width}
 use Rattle.bounded_words.specs.declared.Width.the-variants.{SixtyFour}
@@ -28,14 +25,14 @@ use Rattle.bounded_acts.specs.Acts.{actOf}
 use Rattle.bounded_machine.specs.declared.Machine.{Machine}
 use Rattle.bounded_machine.specs.declared.Did.{Did}
 use Rattle.bounded_machine.specs.declared.Ran.{Ran}
-use Rattle.bounded_machine.specs.Machine.{starts, idler, idlers, recordOf, placeOf, freshOf, blank, refused, accepted}
+use Rattle.bounded_machine.specs.Machine.{starts, idler, idlers, recordOf, freshWith, freshOf, blank, refused, accepted}
 use Rattle.bounded_machine.specs.Broken.{byRule, endsFit, placeFits, recordFits, brokenOf}
 use Rattle.bounded_machine.specs.Contents.{contentsRefusal, written}
-use Rattle.bounded_machine.specs.Turn.{verdictOf, carried, turn, turnAt, turnOfBy}
+use Rattle.bounded_machine.specs.Turn.{turnAt, turnOfBy}
 use Rattle.bounded_machine.specs.Run.{ran, runOfBy}
 use Rattle.bounded_machine.proofs.Laws.{ruled-of}
-use Rattle.bounded_machine.proofs.Kept.{ends-of, either, Unbroken, unbroken-of, of-unbroken, begun-unbroken, acted-unbroken}
-use Rattle.bounded_runs.proofs.Turns.{move-busy}
+use Rattle.bounded_machine.proofs.Kept.{ends-of, either, UnbrokenWith, Unbroken, unbroken-of, of-unbroken}
+use Rattle.bounded_runs.proofs.Turns.{turn-of-unbroken}
 use Rattle.bounded_steps.specs.Steps.{stepOfBy, beginOfBy, actOfBy}
 use Rattle.bounded_steps.proofs.Steps.{turn-unchanged}
 use Rattle.bounded.specs.Bounded as face
@@ -168,24 +165,6 @@ refused-unchanged =
     }
 
 -- ---- unbroken
-module _ (bits : Width) (m : Machine) (u : Unbroken m) where
-  carried-unbroken : (w : ℕ) → w < m .count → (o : Order) (v : Verdict) → v ≡ verdictOf (m .meter) (placeOf (m .workers) w) o → Unbroken (carried bits m w (placeOf (m .workers) w) v .machine)
-  unfolding refused accepted
-  carried-unbroken w l o (Refuse k) e = u
-  carried-unbroken w l o (Start c) e = begun-unbroken m u w l c
-  carried-unbroken w l o (Move lose) e = acted-unbroken m u w l bits lose (move-busy (m .meter) (placeOf (m .workers) w) o (Move lose) e lose refl)
-
-  turn-unbroken : (x : Entry) → Unbroken (turn bits m x .machine)
-  unfolding refused
-  turn-unbroken Unreadable = u
-  turn-unbroken (Asks w o) =
-      either (λ (d : Did). Unbroken (d .machine)) (ltb w (m .count)) (carried bits m w (placeOf (m .workers) w) (verdictOf (m .meter) (placeOf (m .workers) w) o)) (refused 3 m)
-      (λ b. carried-unbroken w (ltb-true w (m .count) b) o (verdictOf (m .meter) (placeOf (m .workers) w) o) refl) (λ b. u)
-
-  pub turn-of-unbroken : (a b : ℕ) → Unbroken (turnAt bits m a b .machine)
-  unfolding turnOfBy
-  turn-of-unbroken a b = turn-unbroken (entryOf a b)
-
 pub step-unbroken : (bits : Width) (m : Machine) (a b : ℕ) → brokenOf m ≡ false → brokenOf (stepOfBy (actOf bits) m a b .machine) ≡ false
 unfolding stepOfBy refused
 step-unbroken bits m a b h =
@@ -210,14 +189,14 @@ starts-fit c e h =
     let p : Plain (fixedOf c e) (stamp 0) = plain (fixedOf c e) r (stamp 0) (rw (zero-mod (lapOf c)) (r .some)) in
     ends-of (fixedOf c e) starts p (inside-of-plain (fixedOf c e) (stamp 0) p)
 
-idlers-fit : (f : Fixed) (w i : ℕ) → i < workersMost → recordFits f 0 (recordOf idlers i) (ltb i w) ≡ true
+idlers-fit : (records : ℕ) (f : Fixed) (w i : ℕ) → i < records → recordFits f 0 (recordOf (idlers records) i) (ltb i w) ≡ true
 unfolding recordFits placeFits idlers
-idlers-fit f w i l = rw (getD-replicate workersMost i idler idler l) refl
+idlers-fit records f w i l = rw (getD-replicate records i idler idler l) refl
 
-pub fresh-unbroken : (c w e : ℕ) → inLimits c slotsMost ≡ true → inLimits w workersMost ≡ true → inLimits e editionsMost ≡ true → Unbroken (freshOf c w e)
-unfolding freshOf
-fresh-unbroken c w e hc hw he =
-    record { capacity = hc; count = hw; edition = he; rule = fixed-by-rule c e; ends = starts-fit c e hc; records = idlers-fit (fixedOf c e) w }
+pub fresh-unbroken : (records c w e : ℕ) → inLimits c slotsMost ≡ true → inLimits w records ≡ true → inLimits e editionsMost ≡ true → UnbrokenWith records (freshWith records c w e)
+unfolding freshWith
+fresh-unbroken records c w e hc hw he =
+    record { capacity = hc; count = hw; edition = he; rule = fixed-by-rule c e; ends = starts-fit c e hc; fits = idlers-fit records (fixedOf c e) w }
 
 pub made-unbroken : (c w e : ℕ) → face.makeOf c w e .refusal ≡ 0 → brokenOf (face.makeOf c w e .machine) ≡ false
 unfolding face.makeOf refused accepted
@@ -225,7 +204,7 @@ made-unbroken c w e =
     either Made (inLimits c slotsMost) _ (refused 1 blank)
     (λ hc. either Made (inLimits w workersMost) _ (refused 2 blank)
     (λ hw. either Made (inLimits e editionsMost) (accepted (freshOf c w e)) (refused 18 blank)
-    (λ he z. of-unbroken (freshOf c w e) (fresh-unbroken c w e hc hw he)) (λ he z. absurd (omega arith)))
+    (λ he z. of-unbroken (freshOf c w e) (fresh-unbroken workersMost c w e hc hw he)) (λ he z. absurd (omega arith)))
     (λ hw z. absurd (omega arith)))
     (λ hc z. absurd (omega arith))
   where

@@ -1,7 +1,7 @@
 -- The demands of document 01, all of them, in its words. The notions (history, claim, hand, stock ..) are defined in Notions.antt.
 -- The proofs are gathered in crates/bounded_proof_all_demands/proofs/Headlines.antt; docs/PROMISES.md says in plain words what each says and
 -- what not.
-use Prim.Native.Nat.{ℕ, suc, _+_, _*_, _-_, _%_, _≤_, _<_}
+use Prim.Native.Nat.{ℕ, suc, _+_, _*_, _-_, _%_, _≤_, _<_, _/_}
 use mathlib.Core.Bool.{Bool, true, false}
 use mathlib.Core.List.{List, [], _∷_, _++_, map, List·Memᴰ}
 use mathlib.Core.Path.{_≡_}
@@ -16,7 +16,7 @@ use Rattle.queue_entries.specs.Entries.{entryOf}
 use Rattle.queue_schedules.specs.Reading.{Readable}
 use Rattle.bounded_words.specs.declared.Stamp.{Stamp}
 use Rattle.bounded_words.specs.declared.Width.{Width}
-use Rattle.bounded_words.specs.declared.Width.the-variants.{Sixteen}
+use Rattle.bounded_words.specs.declared.Width.the-variants.{Sixteen, SixtyFour}
 use Rattle.bounded_words.specs.Words.{fixedOf, indexOf, markedOf, unmarkedOf, lapBehind}
 use Rattle.bounded_places.specs.declared.Answer.{Answer}
 use Rattle.bounded_places.specs.declared.Answer.the-variants.{Yes, PopClosed}
@@ -25,6 +25,7 @@ use Rattle.bounded_places.specs.declared.Loss.the-variants as loss
 use Rattle.bounded_places.specs.declared.Loss.the-variants.{ByWords, BySchedule}
 use Rattle.bounded_places.specs.declared.Place.{Place}
 use Rattle.bounded_places.specs.declared.Place.the-variants.{Idle, Empty2, Full2, Len3}
+use Rattle.bounded_places.specs.declared.Worker.{Worker}
 use Rattle.bounded_places.specs.Places as places
 use Rattle.bounded_acts.specs.Acts as tables
 use Rattle.bounded_machine.specs.declared.Machine.{Machine}
@@ -32,11 +33,11 @@ use Rattle.bounded_machine.specs.declared.Event.{Event}
 use Rattle.bounded_machine.specs.declared.Moved.{Moved}
 use Rattle.bounded_machine.specs.declared.Moved.the-variants.{Tail}
 use Rattle.bounded_machine.specs.declared.Tally.{Tally}
-use Rattle.bounded_machine.specs.Machine.{freshOf, recordOf, placeOf}
-use Rattle.bounded_machine.specs.Broken.{brokenOf, allIdle}
+use Rattle.bounded_machine.specs.Machine.{freshOf, recordOf, placeOf, blank, freshWith}
+use Rattle.bounded_machine.specs.Broken.{brokenOf, allIdle, brokenWith}
 use Rattle.bounded_machine.specs.Contents.{countIn, contentsOf, contentsRefusal, written, capacityRefusal, capacityOf}
 use Rattle.bounded_machine.specs.Turn.{byWords, bySchedule}
-use Rattle.bounded_machine.specs.Run.{runFrom, runOfBy}
+use Rattle.bounded_machine.specs.Run.{runFrom, runOfBy, runOf}
 use Rattle.bounded_machine.specs.History.{eventsOf, movedOf, readsAt, stockOf, untakenOf}
 use Rattle.bounded_causes.specs.declared.Deed.{Deed}
 use Rattle.bounded_causes.specs.declared.Causes.{Causes}
@@ -54,8 +55,12 @@ use Rattle.bounded_walkers.specs.Walkers.{walkOf}
 use Rattle.bounded_walks.specs.declared.Sized.{Sized}
 use Rattle.bounded_walks.specs.declared.Sized.the-variants.{Sequences}
 use Rattle.bounded_walks.specs.Walks.{walkRefusal, walkTold, listed, sizeOf}
-use Rattle.bounded_demands.specs.Notions.{Tried, entriesOf}
-use Rattle.bounded_demands.specs.Notions.{Face, Definition, ofWidth, Allowed, machineAfter, actsOf, Acts, acts, InHand, HandsOut, Reads, Truth, itemsOf, takersOf, LatestIn, ItemIn, WrittenIn, CallClaim, tally, waiting, stock, unreadBy, lesser, Exchanges, lostIn, struck, Fifo, Words, Plain, since, turnLength, windowLength, KeepsWindow, rounds, sleepingPush, sleepingPop, valueAt, queueAnswer, LenAnswers, mostOf, OtherHand, passed, ownActs, LetsGo, has, ClosesYes, NoClaims, ClaimsOn}
+use Rattle.bounded_demands.specs.Notions.{Tried, entriesOf, Face, Definition, ofWidth, Allowed, machineAfter, actsOf, Acts, acts, InHand, HandsOut, Reads, Truth, itemsOf, takersOf, LatestIn, ItemIn, WrittenIn, CallClaim, tally, waiting, stock, unreadBy, lesser, Exchanges, lostIn, struck, Fifo, Words, Plain, since, turnLength, windowLength, KeepsWindow, rounds, sleepingPush, sleepingPop, valueAt, queueAnswer, LenAnswers, mostOf, OtherHand, passed, ownActs, LetsGo, has, ClosesYes, NoClaims, ClaimsOn, withRecords, AllowedWith}
+use Rattle.bounded.specs.Bounded.{makeOf, stepOf}
+use Rattle.bounded_parts.specs.declared.Metered.{Metered}
+use Rattle.bounded_parts.specs.Parts.{meteredOf, Filled, filled}
+use Rattle.bounded_lent.specs.Lent.{Lent, Gone}
+use Rattle.bounded_demands.specs.Lending.{Lending, Promise, holding, holds-did, holds-ran, steps, heldIn, actsLent}
 use Rattle.bounded_demands.specs.Foretold.{foretold, Telling, toldIn, tellings, asForetold}
 use Rattle.bounded_demands.specs.Eight.{closedF, caseF}
 use Rattle.bounded_demands.specs.Attained.{Case, seenIn, attained, exactly}
@@ -195,9 +200,10 @@ pub record Demand2 (d : Definition) (capacity workers edition : ℕ) (m : Machin
   -- It is the machine that was made, and its meter counts the acts.
   pub made : m .ring .fixed ≡ fixedOf capacity edition
   pub team : m .count ≡ workers
+  pub records : length (m .workers) ≡ d .records
   pub meter : m .meter ≡ length h
   -- No machine so reached is broken, and its words are those of claims.
-  pub unbroken : brokenOf m ≡ false
+  pub unbroken : brokenWith (d .records) m ≡ false
   pub words : Words (d .width) m h
   -- The lists of claims are as long as the tally says.
   pub tails : length (itemsOf h) ≡ tally h .tail .0
@@ -216,13 +222,13 @@ pub record Demand2 (d : Definition) (capacity workers edition : ℕ) (m : Machin
 -- Every capacity, every number of workers, both editions, every schedule.
 abbrev pub UnderEverySchedule : Definition → Type 0
 UnderEverySchedule d =
-    (capacity workers edition : ℕ) → Allowed capacity workers edition → (s : List ℕ)
+    (capacity workers edition : ℕ) → AllowedWith (d .records) capacity workers edition → (s : List ℕ)
     → Demand2 d capacity workers edition (machineAfter d capacity workers edition s) (actsOf d capacity workers edition s)
 
 -- "The meter rises by one with each accepted act, so from a fresh machine no stamp wraps": of 64 bits.
 abbrev pub NothingWraps : Definition → Type 0
 NothingWraps d =
-    (capacity workers edition : ℕ) → Allowed capacity workers edition → (s : List ℕ)
+    (capacity workers edition : ℕ) → AllowedWith (d .records) capacity workers edition → (s : List ℕ)
     → Plain (machineAfter d capacity workers edition s) (actsOf d capacity workers edition s)
 
 -- Each act is the one action that document 01 reads out of the source: of entries that are accepted, each is one turn of the
@@ -244,7 +250,7 @@ WholeSchedules d =
 -- Beside the demand: `len`'s count is true at its head load.
 abbrev pub LenTrue : Definition → Type 0
 LenTrue d =
-    (capacity workers edition : ℕ) → Allowed capacity workers edition → (s : List ℕ) (w n : ℕ) → LenAnswers d capacity workers edition s w n
+    (capacity workers edition : ℕ) → AllowedWith (d .records) capacity workers edition → (s : List ℕ) (w n : ℕ) → LenAnswers d capacity workers edition s w n
     → n ≡ untakenOf (tally (actsOf d capacity workers edition s))
 
 -- ==== 3. Nobody waits without a holder. Said of the same machines and acts.
@@ -304,7 +310,7 @@ pub record Demand3 (d : Definition) (m : Machine) (h : List Event) : Type 0 wher
 
 abbrev pub ScheduledAlone : Definition → Type 0
 ScheduledAlone d =
-    (capacity workers edition : ℕ) → Allowed capacity workers edition → (s : List ℕ)
+    (capacity workers edition : ℕ) → AllowedWith (d .records) capacity workers edition → (s : List ℕ)
     → Demand3 d (machineAfter d capacity workers edition s) (actsOf d capacity workers edition s)
 
 -- The numbers are attained: each schedule of the table leads to its place, alone, and the call there needs exactly its number of acts.
@@ -358,7 +364,7 @@ pub record Stocked (count : List Event → ℕ) (capacity workers : ℕ) (m : Ma
 
 abbrev pub StockUnderEverySchedule : Definition → (List Event → ℕ) → Type 0
 StockUnderEverySchedule d count =
-    (capacity workers edition : ℕ) → Allowed capacity workers edition → (s : List ℕ)
+    (capacity workers edition : ℕ) → AllowedWith (d .records) capacity workers edition → (s : List ℕ)
     → Stocked count capacity workers (machineAfter d capacity workers edition s) (actsOf d capacity workers edition s)
 
 -- The bound is attained, in both editions: each ring of the table, full and with a force_push of as many workers as can claim in it, each before its read.
@@ -388,7 +394,7 @@ LossesCounted m h =
 
 abbrev pub LossesUnderEverySchedule : Definition → Type 0
 LossesUnderEverySchedule d =
-    (capacity workers edition : ℕ) → Allowed capacity workers edition → (s : List ℕ)
+    (capacity workers edition : ℕ) → AllowedWith (d .records) capacity workers edition → (s : List ℕ)
     → LossesCounted (machineAfter d capacity workers edition s) (actsOf d capacity workers edition s)
 
 -- No answer of a call changes: an entry is refused as if the counts were struck out, and what it leaves is the same but for them.
@@ -417,11 +423,11 @@ NoneAfterClosed h = (earlier later : List Event) (act : Event) → h ≡ earlier
 
 abbrev pub CloseHolds : Definition → Type 0
 CloseHolds d =
-    (capacity workers : ℕ) → Allowed capacity workers 2 → (s : List ℕ)
+    (capacity workers : ℕ) → AllowedWith (d .records) capacity workers 2 → (s : List ℕ)
     → OnceClosed d (machineAfter d capacity workers 2 s) × YesOnce (actsOf d capacity workers 2 s)
 
 abbrev pub ClosedIsLast : Definition → Type 0
-ClosedIsLast d = (capacity workers edition : ℕ) → Allowed capacity workers edition → (s : List ℕ) → NoneAfterClosed (actsOf d capacity workers edition s)
+ClosedIsLast d = (capacity workers edition : ℕ) → AllowedWith (d .records) capacity workers edition → (s : List ℕ) → NoneAfterClosed (actsOf d capacity workers edition s)
 
 -- Edition 2: a force_push past its load may still claim, by case F. Edition 1: the two that hold of edition 2 do not, by case F and a close more.
 pub record CaseF (d : Definition) : Type 0 where
@@ -501,7 +507,7 @@ pub record Within (d : Definition) (capacity workers edition : ℕ) (s : List �
 
 abbrev pub WithinTheWindow : Definition → Type 0
 WithinTheWindow d =
-    (capacity workers edition : ℕ) → Allowed capacity workers edition → (s : List ℕ) → KeepsWindow d (freshOf capacity workers edition) [] s
+    (capacity workers edition : ℕ) → AllowedWith (d .records) capacity workers edition → (s : List ℕ) → KeepsWindow d (freshWith (d .records) capacity workers edition) [] s
     → Within d capacity workers edition s
 
 -- The window is met by something: one worker alone keeps it under every schedule, however many turns it makes.
@@ -562,3 +568,56 @@ pub record WalkTold : Type 0 where
 -- Two pushes on one slot, a push and a pop, and case F's force_push and close: so many sequences.
 abbrev pub WalksCounted : Type 0
 WalksCounted = map walked walkings ≡ map (λ (w : Walking). w .sequences) walkings
+
+-- ==== Records in the host's memory (document 02, item 11).
+
+-- Equality: for up to 16 records every answer, the ring after it and the records after it are those of the machine that holds its records.
+pub record AsHeld (d : Lending) : Type 0 where
+  pub broken : (l : Metered) (ys : List Worker) → length ys ≤ workersMost → d .broken l ys ≡ brokenOf (holding l ys)
+  pub step : (l : Metered) (ys : List Worker) (first second : ℕ) → length ys ≤ workersMost → holds-did (d .step l ys first second) ≡ stepOf (holding l ys) first second
+  pub run : (l : Metered) (ys : List Worker) (s : List ℕ) → length ys ≤ workersMost → holds-ran (d .run l ys s) ≡ runOf (holding l ys) s
+  pub capacity : (l : Metered) (ys : List Worker) → length ys ≤ workersMost → d .capacity l ys ≡ capacityOf (holding l ys)
+  pub contents : (l : Metered) (ys : List Worker) (buffer : List ℕ) → length ys ≤ workersMost
+      → d .contents l ys buffer ≡ filled (told (contentsRefusal (holding l ys) (length buffer)) (countIn (holding l ys))) (written (holding l ys) buffer)
+  -- making: the same refusal and the same ring; and what is not refused is the same machine
+  pub refusal : (ys : List Worker) (capacity edition : ℕ) → length ys ≤ workersMost → d .make ys capacity edition .answer ≡ makeOf capacity (length ys) edition .refusal
+  pub made : (ys : List Worker) (capacity edition : ℕ) → length ys ≤ workersMost → d .make ys capacity edition .answer ≡ 0
+      → holds-did (d .make ys capacity edition) ≡ makeOf capacity (length ys) edition
+  pub blank : (ys : List Worker) (capacity edition : ℕ) → length ys ≤ workersMost → (d .make ys capacity edition .answer ≡ 0 → ⊥)
+      → d .make ys capacity edition .ring ≡ meteredOf (makeOf capacity (length ys) edition .machine)
+
+-- "In a step only the acting record may change"; a refused step changes nothing, and a refused making no record.
+pub record OnlyTheActing (d : Lending) : Type 0 where
+  pub others : (l : Metered) (ys : List Worker) (first second w : ℕ) → (w ≡ first / 16 → ⊥) → recordOf (d .step l ys first second .records) w ≡ recordOf ys w
+  pub many : (l : Metered) (ys : List Worker) (first second : ℕ) → length (d .step l ys first second .records) ≡ length ys
+  pub refused : (l : Metered) (ys : List Worker) (first second : ℕ) → (d .step l ys first second .answer ≡ 0 → ⊥)
+      → (d .step l ys first second .ring ≡ l) × (d .step l ys first second .records ≡ ys)
+  pub unmade : (ys : List Worker) (capacity edition : ℕ) → (d .make ys capacity edition .answer ≡ 0 → ⊥) → d .make ys capacity edition .records ≡ ys
+
+-- Demands 2 and 3 for every number of records that making accepts: a ring and records that were made, and steps, each on what the last one left.
+abbrev pub LentThroughout : Lending → Type 0
+LentThroughout d =
+    (ys : List Worker) (capacity edition : ℕ) → d .make ys capacity edition .answer ≡ 0 → (entries : List ℕ)
+    → Demand2 (withRecords (length ys) SixtyFour) capacity (length ys) edition (heldIn (steps d (d .make ys capacity edition) entries)) (actsLent d (d .make ys capacity edition) entries)
+    × Demand3 (withRecords (length ys) SixtyFour) (heldIn (steps d (d .make ys capacity edition) entries)) (actsLent d (d .make ys capacity edition) entries)
+
+-- No step breaks what is not broken, of any number of records: so refusal 6 is tested once a schedule.
+abbrev pub LentUnbroken : Lending → Type 0
+LentUnbroken d =
+    (l : Metered) (ys : List Worker) (first second : ℕ) → d .broken l ys ≡ false → d .broken (d .step l ys first second .ring) (d .step l ys first second .records) ≡ false
+
+-- Only one answer meets a promise: of the whole answer, the ring, the records and the lent buffer.
+pub record OnlyOneLent (p : Promise) : Type 0 where
+  pub make : (ys : List Worker) (capacity edition : ℕ) (x y : Lent) → p .make ys capacity edition x → p .make ys capacity edition y → x ≡ y
+  pub step : (l : Metered) (ys : List Worker) (first second : ℕ) (x y : Lent) → p .step l ys first second x → p .step l ys first second y → x ≡ y
+  pub run : (l : Metered) (ys : List Worker) (s : List ℕ) (x y : Gone) → p .run l ys s x → p .run l ys s y → x ≡ y
+  pub capacity : (l : Metered) (ys : List Worker) (x y : Told) → p .capacity l ys x → p .capacity l ys y → x ≡ y
+  pub contents : (l : Metered) (ys : List Worker) (before : List ℕ) (x y : Filled) → p .contents l ys before x → p .contents l ys before y → x ≡ y
+  pub broken : (l : Metered) (ys : List Worker) (x y : Bool) → p .broken l ys x → p .broken l ys y → x ≡ y
+
+-- Case H of this machine: 64 records are accepted, 65 are refused; 0 are refused, 1 is accepted.
+pub record SixtyFourRecords (d : Lending) : Type 0 where
+  pub none : (ys : List Worker) → length ys ≡ 0 → d .make ys 1 1 .answer ≡ 2
+  pub one : (ys : List Worker) → length ys ≡ 1 → d .make ys 1 1 .answer ≡ 0
+  pub most : (ys : List Worker) → length ys ≡ 64 → d .make ys 1 1 .answer ≡ 0
+  pub more : (ys : List Worker) → length ys ≡ 65 → d .make ys 1 1 .answer ≡ 2

@@ -6,3 +6,4 @@ pub mod Foretold
 pub mod Attained
 pub mod Shelves
 pub mod Retries
+pub mod Lending

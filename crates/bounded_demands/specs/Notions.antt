@@ -40,7 +40,7 @@ use Rattle.bounded_machine.specs.declared.Event.{Event}
 use Rattle.bounded_machine.specs.declared.Moved.{Moved}
 use Rattle.bounded_machine.specs.declared.Moved.the-variants.{Neither, Tail, Head}
 use Rattle.bounded_machine.specs.declared.Tally.{Tally}
-use Rattle.bounded_machine.specs.Machine.{slot, machineOf, freshOf, blank, placeOf, accepted}
+use Rattle.bounded_machine.specs.Machine.{slot, machineOf, freshOf, blank, placeOf, accepted, freshWith}
 use Rattle.bounded_machine.specs.Broken.{allIdle}
 use Rattle.bounded_machine.specs.Turn.{Table, beginner, turnOfBy, turnOf}
 use Rattle.bounded_machine.specs.Run.{ran, runWith, runAt, runFrom, runOf}
@@ -126,35 +126,48 @@ sixteen =
 pub record Definition : Type 0 where
   -- how wide its words are
   pub width : Width
+  -- how many records its machines have
+  pub records : ℕ
   pub turn : Machine → ℕ → ℕ → Did
   pub run : Machine → ℕ → List ℕ → Ran
   pub history : Machine → List ℕ → List Event
 
--- By a table of what an act does at each place; the table of each width is `actOf`, and document 01's is that of 64 bits.
+-- By a table of what an act does at each place; the table of each width is `actOf`, and document 01's is that of 64 bits. Document 01's machine has 16 records;
+-- one whose records are lent has as many as are lent (document 02, item 11).
+abbrev pub byTableWith : ℕ → Width → Table → Definition
+byTableWith records bits table =
+    record { width = bits; records = records; turn = turnOfBy table; run = runWith (turnOfBy table); history = historyWith bits (turnOfBy table) }
+
 abbrev pub byTable : Width → Table → Definition
-byTable bits table = record { width = bits; turn = turnOfBy table; run = runWith (turnOfBy table); history = historyWith bits (turnOfBy table) }
+byTable = byTableWith workersMost
+
+abbrev pub withRecords : ℕ → Width → Definition
+withRecords records bits = byTableWith records bits (actOf bits)
 
 abbrev pub ofWidth : Width → Definition
-ofWidth bits = byTable bits (actOf bits)
+ofWidth = withRecords workersMost
 
 abbrev pub document01 : Definition
 document01 = ofWidth SixtyFour
 
--- Every capacity, number of workers and edition that making accepts.
-pub record Allowed (capacity workers edition : ℕ) : Type 0 where
+-- Every capacity, number of workers and edition that making accepts, where there are so many records.
+pub record AllowedWith (records capacity workers edition : ℕ) : Type 0 where
   pub slot-some : 0 < capacity
   pub slot-most : capacity ≤ slotsMost
   pub worker-some : 0 < workers
-  pub worker-most : workers ≤ workersMost
+  pub worker-most : workers ≤ records
   pub edition-some : 0 < edition
   pub edition-most : edition ≤ editionsMost
 
+abbrev pub Allowed : ℕ → ℕ → ℕ → Type 0
+Allowed = AllowedWith workersMost
+
 -- What a schedule makes of a fresh machine, and its acts.
 abbrev pub machineAfter : Definition → ℕ → ℕ → ℕ → List ℕ → Machine
-machineAfter d capacity workers edition s = d .run (freshOf capacity workers edition) 0 s .machine
+machineAfter d capacity workers edition s = d .run (freshWith (d .records) capacity workers edition) 0 s .machine
 
 abbrev pub actsOf : Definition → ℕ → ℕ → ℕ → List ℕ → List Event
-actsOf d capacity workers edition s = d .history (freshOf capacity workers edition) s
+actsOf d capacity workers edition s = d .history (freshWith (d .records) capacity workers edition) s
 
 -- A number of this list.
 unfoldable pub has : List ℕ → ℕ → Bool

@@ -38,7 +38,7 @@ use Rattle.bounded_acts.specs.declared.Acted.{Acted}
 use Rattle.bounded_acts.specs.Acts.{stay, losing, exchangeOf, afterTail, endP3, endF6, endO3, tailTo, headTo, stampTo, valueTo, forcedTail, actOf, fullAt, yesNo, countOf}
 use Rattle.bounded_machine.specs.declared.Machine.{Machine}
 use Rattle.bounded_machine.specs.Machine.{recordOf, placeOf, idler}
-use Rattle.bounded_machine.specs.Broken.{byRule, endsFit, placeFits, recordFits, recordsFit, brokenOf}
+use Rattle.bounded_machine.specs.Broken.{byRule, endsFit, placeFits, recordFits, recordsFit, brokenWith}
 use Rattle.bounded_machine.specs.Turn.{beginner, byWords, bySchedule, recordAfter, begun, stored, acted, actedBy}
 use Rattle.bounded_machine.proofs.Laws.{ruled-of}
 
@@ -95,14 +95,18 @@ placed (y ∷ ys) zero (suc i) x d P p q = q
 placed (y ∷ ys) (suc w) zero x d P p q = q
 placed (y ∷ ys) (suc w) (suc i) x d P p q = placed ys w i x d P (λ e. p (ap suc e)) q
 
--- ---- an unbroken machine
-pub record Unbroken (m : Machine) : Type 0 where
+-- ---- an unbroken machine, with so many records
+pub record UnbrokenWith (records : ℕ) (m : Machine) : Type 0 where
   pub capacity : inLimits (m .ring .fixed .capacity) slotsMost ≡ true
-  pub count : inLimits (m .count) workersMost ≡ true
+  pub count : inLimits (m .count) records ≡ true
   pub edition : inLimits (m .ring .fixed .edition) editionsMost ≡ true
   pub rule : byRule (m .ring .fixed) ≡ true
   pub ends : endsFit (m .ring .fixed) (m .ring .ends) ≡ true
-  pub records : (i : ℕ) → i < workersMost → recordFits (m .ring .fixed) (m .meter) (recordOf (m .workers) i) (ltb i (m .count)) ≡ true
+  pub fits : (i : ℕ) → i < records → recordFits (m .ring .fixed) (m .meter) (recordOf (m .workers) i) (ltb i (m .count)) ≡ true
+
+-- document 01's
+abbrev pub Unbroken : Machine → Type 0
+Unbroken = UnbrokenWith workersMost
 
 -- each test of a row of them that must pass
 passes : (a b : Bool) → cond a b true ≡ false → (a ≡ true) × (b ≡ false)
@@ -112,12 +116,12 @@ passes false b h = absurd (true≢false h)
 pass : (a b : Bool) → a ≡ true → b ≡ false → cond a b true ≡ false
 pass a b p q = either (λ (x : Bool). x ≡ false) a b true (λ h. q) (λ h. absurd (true≢false (sym p ∙ h)))
 
-pub unbroken-of : (m : Machine) → brokenOf m ≡ false → Unbroken m
-unfolding brokenOf recordsFit
-unbroken-of m h =
+pub unbroken-of : {records : ℕ} (m : Machine) → brokenWith records m ≡ false → UnbrokenWith records m
+unfolding brokenWith recordsFit
+unbroken-of {records} m h =
     let x = passes (inLimits (m .ring .fixed .edition) editionsMost) _ h in
     let a = passes (inLimits (m .ring .fixed .capacity) slotsMost) _ (x .1) in
-    let b = passes (inLimits (m .count) workersMost) _ (a .1) in
+    let b = passes (inLimits (m .count) records) _ (a .1) in
     let c = passes (byRule (m .ring .fixed)) _ (b .1) in
     let d = passes (endsFit (m .ring .fixed) (m .ring .ends)) _ (c .1) in
     record {
@@ -126,24 +130,24 @@ unbroken-of m h =
       edition = x .0;
       rule = c .0;
       ends = d .0;
-      records = (λ i l. every workersMost 0 (λ (k : ℕ). recordFits (m .ring .fixed) (m .meter) (recordOf (m .workers) k) (ltb k (m .count))) (not-false _ (d .1)) i (omega arith) (omega arith));
+      fits = (λ i l. every records 0 (λ (k : ℕ). recordFits (m .ring .fixed) (m .meter) (recordOf (m .workers) k) (ltb k (m .count))) (not-false _ (d .1)) i (omega arith) (omega arith));
     }
 
-pub of-unbroken : (m : Machine) → Unbroken m → brokenOf m ≡ false
-unfolding brokenOf recordsFit
-of-unbroken m u =
+pub of-unbroken : {records : ℕ} (m : Machine) → UnbrokenWith records m → brokenWith records m ≡ false
+unfolding brokenWith recordsFit
+of-unbroken {records} m u =
     pass _ _ (u .edition) (pass _ _ (u .capacity) (pass _ _ (u .count) (pass _ _ (u .rule) (pass _ _ (u .ends)
-    (ap not (all-of workersMost 0 (λ (k : ℕ). recordFits (m .ring .fixed) (m .meter) (recordOf (m .workers) k) (ltb k (m .count))) (λ k l g. u .records k (omega arith))))))))
+    (ap not (all-of records 0 (λ (k : ℕ). recordFits (m .ring .fixed) (m .meter) (recordOf (m .workers) k) (ltb k (m .count))) (λ k l g. u .fits k (omega arith))))))))
 
-module _ (m : Machine) (u : Unbroken m) where
+module _ {records : ℕ} (m : Machine) (u : UnbrokenWith records m) where
   pub ruled-in : Ruled (m .ring .fixed)
   ruled-in = ruled-of (m .ring .fixed) (u .capacity) (u .rule)
 
   pub fair-in : Fair (m .ring .fixed)
   fair-in = fair (m .ring .fixed) ruled-in
 
-  pub few-workers : m .count ≤ workersMost
-  few-workers = limit-most (m .count) workersMost true (sym (u .count)) refl
+  pub few-workers : m .count ≤ records
+  few-workers = limit-most (m .count) records true (sym (u .count)) refl
 
 -- ---- words that fit
 module _ (f : Fixed) where
@@ -335,22 +339,22 @@ one-lost loss.Nothing = (omega arith, omega arith)
 one-lost loss.ByWords = (omega arith, omega arith)
 one-lost loss.BySchedule = (omega arith, omega arith)
 
-module _ (m : Machine) (u : Unbroken m) (w : ℕ) (l : w < m .count) where
+module _ {records : ℕ} (m : Machine) (u : UnbrokenWith records m) (w : ℕ) (l : w < m .count) where
   own-fits : recordFits (m .ring .fixed) (m .meter) (recordOf (m .workers) w) (ltb w (m .count)) ≡ true
-  own-fits = u .records w (omega (arith, few-workers m u))
+  own-fits = u .fits w (omega (arith, few-workers m u))
 
   -- the counts of losses are no more than the acts
   pub few-lost : (recordOf (m .workers) w .differed ≤ m .meter) × (recordOf (m .workers) w .failed ≤ m .meter)
   few-lost = (few-differed _ _ _ _ own-fits, few-failed _ _ _ _ own-fits)
 
-  records-with : (n : ℕ) (r : Worker) → ((i : ℕ) → i < workersMost → recordFits (m .ring .fixed) n (recordOf (m .workers) i) (ltb i (m .count)) ≡ true)
-      → r .differed ≤ n → r .failed ≤ n → fitsOf (m .ring .fixed) (viewOf (r .place) .held) ≡ true → (i : ℕ) → i < workersMost
+  records-with : (n : ℕ) (r : Worker) → ((i : ℕ) → i < records → recordFits (m .ring .fixed) n (recordOf (m .workers) i) (ltb i (m .count)) ≡ true)
+      → r .differed ≤ n → r .failed ≤ n → fitsOf (m .ring .fixed) (viewOf (r .place) .held) ≡ true → (i : ℕ) → i < records
       → recordFits (m .ring .fixed) n (recordOf (set (m .workers) w r) i) (ltb i (m .count)) ≡ true
   records-with n r others d s k i g =
       placed (m .workers) w i r idler (λ (x : Worker). recordFits (m .ring .fixed) n x (ltb i (m .count)) ≡ true)
       (λ e. record-of (m .ring .fixed) n r (ltb i (m .count)) (lt-ltb i (m .count) (omega arith)) d s k) (others i g)
 
-  pub begun-unbroken : (c : Call) → Unbroken (begun m w (beginOf c))
+  pub begun-unbroken : (c : Call) → UnbrokenWith records (begun m w (beginOf c))
   unfolding begun
   begun-unbroken c =
       record {
@@ -359,13 +363,13 @@ module _ (m : Machine) (u : Unbroken m) (w : ℕ) (l : w < m .count) where
         edition = u .edition;
         rule = u .rule;
         ends = u .ends;
-        records = records-with (m .meter) (beginner (beginOf c)) (u .records) (omega arith) (omega arith) (ap (fitsOf (m .ring .fixed)) (begin-holds c));
+        fits = records-with (m .meter) (beginner (beginOf c)) (u .fits) (omega arith) (omega arith) (ap (fitsOf (m .ring .fixed)) (begin-holds c));
       }
 
   pub word-fits-in : viewOf (placeOf (m .workers) w) .busy ≡ true → fitsOf (m .ring .fixed) (viewOf (placeOf (m .workers) w) .held) ≡ true
   word-fits-in h = of-record (m .ring .fixed) (m .meter) (recordOf (m .workers) w) (ltb w (m .count)) own-fits h
 
-  pub stored-unbroken : (i : ℕ) (a : Acted) → Ok (m .ring .fixed) (ruled-in m u) a → Unbroken (stored m w i a)
+  pub stored-unbroken : (i : ℕ) (a : Acted) → Ok (m .ring .fixed) (ruled-in m u) a → UnbrokenWith records (stored m w i a)
   unfolding stored recordAfter
   stored-unbroken i a k =
       record {
@@ -374,11 +378,11 @@ module _ (m : Machine) (u : Unbroken m) (w : ℕ) (l : w < m .count) where
         edition = u .edition;
         rule = u .rule;
         ends = k .ends;
-        records = records-with (m .meter + 1) (recordAfter (recordOf (m .workers) w) (a .place) (a .loss)) (λ j g. record-later _ _ _ _ (u .records j g))
+        fits = records-with (m .meter + 1) (recordAfter (recordOf (m .workers) w) (a .place) (a .loss)) (λ j g. record-later _ _ _ _ (u .fits j g))
             (omega (arith, few-lost, one-lost (a .loss))) (omega (arith, few-lost, one-lost (a .loss))) (k .held);
       }
 
-  pub acted-unbroken : (bits : Width) (lose : Bool) → viewOf (placeOf (m .workers) w) .busy ≡ true → Unbroken (acted bits m w (placeOf (m .workers) w) lose)
+  pub acted-unbroken : (bits : Width) (lose : Bool) → viewOf (placeOf (m .workers) w) .busy ≡ true → UnbrokenWith records (acted bits m w (placeOf (m .workers) w) lose)
   unfolding actedBy
   acted-unbroken bits lose h =
       stored-unbroken _ _ (keeps (m .ring .fixed) (ruled-in m u) bits (m .ring .ends) _ (u .ends) (placeOf (m .workers) w) lose (word-fits-in h))

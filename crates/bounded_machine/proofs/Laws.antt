@@ -23,9 +23,9 @@ use Rattle.bounded_places.specs.declared.View.{View}
 use Rattle.bounded_places.specs.Places.{viewOf, fitsOf}
 use Rattle.bounded_places.specs.declared.Slot.{Slot}
 use Rattle.bounded_machine.specs.declared.Machine.{Machine}
-use Rattle.bounded_machine.specs.Broken.{byRule, endsFit, placeFits, recordsFit, brokenOf}
+use Rattle.bounded_machine.specs.Broken.{byRule, endsFit, placeFits, recordsFit, brokenWith, brokenOf}
 use Rattle.bounded_machine.specs.Turn.{spotOf, byWords, bySchedule, recordAfter}
-use Rattle.bounded_machine.specs.Machine.{machineOf, starts, freshSlots, freshOf, idler, idlers}
+use Rattle.bounded_machine.specs.Machine.{machineOf, starts, freshSlots, freshWith, freshOf, idler, idlers}
 
 -- mark and lap by rule
 module _ (f : Fixed) (m : ℕ) (e : m ≡ markOf (f .capacity)) where
@@ -81,41 +81,41 @@ fair-of f b d e h k l = fair f (ruled-of f (sym e ∙ h) (sym k ∙ l))
 -- broken, by the first test that fails, or unbroken
 module _ (m : Machine) (x : Bool) (ex : x ≡ inLimits (m .ring .fixed .edition) editionsMost) where
   pub broken-edition : x ≡ false → true ≡ brokenOf m
-  unfolding brokenOf
+  unfolding brokenWith
   broken-edition h = no _ x _ _ _ ex h refl
 
   module _ (hx : x ≡ true) (a : Bool) (ea : a ≡ inLimits (m .ring .fixed .capacity) slotsMost) where
     pub broken-capacity : a ≡ false → true ≡ brokenOf m
-    unfolding brokenOf
+    unfolding brokenWith
     broken-capacity h = yes _ x _ _ _ ex hx (no _ a _ _ _ ea h refl)
 
     module _ (ha : a ≡ true) (b : Bool) (eb : b ≡ inLimits (m .count) workersMost) where
       pub broken-count : b ≡ false → true ≡ brokenOf m
-      unfolding brokenOf
+      unfolding brokenWith
       broken-count h = yes _ x _ _ _ ex hx (yes _ a _ _ _ ea ha (no _ b _ _ _ eb h refl))
 
       module _ (hb : b ≡ true) (d : Bool) (ed : d ≡ byRule (m .ring .fixed)) where
         pub broken-rule : d ≡ false → true ≡ brokenOf m
-        unfolding brokenOf
+        unfolding brokenWith
         broken-rule h = yes _ x _ _ _ ex hx (yes _ a _ _ _ ea ha (yes _ b _ _ _ eb hb (no _ d _ _ _ ed h refl)))
 
         module _ (hd : d ≡ true) (g : Bool) (eg : g ≡ endsFit (m .ring .fixed) (m .ring .ends)) where
           pub broken-ends : g ≡ false → true ≡ brokenOf m
-          unfolding brokenOf
+          unfolding brokenWith
           broken-ends h = yes _ x _ _ _ ex hx (yes _ a _ _ _ ea ha (yes _ b _ _ _ eb hb (yes _ d _ _ _ ed hd (no _ g _ _ _ eg h refl))))
 
-          pub broken-records : (k : Bool) → g ≡ true → k ≡ recordsFit (m .ring .fixed) (m .count) (m .meter) (m .workers) → not k ≡ brokenOf m
-          unfolding brokenOf
+          pub broken-records : (k : Bool) → g ≡ true → k ≡ recordsFit workersMost (m .ring .fixed) (m .count) (m .meter) (m .workers) → not k ≡ brokenOf m
+          unfolding brokenWith
           broken-records k h e =
               yes _ x _ _ _ ex hx (yes _ a _ _ _ ea ha (yes _ b _ _ _ eb hb (yes _ d _ _ _ ed hd (yes _ g _ _ _ eg h (ap not e)))))
 
-          pub broken-record : (k : Bool) → g ≡ true → k ≡ recordsFit (m .ring .fixed) (m .count) (m .meter) (m .workers) → k ≡ false → true ≡ brokenOf m
+          pub broken-record : (k : Bool) → g ≡ true → k ≡ recordsFit workersMost (m .ring .fixed) (m .count) (m .meter) (m .workers) → k ≡ false → true ≡ brokenOf m
           broken-record k h e l = sym (ap not l) ∙ broken-records k h e
 
-          pub unbroken : (k : Bool) → g ≡ true → k ≡ recordsFit (m .ring .fixed) (m .count) (m .meter) (m .workers) → k ≡ true → false ≡ brokenOf m
+          pub unbroken : (k : Bool) → g ≡ true → k ≡ recordsFit workersMost (m .ring .fixed) (m .count) (m .meter) (m .workers) → k ≡ true → false ≡ brokenOf m
           unbroken k h e l = sym (ap not l) ∙ broken-records k h e
 
 -- a fresh machine, from its mark and its slots
 pub fresh-is : (capacity workers edition m : ℕ) (s : List Slot) → m ≡ markOf capacity → s ≡ freshSlots capacity → machineOf (record { mark = m; lap = 2 * m; capacity = capacity; edition = edition }) starts s (replicate workersMost idler) workers 0 ≡ freshOf capacity workers edition
-unfolding freshOf idlers
+unfolding freshWith idlers
 fresh-is capacity workers edition m s e h = rw (e, h)

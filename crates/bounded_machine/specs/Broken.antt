@@ -3,6 +3,7 @@ use Prim.Native.Nat.{ℕ}
 use mathlib.Core.Bool.{Bool, true, false, cond, not}
 use mathlib.Core.List.{List}
 use lib.Dec.{ltb, eqb}
+use lib.ListN.{length}
 use Rattle.queue_entries.specs.Limits.{workersMost, inLimits, all}
 use Rattle.bounded_words.specs.declared.Fixed.{Fixed}
 use Rattle.bounded_words.specs.Limits.{slotsMost, editionsMost}
@@ -31,20 +32,24 @@ unfoldable pub recordFits : Fixed → ℕ → Worker → Bool → Bool
 recordFits f meter r counted =
     cond (ltb meter (r .differed)) false (cond (ltb meter (r .failed)) false (placeFits f (r .place) counted))
 
-unfoldable pub recordsFit : Fixed → ℕ → ℕ → List Worker → Bool
-recordsFit f count meter ws = all workersMost 0 (λ (i : ℕ). recordFits f meter (recordOf ws i) (ltb i count))
+unfoldable pub recordsFit : ℕ → Fixed → ℕ → ℕ → List Worker → Bool
+recordsFit records f count meter ws = all records 0 (λ (i : ℕ). recordFits f meter (recordOf ws i) (ltb i count))
 
--- an edition that is neither 1 nor 2, and the rest
-unfoldable pub brokenOf : Machine → Bool
-brokenOf m =
+-- an edition that is neither 1 nor 2, and the rest, of a machine with so many records; there are no more workers than records
+unfoldable pub brokenWith : ℕ → Machine → Bool
+brokenWith records m =
     cond (inLimits (m .ring .fixed .edition) editionsMost)
     (cond (inLimits (m .ring .fixed .capacity) slotsMost)
-    (cond (inLimits (m .count) workersMost)
+    (cond (inLimits (m .count) records)
     (cond (byRule (m .ring .fixed))
     (cond (endsFit (m .ring .fixed) (m .ring .ends))
-    (not (recordsFit (m .ring .fixed) (m .count) (m .meter) (m .workers)))
+    (not (recordsFit records (m .ring .fixed) (m .count) (m .meter) (m .workers)))
     true) true) true) true) true
+
+-- document 01's machine has 16 of them
+abbrev pub brokenOf : Machine → Bool
+brokenOf = brokenWith workersMost
 
 -- no worker is busy
 unfoldable pub allIdle : List Worker → Bool
-allIdle ws = all workersMost 0 (λ (i : ℕ). not (viewOf (placeOf ws i) .busy))
+allIdle ws = all (length ws) 0 (λ (i : ℕ). not (viewOf (placeOf ws i) .busy))

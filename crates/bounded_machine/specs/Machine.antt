@@ -34,8 +34,8 @@ freshSlots capacity = stamped capacity emptySlots
 abbrev pub idler : Worker
 idler = record { place = Idle Nothing; differed = 0; failed = 0 }
 
-unfoldable pub idlers : List Worker
-idlers = replicate workersMost idler
+unfoldable pub idlers : ℕ → List Worker
+idlers records = replicate records idler
 
 abbrev pub machineOf : Fixed → Ends → List Slot → List Worker → ℕ → ℕ → Machine
 machineOf f e s w n k = record { ring = record { fixed = f; ends = e; slots = s }; workers = w; count = n; meter = k }
@@ -44,12 +44,16 @@ machineOf f e s w n k = record { ring = record { fixed = f; ends = e; slots = s 
 abbrev pub starts : Ends
 starts = record { head = stamp 0; tail = stamp 0 }
 
-unfoldable pub freshOf : ℕ → ℕ → ℕ → Machine
-freshOf capacity workers edition = machineOf (fixedOf capacity edition) starts (freshSlots capacity) idlers workers 0
+-- With so many records; document 01's machine has 16 of them.
+unfoldable pub freshWith : ℕ → ℕ → ℕ → ℕ → Machine
+freshWith records capacity workers edition = machineOf (fixedOf capacity edition) starts (freshSlots capacity) (idlers records) workers 0
+
+abbrev pub freshOf : ℕ → ℕ → ℕ → Machine
+freshOf = freshWith workersMost
 
 -- blank machine: all numbers 0, workers idle
 unfoldable pub blank : Machine
-blank = machineOf (record { mark = 0; lap = 0; capacity = 0; edition = 0 }) starts emptySlots idlers 0 0
+blank = machineOf (record { mark = 0; lap = 0; capacity = 0; edition = 0 }) starts emptySlots (idlers workersMost) 0 0
 
 -- The record of the worker numbered w, and where it stands.
 abbrev pub recordOf : List Worker → ℕ → Worker

@@ -237,7 +237,7 @@ pub fn record_fits(f: Fixed, meter: u64, r: Worker, counted: bool) -> bool
 
 fn records_fit(f: Fixed, count: u64, meter: u64, workers: [Worker; queue_entries::WORKERS]) -> bool
     requires { ⌜ Fair f ⌝ }
-    ensures { λ r. ⌜ r ≡ recordsFit f count meter workers ⌝ }
+    ensures { λ r. ⌜ r ≡ recordsFit workersMost f count meter workers ⌝ }
 {
     let mut i = 0;
     while i < queue_entries::WORKERS {

@@ -35,7 +35,7 @@ use Rattle.bounded_acts.specs.Acts.{stay, losing, endP3, endF6, endO3, tailTo, 
 use Rattle.bounded_machine.specs.declared.Machine.{Machine}
 use Rattle.bounded_machine.specs.declared.Did.{Did}
 use Rattle.bounded_machine.specs.declared.Ran.{Ran}
-use Rattle.bounded_machine.specs.Machine.{slot, emptySlots, stamped, freshSlots, freshOf, blank, placeOf, refused, accepted}
+use Rattle.bounded_machine.specs.Machine.{slot, emptySlots, stamped, freshSlots, freshWith, freshOf, blank, placeOf, refused, accepted}
 use Rattle.bounded_machine.specs.Broken.{brokenOf}
 use Rattle.bounded_machine.specs.Turn.{verdictOf, spotOf, begun, acted, actedBy, stored, carried, turn, turnAt, turnOfBy}
 use Rattle.bounded_machine.specs.Run.{ran, runAt, runOfBy}
@@ -205,7 +205,7 @@ unfolding blank
 blank-short = record { head = omega arith; tail = omega arith; slots = empty-short }
 
 fresh-short : (c w e : ℕ) → c ≤ slotsMost → Short (freshOf c w e)
-unfolding freshOf freshSlots
+unfolding freshWith freshSlots
 fresh-short c w e few = record { head = omega arith; tail = omega arith; slots = stamped-short c emptySlots (omega arith) empty-short }
 
 pub make-short : (c w e : ℕ) → Short (makeOf c w e .machine)

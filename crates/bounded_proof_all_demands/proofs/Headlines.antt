@@ -1,10 +1,12 @@
 -- The demands of document 01, proved. What they say, in document 01's words, is crates/bounded_demands/specs/Demands.antt; the
 -- runs on paper are Eight.antt beside it.
+use Rattle.queue_entries.specs.Limits.{workersMost}
 use Rattle.bounded_words.specs.declared.Width.the-variants.{Sixteen, SixtyFour}
 use Rattle.bounded_machine.specs.History.{lossAt}
 use Rattle.bounded_demands.specs.Notions.{sixtyFour, sixteen, ofWidth, document01, stock}
-use Rattle.bounded_demands.specs.Demands.{Demand1, OnlyOneCount, UnderEverySchedule, NothingWraps, ActByAct, WholeSchedules, LenTrue, ScheduledAlone, Attained, AsForetold, StockUnderEverySchedule, MostStock, EndsTold, LossesUnderEverySchedule, CountsAside, CloseHolds, ClosedIsLast, CaseF, WithinTheWindow, AloneKeeps, RoundsClaim, NotIdle, WindowLengths, SameNumbers}
+use Rattle.bounded_demands.specs.Demands.{Demand1, OnlyOneCount, UnderEverySchedule, NothingWraps, ActByAct, WholeSchedules, LenTrue, ScheduledAlone, Attained, AsForetold, StockUnderEverySchedule, MostStock, EndsTold, LossesUnderEverySchedule, CountsAside, CloseHolds, ClosedIsLast, CaseF, WithinTheWindow, AloneKeeps, RoundsClaim, NotIdle, WindowLengths, SameNumbers, AsHeld, OnlyTheActing, LentUnbroken, OnlyOneLent, LentThroughout, SixtyFourRecords}
 use Rattle.bounded_demands.specs.Eight.{EightRuns}
+use Rattle.bounded_demands.specs.Lending.{item11, promised}
 use Rattle.bounded_demands.proofs.Refusals.{demand1, only-one-count}
 use Rattle.bounded_demands.proofs.Narrow.{narrow-demand1}
 use Rattle.bounded_demands.proofs.Window.{window-lengths}
@@ -24,6 +26,9 @@ use Rattle.bounded_proof_demand2.proofs.Losses.{ends-told, losses}
 use Rattle.bounded_proof_demand2.proofs.Aside.{counts-aside}
 use Rattle.bounded_proof_demand2.proofs.Closing.{close-holds, closed-is-last}
 use Rattle.bounded_proof_demand3.proofs.Demand3.{demand3, within-the-window}
+use Rattle.bounded_proof_lent.proofs.Padded.{as-held, sixty-four-records}
+use Rattle.bounded_proof_lent.proofs.Acting.{only-the-acting, only-one-lent}
+use Rattle.bounded_proof_lent.proofs.Throughout.{lent-throughout, lent-unbroken-still}
 use Rattle.bounded_demands.specs.Notions.{causesIn}
 use Rattle.bounded_demands.specs.Demands.{EveryRetryHasACause, EightWaysBack, EachNeeded, AloneBackOnce, KeptAsSaid}
 use Rattle.bounded_demands.proofs.Retries.{each-needed}
@@ -43,12 +48,12 @@ demand-1 = (demand1, narrow-demand1, only-one-count)
 -- 2. Under every schedule from a fresh machine: each act is the one action of document 01; the claim rule; no slot in two hands;
 -- Empty, Full and Closed true at the act that decided them; claims not taken and contents.
 pub demand-2 : UnderEverySchedule document01 × NothingWraps document01 × ActByAct document01 × WholeSchedules document01 × LenTrue document01
-demand-2 = (demand2, nothing-wraps, act-by-act SixtyFour, whole-schedules SixtyFour, len-true)
+demand-2 = (demand2 workersMost, nothing-wraps workersMost, act-by-act SixtyFour, whole-schedules SixtyFour, len-true workersMost)
 
 -- 3. Alone, a call ends within seven acts with the right answer; a worker with a slot in hand lets go within three acts of its
 -- own; the numbers are attained, and the answers are those foretold.
 pub demand-3 : ScheduledAlone document01 × Attained × AsForetold
-demand-3 = (demand3, numbers-attained, as-foretold)
+demand-3 = (demand3 workersMost, numbers-attained, as-foretold)
 
 -- The eight runs on paper.
 pub on-paper : EightRuns
@@ -56,15 +61,15 @@ on-paper = eight-runs
 
 -- Stock: from the tail claim until the value is read out, both editions; its bound is attained.
 pub stock-counted : StockUnderEverySchedule document01 stock × MostStock
-stock-counted = (stock-stands, most-stock)
+stock-counted = (stock-stands workersMost, most-stock)
 
 -- How an exchange ended: told by the words and the schedule; counted by each worker, both editions; and no answer goes by it.
 pub losses-counted : EndsTold SixtyFour (lossAt SixtyFour) × LossesUnderEverySchedule document01 × CountsAside document01
-losses-counted = (ends-told SixtyFour, losses SixtyFour, counts-aside SixtyFour)
+losses-counted = (ends-told SixtyFour, losses SixtyFour workersMost, counts-aside SixtyFour)
 
 -- A close that holds: edition 2; what follows a pop's Closed, in both editions; case F.
 pub close-that-holds : CloseHolds document01 × ClosedIsLast document01 × CaseF document01
-close-that-holds = (close-holds, closed-is-last, case-f)
+close-that-holds = (close-holds workersMost, closed-is-last workersMost, case-f)
 
 -- Every retry has a cause, in both editions; each of the four is needed; alone a worker goes back at most once; and what is kept for naming them is what the history says.
 pub retries-caused : EveryRetryHasACause document01 causesIn × EightWaysBack document01 × EachNeeded causesIn 1 × EachNeeded causesIn 2 × AloneBackOnce document01 × KeptAsSaid
@@ -72,7 +77,7 @@ retries-caused = (every-retry, eight-ways, each-needed .0, each-needed .1, alone
 
 -- Words that wrap: of sixteen bits, as long as the window is kept, all of demands 2 and 3 with stock, losses and closing; and what needs no window.
 pub sixteen-bits : WithinTheWindow (ofWidth Sixteen) × ActByAct (ofWidth Sixteen) × WholeSchedules (ofWidth Sixteen) × EndsTold Sixteen (lossAt Sixteen) × CountsAside (ofWidth Sixteen) × SameNumbers
-sixteen-bits = (within-the-window Sixteen, act-by-act Sixteen, whole-schedules Sixteen, ends-told Sixteen, counts-aside Sixteen, same-numbers)
+sixteen-bits = (within-the-window Sixteen workersMost, act-by-act Sixteen, whole-schedules Sixteen, ends-told Sixteen, counts-aside Sixteen, same-numbers)
 
 -- The window: as long as document 02 says, met through any number of turns, and needed.
 pub window : WindowLengths × AloneKeeps (ofWidth Sixteen) × RoundsClaim (ofWidth Sixteen) × NotIdle
@@ -81,3 +86,7 @@ window = (window-lengths, alone-keeps Sixteen, rounds-claim Sixteen, not-idle)
 -- Walks: the list has every sequence of acts that goes so and no other, in order; what is answered and left in the buffer; and how many there are of some.
 pub every-sequence : WalksAll walkOf × WalkTold × WalksCounted
 every-sequence = (walks-all, walk-told, walks-counted)
+
+-- Records in the host's memory: up to 16 of them as the machine that holds them; in a step only the acting record changes; demands 2 and 3 for every number of records, lent throughout; case H of this machine.
+pub records-lent : AsHeld item11 × OnlyTheActing item11 × LentUnbroken item11 × OnlyOneLent (promised item11) × LentThroughout item11 × SixtyFourRecords item11
+records-lent = (as-held, only-the-acting, lent-unbroken-still, only-one-lent, lent-throughout, sixty-four-records)

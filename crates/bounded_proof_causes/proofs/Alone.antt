@@ -6,6 +6,7 @@ use mathlib.Core.List.{List, [], _∷_, _++_, append-nil}
 use Prim.Native.Nat.{ℕ, _+_, _≤_, _<_}
 use native.Mathlib.Omega.{arith}
 use native.Mathlib.Decide.{ℕ-discrete}
+use Rattle.queue_entries.specs.Limits.{workersMost}
 use Rattle.queue_entries.specs.declared.Call.{Call}
 use Rattle.queue_entries.specs.declared.Entry.{Entry}
 use Rattle.bounded_words.specs.declared.Width.{Width}
@@ -82,9 +83,9 @@ no-acts : (m : Machine) (h : List Event) (w : ℕ) → otherHand w h ≡ false �
 unfolding goingsBack
 no-acts m h w free = (free, omega arith, λ k. absurd (omega arith))
 
-module _ (bits : Width) (c n workers : ℕ) (base : Base bits c n workers) where
+module _ (bits : Width) (c n workers : ℕ) (base : Base bits c n workers) (team : workers ≤ workersMost) where
   record Once (m : Machine) (h : List Event) : Type 0 where
-    pub causing : Causing bits c n workers base m h
+    pub causing : Causing bits c n workers base team m h
     pub soles : Soles m h
     pub once : BackOnce h
 
@@ -97,40 +98,40 @@ module _ (bits : Width) (c n workers : ℕ) (base : Base bits c n workers) where
   module _ (m : Machine) (h : List Event) (o : Once m h) (w : ℕ) (l : w < m .count) (lose : Bool) (busy : viewOf (stood m w) .busy ≡ true)
       (young : Recent c (markOf c) n (o .causing .behind .ring) (o .causing .behind .pictured .ages w) (look c (stood m w))) where
     abbrev next : Machine
-    next = causes.next bits c n workers base m h (o .causing) w l lose busy young
+    next = causes.next bits c n workers base team m h (o .causing) w l lose busy young
 
     abbrev new : Event
-    new = causes.new bits c n workers base m h (o .causing) w l lose busy young
+    new = causes.new bits c n workers base team m h (o .causing) w l lose busy young
 
     own : (left : List Event) → Sole m h w left → lossAt bits m w lose ≢ BySchedule → Sole next (h ++ new ∷ []) w (left ++ new ∷ [])
     own left s un = let q = go (goesBack new) refl in (free, q .0, q .1)
       where
-        goes : {b : Bool} → goesBack new ≡ b → goesBackOf (standOf (stood m w)) (standOf (causes.does bits c n workers base m h (o .causing) w l lose busy young .place)) ≡ b
-        goes e = sym (causes.goes bits c n workers base m h (o .causing) w l lose busy young) ∙ e
+        goes : {b : Bool} → goesBack new ≡ b → goesBackOf (standOf (stood m w)) (standOf (causes.does bits c n workers base team m h (o .causing) w l lose busy young .place)) ≡ b
+        goes e = sym (causes.goes bits c n workers base team m h (o .causing) w l lose busy young) ∙ e
 
         free : otherHand w (h ++ new ∷ []) ≡ false
         free =
-            ap (λ (xs : List Watch). othersHold xs w) (causes.kept-next bits c n workers base m h (o .causing) w l lose busy young)
-            ∙ others-stay w (causes.deed bits c n workers base m h (o .causing) w l lose busy young) (kept h) (o .causing .long) (s .0)
+            ap (λ (xs : List Watch). othersHold xs w) (causes.kept-next bits c n workers base team m h (o .causing) w l lose busy young)
+            ∙ others-stay w (causes.deed bits c n workers base team m h (o .causing) w l lose busy young) (kept h) (o .causing .long) (s .0)
 
-        there : Clean (causes.now bits c n workers base m h (o .causing) w l lose busy young) (causes.does bits c n workers base m h (o .causing) w l lose busy young .place)
+        there : Clean (causes.now bits c n workers base team m h (o .causing) w l lose busy young) (causes.does bits c n workers base team m h (o .causing) w l lose busy young .place)
             → Clean (watchOf (kept (h ++ new ∷ [])) w) (stood next w)
         there z =
-            subst (λ (y : Watch). Clean y (stood next w)) (sym (causes.own-next bits c n workers base m h (o .causing) w l lose busy young))
-            (subst (Clean (causes.now bits c n workers base m h (o .causing) w l lose busy young)) (sym (causes.went bits c n workers base m h (o .causing) w l lose busy young)) z)
+            subst (λ (y : Watch). Clean y (stood next w)) (sym (causes.own-next bits c n workers base team m h (o .causing) w l lose busy young))
+            (subst (Clean (causes.now bits c n workers base team m h (o .causing) w l lose busy young)) (sym (causes.went bits c n workers base team m h (o .causing) w l lose busy young)) z)
 
         none : goesBack new ≡ true → Dec (goingsBack left ≡ 1) → goingsBack left ≡ 0
-        none b (yes k) = absurd (causes.its-row bits c n workers base m h (o .causing) w l lose busy young .alone (goes b) (s .0) (s .2 k) un)
+        none b (yes k) = absurd (causes.its-row bits c n workers base team m h (o .causing) w l lose busy young .alone (goes b) (s .0) (s .2 k) un)
         none b (no k) = omega (arith, s .1)
 
         go : (b : Bool) → goesBack new ≡ b
             → (goingsBack (left ++ new ∷ []) ≤ 1) × (goingsBack (left ++ new ∷ []) ≡ 1 → Clean (watchOf (kept (h ++ new ∷ [])) w) (stood next w))
         go true b =
             let up : goingsBack (left ++ new ∷ []) ≡ goingsBack left + 1 = goings-end left new ∙ ap (λ (z : Bool). goingsBack left + cond z 1 0) b in
-            (omega (arith, up, none b (ℕ-discrete (goingsBack left) 1)), λ k. there (causes.its-row bits c n workers base m h (o .causing) w l lose busy young .cleaned (goes b)))
+            (omega (arith, up, none b (ℕ-discrete (goingsBack left) 1)), λ k. there (causes.its-row bits c n workers base team m h (o .causing) w l lose busy young .cleaned (goes b)))
         go false b =
             let same : goingsBack (left ++ new ∷ []) ≡ goingsBack left + 0 = goings-end left new ∙ ap (λ (z : Bool). goingsBack left + cond z 1 0) b in
-            (omega (arith, same, s .1), λ k. there (causes.its-row bits c n workers base m h (o .causing) w l lose busy young .clean (s .0) (s .2 (omega (arith, same)))))
+            (omega (arith, same, s .1), λ k. there (causes.its-row bits c n workers base team m h (o .causing) w l lose busy young .clean (s .0) (s .2 (omega (arith, same)))))
 
     soles-next : Soles next (h ++ new ∷ [])
     soles-next earlier alone v e a free = go (cut h new earlier alone e)
@@ -154,14 +155,14 @@ module _ (bits : Width) (c n workers : ℕ) (base : Base bits c n workers) where
       → Once next-machine (h ++ acts)
   once-kept m h en next-machine acts o window (began w q l idle) =
       record {
-        causing = causing-kept bits c n workers base m h en next-machine acts (o .causing) window (began w q l idle);
+        causing = causing-kept bits c n workers base team m h en next-machine acts (o .causing) window (began w q l idle);
         soles = rw (append-nil h) (begun-soles m h w q (o .soles));
         once = rw (append-nil h) (o .once);
       }
   once-kept m h en next-machine acts o window (did w lose l busy early) =
       let young = recent-in bits c n workers base m h (o .causing .behind) window w in
       record {
-        causing = causing-kept bits c n workers base m h en next-machine acts (o .causing) window (did w lose l busy early);
+        causing = causing-kept bits c n workers base team m h en next-machine acts (o .causing) window (did w lose l busy early);
         soles = soles-next m h o w l lose busy young;
         once = once-next m h o w l lose busy young;
       }
@@ -170,9 +171,9 @@ pub alone-back-once : AloneBackOnce document01
 unfolding goingsBack
 alone-back-once capacity workers edition a s =
     let n = lapsOf SixtyFour capacity in
-    let base = base-of SixtyFour capacity workers edition a in
+    let base = base-of SixtyFour workersMost capacity workers edition a in
     let m = freshOf capacity workers edition in
-    along SixtyFour (InWindow SixtyFour) (Once SixtyFour capacity n workers base) (once-kept SixtyFour capacity n workers base) s m [] 0 (always capacity workers edition a s)
+    along SixtyFour (InWindow SixtyFour) (Once SixtyFour capacity n workers base (a .worker-most)) (once-kept SixtyFour capacity n workers base (a .worker-most)) s m [] 0 (always workersMost capacity workers edition a s)
     (record {
       causing = fresh-causing SixtyFour capacity workers edition a;
       soles = λ earlier alone w e b free.

@@ -3,7 +3,7 @@ use mathlib.Core.Path.{_≡_, refl, sym, ap, _∙_, subst}
 use mathlib.Core.Logic.{_≢_, _⊎_, inl, inr}
 use mathlib.Core.Bool.{Bool, true, false, true≢false}
 use mathlib.Core.List.{List, [], _∷_, _++_, append-nil}
-use Prim.Native.Nat.{ℕ, _+_, _*_, _%_, _<_}
+use Prim.Native.Nat.{ℕ, _+_, _*_, _%_, _≤_, _<_}
 use native.Mathlib.Omega.{arith}
 use native.Mathlib.Decide.{ℕ-discrete}
 use lib.ListN.{length, getD, length-replicate}
@@ -29,6 +29,7 @@ use Rattle.bounded_machine.specs.declared.Event.{Event}
 use Rattle.bounded_machine.specs.Machine.{slot, idler, freshOf}
 use Rattle.bounded_machine.specs.Turn.{spotOf, beginner, recordAfter, begun, stored, acted, actedBy}
 use Rattle.bounded_machine.specs.History.{movedOf, lossAt}
+use Rattle.bounded_machine.proofs.Kept.{few-workers}
 use Rattle.bounded_causes.specs.declared.Deed.{Deed}
 use Rattle.bounded_causes.specs.declared.Watch.{Watch}
 use Rattle.bounded_causes.specs.declared.Watches.{Watches}
@@ -76,7 +77,7 @@ len-only t u x y l (by-hand h) = absurd (true≢false (sym h))
 abbrev pub kept : List Event → List Watch
 kept h = watches h .each
 
-module _ (bits : Width) (c n workers : ℕ) (base : Base bits c n workers) where
+module _ (bits : Width) (c n workers : ℕ) (base : Base bits c n workers) (team : workers ≤ workersMost) where
   pub record Causing (m : Machine) (h : List Event) : Type 0 where
     pub behind : Reached c n workers m h
     pub long : length (kept h) ≡ workersMost
@@ -94,10 +95,10 @@ module _ (bits : Width) (c n workers : ℕ) (base : Base bits c n workers) where
     pic = o .behind .pictured
 
     pub seat : w < length (m .workers)
-    seat = omega (arith, pic .workers-long, pic .count, base .team)
+    seat = omega (arith, pic .workers-long, few-workers m (pic .unbroken))
 
     pub few : w < workersMost
-    few = omega (arith, pic .count, base .team)
+    few = omega (arith, pic .count, team)
 
     -- a call begun
     module _ (q : Call) (idle : viewOf (stood m w) .busy ≡ false) where
@@ -167,7 +168,7 @@ module _ (bits : Width) (c n workers : ℕ) (base : Base bits c n workers) where
           go v mine (no ne) =
               let hand = pic .back at small v mine in
               let count : v < m .count = busy-counted c n workers ring m pic v (hand-busy c (markOf c) at (stood m v) hand) in
-              let low : v < workersMost = omega (arith, pic .count, base .team) in
+              let low : v < workersMost = omega (arith, pic .count, team) in
               true≢false (sym (hand-stands c (markOf c) at (stood m v) hand) ∙ sym (o .hands v low) ∙ others-free (kept h) w none v low ne)
 
       -- the slot of the act is that of the word's claim
@@ -312,17 +313,17 @@ module _ (bits : Width) (c n workers : ℕ) (base : Base bits c n workers) where
       (entered-in bits c n workers base m h en next acts (o .behind) window (did w lose l busy early))
 
 pub fresh-causing : (bits : Width) (capacity workers edition : ℕ) (a : Allowed capacity workers edition)
-    → Causing bits capacity (lapsOf bits capacity) workers (base-of bits capacity workers edition a) (freshOf capacity workers edition) []
+    → Causing bits capacity (lapsOf bits capacity) workers (base-of bits workersMost capacity workers edition a) (a .worker-most) (freshOf capacity workers edition) []
 unfolding watchesFrom
 fresh-causing bits capacity workers edition a =
     record {
-      behind = fresh-reached bits capacity workers edition a;
+      behind = fresh-reached bits workersMost capacity workers edition a;
       long = length-replicate workersMost unwatched;
-      hands = λ v b. ap (λ (y : Watch). y .hand) (same-at workersMost v unwatched) ∙ sym (ap (λ (z : Worker). standOf (z .place) .hand) (fresh-record capacity workers edition v));
+      hands = λ v b. ap (λ (y : Watch). y .hand) (same-at workersMost v unwatched) ∙ sym (ap (λ (z : Worker). standOf (z .place) .hand) (fresh-record workersMost capacity workers edition v));
       knows =
           λ v b.
           subst (λ (z : Worker). Knows bits (freshOf capacity workers edition .ring .fixed) (freshOf capacity workers edition .ring .ends) (watchOf (kept []) v) (z .place))
-          (sym (fresh-record capacity workers edition v)) tt;
+          (sym (fresh-record workersMost capacity workers edition v)) tt;
       ways = λ earlier later act e. absurd (nil-split earlier act later e);
       caused = λ earlier later act e. absurd (nil-split earlier act later e);
       lens = λ earlier later act t u e. absurd (nil-split earlier act later e);
@@ -331,17 +332,17 @@ fresh-causing bits capacity workers edition a =
 -- every schedule that keeps the window
 reached-causing : (bits : Width) (capacity workers edition : ℕ) (a : Allowed capacity workers edition) (s : List ℕ)
     → KeepsWindow (ofWidth bits) (freshOf capacity workers edition) [] s
-    → Causing bits capacity (lapsOf bits capacity) workers (base-of bits capacity workers edition a) (machineAfter (ofWidth bits) capacity workers edition s)
+    → Causing bits capacity (lapsOf bits capacity) workers (base-of bits workersMost capacity workers edition a) (a .worker-most) (machineAfter (ofWidth bits) capacity workers edition s)
     (actsOf (ofWidth bits) capacity workers edition s)
 reached-causing bits capacity workers edition a s keeps =
     let n = lapsOf bits capacity in
-    let base = base-of bits capacity workers edition a in
-    along bits (InWindow bits) (Causing bits capacity n workers base) (causing-kept bits capacity n workers base) s (freshOf capacity workers edition) [] 0 keeps
+    let base = base-of bits workersMost capacity workers edition a in
+    along bits (InWindow bits) (Causing bits capacity n workers base (a .worker-most)) (causing-kept bits capacity n workers base (a .worker-most)) s (freshOf capacity workers edition) [] 0 keeps
     (fresh-causing bits capacity workers edition a)
 
 -- of 64 bits every schedule
 pub every-retry : EveryRetryHasACause document01 causesIn
-every-retry capacity workers edition a s = let o = reached-causing SixtyFour capacity workers edition a s (always capacity workers edition a s) in (o .caused, o .lens)
+every-retry capacity workers edition a s = let o = reached-causing SixtyFour capacity workers edition a s (always workersMost capacity workers edition a s) in (o .caused, o .lens)
 
 pub eight-ways : EightWaysBack document01
-eight-ways capacity workers edition a s = reached-causing SixtyFour capacity workers edition a s (always capacity workers edition a s) .ways
+eight-ways capacity workers edition a s = reached-causing SixtyFour capacity workers edition a s (always workersMost capacity workers edition a s) .ways

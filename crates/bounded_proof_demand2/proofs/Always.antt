@@ -13,9 +13,9 @@ use Rattle.bounded_words.specs.declared.Width.the-variants.{SixtyFour}
 use Rattle.bounded_words.specs.Words.{markOf}
 use Rattle.bounded_machine.specs.declared.Machine.{Machine}
 use Rattle.bounded_machine.specs.declared.Event.{Event}
-use Rattle.bounded_machine.specs.Machine.{freshOf}
+use Rattle.bounded_machine.specs.Machine.{freshWith}
 use Rattle.bounded_machine.specs.Turn.{begun, actedBy, stored}
-use Rattle.bounded_demands.specs.Notions.{document01, Allowed, tally, since, turnLength, InWindow, KeepsWindow}
+use Rattle.bounded_demands.specs.Notions.{document01, AllowedWith, tally, since, turnLength, InWindow, KeepsWindow}
 use Rattle.bounded_proof_each_act.proofs.Stamps.{fixed}
 use Rattle.bounded_proof_demand2.proofs.Turns.{Turned, began, did}
 use Rattle.bounded_proof_demand2.proofs.Window.{since-claims, turn-is}
@@ -35,21 +35,21 @@ metered-kept bits c m h en next acts o (began w call l idle) = record { meter = 
 metered-kept bits c m h en next acts o (did w lose l busy early) =
     record { meter = omega (arith, o .meter, length-append h acts); few = omega arith; rule = o .rule }
 
-fresh-metered : (c workers edition : ℕ) → Metered c (freshOf c workers edition) []
-unfolding freshOf
-fresh-metered c workers edition = record { meter = refl; few = omega arith; rule = refl }
+fresh-metered : (records c workers edition : ℕ) → Metered c (freshWith records c workers edition) []
+unfolding freshWith
+fresh-metered records c workers edition = record { meter = refl; few = omega arith; rule = refl }
 
-module _ (c workers edition : ℕ) (a : Allowed c workers edition) where
+module _ (records c workers edition : ℕ) (a : AllowedWith records c workers edition) where
   abbrev n : ℕ
   n = lapsOf SixtyFour c
 
   base : Base SixtyFour c (lapsOf SixtyFour c) workers
-  base = base-of SixtyFour c workers edition a
+  base = base-of SixtyFour records c workers edition a
 
   in-window : (m : Machine) (h : List Event) → Metered c m h → InWindow SixtyFour m h
   in-window m h o w held =
       let some : 1 ≤ c = a .slot-some in
-      let wide : meterMost + 2 * c < lapsOf SixtyFour c * c = omega (arith, mul-le-mul-right (lapsOf SixtyFour c) some, long c workers edition a, a .slot-most) in
+      let wide : meterMost + 2 * c < lapsOf SixtyFour c * c = omega (arith, mul-le-mul-right (lapsOf SixtyFour c) some, long records c workers edition a, a .slot-most) in
       let q = since-claims w h in
       let turn = turn-is SixtyFour c (markOf c) (lapsOf SixtyFour c) (m .ring .fixed .edition) (base .ground) in
       subst (λ (f : Fixed). (tally (since w h) .tail .0 < turnLength SixtyFour f - 2 * f .capacity) × (tally (since w h) .head .0 < turnLength SixtyFour f - 2 * f .capacity)) (sym (o .rule))
@@ -59,8 +59,8 @@ module _ (c workers edition : ℕ) (a : Allowed c workers edition) where
   always-from m h o s before after e =
       in-window _ _ (along-any SixtyFour (Metered c) (metered-kept SixtyFour c) before m h 0 o)
 
-  pub always : (s : List ℕ) → KeepsWindow document01 (freshOf c workers edition) [] s
-  always = always-from (freshOf c workers edition) [] (fresh-metered c workers edition)
+  pub always : (s : List ℕ) → KeepsWindow document01 (freshWith records c workers edition) [] s
+  always = always-from (freshWith records c workers edition) [] (fresh-metered records c workers edition)
 
-  pub metered-after : (s : List ℕ) → Metered c (document01 .run (freshOf c workers edition) 0 s .machine) (document01 .history (freshOf c workers edition) s)
-  metered-after s = along-any SixtyFour (Metered c) (metered-kept SixtyFour c) s (freshOf c workers edition) [] 0 (fresh-metered c workers edition)
+  pub metered-after : (s : List ℕ) → Metered c (document01 .run (freshWith records c workers edition) 0 s .machine) (document01 .history (freshWith records c workers edition) s)
+  metered-after s = along-any SixtyFour (Metered c) (metered-kept SixtyFour c) s (freshWith records c workers edition) [] 0 (fresh-metered records c workers edition)

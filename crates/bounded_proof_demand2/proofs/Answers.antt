@@ -26,7 +26,7 @@ use Rattle.bounded_machine.specs.declared.Did.{Did}
 use Rattle.bounded_machine.specs.declared.Event.{Event}
 use Rattle.bounded_machine.specs.Machine.{slot, accepted}
 use Rattle.bounded_machine.specs.Turn.{spotOf, turn, turnOfBy, acted}
-use Rattle.bounded_demands.specs.Notions.{ofWidth, Acts, Truth, holdingAt, holds, InWindow}
+use Rattle.bounded_demands.specs.Notions.{withRecords, Acts, Truth, holdingAt, holds, InWindow}
 use Rattle.bounded_proof_invariant.proofs.Width.{Near, turn-long}
 use Rattle.bounded_proof_each_act.proofs.Stamps.{fixed, W, unmarked-tail, same-is, behind-is}
 use Rattle.bounded_proof_each_act.proofs.Sight.{look, answerIn, endsOf, Stands, Recent}
@@ -45,7 +45,7 @@ pub record Done (bits : Width) (m : Machine) (w : ℕ) (lose : Bool) (next : Mac
 done-by : (bits : Width) (m : Machine) (w : ℕ) (lose : Bool) (next : Machine) (acts : List Event) → Turned bits m (Asks w (Act lose)) next acts → Done bits m w lose next
 done-by bits m w lose next acts (did v was l b e) = record { team = l; busy = b; early = e; is = refl }
 
-pub acts-done : (bits : Width) (m : Machine) (w : ℕ) (next : Machine) (a : Acts (ofWidth bits) m w next) → Done bits m w (a .lose) next
+pub acts-done : {records : ℕ} (bits : Width) (m : Machine) (w : ℕ) (next : Machine) (a : Acts (withRecords records bits) m w next) → Done bits m w (a .lose) next
 unfolding turnOfBy accepted
 acts-done bits m w next a =
     let q : turn bits m (Asks w (Act (a .lose))) ≡ accepted next = ap (turn bits m) (sym (a .asks)) ∙ a .done in
@@ -55,7 +55,7 @@ acts-done bits m w next a =
 
 module _ (bits : Width) (c n workers : ℕ) (base : Base bits c n workers) (m : Machine) (h : List Event) (r : Reached c n workers m h) where
   -- where the act of a worker at p leads
-  pub leads : (w : ℕ) (next : Machine) (p : Place) → Acts (ofWidth bits) m w next → stood m w ≡ p
+  pub leads : {records : ℕ} (w : ℕ) (next : Machine) (p : Place) → Acts (withRecords records bits) m w next → stood m w ≡ p
       → (z : Slot) × (lose : Bool) × (stood next w ≡ actOf bits (fixed c (markOf c) (m .ring .fixed .edition)) (endsOf c (markOf c) n (r .ring) (r .pictured .shut)) z p lose .place)
   leads w next p act e =
       let d = acts-done bits m w next act in
@@ -85,7 +85,7 @@ module _ (bits : Width) (c n workers : ℕ) (base : Base bits c n workers) (m : 
   unmarked-is : unmarkedOf F (E .tail) ≡ W c (markOf c) n (r .ring .tail)
   unmarked-is = unmarked-tail bits c (markOf c) n (base .ground) (m .ring .fixed .edition) (r .ring .tail) (r .pictured .shut)
 
-  pub true-answers : (w : ℕ) → Recent c (markOf c) n (r .ring) (r .pictured .ages w) (look c (stood m w)) → (next : Machine) (a : Answer) → Acts (ofWidth bits) m w next → stood next w ≡ Idle a → Truth bits (m .ring .fixed) (m .ring .ends) a
+  pub true-answers : {records : ℕ} (w : ℕ) → Recent c (markOf c) n (r .ring) (r .pictured .ages w) (look c (stood m w)) → (next : Machine) (a : Answer) → Acts (withRecords records bits) m w next → stood next w ≡ Idle a → Truth bits (m .ring .fixed) (m .ring .ends) a
   true-answers w young next a act e =
       let d = acts-done bits m w next act in
       let pic = r .pictured in
@@ -123,7 +123,7 @@ module _ (bits : Width) (c n workers : ℕ) (base : Base bits c n workers) (m : 
         let even : r .ring .tail ≡ o .0 = omega (arith, o .3, inv .high) in
         ap (lapBehind bits F (E .head)) (unmarked-is ∙ ap (W c (markOf c) n) even) ∙ z
 
-    pub true-empty : (w : ℕ) (next : Machine) (t : Stamp) → stood m w ≡ Empty2 t → Acts (ofWidth bits) m w next → stood next w ≡ Idle Yes
+    pub true-empty : {records : ℕ} (w : ℕ) (next : Machine) (t : Stamp) → stood m w ≡ Empty2 t → Acts (withRecords records bits) m w next → stood next w ≡ Idle Yes
         → unmarkedOf (m .ring .fixed) (m .ring .ends .tail) ≡ m .ring .ends .head
     unfolding stay
     true-empty w next t at act e =
@@ -132,7 +132,7 @@ module _ (bits : Width) (c n workers : ℕ) (base : Base bits c n workers) (m : 
         subst (λ (f : Fixed). unmarkedOf f (m .ring .ends .tail) ≡ m .ring .ends .head) (sym (r .pictured .rule))
         (subst (λ (x : Ends). unmarkedOf F (x .tail) ≡ x .head) (sym (r .pictured .ends)) y)
 
-    pub true-full : (w : ℕ) (next : Machine) (t : Stamp) → stood m w ≡ Full2 t → Acts (ofWidth bits) m w next → stood next w ≡ Idle Yes
+    pub true-full : {records : ℕ} (w : ℕ) (next : Machine) (t : Stamp) → stood m w ≡ Full2 t → Acts (withRecords records bits) m w next → stood next w ≡ Idle Yes
         → lapBehind bits (m .ring .fixed) (m .ring .ends .head) (unmarkedOf (m .ring .fixed) (m .ring .ends .tail)) ≡ true
     unfolding stay
     true-full w next t at act e =

@@ -24,11 +24,11 @@ use Rattle.bounded_acts.specs.Acts.{stay, tailTo, actOf}
 use Rattle.bounded_machine.specs.declared.Machine.{Machine}
 use Rattle.bounded_machine.specs.declared.Event.{Event}
 use Rattle.bounded_machine.specs.declared.Moved.the-variants.{Neither}
-use Rattle.bounded_machine.specs.Machine.{slot, freshOf}
+use Rattle.bounded_machine.specs.Machine.{slot, freshWith}
 use Rattle.bounded_machine.specs.Turn.{acted}
 use Rattle.bounded_machine.specs.History.{movedOf}
 use Rattle.bounded_machine.proofs.Kept.{unbroken-of}
-use Rattle.bounded_demands.specs.Notions.{ofWidth, document01, Allowed, machineAfter, actsOf, InWindow, KeepsWindow, ClosesYes, NoClaims}
+use Rattle.bounded_demands.specs.Notions.{withRecords, AllowedWith, machineAfter, actsOf, InWindow, KeepsWindow, ClosesYes, NoClaims}
 use Rattle.bounded_demands.specs.Demands.{OnceClosed, YesOnce, NoneAfterClosed, CloseHolds, ClosedIsLast}
 use Rattle.bounded_proof_invariant.proofs.Ring.{Filled, Grab, Swapped, Cell, Await, Hold, Hand, Shared, CellOk, Inv}
 use Rattle.bounded_proof_invariant.proofs.Effects.{Effect, Still, Tailed, Taken, Grabbed, Forced, Fills, Swaps, Frees, Gives, Fits, Loose, after, ok-at}
@@ -276,49 +276,50 @@ module _ (bits : Width) (c n workers : ℕ) (base : Base bits c n workers) where
               true≢false (sym (o .shut (record { earlier = earlier; act = act; later = between; is = sym (e .whole); so = y }))
               ∙ was-open m h (o .behind) w lose l busy (recent-in bits c n workers base m h (o .behind) window w) (subst ClosesYes (e .one) x))
 
-module _ (bits : Width) (capacity workers edition : ℕ) (a : Allowed capacity workers edition) (s : List ℕ) (keeps : KeepsWindow (ofWidth bits) (freshOf capacity workers edition) [] s) where
-  pub none-in : NoneAfterClosed (actsOf (ofWidth bits) capacity workers edition s)
+module _ (bits : Width) (records capacity workers edition : ℕ) (a : AllowedWith records capacity workers edition) (s : List ℕ) (keeps : KeepsWindow (withRecords records bits) (freshWith records capacity workers edition) [] s) where
+  pub none-in : NoneAfterClosed (actsOf (withRecords records bits) capacity workers edition s)
   none-in =
-      along bits (InWindow bits) (Closing bits capacity (lapsOf bits capacity) workers (base-of bits capacity workers edition a))
-      (closing-kept bits capacity (lapsOf bits capacity) workers (base-of bits capacity workers edition a)) s (freshOf capacity workers edition) [] 0 keeps
+      along bits (InWindow bits) (Closing bits capacity (lapsOf bits capacity) workers (base-of bits records capacity workers edition a))
+      (closing-kept bits capacity (lapsOf bits capacity) workers (base-of bits records capacity workers edition a)) s (freshWith records capacity workers edition) [] 0 keeps
       (record {
-        behind = fresh-reached bits capacity workers edition a;
+        behind = fresh-reached bits records capacity workers edition a;
         none = λ earlier later act e. absurd (nil-split earlier act later e);
         sealed = λ o. absurd (nil-split (o .earlier) (o .act) (o .later) (o .is));
       })
       .none
 
-  edition-of : freshOf capacity workers edition .ring .fixed .edition ≡ edition
-  unfolding freshOf
+  edition-of : freshWith records capacity workers edition .ring .fixed .edition ≡ edition
+  unfolding freshWith
   edition-of = refl
 
-  pub yes-in : edition ≡ 2 → YesOnce (actsOf (ofWidth bits) capacity workers edition s)
+  pub yes-in : edition ≡ 2 → YesOnce (actsOf (withRecords records bits) capacity workers edition s)
   yes-in two =
-      along bits (InWindow bits) (Shutting bits capacity (lapsOf bits capacity) workers (base-of bits capacity workers edition a))
-      (shutting-kept bits capacity (lapsOf bits capacity) workers (base-of bits capacity workers edition a)) s (freshOf capacity workers edition) [] 0 keeps
+      along bits (InWindow bits) (Shutting bits capacity (lapsOf bits capacity) workers (base-of bits records capacity workers edition a))
+      (shutting-kept bits capacity (lapsOf bits capacity) workers (base-of bits records capacity workers edition a)) s (freshWith records capacity workers edition) [] 0 keeps
       (record {
-        behind = fresh-reached bits capacity workers edition a;
+        behind = fresh-reached bits records capacity workers edition a;
         second = edition-of ∙ two;
         once = λ earlier between later act again e. absurd (nil-split (earlier ++ act ∷ between) again later e);
         shut = λ o. absurd (nil-split (o .earlier) (o .act) (o .later) (o .is));
       })
       .once
 
-  pub closed-in : edition ≡ 2 → OnceClosed (ofWidth bits) (machineAfter (ofWidth bits) capacity workers edition s)
+  pub closed-in : edition ≡ 2 → OnceClosed (withRecords records bits) (machineAfter (withRecords records bits) capacity workers edition s)
   closed-in two marked entries =
-      let m = machineAfter (ofWidth bits) capacity workers edition s in
-      stays-shut bits m (actsOf (ofWidth bits) capacity workers edition s)
+      let m = machineAfter (withRecords records bits) capacity workers edition s in
+      stays-shut bits m (actsOf (withRecords records bits) capacity workers edition s)
       (record {
-        unbroken = unbroken-of m (demand2-in bits capacity workers edition a s keeps .unbroken);
-        second = ap (λ (f : Fixed). f .edition) (same-fixed bits (freshOf capacity workers edition) s) ∙ edition-of ∙ two;
+        records = records;
+        unbroken = unbroken-of m (demand2-in bits records capacity workers edition a s keeps .unbroken);
+        second = ap (λ (f : Fixed). f .edition) (same-fixed bits (freshWith records capacity workers edition) s) ∙ edition-of ∙ two;
         marked = marked;
       })
       entries
 
-pub closed-is-last : ClosedIsLast document01
-closed-is-last capacity workers edition a s = none-in SixtyFour capacity workers edition a s (always capacity workers edition a s)
+pub closed-is-last : (records : ℕ) → ClosedIsLast (withRecords records SixtyFour)
+closed-is-last records capacity workers edition a s = none-in SixtyFour records capacity workers edition a s (always records capacity workers edition a s)
 
-pub close-holds : CloseHolds document01
-close-holds capacity workers a s =
-    let keeps = always capacity workers 2 a s in
-    (closed-in SixtyFour capacity workers 2 a s keeps refl, yes-in SixtyFour capacity workers 2 a s keeps refl)
+pub close-holds : (records : ℕ) → CloseHolds (withRecords records SixtyFour)
+close-holds records capacity workers a s =
+    let keeps = always records capacity workers 2 a s in
+    (closed-in SixtyFour records capacity workers 2 a s keeps refl, yes-in SixtyFour records capacity workers 2 a s keeps refl)

@@ -9,7 +9,6 @@ use native.Mathlib.Decide.{decLt, decLe}
 use lib.ListN.{length, getD, drop, length-drop, drop-of-length-le, List·getD-eq-default}
 use lib.Seq.{drop-cons}
 use borrow.Author.Tests.{not-true}
-use Rattle.queue_entries.specs.Limits.{workersMost}
 use Rattle.bounded_words.specs.declared.Fixed.{Fixed}
 use Rattle.bounded_words.specs.declared.Width.{Width}
 use Rattle.bounded_words.specs.Words.{markOf, indexOf}
@@ -34,12 +33,12 @@ use Rattle.bounded_proof_demand2.proofs.Counts.{tally-tail, tally-head,
 use Rattle.bounded_proof_demand2.proofs.Pictured.{Base, idle-hand}
 use Rattle.bounded_proof_demand2.proofs.Reached.{Reached}
 
-pub idle-at : (ws : List Worker) → length ws ≡ workersMost → allIdle ws ≡ true → (w : ℕ) → viewOf (placeOf ws w) .busy ≡ false
+pub idle-at : (ws : List Worker) → allIdle ws ≡ true → (w : ℕ) → viewOf (placeOf ws w) .busy ≡ false
 unfolding allIdle
-idle-at ws long e w = go (decLt w workersMost)
+idle-at ws e w = go (decLt w (length ws))
   where
-    go : Dec (w < workersMost) → viewOf (placeOf ws w) .busy ≡ false
-    go (yes l) = not-true _ (every workersMost 0 (λ (i : ℕ). not (viewOf (placeOf ws i) .busy)) e w (omega arith) (omega arith))
+    go : Dec (w < length ws) → viewOf (placeOf ws w) .busy ≡ false
+    go (yes l) = not-true _ (every (length ws) 0 (λ (i : ℕ). not (viewOf (placeOf ws i) .busy)) e w (omega arith) (omega arith))
     go (no l) =
         let past : length ws ≤ w = omega arith in
         ap (λ (z : Worker). viewOf (z .place) .busy) (List·getD-eq-default ws idler past)
@@ -61,7 +60,7 @@ module _ (bits : Width) (c n workers : ℕ) (base : Base bits c n workers) (m : 
   module _ (idle : allIdle (m .workers) ≡ true) where
     -- no slot is in hand
     loose : (i : ℕ) → i < c → (w : ℕ) → Mine w (r .ring .cell i) → ⊥
-    loose i l w mine = idle-hand c (markOf c) i (stood m w) (idle-at (m .workers) (r .pictured .workers-long) idle w) (r .pictured .back i l w mine)
+    loose i l w mine = idle-hand c (markOf c) i (stood m w) (idle-at (m .workers) idle w) (r .pictured .back i l w mine)
 
     -- every claim between head and tail has its item in its slot
     settled : (k : ℕ) → r .ring .head ≤ k → k < r .ring .tail → r .ring .val (k % c) ≡ r .ring .item k

@@ -1,11 +1,13 @@
 -- Demand 2, proved.
-use mathlib.Core.Path.{_≡_, refl, sym, ap, _∙_}
+use mathlib.Core.Path.{_≡_, refl, sym, ap, subst, _∙_}
 use mathlib.Core.Bool.{true, false}
 use mathlib.Core.List.{List, [], _∷_, append-nil}
 use Prim.Native.Nat.{ℕ}
 use native.Mathlib.Omega.{arith}
 use lib.Dec.{eqb}
 use borrow.Author.Tests.{eq-eqb}
+use lib.ListN.{length}
+use Rattle.queue_entries.specs.Limits.{workersMost}
 use Rattle.queue_entries.specs.Schedules.{runBy, historyBy}
 use Rattle.queue_entries.specs.Entries.{entryOf}
 use Rattle.queue_schedules.proofs.Schedules.{schedule-odd, schedule-read}
@@ -15,17 +17,17 @@ use Rattle.bounded_words.specs.declared.Width.the-variants.{SixtyFour}
 use Rattle.bounded_machine.specs.declared.Machine.{Machine}
 use Rattle.bounded_machine.specs.declared.Ran.{Ran}
 use Rattle.bounded_machine.specs.declared.Event.{Event}
-use Rattle.bounded_machine.specs.Machine.{freshOf}
-use Rattle.bounded_machine.specs.Broken.{brokenOf}
+use Rattle.bounded_machine.specs.Machine.{freshWith, freshOf}
+use Rattle.bounded_machine.specs.Broken.{brokenWith, brokenOf}
 use Rattle.bounded_machine.specs.Turn.{turnAt}
 use Rattle.bounded_machine.specs.Run.{ran, runAt}
 use Rattle.bounded_machine.specs.History.{eventsOf}
 use Rattle.bounded_machine.proofs.Kept.{of-unbroken}
-use Rattle.bounded_demands.specs.Notions.{ofWidth, document01, Allowed, machineAfter, actsOf, InWindow, KeepsWindow}
+use Rattle.bounded_demands.specs.Notions.{withRecords, ofWidth, AllowedWith, Allowed, machineAfter, actsOf, InWindow, KeepsWindow}
 use Rattle.bounded_demands.specs.Demands.{Demand2, UnderEverySchedule, NothingWraps, ActByAct, WholeSchedules}
 use Rattle.bounded_demands.proofs.Refusals.{ring-queue, ran-machine}
-use Rattle.bounded_proof_demand2.proofs.Turns.{turned-fixed}
-use Rattle.bounded_proof_demand2.proofs.Reached.{Reached, lapsOf, base-of, ring0, fresh-pictured, fresh-logged, fresh-metered, fresh-dated, along-any, recent-in, entries, at-end}
+use Rattle.bounded_proof_demand2.proofs.Turns.{turned-fixed, turned-seats}
+use Rattle.bounded_proof_demand2.proofs.Reached.{Reached, lapsOf, base-of, ring0, fresh-pictured, fresh-records, fresh-logged, fresh-metered, fresh-dated, along-any, recent-in, entries, at-end}
 use Rattle.bounded_proof_demand2.proofs.Always.{always, metered-after}
 use Rattle.bounded_proof_demand2.proofs.Pictured.{Base}
 use Rattle.bounded_proof_demand2.proofs.Counts.{tally-tail, tally-head}
@@ -35,41 +37,47 @@ use Rattle.bounded_proof_demand2.proofs.Runs.{onward}
 use Rattle.bounded_proof_demand2.proofs.Contents.{count-in, untaken-is, contents-are}
 use Rattle.bounded_proof_demand2.proofs.Plain.{worded, plainly}
 
--- every schedule that keeps the window
-pub fresh-reached : (bits : Width) (capacity workers edition : ℕ) → Allowed capacity workers edition
-    → Reached capacity (lapsOf bits capacity) workers (freshOf capacity workers edition) []
-fresh-reached bits capacity workers edition a =
+-- every schedule that keeps the window, with any number of records
+pub fresh-reached : (bits : Width) (records capacity workers edition : ℕ) → AllowedWith records capacity workers edition
+    → Reached capacity (lapsOf bits capacity) workers (freshWith records capacity workers edition) []
+fresh-reached bits records capacity workers edition a =
     record {
       ring = ring0;
       pictured =
-          fresh-pictured bits capacity (lapsOf bits capacity) workers edition (base-of bits capacity workers edition a) (a .worker-some) (a .edition-some) (a .edition-most);
+          fresh-pictured bits capacity (lapsOf bits capacity) workers edition (base-of bits records capacity workers edition a) records (a .worker-most) (a .worker-some) (a .edition-some) (a .edition-most);
       logged = fresh-logged capacity;
-      metered = fresh-metered capacity workers edition;
+      metered = fresh-metered records capacity workers edition;
       dated =
-          fresh-dated bits capacity (lapsOf bits capacity) workers edition (base-of bits capacity workers edition a) (a .worker-some) (a .edition-some) (a .edition-most);
+          fresh-dated bits capacity (lapsOf bits capacity) workers edition (base-of bits records capacity workers edition a) records (a .worker-most) (a .worker-some) (a .edition-some) (a .edition-most);
     }
 
-pub reached : (bits : Width) (capacity workers edition : ℕ) → Allowed capacity workers edition → (s : List ℕ)
-    → KeepsWindow (ofWidth bits) (freshOf capacity workers edition) [] s
-    → Reached capacity (lapsOf bits capacity) workers (machineAfter (ofWidth bits) capacity workers edition s) (actsOf (ofWidth bits) capacity workers edition s)
-reached bits capacity workers edition a s keeps =
-    entries bits capacity (lapsOf bits capacity) workers (base-of bits capacity workers edition a) s (freshOf capacity workers edition) [] 0 keeps
-    (fresh-reached bits capacity workers edition a)
+pub reached : (bits : Width) (records capacity workers edition : ℕ) → AllowedWith records capacity workers edition → (s : List ℕ)
+    → KeepsWindow (withRecords records bits) (freshWith records capacity workers edition) [] s
+    → Reached capacity (lapsOf bits capacity) workers (machineAfter (withRecords records bits) capacity workers edition s) (actsOf (withRecords records bits) capacity workers edition s)
+reached bits records capacity workers edition a s keeps =
+    entries bits capacity (lapsOf bits capacity) workers (base-of bits records capacity workers edition a) s (freshWith records capacity workers edition) [] 0 keeps
+    (fresh-reached bits records capacity workers edition a)
 
 -- the constants are those of its making
 pub same-fixed : (bits : Width) (m : Machine) (s : List ℕ) → runAt bits m 0 s .machine .ring .fixed ≡ m .ring .fixed
 same-fixed bits m s =
     along-any bits (λ (z : Machine) (h : List Event). z .ring .fixed ≡ m .ring .fixed) (λ z h en next acts e t. turned-fixed bits z en next acts t ∙ e) s m [] 0 refl
 
+-- and so is the number of records
+same-records : (bits : Width) (m : Machine) (s : List ℕ) → length (runAt bits m 0 s .machine .workers) ≡ length (m .workers)
+same-records bits m s =
+    along-any bits (λ (z : Machine) (h : List Event). length (z .workers) ≡ length (m .workers)) (λ z h en next acts e t. turned-seats bits z en next acts t ∙ e) s m [] 0 refl
+
 -- what a reached machine in the window has behind it is the demand
 module _ (bits : Width) (c n workers : ℕ) (base : Base bits c n workers) (m : Machine) (h : List Event) (r : Reached c n workers m h) (window : InWindow bits m h) where
-  demanded : (edition : ℕ) → m .ring .fixed ≡ fixedOf c edition → Demand2 (ofWidth bits) c workers edition m h
-  demanded edition made =
+  demanded : (records edition : ℕ) → length (m .workers) ≡ records → m .ring .fixed ≡ fixedOf c edition → Demand2 (withRecords records bits) c workers edition m h
+  demanded records edition seats made =
       record {
         made = made;
         team = r .pictured .count;
+        records = seats;
         meter = r .metered;
-        unbroken = of-unbroken m (r .pictured .unbroken);
+        unbroken = subst (λ (k : ℕ). brokenWith k m ≡ false) (sym (r .pictured .workers-long) ∙ seats) (of-unbroken m (r .pictured .unbroken));
         words = worded bits c n workers base m h r;
         tails = r .logged .lists .items-are .long ∙ sym (r .logged .lists .tailers-are .long) ∙ sym (tally-tail h);
         heads = sym (tally-head h);
@@ -85,23 +93,24 @@ module _ (bits : Width) (c n workers : ℕ) (base : Base bits c n workers) (m : 
         full = true-full bits c n workers base m h r window;
       }
 
-made-of : (capacity workers edition : ℕ) → freshOf capacity workers edition .ring .fixed ≡ fixedOf capacity edition
-unfolding freshOf
-made-of capacity workers edition = refl
+made-of : (records capacity workers edition : ℕ) → freshWith records capacity workers edition .ring .fixed ≡ fixedOf capacity edition
+unfolding freshWith
+made-of records capacity workers edition = refl
 
-pub demand2-in : (bits : Width) (capacity workers edition : ℕ) → Allowed capacity workers edition → (s : List ℕ) → KeepsWindow (ofWidth bits) (freshOf capacity workers edition) [] s
-    → Demand2 (ofWidth bits) capacity workers edition (machineAfter (ofWidth bits) capacity workers edition s) (actsOf (ofWidth bits) capacity workers edition s)
-demand2-in bits capacity workers edition a s keeps =
-    demanded bits capacity (lapsOf bits capacity) workers (base-of bits capacity workers edition a) (machineAfter (ofWidth bits) capacity workers edition s)
-    (actsOf (ofWidth bits) capacity workers edition s) (reached bits capacity workers edition a s keeps) (at-end bits (freshOf capacity workers edition) [] s keeps) edition
-    (same-fixed bits (freshOf capacity workers edition) s ∙ made-of capacity workers edition)
+pub demand2-in : (bits : Width) (records capacity workers edition : ℕ) → AllowedWith records capacity workers edition → (s : List ℕ) → KeepsWindow (withRecords records bits) (freshWith records capacity workers edition) [] s
+    → Demand2 (withRecords records bits) capacity workers edition (machineAfter (withRecords records bits) capacity workers edition s) (actsOf (withRecords records bits) capacity workers edition s)
+demand2-in bits records capacity workers edition a s keeps =
+    demanded bits capacity (lapsOf bits capacity) workers (base-of bits records capacity workers edition a) (machineAfter (withRecords records bits) capacity workers edition s)
+    (actsOf (withRecords records bits) capacity workers edition s) (reached bits records capacity workers edition a s keeps) (at-end bits (freshWith records capacity workers edition) [] s keeps) records edition
+    (same-records bits (freshWith records capacity workers edition) s ∙ fresh-records records capacity workers edition)
+    (same-fixed bits (freshWith records capacity workers edition) s ∙ made-of records capacity workers edition)
 
 -- of 64 bits every schedule
-pub demand2 : UnderEverySchedule document01
-demand2 capacity workers edition a s = demand2-in SixtyFour capacity workers edition a s (always capacity workers edition a s)
+pub demand2 : (records : ℕ) → UnderEverySchedule (withRecords records SixtyFour)
+demand2 records capacity workers edition a s = demand2-in SixtyFour records capacity workers edition a s (always records capacity workers edition a s)
 
-pub nothing-wraps : NothingWraps document01
-nothing-wraps capacity workers edition a s = plainly capacity workers edition a _ _ (metered-after capacity workers edition a s) (demand2 capacity workers edition a s .words)
+pub nothing-wraps : (records : ℕ) → NothingWraps (withRecords records SixtyFour)
+nothing-wraps records capacity workers edition a s = plainly records capacity workers edition a _ _ (metered-after records capacity workers edition a s) (demand2 records capacity workers edition a s .words)
 
 pub act-by-act : (bits : Width) → ActByAct (ofWidth bits)
 unfolding runBy historyBy ran
@@ -114,7 +123,7 @@ act-by-act bits m s first second even e taken =
 
 made-whole : (capacity workers edition : ℕ) → Allowed capacity workers edition → brokenOf (freshOf capacity workers edition) ≡ false
 unfolding runBy ran
-made-whole capacity workers edition a = demand2 capacity workers edition a [] .unbroken
+made-whole capacity workers edition a = demand2 workersMost capacity workers edition a [] .unbroken
 
 pub whole-schedules : (bits : Width) → WholeSchedules (ofWidth bits)
 whole-schedules bits capacity workers edition a s =

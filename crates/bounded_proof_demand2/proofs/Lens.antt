@@ -28,11 +28,11 @@ use Rattle.bounded_places.specs.Places.{viewOf, beginOf}
 use Rattle.bounded_acts.specs.Acts.{stay, countOf}
 use Rattle.bounded_machine.specs.declared.Machine.{Machine}
 use Rattle.bounded_machine.specs.declared.Event.{Event}
-use Rattle.bounded_machine.specs.Machine.{idler, freshOf}
+use Rattle.bounded_machine.specs.Machine.{idler, freshWith}
 use Rattle.bounded_machine.specs.Turn.{turnAt, turnOfBy, beginner, begun, actedBy, stored}
 use Rattle.bounded_machine.specs.Run.{ran, runAt}
 use Rattle.bounded_machine.specs.History.{eventsOf, historyAt, movedOf, untakenOf}
-use Rattle.bounded_demands.specs.Notions.{ofWidth, document01, Allowed, machineAfter, actsOf, Acts, LenAnswers, Unmoved, tailBy, tailersOf, tally, holdingAt, holds, isNew, givesTo, sinceFrom, since, InWindow, KeepsWindow}
+use Rattle.bounded_demands.specs.Notions.{withRecords, AllowedWith, machineAfter, actsOf, Acts, LenAnswers, Unmoved, tailBy, tailersOf, tally, holdingAt, holds, isNew, givesTo, sinceFrom, since, InWindow, KeepsWindow}
 use Rattle.bounded_demands.specs.Demands.{LenTrue}
 use Rattle.bounded_proof_invariant.proofs.Width.{Near, turn-long}
 use Rattle.bounded_proof_each_act.proofs.Stamps.{fixed, W, tailWord, tails-one}
@@ -106,7 +106,7 @@ module _ (bits : Width) (c n workers : ℕ) (base : Base bits c n workers) (m : 
   mark = markOf c
 
   -- the head load
-  module _ (t : Stamp) (at : stood m w ≡ Len2 t) (loaded : Machine) (load : Acts (ofWidth bits) m w loaded) where
+  module _ {records : ℕ} (t : Stamp) (at : stood m w ≡ Len2 t) (loaded : Machine) (load : Acts (withRecords records bits) m w loaded) where
     done : Done bits m w (load .lose) loaded
     done = acts-done bits m w loaded load
 
@@ -124,7 +124,7 @@ module _ (bits : Width) (c n workers : ℕ) (base : Base bits c n workers) (m : 
 
     -- the answer, on a machine on which no fewer tail claims were made, and not a turn more
     pub counted : (m₂ : Machine) (h₂ : List Event) (r₂ : Reached c n workers m₂ h₂) → r .ring .tail ≤ r₂ .ring .tail → r₂ .ring .tail + 2 * c < r .pictured .ages w .tail + n * c
-        → stood m₂ w ≡ Len3 t (W c mark n (r .ring .head)) → (answered : Machine) → Acts (ofWidth bits) m₂ w answered → (k : ℕ) → stood answered w ≡ Idle (Len k)
+        → stood m₂ w ≡ Len3 t (W c mark n (r .ring .head)) → (answered : Machine) → Acts (withRecords records bits) m₂ w answered → (k : ℕ) → stood answered w ≡ Idle (Len k)
         → k ≡ r .ring .tail - r .ring .head
     counted m₂ h₂ r₂ up late stays answered act k is =
         let E = endsOf c mark n (r₂ .ring) (r₂ .pictured .shut) in
@@ -165,18 +165,18 @@ since-load w h e rest t d q o =
     neither true = refl
     neither false = refl
 
-module _ (bits : Width) (capacity workers edition : ℕ) (a : Allowed capacity workers edition) (s : List ℕ) (keeps : KeepsWindow (ofWidth bits) (freshOf capacity workers edition) [] s) where
-  pub len-in : (w k : ℕ) (o : LenAnswers (ofWidth bits) capacity workers edition s w k)
-      → KeepsWindow (ofWidth bits) (o .loaded) (actsOf (ofWidth bits) capacity workers edition s ++ eventOf bits (machineAfter (ofWidth bits) capacity workers edition s) w (o .load .lose) (o .loaded) ∷ []) (o .rest)
-      → k ≡ untakenOf (tally (actsOf (ofWidth bits) capacity workers edition s))
+module _ (bits : Width) (records capacity workers edition : ℕ) (a : AllowedWith records capacity workers edition) (s : List ℕ) (keeps : KeepsWindow (withRecords records bits) (freshWith records capacity workers edition) [] s) where
+  pub len-in : (w k : ℕ) (o : LenAnswers (withRecords records bits) capacity workers edition s w k)
+      → KeepsWindow (withRecords records bits) (o .loaded) (actsOf (withRecords records bits) capacity workers edition s ++ eventOf bits (machineAfter (withRecords records bits) capacity workers edition s) w (o .load .lose) (o .loaded) ∷ []) (o .rest)
+      → k ≡ untakenOf (tally (actsOf (withRecords records bits) capacity workers edition s))
   len-in w k o onward =
       let n = lapsOf bits capacity in
-      let base = base-of bits capacity workers edition a in
-      let m = machineAfter (ofWidth bits) capacity workers edition s in
-      let h = actsOf (ofWidth bits) capacity workers edition s in
-      let r = reached bits capacity workers edition a s keeps in
+      let base = base-of bits records capacity workers edition a in
+      let m = machineAfter (withRecords records bits) capacity workers edition s in
+      let h = actsOf (withRecords records bits) capacity workers edition s in
+      let r = reached bits records capacity workers edition a s keeps in
       let e = eventOf bits m w (o .load .lose) (o .loaded) in
-      let r₁ = reached-loaded bits capacity n workers base m h r w (o .tail) (o .loads) (o .loaded) (o .load) (at-end bits (freshOf capacity workers edition) [] s keeps) in
+      let r₁ = reached-loaded bits capacity n workers base m h r w (o .tail) (o .loads) (o .loaded) (o .load) (at-end bits (freshWith records capacity workers edition) [] s keeps) in
       let r₂ = entries bits capacity n workers base (o .rest) (o .loaded) (h ++ e ∷ []) 0 onward r₁ in
       let p = stands-loaded bits capacity n workers base m h r w (o .tail) (o .loads) (o .loaded) (o .load) in
       let stays = run-stays bits (o .rest) (o .loaded) 0 w (o .still) (ap (λ (z : Place). viewOf z .busy) p) ∙ p in
@@ -205,12 +205,12 @@ module _ (bits : Width) (capacity workers edition : ℕ) (a : Allowed capacity w
       counted bits capacity n workers base m h r w (o .tail) (o .loads) (o .loaded) (o .load) _ _ r₂ (omega (arith, grown)) aged stays (o .answered) (o .answer) k (o .is)
       ∙ sym (untaken-is bits capacity n workers base m h r)
 
-pub len-true : LenTrue document01
-len-true capacity workers edition a s w k o =
-    let m = machineAfter document01 capacity workers edition s in
-    let h = actsOf document01 capacity workers edition s in
+pub len-true : (records : ℕ) → LenTrue (withRecords records SixtyFour)
+len-true records capacity workers edition a s w k o =
+    let m = machineAfter (withRecords records SixtyFour) capacity workers edition s in
+    let h = actsOf (withRecords records SixtyFour) capacity workers edition s in
     let d = acts-done SixtyFour m w (o .loaded) (o .load) in
     let loaded : Metered capacity (o .loaded) (h ++ eventOf SixtyFour m w (o .load .lose) (o .loaded) ∷ []) =
     subst (λ (z : Machine). Metered capacity z (h ++ eventOf SixtyFour m w (o .load .lose) z ∷ [])) (sym (d .is))
-    (metered-kept SixtyFour capacity m h (Asks w (Act (o .load .lose))) _ _ (metered-after capacity workers edition a s) (did w (o .load .lose) (d .team) (d .busy) (d .early))) in
-    len-in SixtyFour capacity workers edition a s (always capacity workers edition a s) w k o (always-from capacity workers edition a (o .loaded) _ loaded (o .rest))
+    (metered-kept SixtyFour capacity m h (Asks w (Act (o .load .lose))) _ _ (metered-after records capacity workers edition a s) (did w (o .load .lose) (d .team) (d .busy) (d .early))) in
+    len-in SixtyFour records capacity workers edition a s (always records capacity workers edition a s) w k o (always-from records capacity workers edition a (o .loaded) _ loaded (o .rest))

@@ -10,6 +10,7 @@ use native.Mathlib.Decide.{ℕ-discrete}
 use lib.ListN.{length, length-set}
 use lib.Seq.{getD-set-same, getD-set-other}
 use borrow.Author.Tests.{eq-eqb}
+use Rattle.queue_entries.specs.Limits.{workersMost}
 use Rattle.queue_entries.specs.declared.Call.{Call}
 use Rattle.queue_entries.specs.declared.Call.the-variants as call
 use Rattle.queue_entries.specs.declared.Entry.{Entry}
@@ -32,7 +33,7 @@ use Rattle.bounded_acts.specs.declared.Acted.{Acted}
 use Rattle.bounded_acts.specs.Acts.{stay, losing, afterTail, endP3, endF6, endO3, tailTo, fullAt, countOf, actOf}
 use Rattle.bounded_machine.specs.declared.Machine.{Machine}
 use Rattle.bounded_machine.specs.declared.Event.{Event}
-use Rattle.bounded_machine.specs.Machine.{idler, freshOf}
+use Rattle.bounded_machine.specs.Machine.{idler, freshWith, freshOf}
 use Rattle.bounded_machine.specs.Turn.{beginner, recordAfter, begun, acted, actedBy, stored, actAt}
 use Rattle.bounded_machine.specs.History.{movedOf, tallyOf}
 use Rattle.bounded_machine.proofs.Kept.{either, exchanged}
@@ -297,14 +298,14 @@ lone-kept bits c m h en next acts o (began w q l idle) = begun-lone bits c m h o
 lone-kept bits c m h en next acts o (did w lose l busy early) = acted-lone bits c m h o w lose l busy
 
 fresh-lone : (c edition : ℕ) → Lone c (freshOf c 1 edition) []
-unfolding freshOf
+unfolding freshWith
 fresh-lone c edition =
     record {
       one = refl;
-      seat = fresh-seats c 1 edition (omega arith) 0 (omega arith);
+      seat = fresh-seats workersMost c 1 edition (omega arith) 0 (omega arith);
       rule = refl;
-      others = λ w ne. ap (λ (r : Worker). viewOf (r .place) .busy) (fresh-record c 1 edition w);
-      own = λ held. absurd (true≢false (sym held ∙ ap (λ (r : Worker). holds (holdingAt (r .place))) (fresh-record c 1 edition 0)));
+      others = λ w ne. ap (λ (r : Worker). viewOf (r .place) .busy) (fresh-record workersMost c 1 edition w);
+      own = λ held. absurd (true≢false (sym held ∙ ap (λ (r : Worker). holds (holdingAt (r .place))) (fresh-record workersMost c 1 edition 0)));
     }
 
 pub alone-keeps : (bits : Width) → AloneKeeps (ofWidth bits)
@@ -330,8 +331,8 @@ alone-keeps bits capacity edition a s before after e w held = go (ℕ-discrete w
         let made : Made (stood m w) (since w h) = subst (λ (k : ℕ). holds (holdingAt (stood m k)) ≡ true → Made (stood m k) (since k h)) (sym z) (o .own) held in
         let few = few-at (stood m w) in
         let some : 1 ≤ capacity = a .slot-some in
-        let laps : 4 ≤ lapsOf bits capacity = many bits capacity 1 edition a 3 (omega (arith, narrow-least bits)) in
-        let turn = turn-is bits capacity (markOf capacity) (lapsOf bits capacity) (m .ring .fixed .edition) (base-of bits capacity 1 edition a .ground) in
+        let laps : 4 ≤ lapsOf bits capacity = many bits workersMost capacity 1 edition a 3 (omega (arith, narrow-least bits)) in
+        let turn = turn-is bits capacity (markOf capacity) (lapsOf bits capacity) (m .ring .fixed .edition) (base-of bits workersMost capacity 1 edition a .ground) in
         subst Small (sym (o .rule))
         (omega (arith, made .0, few .0, turn, some, mul-le-mul-right capacity laps), omega (arith, made .1, few .1, turn, some, mul-le-mul-right capacity laps))
     go (no ne) =

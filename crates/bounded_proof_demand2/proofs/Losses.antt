@@ -33,11 +33,11 @@ use Rattle.bounded_acts.specs.declared.Acted.{Acted}
 use Rattle.bounded_acts.specs.Acts.{stay, losing, exchangeOf, endP3, endF6, endO3, tailTo, fullAt, countOf, actOf}
 use Rattle.bounded_machine.specs.declared.Machine.{Machine}
 use Rattle.bounded_machine.specs.declared.Event.{Event}
-use Rattle.bounded_machine.specs.Machine.{idler, recordOf, freshOf}
+use Rattle.bounded_machine.specs.Machine.{idler, recordOf, freshWith}
 use Rattle.bounded_machine.specs.Turn.{beginner, byWords, bySchedule, recordAfter, begun, stored, acted, actedBy, actAt}
 use Rattle.bounded_machine.specs.History.{lossAt}
 use Rattle.bounded_machine.proofs.Kept.{either, exchanged}
-use Rattle.bounded_demands.specs.Notions.{ofWidth, Allowed, machineAfter, actsOf, Exchanges, exchangeP3, exchangeF6, exchangeO3, Lost, lostWith, lostFrom, lostBy, lostIn}
+use Rattle.bounded_demands.specs.Notions.{withRecords, AllowedWith, machineAfter, actsOf, Exchanges, exchangeP3, exchangeF6, exchangeO3, Lost, lostWith, lostFrom, lostBy, lostIn}
 use Rattle.bounded_demands.specs.Demands.{EndsTold, LossesUnderEverySchedule}
 use Rattle.bounded_proof_demand2.proofs.Turns.{Turned, began, did, stood, eventOf}
 use Rattle.bounded_proof_demand2.proofs.Reached.{along-any, fresh-record, fresh-seats}
@@ -213,25 +213,25 @@ module _ (bits : Width) (kind : Loss → ℕ) (count : Worker → ℕ) (none : (
   kept m h en next acts o (began v c l idle) = begun-counting m h o v l c idle
   kept m h en next acts o (did v lose l busy early) = acted-counting m h o v l lose busy
 
-  fresh-counting : (c workers edition : ℕ) → Allowed c workers edition → Counting (freshOf c workers edition) []
+  fresh-counting : (records c workers edition : ℕ) → AllowedWith records c workers edition → Counting (freshWith records c workers edition) []
   unfolding lostFrom
-  fresh-counting c workers edition a =
+  fresh-counting records c workers edition a =
       record {
-        seats = fresh-seats c workers edition (a .worker-most);
-        counts = λ w. rw (fresh-record c workers edition w) (record { busy = λ b. absurd (true≢false (sym b)); idle = λ b. (none (Idle answer.Nothing), refl) });
+        seats = fresh-seats records c workers edition (a .worker-most);
+        counts = λ w. rw (fresh-record records c workers edition w) (record { busy = λ b. absurd (true≢false (sym b)); idle = λ b. (none (Idle answer.Nothing), refl) });
       }
 
-  pub counted : (c workers edition : ℕ) → Allowed c workers edition → (s : List ℕ) (w : ℕ)
-      → count (recordOf (machineAfter (ofWidth bits) c workers edition s .workers) w) ≡ lostIn kind (machineAfter (ofWidth bits) c workers edition s) w (actsOf (ofWidth bits) c workers edition s)
-  counted c workers edition a s w =
-      let m = machineAfter (ofWidth bits) c workers edition s in
-      let n = lostBy kind w (actsOf (ofWidth bits) c workers edition s) in
-      let o = along-any bits Counting kept s (freshOf c workers edition) [] 0 (fresh-counting c workers edition a) .counts w in
+  pub counted : (records c workers edition : ℕ) → AllowedWith records c workers edition → (s : List ℕ) (w : ℕ)
+      → count (recordOf (machineAfter (withRecords records bits) c workers edition s .workers) w) ≡ lostIn kind (machineAfter (withRecords records bits) c workers edition s) w (actsOf (withRecords records bits) c workers edition s)
+  counted records c workers edition a s w =
+      let m = machineAfter (withRecords records bits) c workers edition s in
+      let n = lostBy kind w (actsOf (withRecords records bits) c workers edition s) in
+      let o = along-any bits Counting kept s (freshWith records c workers edition) [] 0 (fresh-counting records c workers edition a) .counts w in
       either (λ (k : ℕ). count (recordOf (m .workers) w) ≡ k) (viewOf (stood m w) .busy) (n .present) (n .last) (λ b. o .busy b) (λ b. o .idle b .0)
 
-pub losses : (bits : Width) → LossesUnderEverySchedule (ofWidth bits)
+pub losses : (bits : Width) (records : ℕ) → LossesUnderEverySchedule (withRecords records bits)
 unfolding recordAfter
-losses bits c workers edition a s w = (
-  counted bits byWords (λ (r : Worker). r .differed) (λ q. refl) (λ r q l. refl) c workers edition a s w,
-  counted bits bySchedule (λ (r : Worker). r .failed) (λ q. refl) (λ r q l. refl) c workers edition a s w,
+losses bits records c workers edition a s w = (
+  counted bits byWords (λ (r : Worker). r .differed) (λ q. refl) (λ r q l. refl) records c workers edition a s w,
+  counted bits bySchedule (λ (r : Worker). r .failed) (λ q. refl) (λ r q l. refl) records c workers edition a s w,
 )

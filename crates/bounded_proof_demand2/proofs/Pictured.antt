@@ -10,7 +10,7 @@ use lib.Dec.{ltb}
 use lib.ListN.{length, getD, set, length-set, List·getD-eq-default}
 use borrow.Author.Tests.{ltb-true}
 use lib.Seq.{getD-set-same, getD-set-other}
-use Rattle.queue_entries.specs.Limits.{workersMost, meterMost}
+use Rattle.queue_entries.specs.Limits.{meterMost}
 use Rattle.queue_entries.specs.declared.Call.{Call}
 use Rattle.queue_entries.specs.declared.Call.the-variants as call
 use Rattle.bounded_words.specs.declared.Fixed.{Fixed}
@@ -33,7 +33,7 @@ use Rattle.bounded_machine.specs.declared.Machine.{Machine}
 use Rattle.bounded_machine.specs.Machine.{slot, recordOf, placeOf, idler}
 use Rattle.bounded_machine.specs.Broken.{placeFits}
 use Rattle.bounded_machine.specs.Turn.{spotOf, beginner, recordAfter, begun, stored, acted, actedBy}
-use Rattle.bounded_machine.proofs.Kept.{Unbroken, place-of, begun-unbroken, acted-unbroken, word-fits-in, fits-plain}
+use Rattle.bounded_machine.proofs.Kept.{UnbrokenWith, place-of, few-workers, begun-unbroken, acted-unbroken, word-fits-in, fits-plain}
 use Rattle.bounded_demands.specs.Notions.{holdingAt}
 use Rattle.bounded_proof_invariant.proofs.Upd.{upd, upd-same, upd-else}
 use Rattle.bounded_proof_invariant.proofs.Ring.{Mine, Shared, Inv}
@@ -47,18 +47,18 @@ use Rattle.bounded_proof_demand2.proofs.Turns.{stood}
 pub record Base (bits : Width) (c n workers : ℕ) : Type 0 where
   pub ground : Ground bits c (markOf c) n
   pub few : c ≤ slotsMost
-  pub team : workers ≤ workersMost
 
 pub record Pictured (c n workers : ℕ) (s : Shared) (m : Machine) : Type 0 where
   pub inv : Inv c s
-  pub unbroken : Unbroken m
+  pub records : ℕ
+  pub unbroken : UnbrokenWith records m
   pub rule : m .ring .fixed ≡ fixed c (markOf c) (m .ring .fixed .edition)
   pub count : m .count ≡ workers
   pub shut : Bool
   pub ends : m .ring .ends ≡ endsOf c (markOf c) n s shut
   pub slots-long : length (m .ring .slots) ≡ slotsMost
   pub slots : (i : ℕ) → i < c → getD (m .ring .slots) i (slot 0 0) ≡ slotOf c (markOf c) n (s .cell i) (s .val i)
-  pub workers-long : length (m .workers) ≡ workersMost
+  pub workers-long : length (m .workers) ≡ records
   -- when each worker was given the word that it holds
   pub ages : ℕ → Age
   pub stands : (w : ℕ) → Stands c (markOf c) n s w (ages w) (look c (stood m w))
@@ -74,10 +74,10 @@ fits-counted f p false busy h = absurd (true≢false (sym (rw busy at h)))
 
 -- a busy worker is one of the count
 pub busy-counted : (c n workers : ℕ) (s : Shared) (m : Machine) → Pictured c n workers s m → (w : ℕ) → viewOf (stood m w) .busy ≡ true → w < m .count
-busy-counted c n workers s m pic w busy = go (decLt w workersMost)
+busy-counted c n workers s m pic w busy = go (decLt w (pic .records))
   where
-    go : Dec (w < workersMost) → w < m .count
-    go (yes l) = ltb-true w (m .count) (fits-counted (m .ring .fixed) (stood m w) (ltb w (m .count)) busy (place-of (m .ring .fixed) (m .meter) (recordOf (m .workers) w) (ltb w (m .count)) (pic .unbroken .records w l)))
+    go : Dec (w < pic .records) → w < m .count
+    go (yes l) = ltb-true w (m .count) (fits-counted (m .ring .fixed) (stood m w) (ltb w (m .count)) busy (place-of (m .ring .fixed) (m .meter) (recordOf (m .workers) w) (ltb w (m .count)) (pic .unbroken .fits w l)))
     go (no z) =
         let over : length (m .workers) ≤ w = omega (arith, pic .workers-long) in
         absurd (true≢false (sym (rw (ap (λ (y : Worker). y .place) (List·getD-eq-default (m .workers) idler over)) at busy)))
@@ -196,7 +196,7 @@ module _ (bits : Width) (c n workers : ℕ) (base : Base bits c n workers) (s : 
   ed = m .ring .fixed .edition
 
   seat : w < length (m .workers)
-  seat = omega (arith, pic .workers-long, pic .count, base .team)
+  seat = omega (arith, pic .workers-long, few-workers m (pic .unbroken))
 
   -- a call begun
   pub begun-pictured : (q : Call) → viewOf (stood m w) .busy ≡ false → Pictured c n workers s (begun m w (beginOf q))
@@ -204,6 +204,7 @@ module _ (bits : Width) (c n workers : ℕ) (base : Base bits c n workers) (s : 
   begun-pictured q idle =
       record {
         inv = pic .inv;
+        records = pic .records;
         unbroken = begun-unbroken m (pic .unbroken) w team q;
         rule = pic .rule;
         count = pic .count;
@@ -320,6 +321,7 @@ module _ (bits : Width) (c n workers : ℕ) (base : Base bits c n workers) (s : 
       acted-pictured early =
           record {
             inv = inv-after c s w spot spot-small (pic .inv) effect (stepped .fits);
+            records = pic .records;
             unbroken = acted-unbroken m (pic .unbroken) w team bits lose busy;
             rule = pic .rule;
             count = pic .count;

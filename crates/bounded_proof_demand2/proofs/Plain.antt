@@ -17,7 +17,7 @@ use Rattle.bounded_places.specs.declared.Slot.{Slot}
 use Rattle.bounded_places.specs.declared.Ends.{Ends}
 use Rattle.bounded_machine.specs.declared.Machine.{Machine}
 use Rattle.bounded_machine.specs.declared.Event.{Event}
-use Rattle.bounded_demands.specs.Notions.{Allowed, Words, Plain, claimWord, plainWord, tally}
+use Rattle.bounded_demands.specs.Notions.{AllowedWith, Words, Plain, claimWord, plainWord, tally}
 use Rattle.bounded_proof_invariant.proofs.Width.{word, word-is}
 use Rattle.bounded_proof_invariant.proofs.Ring.{number}
 use Rattle.bounded_proof_each_act.proofs.Stamps.{fixed, unmarked-tail}
@@ -75,7 +75,7 @@ module _ (bits : Width) (c n workers : ℕ) (base : Base bits c n workers) (m : 
       }
 
 -- Of 64 bits, within the first turn.
-module _ (c workers edition : ℕ) (a : Allowed c workers edition) (m : Machine) (h : List Event) (o : Metered c m h) (k : Words SixtyFour m h) where
+module _ (records c workers edition : ℕ) (a : AllowedWith records c workers edition) (m : Machine) (h : List Event) (o : Metered c m h) (k : Words SixtyFour m h) where
   r : Ruled (fixedOf c 1)
   r = ruled (fixedOf c 1) (a .slot-some) (a .slot-most) refl refl
 

@@ -11,7 +11,7 @@ use lib.ListN.{length, getD, set, replicate, length-append, length-set, length-r
 use lib.Seq.{getD-set-same, getD-set-other}
 use borrow.Author.Tests.{eqb-true, eq-eqb, ne-eqb, le-leb, lt-ltb}
 use Rattle.queue_entries.specs.Schedules.{runBy, historyBy}
-use Rattle.queue_entries.specs.Limits.{workersMost, meterMost, inLimits}
+use Rattle.queue_entries.specs.Limits.{meterMost, inLimits}
 use Rattle.queue_entries.specs.declared.Call.{Call}
 use Rattle.queue_entries.specs.declared.Order.the-variants.{Begin, Act}
 use Rattle.queue_entries.specs.declared.Entry.{Entry}
@@ -31,13 +31,13 @@ use Rattle.bounded_places.specs.declared.Worker.{Worker}
 use Rattle.bounded_places.specs.Places.{inside, viewOf, beginOf}
 use Rattle.bounded_machine.specs.declared.Machine.{Machine}
 use Rattle.bounded_machine.specs.declared.Event.{Event}
-use Rattle.bounded_machine.specs.Machine.{slot, emptySlots, stamped, freshSlots, idler, idlers, recordOf, starts, freshOf}
+use Rattle.bounded_machine.specs.Machine.{slot, emptySlots, stamped, freshSlots, idler, idlers, recordOf, starts, freshWith}
 use Rattle.bounded_machine.specs.Broken.{byRule, endsFit, placeFits, recordFits}
 use Rattle.bounded_machine.specs.Turn.{turnAt, turnOfBy, begun, acted, actedBy, stored}
 use Rattle.bounded_machine.specs.Run.{ran, runAt}
 use Rattle.bounded_machine.specs.History.{lossAt, eventsOf, historyAt, movedOf, tallyOf}
-use Rattle.bounded_machine.proofs.Kept.{Unbroken, ends-of}
-use Rattle.bounded_demands.specs.Notions.{ofWidth, Allowed, start, itemsOf, tailersOf, takersOf, tailBy, headBy, tally, holdingAt, holds, isNew, givesTo, sinceFrom, since, turnLength, InWindow, KeepsWindow}
+use Rattle.bounded_machine.proofs.Kept.{UnbrokenWith, ends-of}
+use Rattle.bounded_demands.specs.Notions.{ofWidth, AllowedWith, start, itemsOf, tailersOf, takersOf, tailBy, headBy, tally, holdingAt, holds, isNew, givesTo, sinceFrom, since, turnLength, InWindow, KeepsWindow}
 use Rattle.bounded_proof_invariant.proofs.Width.{word, word-first}
 use Rattle.bounded_proof_invariant.proofs.Upd.{upd, upd-same, upd-else}
 use Rattle.bounded_proof_invariant.proofs.Ring.{Await, Shared}
@@ -53,7 +53,7 @@ use Rattle.bounded_proof_demand2.proofs.Runs.{any-place}
 pub lapsOf : Width → ℕ → ℕ
 lapsOf bits c = widthOf bits / (2 * markOf c)
 
-module _ (bits : Width) (c workers edition : ℕ) (a : Allowed c workers edition) where
+module _ (bits : Width) (records c workers edition : ℕ) (a : AllowedWith records c workers edition) where
   r : Ruled (fixedOf c edition)
   r = ruled (fixedOf c edition) (a .slot-some) (a .slot-most) refl refl
 
@@ -81,12 +81,11 @@ module _ (bits : Width) (c workers edition : ℕ) (a : Allowed c workers edition
               whole = whole;
             };
         few = a .slot-most;
-        team = a .worker-most;
       }
 
 -- of 64 bits there are more than acts
-pub long : (c workers edition : ℕ) → Allowed c workers edition → meterMost + 2 * slotsMost < lapsOf SixtyFour c
-long c workers edition a = many SixtyFour c workers edition a (meterMost + 2 * slotsMost) (omega arith)
+pub long : (records c workers edition : ℕ) → AllowedWith records c workers edition → meterMost + 2 * slotsMost < lapsOf SixtyFour c
+long records c workers edition a = many SixtyFour records c workers edition a (meterMost + 2 * slotsMost) (omega arith)
 
 -- The fresh machine.
 
@@ -95,20 +94,20 @@ idle-all zero i = refl
 idle-all (suc n) zero = refl
 idle-all (suc n) (suc i) = idle-all n i
 
-pub fresh-record : (c workers ed w : ℕ) → recordOf (freshOf c workers ed .workers) w ≡ idler
-unfolding freshOf idlers
-fresh-record c workers ed w = idle-all workersMost w
+pub fresh-record : (records c workers ed w : ℕ) → recordOf (freshWith records c workers ed .workers) w ≡ idler
+unfolding freshWith idlers
+fresh-record records c workers ed w = idle-all records w
 
-fresh-stood : (c workers ed w : ℕ) → stood (freshOf c workers ed) w ≡ Idle Nothing
-fresh-stood c workers ed w = ap (λ (z : Worker). z .place) (fresh-record c workers ed w)
+fresh-stood : (records c workers ed w : ℕ) → stood (freshWith records c workers ed) w ≡ Idle Nothing
+fresh-stood records c workers ed w = ap (λ (z : Worker). z .place) (fresh-record records c workers ed w)
 
-idlers-long : length idlers ≡ workersMost
-unfolding idlers
-idlers-long = length-replicate workersMost idler
+pub fresh-records : (records c workers ed : ℕ) → length (freshWith records c workers ed .workers) ≡ records
+unfolding freshWith idlers
+fresh-records records c workers ed = length-replicate records idler
 
-pub fresh-seats : (c workers ed : ℕ) → workers ≤ workersMost → (w : ℕ) → w < freshOf c workers ed .count → w < length (freshOf c workers ed .workers)
-unfolding freshOf
-fresh-seats c workers ed few w l = omega (arith, idlers-long)
+pub fresh-seats : (records c workers ed : ℕ) → workers ≤ records → (w : ℕ) → w < freshWith records c workers ed .count → w < length (freshWith records c workers ed .workers)
+unfolding freshWith
+fresh-seats records c workers ed few w l = omega (arith, fresh-records records c workers ed)
 
 stamped-long : (k : ℕ) (l : List Slot) → length (stamped k l) ≡ length l
 unfolding stamped
@@ -147,7 +146,7 @@ ring0 =
       written = λ k. false;
     }
 
-limits-true : (k most : ℕ) → 0 < k → k ≤ most → inLimits k most ≡ true
+pub limits-true : (k most : ℕ) → 0 < k → k ≤ most → inLimits k most ≡ true
 unfolding inLimits
 limits-true k most some few = rw (ne-eqb k 0 (λ e. omega arith)) (le-leb k most few)
 
@@ -177,24 +176,25 @@ module _ (bits : Width) (c n workers ed : ℕ) (base : Base bits c n workers) wh
       let low : indexOf (fixedOf c ed) (stamp 0) < c = omega (arith, ap (λ (k : ℕ). k % markOf c) zero-word) in
       ends-of (fixedOf c ed) starts (record { unmarked = rw zero-word at m; low = low }) (lt-ltb (indexOf (fixedOf c ed) (stamp 0)) c low)
 
-  module _ (some : 0 < workers) (first : 0 < ed) (last : ed ≤ editionsMost) where
-    fresh-unbroken : Unbroken (freshOf c workers ed)
-    unfolding freshOf
+  module _ (records : ℕ) (team : workers ≤ records) (some : 0 < workers) (first : 0 < ed) (last : ed ≤ editionsMost) where
+    fresh-unbroken : UnbrokenWith records (freshWith records c workers ed)
+    unfolding freshWith
     fresh-unbroken =
         record {
           capacity = limits-true c slotsMost (base .ground .laws .some) (base .few);
-          count = limits-true workers workersMost some (base .team);
+          count = limits-true workers records some team;
           edition = limits-true ed editionsMost first last;
           rule = rule-true c ed;
           ends = starts-fit;
-          records = λ i l. idle-fits c ed _ (ltb i workers) (fresh-record c workers ed i);
+          fits = λ i l. idle-fits c ed _ (ltb i workers) (fresh-record records c workers ed i);
         }
 
-    pub fresh-pictured : Pictured c n workers ring0 (freshOf c workers ed)
-    unfolding freshOf ring0
+    pub fresh-pictured : Pictured c n workers ring0 (freshWith records c workers ed)
+    unfolding freshWith ring0
     fresh-pictured =
         record {
           inv = record { low = omega arith; high = omega arith; cells = λ i l. (mod-eq-of-lt l, omega arith, omega arith) };
+          records = records;
           unbroken = fresh-unbroken;
           rule = refl;
           count = refl;
@@ -202,18 +202,18 @@ module _ (bits : Width) (c n workers ed : ℕ) (base : Base bits c n workers) wh
           ends = starts-are;
           slots-long = fresh-long c;
           slots = λ i l. fresh-at c i (base .few) l ∙ rw (word-first c (markOf c) n (base .ground .laws) i l);
-          workers-long = idlers-long;
+          workers-long = fresh-records records c workers ed;
           ages = λ w. record { tail = 0; head = 0 };
-          stands = λ w. rw (fresh-stood c workers ed w) tt;
+          stands = λ w. rw (fresh-stood records c workers ed w) tt;
           back = λ i l w m. absurd m;
           claims-few = omega arith;
           meter-few = omega arith;
         }
 
-pub fresh-dated : (bits : Width) (c n workers ed : ℕ) (base : Base bits c n workers) (some : 0 < workers) (first : 0 < ed) (last : ed ≤ editionsMost) (w : ℕ)
-    → Dated ring0 (fresh-pictured bits c n workers ed base some first last .ages w) (since w [])
+pub fresh-dated : (bits : Width) (c n workers ed : ℕ) (base : Base bits c n workers) (records : ℕ) (team : workers ≤ records) (some : 0 < workers) (first : 0 < ed) (last : ed ≤ editionsMost) (w : ℕ)
+    → Dated ring0 (fresh-pictured bits c n workers ed base records team some first last .ages w) (since w [])
 unfolding ring0 fresh-pictured sinceFrom tallyOf
-fresh-dated bits c n workers ed base some first last w = (refl, refl)
+fresh-dated bits c n workers ed base records team some first last w = (refl, refl)
 
 pub nil-split : {A : Type 0} (xs : List A) (y : A) (ys : List A) → [] ≡ xs ++ y ∷ ys → ⊥
 nil-split [] y ys e = let q : _≡_ {A = ℕ} 0 1 = cc in omega arith
@@ -237,9 +237,9 @@ fresh-logged c =
       once = λ earlier between later act again v u k e. absurd (nil-split (earlier ++ act ∷ between) again later e);
     }
 
-pub fresh-metered : (c workers ed : ℕ) → freshOf c workers ed .meter ≡ 0
-unfolding freshOf
-fresh-metered c workers ed = refl
+pub fresh-metered : (records c workers ed : ℕ) → freshWith records c workers ed .meter ≡ 0
+unfolding freshWith
+fresh-metered records c workers ed = refl
 
 -- the meter rises with each act
 begun-meter : (m : Machine) (w : ℕ) (q : Place) → begun m w q .meter ≡ m .meter

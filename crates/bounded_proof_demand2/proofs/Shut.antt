@@ -25,7 +25,7 @@ use Rattle.bounded_machine.specs.declared.Machine.{Machine}
 use Rattle.bounded_machine.specs.declared.Event.{Event}
 use Rattle.bounded_machine.specs.Turn.{begun, actedBy, stored}
 use Rattle.bounded_machine.specs.Run.{runAt}
-use Rattle.bounded_machine.proofs.Kept.{either, exchanged, Unbroken, ruled-in, fits-plain, word-fits-in, begun-unbroken, acted-unbroken}
+use Rattle.bounded_machine.proofs.Kept.{either, exchanged, UnbrokenWith, ruled-in, fits-plain, word-fits-in, begun-unbroken, acted-unbroken}
 use Rattle.bounded_proof_demand2.proofs.Turns.{Turned, began, did, stood, turned-fixed}
 use Rattle.bounded_proof_demand2.proofs.Reached.{along-any}
 
@@ -85,15 +85,17 @@ module _ (bits : Width) (f : Fixed) (r : Ruled f) (two : f .edition ≡ 2) (e : 
 
 -- What is kept along a history.
 pub record Shut (m : Machine) (h : List Event) : Type 0 where
-  pub unbroken : Unbroken m
+  pub records : ℕ
+  pub unbroken : UnbrokenWith records m
   pub second : m .ring .fixed .edition ≡ 2
   pub marked : markedOf (m .ring .fixed) (m .ring .ends .tail) ≡ true
 
 shut-kept : (bits : Width) (m : Machine) (h : List Event) (en : Entry) (next : Machine) (acts : List Event) → Shut m h → Turned bits m en next acts → Shut next (h ++ acts)
 unfolding begun actedBy stored
-shut-kept bits m h en next acts o (began w call l idle) = record { unbroken = begun-unbroken m (o .unbroken) w l call; second = o .second; marked = o .marked }
+shut-kept bits m h en next acts o (began w call l idle) = record { records = o .records; unbroken = begun-unbroken m (o .unbroken) w l call; second = o .second; marked = o .marked }
 shut-kept bits m h en next acts o (did w lose l busy early) =
     record {
+      records = o .records;
       unbroken = acted-unbroken m (o .unbroken) w l bits lose busy;
       second = o .second;
       marked =

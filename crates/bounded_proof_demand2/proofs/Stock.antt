@@ -8,7 +8,6 @@ use native.Mathlib.Omega.{arith}
 use native.Mathlib.Nat.{mod-lt}
 use lib.Dec.{leb}
 use lib.ListN.{length, set, replicate}
-use Rattle.queue_entries.specs.Limits.{workersMost}
 use Rattle.queue_entries.specs.declared.Call.{Call}
 use Rattle.queue_entries.specs.declared.Call.the-variants as call
 use Rattle.queue_entries.specs.declared.Entry.{Entry}
@@ -34,12 +33,12 @@ use Rattle.bounded_machine.specs.declared.Event.{Event}
 use Rattle.bounded_machine.specs.declared.Moved.{Moved}
 use Rattle.bounded_machine.specs.declared.Moved.the-variants.{Neither, Tail, Head}
 use Rattle.bounded_machine.specs.declared.Tally.{Tally}
-use Rattle.bounded_machine.specs.Machine.{placeOf, idler, idlers, freshOf}
+use Rattle.bounded_machine.specs.Machine.{placeOf, idler, idlers, freshWith}
 use Rattle.bounded_machine.specs.Broken.{allIdle}
 use Rattle.bounded_machine.specs.Turn.{beginner, recordAfter, begun, stored, acted, actedBy}
 use Rattle.bounded_machine.specs.History.{movedOf, readsAt, untallied, tallyOf, stockOf, untakenOf}
-use Rattle.bounded_machine.proofs.Kept.{either, exchanged}
-use Rattle.bounded_demands.specs.Notions.{ofWidth, document01, Allowed, InWindow, KeepsWindow, machineAfter, actsOf, Reads, readO4, readF8, tailBy, headBy, tally, stock, unread, unreadBy}
+use Rattle.bounded_machine.proofs.Kept.{either, exchanged, few-workers}
+use Rattle.bounded_demands.specs.Notions.{withRecords, AllowedWith, InWindow, KeepsWindow, machineAfter, actsOf, Reads, readO4, readF8, tailBy, headBy, tally, stock, unread, unreadBy}
 use Rattle.bounded_demands.specs.Demands.{StockRises, StockFalls, StockStays, Stocked, StockUnderEverySchedule}
 use Rattle.bounded_proof_invariant.proofs.Ring.{Cell, Await, Hold, Hand, Mine, Shared}
 use Rattle.bounded_proof_each_act.proofs.Sight.{Age, look, Stands}
@@ -290,7 +289,7 @@ module _ (bits : Width) (c n workers : ℕ) (base : Base bits c n workers) where
     new = eventOf bits m w lose next
 
     seat : w < length (m .workers)
-    seat = omega (arith, pic .workers-long, pic .count, base .team)
+    seat = omega (arith, pic .workers-long, few-workers m (pic .unbroken))
 
     went : stood next w ≡ result bits c n workers base (o .behind .ring) m pic w l lose busy .place
     went = acted-stood bits c n workers base (o .behind .ring) m pic w l lose busy
@@ -366,7 +365,7 @@ module _ (bits : Width) (c n workers : ℕ) (base : Base bits c n workers) where
 
   shelved-kept : (m : Machine) (h : List Event) (en : Entry) (next-machine : Machine) (acts : List Event) → Shelved m h → InWindow bits m h → Turned bits m en next-machine acts → Shelved next-machine (h ++ acts)
   shelved-kept m h en next-machine acts o window (began w q l idle) =
-      let sits : w < length (m .workers) = omega (arith, o .behind .pictured .workers-long, o .behind .pictured .count, base .team) in
+      let sits : w < length (m .workers) = omega (arith, o .behind .pictured .workers-long, few-workers m (o .behind .pictured .unbroken)) in
       record {
         behind = entered-in bits c n workers base m h en next-machine acts (o .behind) window (began w q l idle);
         balance = rw (append-nil h) (o .balance ∙ omega (arith, begun-read m w q sits idle));
@@ -391,7 +390,7 @@ module _ (bits : Width) (c n workers : ℕ) (base : Base bits c n workers) where
     by-hands = omega (arith, o .balance, heads-tails m h (o .behind))
 
     idle-none : allIdle (m .workers) ≡ true → unreadBy (m .workers) ≡ 0
-    idle-none idle = none-read (m .workers) (λ w. idle-read (stood m w) (idle-at (m .workers) (o .behind .pictured .workers-long) idle w))
+    idle-none idle = none-read (m .workers) (λ w. idle-read (stood m w) (idle-at (m .workers) idle w))
 
     owns : (w : ℕ) → unread (stood m w) ≡ true → (i : ℕ) × (i < c) × Mine w (o .behind .ring .cell i)
     owns w e = unread-owns c n (base .ground .laws .some) (o .behind .ring) w (o .behind .pictured .ages w) (stood m w) e (o .behind .pictured .stands w)
@@ -402,8 +401,8 @@ module _ (bits : Width) (c n workers : ℕ) (base : Base bits c n workers) where
         few-read c (λ i. ownerOf (o .behind .ring .cell i)) (m .workers)
         (λ w e. let q = owns w e in (q .0, q .1, mine-owner w (o .behind .ring .cell (q .0)) (q .2)))
 
-    few-workers : unreadBy (m .workers) ≤ workers
-    few-workers = few-read workers (λ i. i) (m .workers) (λ w e. (w, omega (arith, counted w e, o .behind .pictured .count), refl))
+    few-unread : unreadBy (m .workers) ≤ workers
+    few-unread = few-read workers (λ i. i) (m .workers) (λ w e. (w, omega (arith, counted w e, o .behind .pictured .count), refl))
       where
         counted : (w : ℕ) → unread (stood m w) ≡ true → w < m .count
         counted w e =
@@ -430,28 +429,28 @@ module _ (bits : Width) (c n workers : ℕ) (base : Base bits c n workers) where
               (even ∙ contents-number bits c n workers base m h (o .behind) idle, even);
           most =
               either (λ (k : ℕ). stock h ≤ c + k) (leb c workers) c workers
-              (λ z. omega (arith, by-hands, few-untaken, few-slots)) (λ z. omega (arith, by-hands, few-untaken, few-workers));
+              (λ z. omega (arith, by-hands, few-untaken, few-slots)) (λ z. omega (arith, by-hands, few-untaken, few-unread));
         }
 
-fresh-read : (capacity workers edition : ℕ) → unreadBy (freshOf capacity workers edition .workers) ≡ 0
-unfolding freshOf idlers
-fresh-read capacity workers edition = idlers-read workersMost
+fresh-read : (records capacity workers edition : ℕ) → unreadBy (freshWith records capacity workers edition .workers) ≡ 0
+unfolding freshWith idlers
+fresh-read records capacity workers edition = idlers-read records
 
-pub stock-in : (bits : Width) (capacity workers edition : ℕ) → Allowed capacity workers edition → (s : List ℕ) → KeepsWindow (ofWidth bits) (freshOf capacity workers edition) [] s
-    → Stocked stock capacity workers (machineAfter (ofWidth bits) capacity workers edition s) (actsOf (ofWidth bits) capacity workers edition s)
+pub stock-in : (bits : Width) (records capacity workers edition : ℕ) → AllowedWith records capacity workers edition → (s : List ℕ) → KeepsWindow (withRecords records bits) (freshWith records capacity workers edition) [] s
+    → Stocked stock capacity workers (machineAfter (withRecords records bits) capacity workers edition s) (actsOf (withRecords records bits) capacity workers edition s)
 unfolding tallyOf
-stock-in bits capacity workers edition a s keeps =
+stock-in bits records capacity workers edition a s keeps =
     let n = lapsOf bits capacity in
-    let base = base-of bits capacity workers edition a in
-    stocked bits capacity n workers base (machineAfter (ofWidth bits) capacity workers edition s) (actsOf (ofWidth bits) capacity workers edition s)
-    (along bits (InWindow bits) (Shelved bits capacity n workers base) (shelved-kept bits capacity n workers base) s (freshOf capacity workers edition) [] 0 keeps
+    let base = base-of bits records capacity workers edition a in
+    stocked bits capacity n workers base (machineAfter (withRecords records bits) capacity workers edition s) (actsOf (withRecords records bits) capacity workers edition s)
+    (along bits (InWindow bits) (Shelved bits capacity n workers base) (shelved-kept bits capacity n workers base) s (freshWith records capacity workers edition) [] 0 keeps
     (record {
-      behind = fresh-reached bits capacity workers edition a;
-      balance = omega (arith, fresh-read capacity workers edition);
+      behind = fresh-reached bits records capacity workers edition a;
+      balance = omega (arith, fresh-read records capacity workers edition);
       rises = λ earlier later act e. absurd (nil-split earlier act later e);
       falls = λ earlier later act t e. absurd (nil-split earlier act later e);
       stays = λ earlier later act e. absurd (nil-split earlier act later e);
     }))
 
-pub stock-stands : StockUnderEverySchedule document01 stock
-stock-stands capacity workers edition a s = stock-in SixtyFour capacity workers edition a s (always capacity workers edition a s)
+pub stock-stands : (records : ℕ) → StockUnderEverySchedule (withRecords records SixtyFour) stock
+stock-stands records capacity workers edition a s = stock-in SixtyFour records capacity workers edition a s (always records capacity workers edition a s)

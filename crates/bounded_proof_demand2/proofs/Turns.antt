@@ -5,6 +5,7 @@ use mathlib.Core.List.{List, [], _∷_}
 use Prim.Native.Nat.{ℕ, _<_}
 use native.Mathlib.Omega.{arith}
 use lib.Dec.{ltb}
+use lib.ListN.{length, length-set}
 use borrow.Author.Tests.{ltb-true}
 use Rattle.queue_entries.specs.Limits.{meterMost}
 use Rattle.queue_entries.specs.declared.Call.{Call}
@@ -82,3 +83,9 @@ pub turned-fixed : (bits : Width) (m : Machine) (en : Entry) (next : Machine) (h
 unfolding begun actedBy stored
 turned-fixed bits m en next h (began w call l idle) = refl
 turned-fixed bits m en next h (did w lose l busy early) = refl
+
+-- and the number of records
+pub turned-seats : (bits : Width) (m : Machine) (en : Entry) (next : Machine) (acts : List Event) → Turned bits m en next acts → length (next .workers) ≡ length (m .workers)
+unfolding begun actedBy stored
+turned-seats bits m en next acts (began v call l idle) = length-set (m .workers) v _
+turned-seats bits m en next acts (did v lose l busy early) = length-set (m .workers) v _

@@ -11,9 +11,9 @@ use Rattle.bounded_places.specs.Places.{viewOf}
 use Rattle.bounded_machine.specs.declared.Machine.{Machine}
 use Rattle.bounded_machine.specs.declared.Did.{Did}
 use Rattle.bounded_machine.specs.declared.Event.{Event}
-use Rattle.bounded_machine.specs.Machine.{freshOf, placeOf, accepted}
+use Rattle.bounded_machine.specs.Machine.{freshWith, placeOf, accepted}
 use Rattle.bounded_machine.specs.Run.{runAt}
-use Rattle.bounded_demands.specs.Notions.{ofWidth, document01, Allowed, acts, machineAfter, actsOf, InWindow, KeepsWindow, mostOf, OtherHand}
+use Rattle.bounded_demands.specs.Notions.{withRecords, AllowedWith, acts, machineAfter, actsOf, InWindow, KeepsWindow, mostOf, OtherHand}
 use Rattle.bounded_demands.specs.Foretold.{foretold}
 use Rattle.bounded_demands.specs.Demands.{Demand3, ScheduledAlone, WithinTheWindow}
 use Rattle.bounded_proof_demand2.proofs.Turns.{stood}
@@ -47,9 +47,9 @@ module _ (bits : Width) (c n workers : ℕ) (base : Base bits c n workers) (m : 
       go false e (no free) =
           absurd (true≢false (sym late ∙ ap (λ (z : Machine). viewOf (stood z w) .busy) (idle-stays bits m 0 w (mostOf (stood m w)) e) ∙ e))
 
-  demanded : Demand3 (ofWidth bits) m h
+  demanded : (records : ℕ) → Demand3 (withRecords records bits) m h
   unfolding accepted
-  demanded =
+  demanded records =
       record {
         accepted = λ w busy early. ap (λ (d : Did). d .refusal) (act-turn bits c n workers base (r .ring) m (r .pictured) w busy early);
         alone =
@@ -68,30 +68,30 @@ module _ (bits : Width) (c n workers : ℕ) (base : Base bits c n workers) (m : 
               queue = λ k e. queue-is bits c n workers base m h r w k e busy free;
             };
         in-the-way = way;
-        lets-go = λ w t l hand enough. lets-go bits w l m (record { unbroken = r .pictured .unbroken; seats = r .pictured .workers-long }) t hand enough;
-        as-run = as-run bits m 0;
+        lets-go = λ w t l hand enough. lets-go bits w l m (record { records = r .pictured .records; unbroken = r .pictured .unbroken; seats = r .pictured .workers-long }) t hand enough;
+        as-run = as-run records bits m 0;
       }
 
-module _ (bits : Width) (capacity workers edition : ℕ) (a : Allowed capacity workers edition) (s : List ℕ) (keeps : KeepsWindow (ofWidth bits) (freshOf capacity workers edition) [] s) where
-  pub demand3-in : Demand3 (ofWidth bits) (machineAfter (ofWidth bits) capacity workers edition s) (actsOf (ofWidth bits) capacity workers edition s)
+module _ (bits : Width) (records capacity workers edition : ℕ) (a : AllowedWith records capacity workers edition) (s : List ℕ) (keeps : KeepsWindow (withRecords records bits) (freshWith records capacity workers edition) [] s) where
+  pub demand3-in : Demand3 (withRecords records bits) (machineAfter (withRecords records bits) capacity workers edition s) (actsOf (withRecords records bits) capacity workers edition s)
   demand3-in =
-      demanded bits capacity (lapsOf bits capacity) workers (base-of bits capacity workers edition a) (machineAfter (ofWidth bits) capacity workers edition s)
-      (actsOf (ofWidth bits) capacity workers edition s) (reached bits capacity workers edition a s keeps) (at-end bits (freshOf capacity workers edition) [] s keeps)
+      demanded bits capacity (lapsOf bits capacity) workers (base-of bits records capacity workers edition a) (machineAfter (withRecords records bits) capacity workers edition s)
+      (actsOf (withRecords records bits) capacity workers edition s) (reached bits records capacity workers edition a s keeps) (at-end bits (freshWith records capacity workers edition) [] s keeps) records
 
 -- all of a schedule that keeps the window
-pub within-the-window : (bits : Width) → WithinTheWindow (ofWidth bits)
-within-the-window bits capacity workers edition a s keeps =
+pub within-the-window : (bits : Width) (records : ℕ) → WithinTheWindow (withRecords records bits)
+within-the-window bits records capacity workers edition a s keeps =
     record {
-      demand2 = demand2-in bits capacity workers edition a s keeps;
-      demand3 = demand3-in bits capacity workers edition a s keeps;
-      len = len-in bits capacity workers edition a s keeps;
-      stocked = stock-in bits capacity workers edition a s keeps;
-      losses = losses bits capacity workers edition a s;
-      once-closed = closed-in bits capacity workers edition a s keeps;
-      yes-once = yes-in bits capacity workers edition a s keeps;
-      none-after = none-in bits capacity workers edition a s keeps;
+      demand2 = demand2-in bits records capacity workers edition a s keeps;
+      demand3 = demand3-in bits records capacity workers edition a s keeps;
+      len = len-in bits records capacity workers edition a s keeps;
+      stocked = stock-in bits records capacity workers edition a s keeps;
+      losses = losses bits records capacity workers edition a s;
+      once-closed = closed-in bits records capacity workers edition a s keeps;
+      yes-once = yes-in bits records capacity workers edition a s keeps;
+      none-after = none-in bits records capacity workers edition a s keeps;
     }
 
 -- of 64 bits every schedule
-pub demand3 : ScheduledAlone document01
-demand3 capacity workers edition a s = demand3-in SixtyFour capacity workers edition a s (always capacity workers edition a s)
+pub demand3 : (records : ℕ) → ScheduledAlone (withRecords records SixtyFour)
+demand3 records capacity workers edition a s = demand3-in SixtyFour records capacity workers edition a s (always records capacity workers edition a s)

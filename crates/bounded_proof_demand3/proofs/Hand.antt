@@ -7,10 +7,9 @@ use Prim.Native.Nat.{ℕ, _+_, _≤_, _<_}
 use native.Mathlib.Omega.{arith}
 use native.Mathlib.Decide.{ℕ-discrete}
 use lib.Dec.{eqb}
-use lib.ListN.{length, length-set}
+use lib.ListN.{length}
 use lib.Seq.{getD-set-same, getD-set-other}
 use borrow.Author.Tests.{eq-eqb, ne-eqb, eqb-true, eqb-false}
-use Rattle.queue_entries.specs.Limits.{workersMost}
 use Rattle.queue_entries.specs.Schedules.{runBy}
 use Rattle.queue_entries.specs.declared.Entry.{Entry}
 use Rattle.queue_entries.specs.Entries.{entryOf}
@@ -31,10 +30,11 @@ use Rattle.bounded_machine.specs.declared.Event.{Event}
 use Rattle.bounded_machine.specs.Machine.{idler}
 use Rattle.bounded_machine.specs.Turn.{turnAt, turnOfBy, recordAfter, begun, acted, actedBy, stored, actAt}
 use Rattle.bounded_machine.specs.Run.{ran, runAt}
-use Rattle.bounded_machine.proofs.Kept.{Unbroken, few-workers}
-use Rattle.bounded_demands.proofs.Refusals.{turn-kept, turn-of-unbroken}
-use Rattle.bounded_demands.specs.Notions.{ofWidth, InHand, handP4, handP5, handF7, handF8, handF9, handO4, handO5, mostOf, passed, actBy, ownActs, LetsGo}
-use Rattle.bounded_proof_demand2.proofs.Turns.{Turned, began, did, turned, stood}
+use Rattle.bounded_machine.proofs.Kept.{UnbrokenWith, few-workers}
+use Rattle.bounded_demands.proofs.Refusals.{turn-kept}
+use Rattle.bounded_runs.proofs.Turns.{turn-of-unbroken}
+use Rattle.bounded_demands.specs.Notions.{withRecords, InHand, handP4, handP5, handF7, handF8, handF9, handO4, handO5, mostOf, passed, actBy, ownActs, LetsGo}
+use Rattle.bounded_proof_demand2.proofs.Turns.{Turned, began, did, turned, stood, turned-seats}
 use Rattle.bounded_proof_demand3.proofs.Solo.{acted-else}
 
 -- An act of a worker in hand: one fewer to go, or let go.
@@ -75,19 +75,19 @@ unfolding begun
 begun-else m w v q ne = ap (λ (z : Worker). z .place) (getD-set-other (m .workers) w v _ idler ne)
 
 -- entries that are all accepted are passed as a schedule runs them
-pub as-run : (bits : Width) (m : Machine) (place : ℕ) (entries : List ℕ) → runAt bits m place entries .refusal ≡ 0 → passed (ofWidth bits) m entries ≡ runAt bits m place entries .machine
+pub as-run : (records : ℕ) (bits : Width) (m : Machine) (place : ℕ) (entries : List ℕ) → runAt bits m place entries .refusal ≡ 0 → passed (withRecords records bits) m entries ≡ runAt bits m place entries .machine
 unfolding passed runBy ran
-as-run bits m place [] e = refl
-as-run bits m place (first ∷ []) e = refl
-as-run bits m place (first ∷ second ∷ rest) e = go (as-run bits next (place + 1) rest) (eqb (turnAt bits m first second .refusal) 0) refl e
+as-run records bits m place [] e = refl
+as-run records bits m place (first ∷ []) e = refl
+as-run records bits m place (first ∷ second ∷ rest) e = go (as-run records bits next (place + 1) rest) (eqb (turnAt bits m first second .refusal) 0) refl e
   where
     next : Machine
     next = turnAt bits m first second .machine
 
-    go : (runAt bits next (place + 1) rest .refusal ≡ 0 → passed (ofWidth bits) next rest ≡ runAt bits next (place + 1) rest .machine)
+    go : (runAt bits next (place + 1) rest .refusal ≡ 0 → passed (withRecords records bits) next rest ≡ runAt bits next (place + 1) rest .machine)
         → (b : Bool) → eqb (turnAt bits m first second .refusal) 0 ≡ b
         → cond b (runAt bits next (place + 1) rest) (ran (turnAt bits m first second .refusal) place m) .refusal ≡ 0
-        → passed (ofWidth bits) next rest ≡ cond b (runAt bits next (place + 1) rest) (ran (turnAt bits m first second .refusal) place m) .machine
+        → passed (withRecords records bits) next rest ≡ cond b (runAt bits next (place + 1) rest) (ran (turnAt bits m first second .refusal) place m) .machine
     go more true q z = more z
     go more false q z = absurd (eqb-false _ 0 q z)
 
@@ -102,13 +102,9 @@ data Was (m : Machine) (w : ℕ) (next : Machine) (count : ℕ) : Type 0 where
 
 -- What the entries leave to go on with.
 pub record Sound (m : Machine) : Type 0 where
-  pub unbroken : Unbroken m
-  pub seats : length (m .workers) ≡ workersMost
-
-turned-seats : (bits : Width) (m : Machine) (en : Entry) (next : Machine) (acts : List Event) → Turned bits m en next acts → length (next .workers) ≡ length (m .workers)
-unfolding begun actedBy stored
-turned-seats bits m en next acts (began v call l idle) = length-set (m .workers) v _
-turned-seats bits m en next acts (did v lose l busy early) = length-set (m .workers) v _
+  pub records : ℕ
+  pub unbroken : UnbrokenWith records m
+  pub seats : length (m .workers) ≡ records
 
 acted-own : (bits : Width) (m : Machine) (w : ℕ) (p : Place) (lose : Bool) → w < length (m .workers) → stood (acted bits m w p lose) w ≡ actAt (actOf bits) m p lose .place
 unfolding actedBy stored recordAfter
@@ -140,7 +136,7 @@ module _ (bits : Width) (w : ℕ) where
         go true e =
             let d = turned bits m (entryOf first second) (eqb-true _ 0 e) in
             record {
-              sound = record { unbroken = turn-of-unbroken bits m (o .unbroken) first second; seats = turned-seats bits m (entryOf first second) _ _ d ∙ o .seats };
+              sound = record { records = o .records; unbroken = turn-of-unbroken bits m (o .unbroken) first second; seats = turned-seats bits m (entryOf first second) _ _ d ∙ o .seats };
               was = rw e (accepted-was (entryOf first second) _ _ d);
             }
         go false e =
@@ -148,8 +144,8 @@ module _ (bits : Width) (w : ℕ) where
             record { sound = subst Sound (sym q) o; was = rw e (other (ap (λ (z : Machine). stood z w) q) refl) }
 
   -- one entry more before it
-  more : (m : Machine) (first second k : ℕ) (rest : List ℕ) → LetsGo (ofWidth bits) (turnAt bits m first second .machine) w rest k
-      → LetsGo (ofWidth bits) m w (first ∷ second ∷ rest) (part bits w m first second + k)
+  more : {records : ℕ} (m : Machine) (first second k : ℕ) (rest : List ℕ) → LetsGo (withRecords records bits) (turnAt bits m first second .machine) w rest k
+      → LetsGo (withRecords records bits) m w (first ∷ second ∷ rest) (part bits w m first second + k)
   unfolding passed ownActs
   more m first second k rest d =
       record {
@@ -162,16 +158,16 @@ module _ (bits : Width) (w : ℕ) where
       }
 
   -- none more
-  here : (m : Machine) (a : Answer) (rest : List ℕ) → stood m w ≡ Idle a → LetsGo (ofWidth bits) m w rest 0
+  here : {records : ℕ} (m : Machine) (a : Answer) (rest : List ℕ) → stood m w ≡ Idle a → LetsGo (withRecords records bits) m w rest 0
   unfolding passed ownActs
   here m a rest e = record { before = []; after = rest; split = refl; own = refl; answer = a; ends = e }
 
-  pub lets-go : (l : List ℕ) (m : Machine) → Sound m → (t : Stamp) → InHand (stood m w) t
-      → mostOf (stood m w) ≤ ownActs (ofWidth bits) w m l → LetsGo (ofWidth bits) m w l (mostOf (stood m w))
+  pub lets-go : {records : ℕ} (l : List ℕ) (m : Machine) → Sound m → (t : Stamp) → InHand (stood m w) t
+      → mostOf (stood m w) ≤ ownActs (withRecords records bits) w m l → LetsGo (withRecords records bits) m w l (mostOf (stood m w))
   unfolding ownActs
-  lets-go [] m o t hand enough = absurd (omega (arith, hand-some (stood m w) t hand))
-  lets-go (first ∷ []) m o t hand enough = absurd (omega (arith, hand-some (stood m w) t hand))
-  lets-go (first ∷ second ∷ rest) m o t hand enough = go (one .was) (λ u k. lets-go rest next (one .sound) u k)
+  lets-go {records} [] m o t hand enough = absurd (omega (arith, hand-some (stood m w) t hand))
+  lets-go {records} (first ∷ []) m o t hand enough = absurd (omega (arith, hand-some (stood m w) t hand))
+  lets-go {records} (first ∷ second ∷ rest) m o t hand enough = go (one .was) (λ u k. lets-go rest next (one .sound) u k)
     where
       one : Turn m first second
       one = one-turn m o t hand first second
@@ -179,13 +175,13 @@ module _ (bits : Width) (w : ℕ) where
       next : Machine
       next = turnAt bits m first second .machine
 
-      go : Was m w next (part bits w m first second) → ((u : Stamp) → InHand (stood next w) u → mostOf (stood next w) ≤ ownActs (ofWidth bits) w next rest → LetsGo (ofWidth bits) next w rest (mostOf (stood next w)))
-          → LetsGo (ofWidth bits) m w (first ∷ second ∷ rest) (mostOf (stood m w))
+      go : Was m w next (part bits w m first second) → ((u : Stamp) → InHand (stood next w) u → mostOf (stood next w) ≤ ownActs (withRecords records bits) w next rest → LetsGo (withRecords records bits) next w rest (mostOf (stood next w)))
+          → LetsGo (withRecords records bits) m w (first ∷ second ∷ rest) (mostOf (stood m w))
       go (other e z) again =
           let k : mostOf (stood next w) ≡ mostOf (stood m w) = ap mostOf e in
           let d = again t (subst (λ (q : Place). InHand q t) (sym e) hand) (omega arith) in
-          subst (LetsGo (ofWidth bits) m w (first ∷ second ∷ rest)) (omega arith) (more m first second (mostOf (stood next w)) rest d)
+          subst (LetsGo (withRecords records bits) m w (first ∷ second ∷ rest)) (omega arith) (more m first second (mostOf (stood next w)) rest d)
       go (own (holds u hand′ less) z) again =
-          subst (LetsGo (ofWidth bits) m w (first ∷ second ∷ rest)) (omega arith) (more m first second (mostOf (stood next w)) rest (again u hand′ (omega arith)))
+          subst (LetsGo (withRecords records bits) m w (first ∷ second ∷ rest)) (omega arith) (more m first second (mostOf (stood next w)) rest (again u hand′ (omega arith)))
       go (own (gone a e one) z) again =
-          subst (LetsGo (ofWidth bits) m w (first ∷ second ∷ rest)) (omega arith) (more m first second 0 rest (here next a rest e))
+          subst (LetsGo (withRecords records bits) m w (first ∷ second ∷ rest)) (omega arith) (more m first second 0 rest (here next a rest e))

@@ -291,7 +291,7 @@ module _ (bits : Width) (c n workers : ℕ) (base : Base bits c n workers) (w : 
           let i = idle-is (stood next w) e in
           let a : stood next w ≡ Idle (foretold bits m w) = i .1 ∙ ap Idle (sym (answered bits next w (i .0) (i .1)) ∙ told) in
           last bits m next h from w (foretold bits m w) taken busy a
-          (true-answers bits c n workers base m h r w young next (foretold bits m w)
+          (true-answers bits c n workers base m h r {records = length (m .workers)} w young next (foretold bits m w)
           (record { first = 16 * w + 8; second = 0; lose = false; asks = act-entry w; done = taken }) a)
           (λ v out.
           let c = r′ .logged .rule h [] (eventOf bits m w false next) v refl (subst (λ (q : Place). HandsOut q v) (sym a) out) in

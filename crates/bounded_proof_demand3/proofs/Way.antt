@@ -5,7 +5,7 @@ use mathlib.Core.Bool.{Bool, true, false, true≢false}
 use Prim.Native.Nat.{ℕ, zero, suc, _%_, _<_}
 use native.Mathlib.Omega.{arith}
 use native.Mathlib.Decide.{ℕ-discrete}
-use Rattle.queue_entries.specs.Limits.{workersMost}
+use Rattle.bounded_machine.proofs.Kept.{few-workers}
 use Rattle.bounded_words.specs.declared.Stamp.{Stamp}
 use Rattle.bounded_words.specs.declared.Width.{Width}
 use Rattle.bounded_places.specs.declared.Place.{Place}
@@ -73,9 +73,9 @@ module _ (m : Machine) (w : ℕ) where
           least o (no q) = z (o .0, omega (arith, o .1), o .2, o .3, o .4)
 
 pub other-hand : (bits : Width) (c n workers : ℕ) (base : Base bits c n workers) (s : Shared) (m : Machine) → Pictured c n workers s m → (w : ℕ) → Dec (OtherHand m w)
-other-hand bits c n workers base s m pic w = go (look-through m w workersMost)
+other-hand bits c n workers base s m pic w = go (look-through m w (pic .records))
   where
-    go : Dec (Among m w workersMost) → Dec (OtherHand m w)
+    go : Dec (Among m w (pic .records)) → Dec (OtherHand m w)
     go (yes o) = yes (o .0, o .2, o .3, o .4)
     go (no z) =
-        no (λ o. let l = team bits c n workers base s m pic (o .0) (hand-busy (stood m (o .0)) (o .2) (o .3)) in z (o .0, omega (arith, l, pic .count, base .team), o .1, o .2, o .3))
+        no (λ o. let l = team bits c n workers base s m pic (o .0) (hand-busy (stood m (o .0)) (o .2) (o .3)) in z (o .0, omega (arith, l, few-workers m (pic .unbroken)), o .1, o .2, o .3))

@@ -25,7 +25,7 @@ use Rattle.bounded_acts.specs.Acts.{stay, losing, exchangeOf, afterTail, tailTo
 use Rattle.bounded_machine.specs.declared.Machine.{Machine}
 use Rattle.bounded_machine.specs.declared.Event.{Event}
 use Rattle.bounded_machine.specs.declared.Tally.{Tally}
-use Rattle.bounded_machine.specs.Machine.{slot, emptySlots, stamped, freshSlots, idler, idlers, machineOf, freshOf, accepted}
+use Rattle.bounded_machine.specs.Machine.{slot, emptySlots, stamped, freshSlots, idler, idlers, machineOf, freshWith, freshOf, accepted}
 use Rattle.bounded_machine.specs.Turn.{beginner, recordAfter, begun, stored, acted, actedBy, turnOfBy}
 use Rattle.bounded_machine.specs.Run.{ran, runAt}
 use Rattle.bounded_machine.specs.History.{event, historyAt, untallied, tallyOf}
@@ -58,7 +58,7 @@ abbrev fresh : ℕ → Machine
 fresh edition = stand edition empties 0 0 0 0 (Idle answer.Nothing) (Idle answer.Nothing) 0
 
 fresh-is : (edition : ℕ) → freshOf 1 2 edition ≡ fresh edition
-unfolding doubled markOf emptySlots stamped freshSlots idlers freshOf
+unfolding doubled markOf emptySlots stamped freshSlots idlers freshWith
 fresh-is edition = refl
 
 -- ---- while the second sleeps at q

@@ -5,7 +5,7 @@ use Prim.Native.Nat.{ℕ, _+_, _*_, _%_, _≤_, _<_}
 use native.Mathlib.Omega.{arith}
 use native.Mathlib.Nat.{mod-lt, mod-eq-of-lt}
 use lib.ListN.{replicate}
-use Rattle.queue_entries.specs.Limits.{meterMost}
+use Rattle.queue_entries.specs.Limits.{workersMost, meterMost}
 use Rattle.queue_entries.specs.Schedules.{historyBy}
 use Rattle.bounded_words.specs.declared.Width.{Width}
 use Rattle.bounded_words.specs.Words.{stamp, markOf, fixedOf}
@@ -13,7 +13,7 @@ use Rattle.bounded_places.specs.declared.Answer.the-variants.{Nothing}
 use Rattle.bounded_places.specs.declared.Slot.{Slot}
 use Rattle.bounded_places.specs.declared.Place.the-variants.{Idle}
 use Rattle.bounded_machine.specs.declared.Machine.{Machine}
-use Rattle.bounded_machine.specs.Machine.{idler, idlers, freshSlots, machineOf, freshOf}
+use Rattle.bounded_machine.specs.Machine.{idler, idlers, freshSlots, machineOf, freshWith, freshOf}
 use Rattle.bounded_machine.specs.declared.Event.{Event}
 use Rattle.bounded_machine.specs.History.{historyAt, untallied}
 use Rattle.bounded_demands.specs.Notions.{ofWidth, Allowed, actsOf, tally, rounds}
@@ -28,7 +28,7 @@ module _ (bits : Width) (c edition : ℕ) (a : Allowed c 1 edition) where
   laps = lapsOf bits c
 
   ground : Ground bits c (markOf c) laps
-  ground = base-of bits c 1 edition a .ground
+  ground = base-of bits workersMost c 1 edition a .ground
 
   one : 0 < 1
   one = omega arith
@@ -37,9 +37,9 @@ module _ (bits : Width) (c edition : ℕ) (a : Allowed c 1 edition) where
   first = at bits (fixedOf c edition) (replicate 15 idler) 1 one (both bits c (markOf c) laps edition ground (replicate 15 idler) 1 one 0) (freshSlots c) (Idle Nothing) 0
 
   fresh-is : freshOf c 1 edition ≡ first
-  unfolding freshOf idlers
+  unfolding freshWith idlers
   fresh-is =
-      ap (λ (x : ℕ). machineOf (fixedOf c edition) (record { head = stamp x; tail = stamp x }) (freshSlots c) idlers 1 0)
+      ap (λ (x : ℕ). machineOf (fixedOf c edition) (record { head = stamp x; tail = stamp x }) (freshSlots c) (idlers workersMost) 1 0)
       (sym (word-first c (markOf c) laps (ground .laws) 0 (a .slot-some)))
 
   awaiting : Awaiting bits c (markOf c) laps edition ground (replicate 15 idler) 1 one 0 (freshSlots c)

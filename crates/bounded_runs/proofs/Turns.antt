@@ -11,7 +11,7 @@ use Rattle.queue_entries.specs.declared.Finding.{Finding}
 use Rattle.queue_entries.specs.declared.Finding.the-variants.{AllRead, UnreadableAt}
 use Rattle.queue_entries.specs.Schedules.{runBy, searchBy, scheduleBy}
 use Rattle.queue_entries.proofs.Searching.{two-words}
-use Rattle.queue_entries.specs.Limits.{workersMost, meterMost}
+use Rattle.queue_entries.specs.Limits.{meterMost}
 use Rattle.queue_entries.proofs.Pick.{below, above, yes, no}
 use Rattle.queue_entries.specs.declared.Call.{Call}
 use Rattle.queue_entries.specs.declared.Order.{Order}
@@ -32,12 +32,13 @@ use Rattle.bounded_places.specs.Places.{viewOf, fitsOf, beginOf}
 use Rattle.bounded_acts.specs.declared.Acted.{Acted}
 use Rattle.bounded_acts.specs.Acts.{actOf, Fits}
 use Rattle.bounded_machine.specs.declared.Machine.{Machine}
+use Rattle.bounded_machine.specs.declared.Did.{Did}
 use Rattle.bounded_machine.specs.declared.Ran.{Ran}
 use Rattle.bounded_machine.specs.Machine.{slot, machineOf, recordOf, placeOf, refused, accepted}
 use Rattle.bounded_machine.specs.Broken.{brokenOf}
 use Rattle.bounded_machine.specs.Turn.{verdictOf, spotOf, recordAfter, begun, stored, actedBy, carried, turn, turnAt, turnOfBy}
 use Rattle.bounded_machine.specs.Run.{ran, runAt, runOfBy}
-use Rattle.bounded_machine.proofs.Kept.{Unbroken, fair-in, ruled-in, few-workers, few-lost, begun-unbroken, stored-unbroken, Ok, keeps, word-fits-in, fits-plain, either}
+use Rattle.bounded_machine.proofs.Kept.{UnbrokenWith, fair-in, ruled-in, few-workers, few-lost, begun-unbroken, stored-unbroken, acted-unbroken, Ok, keeps, word-fits-in, fits-plain, either}
 
 -- ---- what a verdict tells: a refusal has a number, a move is a busy worker's in time
 abbrev Sense : ℕ → Place → Verdict → Type 0
@@ -150,8 +151,8 @@ unfolding runBy
 ended bits s n i m whole back len ge = sym (ap (runAt bits m i) (drop-of-length-le s {i = 2 * i} (omega arith))) ∙ back
 
 -- ---- what the loop may do on an unbroken machine
-module _ (m : Machine) (u : Unbroken m) where
-  pub worker-below : (w : ℕ) → w < m .count → w < workersMost
+module _ {records : ℕ} (m : Machine) (u : UnbrokenWith records m) where
+  pub worker-below : (w : ℕ) → w < m .count → w < records
   worker-below w l = omega (arith, few-workers m u)
 
   module _ (w : ℕ) (l : w < m .count) (h : viewOf (placeOf (m .workers) w) .busy ≡ true) where
@@ -173,13 +174,32 @@ module _ (m : Machine) (u : Unbroken m) where
 
   -- and it stays unbroken
   module _ (w : ℕ) (l : w < m .count) where
-    pub started-unbroken : (c : Call) (q : Place) → q ≡ beginOf c → Unbroken (begun m w q)
-    started-unbroken c q e = subst (λ (x : Place). Unbroken (begun m w x)) (sym e) (begun-unbroken m u w l c)
+    pub started-unbroken : (c : Call) (q : Place) → q ≡ beginOf c → UnbrokenWith records (begun m w q)
+    started-unbroken c q e = subst (λ (x : Place). UnbrokenWith records (begun m w x)) (sym e) (begun-unbroken m u w l c)
 
     pub moved-unbroken : (bits : Width) (sp : ℕ) (a : Acted) (s : Slot) (lose : Bool) → viewOf (placeOf (m .workers) w) .busy ≡ true → a ≡ actOf bits (m .ring .fixed) (m .ring .ends) s (placeOf (m .workers) w) lose
-        → (r : Worker) → r ≡ recordAfter (recordOf (m .workers) w) (a .place) (a .loss) → Unbroken (kept m w sp a r)
+        → (r : Worker) → r ≡ recordAfter (recordOf (m .workers) w) (a .place) (a .loss) → UnbrokenWith records (kept m w sp a r)
     moved-unbroken bits sp a s lose h e r er =
-        subst Unbroken (as-stored m w sp a r er)
+        subst (UnbrokenWith records) (as-stored m w sp a r er)
         (stored-unbroken m u w l sp a
         (subst (Ok (m .ring .fixed) (ruled-in m u)) (sym e)
         (keeps (m .ring .fixed) (ruled-in m u) bits (m .ring .ends) s (u .ends) (placeOf (m .workers) w) lose (word-fits-in m u w l h))))
+
+-- ---- no entry breaks an unbroken machine
+module _ {records : ℕ} (bits : Width) (m : Machine) (u : UnbrokenWith records m) where
+  carried-unbroken : (w : ℕ) → w < m .count → (o : Order) (v : Verdict) → v ≡ verdictOf (m .meter) (placeOf (m .workers) w) o → UnbrokenWith records (carried bits m w (placeOf (m .workers) w) v .machine)
+  unfolding refused accepted
+  carried-unbroken w l o (Refuse k) e = u
+  carried-unbroken w l o (Start c) e = begun-unbroken m u w l c
+  carried-unbroken w l o (Move lose) e = acted-unbroken m u w l bits lose (move-busy (m .meter) (placeOf (m .workers) w) o (Move lose) e lose refl)
+
+  turn-unbroken : (x : Entry) → UnbrokenWith records (turn bits m x .machine)
+  unfolding refused
+  turn-unbroken Unreadable = u
+  turn-unbroken (Asks w o) =
+      either (λ (d : Did). UnbrokenWith records (d .machine)) (ltb w (m .count)) (carried bits m w (placeOf (m .workers) w) (verdictOf (m .meter) (placeOf (m .workers) w) o)) (refused 3 m)
+      (λ b. carried-unbroken w (ltb-true w (m .count) b) o (verdictOf (m .meter) (placeOf (m .workers) w) o) refl) (λ b. u)
+
+  pub turn-of-unbroken : (a b : ℕ) → UnbrokenWith records (turnAt bits m a b .machine)
+  unfolding turnOfBy
+  turn-of-unbroken a b = turn-unbroken (entryOf a b)

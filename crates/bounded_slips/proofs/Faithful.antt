@@ -1,6 +1,7 @@
 -- With no slip planted the tables are document 01's, row by row, and the demands stand.
 use mathlib.Core.Bool.{Bool}
 use mathlib.Core.Path.{_≡_, refl, sym, ap, subst}
+use Rattle.queue_entries.specs.Limits.{workersMost}
 use Rattle.bounded_words.specs.declared.Fixed.{Fixed}
 use Rattle.bounded_words.specs.declared.Width.the-variants.{SixtyFour}
 use Rattle.bounded_places.specs.declared.Slot.{Slot}
@@ -53,15 +54,15 @@ faithful = (ap (byTable SixtyFour) (λ i f e s p lose. same-act f e s p lose i),
 
 pub stands : Stands
 stands = (
-  subst UnderEverySchedule (sym (faithful .0)) demand2,
-  subst NothingWraps (sym (faithful .0)) nothing-wraps,
+  subst UnderEverySchedule (sym (faithful .0)) (demand2 workersMost),
+  subst NothingWraps (sym (faithful .0)) (nothing-wraps workersMost),
   subst ActByAct (sym (faithful .0)) (act-by-act SixtyFour),
   subst WholeSchedules (sym (faithful .0)) (whole-schedules SixtyFour),
-  subst LenTrue (sym (faithful .0)) len-true,
-  subst ScheduledAlone (sym (faithful .0)) demand3,
-  subst (λ (d : Definition). StockUnderEverySchedule d givenStock) (sym (faithful .0)) (subst (StockUnderEverySchedule document01) (sym (faithful .1)) stock-stands),
-  subst LossesUnderEverySchedule (sym (faithful .0)) (losses SixtyFour),
+  subst LenTrue (sym (faithful .0)) (len-true workersMost),
+  subst ScheduledAlone (sym (faithful .0)) (demand3 workersMost),
+  subst (λ (d : Definition). StockUnderEverySchedule d givenStock) (sym (faithful .0)) (subst (StockUnderEverySchedule document01) (sym (faithful .1)) (stock-stands workersMost)),
+  subst LossesUnderEverySchedule (sym (faithful .0)) (losses SixtyFour workersMost),
   subst CountsAside (sym (faithful .0)) (counts-aside SixtyFour),
-  subst CloseHolds (sym (faithful .0)) close-holds,
-  subst ClosedIsLast (sym (faithful .0)) closed-is-last,
+  subst CloseHolds (sym (faithful .0)) (close-holds workersMost),
+  subst ClosedIsLast (sym (faithful .0)) (closed-is-last workersMost),
 )

@@ -21,8 +21,8 @@ use Rattle.bounded_acts.specs.Acts.{forcedTail, stay, losing, exchangeOf, after
 use Rattle.bounded_machine.specs.declared.Machine.{Machine}
 use Rattle.bounded_machine.specs.declared.Moved.the-variants.{Neither, Tail, Head}
 use Rattle.bounded_machine.specs.declared.Ran.{Ran}
-use Rattle.bounded_machine.specs.Machine.{emptySlots, stamped, freshSlots, idlers, freshOf, refused, accepted}
-use Rattle.bounded_machine.specs.Broken.{byRule, endsFit, placeFits, recordFits, recordsFit, brokenOf, allIdle}
+use Rattle.bounded_machine.specs.Machine.{emptySlots, stamped, freshSlots, idlers, freshWith, freshOf, refused, accepted}
+use Rattle.bounded_machine.specs.Broken.{byRule, endsFit, placeFits, recordFits, recordsFit, brokenWith, allIdle}
 use Rattle.bounded_machine.specs.Contents.{countIn, wrapped, itemAt, itemsFrom, contentsOf}
 use Rattle.bounded_machine.specs.Turn.{recordAfter, begun, stored, actedBy, turnOfBy}
 use Rattle.bounded_machine.specs.Run.{ran}
@@ -80,7 +80,7 @@ loses-nothing : (t : Stamp) → Reads (O3 (stamp 0)) t → ⊥
 loses-nothing t r = true≢false (sym (reading (O3 (stamp 0)) t r .0))
 
 pub refuted : Refuted
-unfolding forcedTail doubled markOf markedOf unmarkedOf plus minus withMark nextOf same onePast lapBehind lapBehindOnePast inside strayOf orderOf entryOf stay losing exchangeOf afterTail tailTo headTo stampTo valueTo countOf emptySlots stamped freshSlots idlers freshOf refused accepted all inLimits byRule endsFit placeFits recordFits recordsFit brokenOf allIdle countIn wrapped itemAt itemsFrom contentsOf recordAfter begun stored actedBy turnOfBy ran runBy searchBy scheduleBy historyBy tallyOf stockOf untakenOf howMany unreadBy acts itemsOf tailersOf takersOf lostFrom struck passed ownActs nowhere stillBusy busyAlong
+unfolding forcedTail doubled markOf markedOf unmarkedOf plus minus withMark nextOf same onePast lapBehind lapBehindOnePast inside strayOf orderOf entryOf stay losing exchangeOf afterTail tailTo headTo stampTo valueTo countOf emptySlots stamped freshSlots idlers freshWith refused accepted all inLimits byRule endsFit placeFits recordFits recordsFit brokenWith allIdle countIn wrapped itemAt itemsFrom contentsOf recordAfter begun stored actedBy turnOfBy ran runBy searchBy scheduleBy historyBy tallyOf stockOf untakenOf howMany unreadBy acts itemsOf tailersOf takersOf lostFrom struck passed ownActs nowhere stillBusy busyAlong
 refuted =
     record {
       act-by-act = λ a. true≢false (sym (ap (λ (m : Machine). busyAt m 0) (a (freshOf 1 2 1) [] 0 5 refl refl refl .0)));

@@ -5,6 +5,7 @@ use mathlib.Core.List.{List, [], _∷_}
 use mathlib.Core.Path.{_≡_}
 use lib.Dec.{eqb}
 use lib.ListN.{length, set}
+use Rattle.queue_entries.specs.Limits.{workersMost}
 use Rattle.queue_entries.specs.declared.Entry.{Entry}
 use Rattle.queue_entries.specs.declared.Entry.the-variants.{Unreadable, Asks}
 use Rattle.queue_entries.specs.Entries.{entryOf}
@@ -248,7 +249,7 @@ turnCounting how m first second =
     record { refusal = turnOf m first second .refusal; machine = recounted how m (entryOf first second) (turnOf m first second .machine) }
 
 abbrev pub counting : (Worker → Worker → Worker) → Definition
-counting how = record { width = SixtyFour; turn = turnCounting how; run = runWith (turnCounting how); history = historyWith SixtyFour (turnCounting how) }
+counting how = record { width = SixtyFour; records = workersMost; turn = turnCounting how; run = runWith (turnCounting how); history = historyWith SixtyFour (turnCounting how) }
 
 -- a begun call goes on with the counts of the last
 abbrev pub unreset : Worker → Worker → Worker
@@ -271,6 +272,7 @@ abbrev pub weary : Definition
 weary =
     record {
       width = SixtyFour;
+      records = workersMost;
       turn = λ m first second. cond (eqb (recordOf (m .workers) 0 .failed) 0) (turnOf m first second) (refused 7 m);
       run = runFrom;
       history = historyOf;
@@ -308,10 +310,10 @@ stockWith n h =
 
 -- Two definitions that are wrong beside the tables: one runs no entry of a schedule, one refuses every entry.
 abbrev pub deaf : Definition
-deaf = record { width = SixtyFour; turn = turnOf; run = λ m place s. ran 0 place m; history = historyOf }
+deaf = record { width = SixtyFour; records = workersMost; turn = turnOf; run = λ m place s. ran 0 place m; history = historyOf }
 
 abbrev pub refusing : Definition
-refusing = record { width = SixtyFour; turn = λ m first second. refused 8 m; run = runFrom; history = historyOf }
+refusing = record { width = SixtyFour; records = workersMost; turn = λ m first second. refused 8 m; run = runFrom; history = historyOf }
 
 -- ---- what stands
 

@@ -106,7 +106,7 @@ fn contents(out: &mut [u8], at: usize, m: Machine) -> usize {
 
 pub fn slots(m: Machine) {
     let mut out = [0u8; 4096];
-    let p = bounded_text_machine::text::slots(&mut out, 0, m);
+    let p = bounded_text_machine::text::slots(&mut out, 0, m.ring);
     let q = contents(&mut out, p, m);
     text_output::flush(&out, q);
 }

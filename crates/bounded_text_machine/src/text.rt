@@ -1,5 +1,6 @@
 // What a machine holds, as text in a buffer that the caller lends, as `text_output` has it.
 use bounded_machine::Machine;
+use bounded_machine::Ring;
 use bounded_places::Place;
 use queue_entries::Told;
 
@@ -48,14 +49,13 @@ pub fn entry(out: &mut [u8], at: usize, place: u64, refusal: u64, w: u64, m: Mac
 }
 
 // PLACE R h=H t=T m=M, and the line's end
-pub fn report(out: &mut [u8], at: usize, place: u64, refusal: u64, m: Machine) -> usize {
+pub fn report(out: &mut [u8], at: usize, place: u64, refusal: u64, numbers: [u64; 8]) -> usize {
     let p = text_output::form(out, at, b"# # ", &[place, refusal]);
-    text_output::form(out, p, b"h=# t=# m=#\n", &crate::numbers(m))
+    text_output::form(out, p, b"h=# t=# m=#\n", &numbers)
 }
 
 // slots (stamp,value) ...
-pub fn slots(out: &mut [u8], at: usize, m: Machine) -> usize {
-    let ring = m.ring;
+pub fn slots(out: &mut [u8], at: usize, ring: Ring) -> usize {
     let f = ring.fixed;
     let list = ring.slots;
     let p = text_output::text(out, at, b"slots");

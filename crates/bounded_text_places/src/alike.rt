@@ -18,7 +18,7 @@ fn same(p: Place, q: Place) -> bool {
     x.b == y.b
 }
 
-fn worker(x: Worker, y: Worker) -> bool {
+pub fn worker(x: Worker, y: Worker) -> bool {
     let p = x.place;
     let q = y.place;
     if x.differed != y.differed {

@@ -28,7 +28,7 @@ use Rattle.bounded_acts.specs.Acts.{actOf}
 use Rattle.bounded_machine.specs.declared.Machine.{Machine}
 use Rattle.bounded_machine.specs.declared.Did.{Did}
 use Rattle.bounded_machine.specs.Machine.{slot, machineOf, recordOf, placeOf, refused, accepted}
-use Rattle.bounded_machine.specs.Broken.{brokenOf, allIdle}
+use Rattle.bounded_machine.specs.Broken.{brokenWith, allIdle}
 use Rattle.bounded_machine.specs.Turn.{verdictOf, recordAfter, stored, actedBy, carried, turn, turnOf, turnOfBy}
 use Rattle.bounded_machine.proofs.Kept.{Unbroken, unbroken-of, of-unbroken, fair-in}
 use Rattle.bounded_runs.proofs.Turns.{worker-below, fits-in, spot-below, lost-below, kept, moved-unbroken}
@@ -161,7 +161,7 @@ module _ (s : State) (n more : ℕ) (sound : Sound s n (more + 1)) (w : ℕ) (l 
 
     module _ (stamp value : ℕ) where
       pub sound-next : Sound (afterOf s stamp value w lose .state) (n + 1) more
-      unfolding afterOf brokenOf
+      unfolding afterOf brokenWith
       sound-next = record {
         whole = λ stamps values. of-unbroken _ (moved-unbroken (machineIn s stamps values) (whole stamps values) w l SixtyFour 0 (actIn s stamp value w lose) (slot stamp value) lose busy refl _ refl);
         depth = omega (arith, sound .depth);

@@ -33,7 +33,7 @@ use Rattle.bounded_acts.specs.Acts.{actOf}
 use Rattle.bounded_machine.specs.declared.Machine.{Machine}
 use Rattle.bounded_machine.specs.declared.Did.{Did}
 use Rattle.bounded_machine.specs.Machine.{slot, placeOf, refused, accepted}
-use Rattle.bounded_machine.specs.Broken.{brokenOf, allIdle}
+use Rattle.bounded_machine.specs.Broken.{brokenOf, brokenWith, allIdle}
 use Rattle.bounded_machine.specs.Turn.{verdictOf, begun, stored, actedBy, carried, turn, turnOf, turnOfBy}
 use Rattle.bounded_machine.proofs.Kept.{either, every}
 use Rattle.bounded_walkers.specs.declared.State.{State}
@@ -105,7 +105,7 @@ module _ (m : Machine) (depth : ℕ) (ok : sizeRefusal m depth ≡ 0) where
   state = record { fixed = m .ring .fixed; ends = m .ring .ends; workers = m .workers; count = m .count; meter = m .meter }
 
   pub sound : Sound (record { fixed = m .ring .fixed; ends = m .ring .ends; workers = m .workers; count = m .count; meter = m .meter }) 0 depth
-  unfolding brokenOf
+  unfolding brokenWith
   sound = record { whole = λ stamps values. parts .0; depth = omega (arith, parts .1 .1 .0); meter = parts .1 .1 .1 }
 
   slots-of : (l : List Slot) → slotsOf (rowOf false l) (rowOf true l) ≡ l

@@ -23,6 +23,10 @@ pub struct Options {
     pub bits_at: usize,
     // its value is wanted
     pub measuring: bool,
+    // the records are lent for each entry
+    pub lent: bool,
+    // the number of the argument --lent; 0: there is none
+    pub lent_at: usize,
     pub quiet: bool,
     pub causes: bool,
     // the number of the argument --causes; 0: there is none
@@ -72,6 +76,8 @@ fn none() -> Options {
         narrow: false,
         bits_at: 0,
         measuring: false,
+        lent: false,
+        lent_at: 0,
         quiet: false,
         causes: false,
         causes_at: 0,
@@ -208,6 +214,11 @@ fn with_word(before: Options, i: usize, word: &[u8]) -> Options {
         o.naming = i;
         return o;
     }
+    if equal(word, b"--lent") {
+        o.lent = true;
+        o.lent_at = i;
+        return o;
+    }
     if equal(word, b"--quiet") {
         o.quiet = true;
         return o;
@@ -268,7 +279,8 @@ fn arguments() -> Options {
     o
 }
 
-// An option that is still without its value at the end is of no use; nor is an edition, a width, causes, losses or a stock of a queue that has none.
+// An option that is still without its value at the end is of no use; nor is an edition, a width, lent records, causes, losses or a stock of a queue that has none. Lent
+// records are of 64 bits, and causes are watched for sixteen workers.
 pub fn read() -> Options {
     let mut o = arguments();
     if o.naming != 0 {
@@ -280,7 +292,10 @@ pub fn read() -> Options {
     if o.measuring || (o.bits_at != 0 && o.queue != BOUNDED) {
         o.wrong = o.bits_at;
     }
-    if o.causes && o.queue != BOUNDED {
+    if o.lent && (o.narrow || o.queue != BOUNDED) {
+        o.wrong = o.lent_at;
+    }
+    if o.causes && (o.lent || o.queue != BOUNDED) {
         o.wrong = o.causes_at;
     }
     if o.losses && o.queue != BOUNDED {
@@ -321,7 +336,7 @@ pub fn tell(asked: bool, status: u8) {
 pub fn help() {
     io::write_all(
         libc::STDOUT_FILENO,
-        b"replay [--queue NAME] [--edition N] [--bits N] [--quiet] [--causes] [--losses] [--stock] [--summary] [--many] [--tape] [FILE]\n\
+        b"replay [--queue NAME] [--edition N] [--bits N] [--lent] [--quiet] [--causes] [--losses] [--stock] [--summary] [--many] [--tape] [FILE]\n\
         \n\
         Runs a schedule on the stamped ring, or on another queue. It is read from FILE, or from standard input: unsigned decimal\n\
         numbers separated by white space. The first is the capacity (1 to 1024), the second the number of\n\
@@ -346,6 +361,7 @@ pub fn help() {
         \x20             code 1 is refusal 9, and 23: no block is free; it has no --summary\n\
         \x20 --edition 2      the ring whose force_push keeps a close (1 unless told)\n\
         \x20 --bits 16   the ring whose head, tail and stamps have sixteen bits, so that they come round (64 unless told)\n\
+        \x20 --lent      ring and records are lent for each entry, as a host's are: up to 64 workers; of 64 bits, and with no --causes\n\
         \x20 --quiet     no line for each entry, one for the whole\n\
         \x20 --causes    after the worker, where its act goes back to an earlier place, because=LIST: schedule (which made its\n\
         \x20             exchange fail), own-end (moved or marked since its word was loaded or found), other-end (moved since\n\

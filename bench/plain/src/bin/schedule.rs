@@ -61,7 +61,7 @@ impl<W: Write> Writing<W> {
 }
 
 fn write(mixed: bool, capacity: u64, workers: u64, acts: u64, to: &mut Writing<impl Write>) -> io::Result<()> {
-    let mut m = Machine::new(capacity, workers, 1).unwrap_or_else(|refusal| {
+    let mut m = Machine::of_at_most(64, capacity, workers, 1).unwrap_or_else(|refusal| {
         eprintln!("schedule: no such machine: refusal {refusal}");
         exit(1)
     });

@@ -1,7 +1,8 @@
 use native.Mathlib.Omega.{arith}
 use Prim.Native.Nat.{ℕ, _≤_, _-_}
-use mathlib.Core.Path.{_≡_, refl, ap}
+use mathlib.Core.Path.{_≡_, sym, ap}
 use mathlib.Core.Bool.{not}
+use lib.ListN.{length}
 use borrow.Author.Needs.{needs}
 use Rattle.queue_entries.specs.Limits.{workersMost, all}
 use Rattle.queue_entries.proofs.Limits.{all-more, all-failed, all-passed}
@@ -25,7 +26,7 @@ abbrev μ-loop : tie.MeasureT-loop
 -- src/lib.rt:242:5
 loop-holds : tie.Need-loop-holds Inv-loop μ-loop
 unfolding allIdle
-loop-holds c = (search needs, refl)
+loop-holds c = let long : length (c .args .t1) ≡ workersMost = search needs in (search needs, ap (λ (n : ℕ). all n 0 (λ (k : ℕ). not (viewOf (placeOf (c .args .t1) k) .busy))) (sym long))
 
 -- src/lib.rt:243:22
 mul-worker : tie.Need-mul-worker Inv-loop μ-loop

@@ -15,7 +15,7 @@ use Rattle.bounded_machine.proofs.record_fits.Reads as record-fits-read
 
 abbrev Inv-loop : tie.InvT-loop
 Inv-loop f count meter workers i₀ i =
-    (i ≤ workersMost) × (all (workersMost - i) i (λ (k : ℕ). recordFits f meter (recordOf workers k) (ltb k count)) ≡ recordsFit f count meter workers)
+    (i ≤ workersMost) × (all (workersMost - i) i (λ (k : ℕ). recordFits f meter (recordOf workers k) (ltb k count)) ≡ recordsFit workersMost f count meter workers)
 
 abbrev μ-loop : tie.MeasureT-loop
 μ-loop f count meter workers i₀ i = workersMost - i

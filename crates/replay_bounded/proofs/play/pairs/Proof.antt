@@ -5,7 +5,7 @@ use Rattle.replay_bounded.proofs.play.pairs.Statement.{statement}
 use Rattle.replay_bounded.proofs.play.pairs.Tie as tie
 use Rattle.replay_bounded.proofs.play.pairs.Reads as reads
 use Rattle.replay_bounded.proofs.play.pairs.Lts as lts
-use Rattle.replay_bounded.proofs.play.entries.Reads as entries-reads
+use Rattle.replay_bounded_entries.proofs.entries.Reads as entries-reads
 use Rattle.replay_bounded.proofs.play.first_pairs.Reads as first-pairs-reads
 
 -- src/play.rt:203:16

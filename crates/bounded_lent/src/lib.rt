@@ -1,0 +1,129 @@
+// A ring and worker records in the host's memory, lent for each entry (document 02, item 11). Each function here takes the one record and the one slot apart,
+// calls a covered function of crate bounded_entries or bounded_parts on them by value, and stores them back.
+ghost use mathlib.Core.Path.{_≡_};
+ghost use mathlib.Core.Bool.{false};
+ghost use Rattle.bounded_words.specs.Words.{Fair};
+ghost use Rattle.bounded_parts.specs.Parts.{filled};
+ghost use Rattle.bounded_lent.specs.Lent.{eachFits, brokenLent, lent, turnLent, stepLent, gone, runLent, makeLent, capacityLent, contentsLent};
+use bounded_parts::Made;
+use bounded_parts::Metered;
+use bounded_parts::Report;
+use bounded_places::Worker;
+use bounded_words::Fixed;
+use bounded_words::Width;
+use queue_entries::Told;
+
+// Whether every record fits the ring, as one within the count does or as one past it, which has to be idle.
+fn records_fit(records: &[Worker], f: Fixed, meter: u64, counted: bool) -> bool
+    requires { ⌜ Fair f ⌝ }
+    ensures { λ r. ⌜ r ≡ eachFits f meter counted (now (records .entry)) ⌝ }
+{
+    let n = records.len();
+    let mut i = 0;
+    while i < n {
+        if bounded_machine::record_fits(f, meter, records[i], counted) {} else {
+            return false;
+        }
+        i += 1;
+    }
+    true
+}
+
+pub fn broken(ring: &Metered, records: &[Worker]) -> bool
+    ensures { λ r. ⌜ r ≡ brokenLent (now (ring .entry)) (now (records .entry)) ⌝ }
+{
+    let f = ring.ring.fixed;
+    if bounded_parts::ring_fits(f, ring.ring.ends, records.len()) {} else {
+        return true;
+    }
+    !records_fit(records, f, ring.meter, true)
+}
+
+// One entry, on a ring and records that are not broken.
+fn turn(ring: &mut Metered, records: &mut [Worker], first: u64, second: u64) -> u64
+    requires { ⌜ brokenLent (now ring) (now records) ≡ false ⌝ }
+    ensures { λ r. ⌜ lent r (now (ring .exit)) (now (records .exit)) ≡ turnLent (now (ring .entry)) (now (records .entry)) first second ⌝ }
+{
+    let count = records.len();
+    let w = bounded_entries::worker_of(first, count);
+    let worker = records[w];
+    let f = ring.ring.fixed;
+    let k = bounded_entries::slot_of(f, worker);
+    let t = bounded_entries::turn_on(
+        Width::SixtyFour,
+        f,
+        ring.ring.ends,
+        ring.ring.slots[k],
+        worker,
+        ring.meter,
+        count,
+        first,
+        second,
+    );
+    ring.ring.ends = t.ends;
+    ring.ring.slots[k] = t.slot;
+    ring.meter = t.meter;
+    records[w] = t.worker;
+    t.refusal
+}
+
+pub fn step(ring: &mut Metered, records: &mut [Worker], first: u64, second: u64) -> u64
+    ensures { λ r. ⌜ lent r (now (ring .exit)) (now (records .exit)) ≡ stepLent (now (ring .entry)) (now (records .entry)) first second ⌝ }
+{
+    if broken(ring, records) {
+        return 6;
+    }
+    turn(ring, records, first, second)
+}
+
+// A schedule, entry by entry, to its end or to the first refusal; 6 is judged once, since no entry breaks what is not broken.
+pub fn run(ring: &mut Metered, records: &mut [Worker], schedule: &[u64]) -> Report
+    ensures { λ r. ⌜ gone r (now (ring .exit)) (now (records .exit)) ≡ runLent (now (ring .entry)) (now (records .entry)) (now (schedule .entry)) ⌝ }
+{
+    let whole = bounded_parts::judged(broken(ring, records), schedule);
+    let n = bounded_parts::entries_of(whole);
+    let mut i = 0;
+    while i < n {
+        let refusal = turn(ring, records, schedule[2 * i], schedule[2 * i + 1]);
+        if refusal != 0 {
+            return Report {
+                refusal: refusal,
+                place: i as u64,
+            };
+        }
+        i += 1;
+    }
+    whole
+}
+
+// A fresh ring and all records idle, or refusal 1, 2 or 18 with the blank ring and the records as they were.
+pub fn make(records: &mut [Worker], capacity: u64, edition: u64) -> Made
+    ensures { λ r. ⌜ lent (r .refusal) (r .ring) (now (records .exit)) ≡ makeLent (now (records .entry)) capacity edition ⌝ }
+{
+    let count = records.len();
+    let made = bounded_parts::make(count, capacity, edition);
+    let n = bounded_parts::unless_refused(made.refusal, count);
+    let mut i = 0;
+    while i < n {
+        records[i] = bounded_parts::idle();
+        i += 1;
+    }
+    made
+}
+
+pub fn capacity(ring: &Metered, records: &[Worker]) -> Told
+    ensures { λ r. ⌜ r ≡ capacityLent (now (ring .entry)) (now (records .entry)) ⌝ }
+{
+    bounded_parts::capacity_told(broken(ring, records), ring.ring.fixed)
+}
+
+// The items as `Drop` would meet them, written at the buffer's start. Nothing is removed.
+pub fn contents(ring: &Metered, records: &[Worker], buffer: &mut [u64]) -> Told
+    ensures { λ r. ⌜ filled r (now (buffer .exit)) ≡ contentsLent (now (ring .entry)) (now (records .entry)) (now (buffer .entry)) ⌝ }
+{
+    if broken(ring, records) {
+        return bounded_parts::refused(6);
+    }
+    let idle = records_fit(records, ring.ring.fixed, ring.meter, false);
+    bounded_parts::contents_on(idle, ring.ring, buffer)
+}

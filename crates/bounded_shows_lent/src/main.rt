@@ -1,0 +1,134 @@
+// A ring that is lent other records than it last saw: fewer, more, none, busy ones with words that do not fit, counts above the meter. The file `stdout` is written from documents 01 and 02.
+use bounded_lends::Stepped;
+use bounded_parts::Metered;
+use bounded_places::Answer;
+use bounded_places::Kind;
+use bounded_places::Place;
+use bounded_places::Worker;
+use bounded_words::Stamp;
+
+// The first record that is another; as many as there are where none is.
+fn first_changed(
+    a: [Worker; bounded_parts::RECORDS],
+    b: [Worker; bounded_parts::RECORDS],
+) -> usize {
+    let mut i = 0;
+    while i < bounded_parts::RECORDS {
+        let x = a[i];
+        let y = b[i];
+        if bounded_text_places::alike::worker(x, y) {} else {
+            return i;
+        }
+        i += 1;
+    }
+    i
+}
+
+fn say_ring(l: Metered) {
+    let ring = l.ring;
+    let e = ring.ends;
+    let head = e.head;
+    let tail = e.tail;
+    text_output::say(b" h=# t=# m=#\n", &[head.0, tail.0, l.meter]);
+}
+
+// The line of one step: how many records are lent, the entry, the refusal, the first record that changed, and the ring.
+fn shown(
+    l: Metered,
+    records: [Worker; bounded_parts::RECORDS],
+    count: usize,
+    first: u64,
+    second: u64,
+) -> Stepped {
+    let s = bounded_lends::lend(l, records, count, first, second);
+    let after = s.records;
+    let changed = first_changed(records, after);
+    let numbers = [count as u64, first, second, s.refusal, changed as u64];
+    text_output::say(b"lent # entry # #: # changed #", &numbers);
+    say_ring(s.ring);
+    s
+}
+
+fn with(
+    records: [Worker; bounded_parts::RECORDS],
+    p: Place,
+    differed: u64,
+) -> [Worker; bounded_parts::RECORDS] {
+    let mut other = records;
+    other[3] = Worker {
+        place: p,
+        differed: differed,
+        failed: 0,
+    };
+    other
+}
+
+// Records 0 to 3, of which 1 is on its way; then fewer, more and none.
+fn others(s: Stepped) {
+    let ring = s.ring;
+    let records = s.records;
+    shown(ring, records, 1, 24, 0);
+    shown(ring, records, 1, 0, 7);
+    shown(ring, records, 64, 1010, 0);
+    shown(ring, records, 65, 1024, 0);
+    shown(ring, records, 0, 0, 7);
+}
+
+// Record 3 is another's: busy with a word whose index is not below capacity, with a marked one, and with one that fits; idle with a count above the meter, and with one that is not.
+fn strange(s: Stepped) {
+    let ring = s.ring;
+    let records = s.records;
+    shown(
+        ring,
+        with(records, Place::P2(Kind::Push, Stamp(2), 9), 0),
+        4,
+        24,
+        0,
+    );
+    shown(
+        ring,
+        with(records, Place::P2(Kind::Push, Stamp(2), 9), 0),
+        3,
+        24,
+        0,
+    );
+    shown(
+        ring,
+        with(records, Place::P2(Kind::Push, Stamp(4), 9), 0),
+        4,
+        24,
+        0,
+    );
+    shown(
+        ring,
+        with(records, Place::P2(Kind::Push, Stamp(1), 9), 0),
+        4,
+        24,
+        0,
+    );
+    shown(
+        ring,
+        with(records, Place::Idle(Answer::Nothing), 2),
+        4,
+        24,
+        0,
+    );
+    shown(
+        ring,
+        with(records, Place::Idle(Answer::Nothing), 1),
+        4,
+        24,
+        0,
+    );
+}
+
+fn main() {
+    let made = bounded_parts::make(4, 2, 1);
+    let idle = bounded_parts::idle();
+    let records = [idle; bounded_parts::RECORDS];
+    let begun = shown(made.ring, records, 4, 16, 5);
+    let busy = begun.records;
+    let acted = shown(begun.ring, busy, 4, 24, 0);
+    others(acted);
+    strange(acted);
+}
