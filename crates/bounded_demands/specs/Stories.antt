@@ -1,0 +1,221 @@
+-- The ring's story, with a plain queue along it: what each act does to that queue, and at which moment an answer is that queue's.
+use Prim.Native.Nat.{ℕ, _+_}
+use mathlib.Core.Bool.{Bool, true, false, cond}
+use mathlib.Core.List.{List, [], _∷_}
+use lib.Dec.{eqb}
+use lib.ListN.{length}
+use Rattle.queue_entries.specs.Schedules.{historyBy}
+use Rattle.queue_plain.specs.Plain.{Queue, fullOf}
+use Rattle.queue_plain.specs.Plain as plain
+use Rattle.queue_plain.specs.Story as stories
+use Rattle.queue_plain.specs.Story.{Begun, Does, Change, Known, elementsBy, fresh, knownWith}
+use Rattle.bounded_places.specs.declared.Answer.{Answer}
+use Rattle.bounded_places.specs.declared.Answer.the-variants.{Nothing, Pushed, Full, Closed, Displaced, Popped, Empty, PopClosed, Len, Yes, No}
+use Rattle.bounded_places.specs.declared.Place.{Place}
+use Rattle.bounded_places.specs.declared.Place.the-variants.{Idle, P1, P2, P3, P4, P5, P6, F6, F7, F8, F9, O1, O2, O3, O4, O5, O6, Len1, Len2, Len3, Empty1, Empty2, Full1, Full2, Close1, IsClosed1}
+use Rattle.bounded_machine.specs.declared.Machine.{Machine}
+use Rattle.bounded_machine.specs.declared.Did.{Did}
+use Rattle.bounded_machine.specs.declared.Event.{Event}
+use Rattle.bounded_machine.specs.Machine.{freshWith}
+use Rattle.bounded_machine.specs.History.{eventsOf, movedOf}
+use Rattle.bounded_causes.specs.Causes.{standOf, claimsTail, claimsHead}
+use Rattle.bounded_demands.specs.Notions.{Definition}
+
+abbrev pub Element : Type 0
+Element = stories.Element Event
+
+abbrev pub Story : Type 0
+Story = stories.Story Event
+
+-- Of a schedule's entries, up to the first that is refused: oldest first, as `actsOf` has its acts.
+abbrev pub storyFrom : Definition → Machine → List ℕ → Story
+storyFrom d = historyBy (λ (r : Did). r .refusal) (λ (r : Did). r .machine) (d .turn) (elementsBy (eventsOf (d .width)))
+
+abbrev pub storyOf : Definition → ℕ → ℕ → ℕ → List ℕ → Story
+storyOf d capacity workers edition s = storyFrom d (freshWith (d .records) capacity workers edition) s
+
+-- ---- the plain queue
+
+-- No call answers Nothing.
+abbrev pub replyOf : Answer → List plain.Reply
+replyOf Nothing = []
+replyOf Pushed = plain.Pushed ∷ []
+replyOf (Full x) = plain.Full x ∷ []
+replyOf (Closed x) = plain.Closed x ∷ []
+replyOf (Displaced v) = plain.Displaced v ∷ []
+replyOf (Popped v) = plain.Popped v ∷ []
+replyOf Empty = plain.Empty ∷ []
+replyOf PopClosed = plain.EmptyAndClosed ∷ []
+replyOf (Len n) = plain.Count n ∷ []
+replyOf Yes = plain.Yes ∷ []
+replyOf No = plain.No ∷ []
+
+-- In at a tail claim (a won P3, F7), out at a head claim (a won O3, a won F6), closed by a close that answers yes, and opened again by edition 1's F7 alone: the
+-- act that leads from a head claim to a tail claim.
+abbrev pub changeOf : ℕ → Event → Change
+changeOf edition e =
+    record {
+      takes = claimsHead (movedOf (e .after));
+      puts = claimsTail (movedOf (e .after));
+      closes = cond (standOf (e .before) .close) (standOf (e .after) .yes) false;
+      opens = cond (eqb edition 2) false (cond (claimsHead (movedOf (e .before))) (claimsTail (movedOf (e .after))) false);
+    }
+
+abbrev pub actor : Event → ℕ
+actor e = e .worker
+
+abbrev pub known : ℕ → ℕ → Story → Known
+known capacity edition s = stories.known actor (changeOf edition) capacity s
+
+abbrev pub queueAt : ℕ → ℕ → ℕ → Story → Queue
+queueAt capacity edition n s = stories.queueAt actor (changeOf edition) capacity n s
+
+-- What a call that came with these items and answered so has put in, what it has taken out, and what it gives back.
+abbrev pub putBy : Answer → List ℕ → List ℕ
+putBy Nothing x = []
+putBy Pushed x = x
+putBy (Full y) x = []
+putBy (Closed y) x = []
+putBy (Displaced v) x = x
+putBy (Popped v) x = []
+putBy Empty x = []
+putBy PopClosed x = []
+putBy (Len n) x = []
+putBy Yes x = []
+putBy No x = []
+
+abbrev pub takenBy : Answer → List ℕ
+takenBy Nothing = []
+takenBy Pushed = []
+takenBy (Full x) = []
+takenBy (Closed x) = []
+takenBy (Displaced v) = v ∷ []
+takenBy (Popped v) = v ∷ []
+takenBy Empty = []
+takenBy PopClosed = []
+takenBy (Len n) = []
+takenBy Yes = []
+takenBy No = []
+
+abbrev pub givenBack : Answer → List ℕ
+givenBack Nothing = []
+givenBack Pushed = []
+givenBack (Full x) = x ∷ []
+givenBack (Closed x) = x ∷ []
+givenBack (Displaced v) = []
+givenBack (Popped v) = []
+givenBack Empty = []
+givenBack PopClosed = []
+givenBack (Len n) = []
+givenBack Yes = []
+givenBack No = []
+
+-- The item that a push or force_push under way has in its record, up to the write.
+abbrev pub itemAt : Place → List ℕ
+itemAt (Idle a) = []
+itemAt (P1 k x) = x ∷ []
+itemAt (P2 k t x) = x ∷ []
+itemAt (P3 k t x) = x ∷ []
+itemAt (P4 t x) = x ∷ []
+itemAt (P5 t) = []
+itemAt (P6 t x) = x ∷ []
+itemAt (F6 t x) = x ∷ []
+itemAt (F7 t x) = x ∷ []
+itemAt (F8 t x) = x ∷ []
+itemAt (F9 t old) = []
+itemAt O1 = []
+itemAt (O2 h) = []
+itemAt (O3 h) = []
+itemAt (O4 h) = []
+itemAt (O5 h v) = []
+itemAt (O6 h) = []
+itemAt Len1 = []
+itemAt (Len2 t) = []
+itemAt (Len3 t h) = []
+itemAt Empty1 = []
+itemAt (Empty2 h) = []
+itemAt Full1 = []
+itemAt (Full2 t) = []
+itemAt Close1 = []
+itemAt IsClosed1 = []
+
+-- ---- moments
+
+-- The moment of an answer: after the first n elements; or directly after the next tail claim, or head claim, if one comes.
+pub data Moment : Type 0 where
+  At : ℕ → Moment
+  AfterNextTail AfterNextHead : Moment
+
+-- What an act of its own makes of a call's moment: it is now, just before the act; it stays; now if something waits, else directly after the next tail claim; now
+-- if there is room, else directly after the next head claim.
+pub data Timing : Type 0 where
+  Now Stays IfSome IfRoom : Timing
+
+-- Of an act that answers: Closed, Empty and a yes now; a no now at the only act of its call (close, is_closed), else at the moment that its loads gave it.
+abbrev pub timingSaid : ℕ → Answer → Timing
+timingSaid far Nothing = Stays
+timingSaid far Pushed = Stays
+timingSaid far (Full x) = Stays
+timingSaid far (Closed x) = Now
+timingSaid far (Displaced v) = Stays
+timingSaid far (Popped v) = Stays
+timingSaid far Empty = Now
+timingSaid far PopClosed = Now
+timingSaid far (Len n) = Stays
+timingSaid far Yes = Now
+timingSaid far No = cond (eqb far 1) Now Stays
+
+-- Else by where it leads: to P2 when it loaded or found t, to P4 and O4 when it claimed, to len's third load when it loaded head, to the second loads of is_empty
+-- and is_full.
+abbrev pub timingOf : Place → Place → Timing
+timingOf p (Idle a) = timingSaid (standOf p .far) a
+timingOf p (P1 k x) = Stays
+timingOf p (P2 k t x) = Now
+timingOf p (P3 k t x) = Stays
+timingOf p (P4 t x) = Now
+timingOf p (P5 t) = Stays
+timingOf p (P6 t x) = Stays
+timingOf p (F6 t x) = Stays
+timingOf p (F7 t x) = Stays
+timingOf p (F8 t x) = Stays
+timingOf p (F9 t old) = Stays
+timingOf p O1 = Stays
+timingOf p (O2 h) = Stays
+timingOf p (O3 h) = Stays
+timingOf p (O4 h) = Now
+timingOf p (O5 h v) = Stays
+timingOf p (O6 h) = Stays
+timingOf p Len1 = Stays
+timingOf p (Len2 t) = Stays
+timingOf p (Len3 t h) = Now
+timingOf p Empty1 = Stays
+timingOf p (Empty2 h) = IfSome
+timingOf p Full1 = Stays
+timingOf p (Full2 t) = IfRoom
+timingOf p Close1 = Stays
+timingOf p IsClosed1 = Stays
+
+abbrev pub timed : Timing → Known → Moment → Moment
+timed Now k was = At (k .count)
+timed Stays k was = was
+timed IfSome k was = cond (eqb (length (k .queue .items)) 0) AfterNextTail (At (k .count))
+timed IfRoom k was = cond (fullOf (k .queue)) AfterNextHead (At (k .count))
+
+-- What another's act makes of it, n elements standing before the moment directly after that act.
+abbrev pub heard : Change → ℕ → Moment → Moment
+heard d n (At k) = At k
+heard d n AfterNextTail = cond (d .puts) (At n) AfterNextTail
+heard d n AfterNextHead = cond (d .takes) (At n) AfterNextHead
+
+abbrev pub momentWith : ℕ → ℕ → Known → Moment → Element → Moment
+momentWith edition w k was (Begun v c) = was
+momentWith edition w k was (Does e) =
+    cond (eqb w (e .worker)) (timed (timingOf (e .before) (e .after)) k was) (heard (changeOf edition e) (k .count + 1) was)
+
+unfoldable pub momentFrom : ℕ → ℕ → Known → Moment → Story → Moment
+momentFrom edition w k was [] = was
+momentFrom edition w k was (x ∷ s) = momentFrom edition w (knownWith actor (changeOf edition) k x) (momentWith edition w k was x) s
+
+-- Of worker w's call, under way or its last.
+abbrev pub momentOf : ℕ → ℕ → ℕ → Story → Moment
+momentOf capacity edition w s = momentFrom edition w (fresh capacity) (At 0) s

@@ -1,0 +1,5 @@
+pub mod Shelf
+pub mod Work
+pub mod Rows
+pub mod Told
+pub mod Plain
