@@ -130,10 +130,10 @@ at-one : (i j : ℕ) → At i ≡ At j → i ≡ j
 at-one i j e = cc
 
 module _ (bits : Width) (records c workers ed : ℕ) (a : AllowedWith records c workers ed) where
-  abbrev n : ℕ
+  abbrev pub n : ℕ
   n = lapsOf bits c
 
-  abbrev Tells : Machine → Story → Type 0
+  abbrev pub Tells : Machine → Story → Type 0
   Tells = Told bits c n workers (base-of bits records c workers ed a) ed
 
   -- ---- from what is told to the statement
@@ -192,7 +192,7 @@ module _ (bits : Width) (records c workers ed : ℕ) (a : AllowedWith records c 
   clear false k e = refl
   clear true k e = absurd (omega (arith, base-of bits records c workers ed a .ground .laws .room))
 
-  told-first : Tells (freshWith records c workers ed) []
+  pub told-first : Tells (freshWith records c workers ed) []
   unfolding knownFrom actsIn itemsOf takersOf
   told-first =
       let z = fresh-reached bits records c workers ed a in

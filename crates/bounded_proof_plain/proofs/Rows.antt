@@ -61,11 +61,11 @@ never : (b : Bool) → cond b false false ≡ false
 never true = refl
 never false = refl
 
-front-of : (l : List ℕ) → 0 < length l → l ≡ getD l 0 0 ∷ drop 1 l
+pub front-of : (l : List ℕ) → 0 < length l → l ≡ getD l 0 0 ∷ drop 1 l
 front-of [] h = absurd (omega arith)
 front-of (x ∷ l) h = refl
 
-first-of : (l : List ℕ) → 0 < length l → take 1 l ≡ getD l 0 0 ∷ []
+pub first-of : (l : List ℕ) → 0 < length l → take 1 l ≡ getD l 0 0 ∷ []
 first-of [] h = absurd (omega arith)
 first-of (x ∷ l) h = refl
 
@@ -96,17 +96,17 @@ closed-to : (k : Kind) (x : ℕ) (q : Queue) → q .closed ≡ true → answerOf
 closed-to Push x q e = rw e
 closed-to Force x q e = rw e
 
-room-for : (k : Kind) (x : ℕ) (q : Queue) → q .closed ≡ false → fullOf q ≡ false → answerOf q (pushing k x) ≡ plain.Pushed
+pub room-for : (k : Kind) (x : ℕ) (q : Queue) → q .closed ≡ false → fullOf q ≡ false → answerOf q (pushing k x) ≡ plain.Pushed
 room-for Push x q e f = rw (e, f)
 room-for Force x q e f = rw (e, f)
 
-full-to : (x : ℕ) (q : Queue) → q .closed ≡ false → fullOf q ≡ true → answerOf q (call.Push x) ≡ plain.Full x
+pub full-to : (x : ℕ) (q : Queue) → q .closed ≡ false → fullOf q ≡ true → answerOf q (call.Push x) ≡ plain.Full x
 full-to x q e f = rw (e, f)
 
-displaced-to : (x v : ℕ) (others : List ℕ) (q : Queue) → q .closed ≡ false → fullOf q ≡ true → q .items ≡ v ∷ others → answerOf q (call.ForcePush x) ≡ plain.Displaced v
+pub displaced-to : (x v : ℕ) (others : List ℕ) (q : Queue) → q .closed ≡ false → fullOf q ≡ true → q .items ≡ v ∷ others → answerOf q (call.ForcePush x) ≡ plain.Displaced v
 displaced-to x v others q e f i = rw (e, f) (ap (frontOf plain.Displaced plain.Pushed) i)
 
-popped-to : (v : ℕ) (others : List ℕ) (q : Queue) → q .items ≡ v ∷ others → answerOf q call.Pop ≡ plain.Popped v
+pub popped-to : (v : ℕ) (others : List ℕ) (q : Queue) → q .items ≡ v ∷ others → answerOf q call.Pop ≡ plain.Popped v
 popped-to v others q i = ap (frontOf plain.Popped (cond (q .closed) plain.EmptyAndClosed plain.Empty)) i
 
 none-to : (q : Queue) → q .items ≡ [] → answerOf q call.Pop ≡ cond (q .closed) plain.EmptyAndClosed plain.Empty
@@ -484,6 +484,12 @@ module _ (bits : Width) (c n ed : ℕ) (g : Ground bits c (markOf c) n) (st : St
       (o .set)
       (ap (λ (r : Reply). r ∷ []) (room-for kd x (then c n ed (o .set)) (o .while-open) (ne-eqb (length (then c n ed (o .set) .items)) (then c n ed (o .set) .capacity) (λ e. omega (arith, o .room, o .set .point .room))))))
 
+  -- P6 finds the ring full at the word that it was given
+  pub lap-tests : (cl : Call) (t : Stamp) → GivenBy c n ed st s age w cl t → Young c mark n s age → lapBehind bits f (E .head) t ≡ true → s .head + c ≡ age .tail
+  lap-tests cl t o young h =
+      let r : Near (n * c) (s .head + c) (age .tail) = omega (arith, turn, inv .low, inv .high, young, o .set .point .tails-up) in
+      eqb-true _ _ (sym (Stamps.behind-is bits c mark n g ed (s .head) (age .tail) r) ∙ ap (lapBehind bits f (E .head)) (sym (o .word)) ∙ h)
+
   p6 : (z : Slot) (t : Stamp) (x : ℕ) (lose : Bool) → GivenBy c n ed st s age w (call.Push x) t → Young c mark n s age → Row (P6 t x) (actOf bits f E z (P6 t x) lose)
   p6 z t x lose o young =
       either (Row (P6 t x)) (lapBehind bits f (E .head) t) (stay E z (Idle (Full x))) (stay E z (P1 Push x))
@@ -497,17 +503,26 @@ module _ (bits : Width) (c n ed : ℕ) (g : Ground bits c (markOf c) n) (st : St
       full-then : lapBehind bits f (E .head) t ≡ true → length (then c n ed (o .set) .items) ≡ c
       full-then h =
           let p = o .set .point in
-          let r : Near (n * c) (s .head + c) (age .tail) = omega (arith, turn, inv .low, inv .high, young, p .tails-up) in
-          let q : s .head + c ≡ age .tail = eqb-true _ _ (sym (Stamps.behind-is bits c mark n g ed (s .head) (age .tail) r) ∙ ap (lapBehind bits f (E .head)) (sym (o .word)) ∙ h) in
+          let q : s .head + c ≡ age .tail = lap-tests (call.Push x) t o young h in
           omega (arith, p .long, p .most, p .heads-up, p .tails-up, inv .high)
 
   -- force_push's head claim: the ring is full, and nothing has moved since its word was given
-  record Grips (t : Stamp) : Type 0 where
-    k : ℕ
-    word : t ≡ Word (k + c)
-    low : k ≤ s .head
-    high : k + c ≤ s .tail
-    late : age .tail ≤ k + c
+  pub record Grips (t : Stamp) : Type 0 where
+    pub k : ℕ
+    pub word : t ≡ Word (k + c)
+    pub low : k ≤ s .head
+    pub high : k + c ≤ s .tail
+    pub late : age .tail ≤ k + c
+
+  -- and F6
+  pub head-tests : (cl : Call) (t : Stamp) → GivenBy c n ed st s age w cl t → Grips t → Young c mark n s age → same (E .head) (minus bits t (f .lap)) ≡ true → s .head + c ≡ age .tail
+  head-tests cl t o grip young h =
+      let same-words : Word (grip .k + c) ≡ Word (age .tail) = sym (grip .word) ∙ o .word in
+      let near : Near (n * c) (grip .k + c) (age .tail) = omega (arith, turn, young, grip .high, grip .late) in
+      let one : grip .k + c ≡ age .tail = word-one c mark n (g .laws) (grip .k + c) (age .tail) near (ap (λ (z : Stamp). z .0) same-words) in
+      let r : Near (n * c) (s .head) (grip .k) = omega (arith, turn, inv .low, grip .low, young, grip .late) in
+      let q : s .head ≡ grip .k = eqb-true _ _ (sym (Stamps.before-is bits c mark n g (s .head) (grip .k) r) ∙ ap (λ (y : Stamp). same (E .head) (minus bits y (f .lap))) (sym (grip .word)) ∙ h) in
+      omega arith
 
   won-head : (z : Slot) (t : Stamp) (x : ℕ) (h : Stamp) → GivenBy c n ed st s age w (call.ForcePush x) t → s .head + c ≡ age .tail → Row (F6 t x) (stay (headTo E h) z (F7 t x))
   unfolding stay headTo
@@ -563,17 +578,8 @@ module _ (bits : Width) (c n ed : ℕ) (g : Ground bits c (markOf c) n) (st : St
   f6 z t x lose o grip young =
       exchanged (λ (y : Exchange). Row (F6 t x) (endF6 bits f E z t x y)) (E .head) (minus bits t (f .lap)) lose
       (λ h d. goes z loss.BySchedule (F6 t x) (P1 Force x) (quietly refl refl refl refl) (not-idle (P1 Force x) refl) (λ u mv. work-still (F6 t x) (P1 Force x) refl _ _ _ (o .work)))
-      (λ h d. won-head z t x _ o (full h))
+      (λ h d. won-head z t x _ o (head-tests (call.ForcePush x) t o grip young h))
       (λ h. goes z loss.ByWords (F6 t x) (P1 Force x) (quietly refl refl refl refl) (not-idle (P1 Force x) refl) (λ u mv. work-still (F6 t x) (P1 Force x) refl _ _ _ (o .work)))
-    where
-      full : same (E .head) (minus bits t (f .lap)) ≡ true → s .head + c ≡ age .tail
-      full h =
-          let same-words : Word (grip .k + c) ≡ Word (age .tail) = sym (grip .word) ∙ o .word in
-          let near : Near (n * c) (grip .k + c) (age .tail) = omega (arith, turn, young, grip .high, grip .late) in
-          let one : grip .k + c ≡ age .tail = word-one c mark n (g .laws) (grip .k + c) (age .tail) near (ap (λ (z : Stamp). z .0) same-words) in
-          let r : Near (n * c) (s .head) (grip .k) = omega (arith, turn, inv .low, grip .low, young, grip .late) in
-          let q : s .head ≡ grip .k = eqb-true _ _ (sym (Stamps.before-is bits c mark n g (s .head) (grip .k) r) ∙ ap (λ (y : Stamp). same (E .head) (minus bits y (f .lap))) (sym (grip .word)) ∙ h) in
-          omega arith
 
   -- what stays of a displacing force_push, and of a pop
   front-kept : (p q : Place) → (movedOf q ≡ Tail) ⊎ (movedOf q ≡ Neither) → timingOf p q ≡ Stays → (v : ℕ) (o : Front c n ed st s w v) (u : Shared) → Moves c s u w i q → Front c n ed (now p q) u w v
@@ -746,6 +752,13 @@ module _ (bits : Width) (c n ed : ℕ) (g : Ground bits c (markOf c) n) (st : St
   none-now : s .tail ≡ s .head → known c ed st .queue .items ≡ []
   none-now e = none-of (known c ed st .queue .items) (omega (arith, shelf .long))
 
+  -- O6 finds tail at the word that it was given
+  pub tail-tests : (h : Stamp) (k : ℕ) → h ≡ Word k → k ≤ s .head → age .head ≤ k → Young c mark n s age → same (unmarkedOf f (E .tail)) h ≡ true → s .tail ≡ k
+  tail-tests h k word low late young d =
+      let r : Near (n * c) (s .tail) k = omega (arith, turn, inv .low, inv .high, young) in
+      eqb-true _ _ (sym (Stamps.same-is bits c mark n g (s .tail) k r)
+      ∙ ap (λ (y : Stamp). same y (Word k)) (sym (Stamps.unmarked-tail bits c mark n g ed (s .tail) b)) ∙ ap (same (unmarkedOf f (E .tail))) (sym word) ∙ d)
+
   o6 : (z : Slot) (h : Stamp) (lose : Bool) (k : ℕ) → h ≡ Word k → k ≤ s .head → age .head ≤ k → Young c mark n s age → Work c n ed st w call.Pop [] [] → Row (O6 h) (actOf bits f E z (O6 h) lose)
   o6 z h lose k word low late young o =
       either (Row (O6 h)) (same (unmarkedOf f (E .tail)) h) _ (stay E z O1)
@@ -757,12 +770,7 @@ module _ (bits : Width) (c n ed : ℕ) (g : Ground bits c (markOf c) n) (st : St
       (λ d. pops z (O6 h) O1 (quietly refl refl refl refl) (not-idle O1 refl) refl o)
     where
       even : same (unmarkedOf f (E .tail)) h ≡ true → s .tail ≡ s .head
-      even d =
-          let r : Near (n * c) (s .tail) k = omega (arith, turn, inv .low, inv .high, young) in
-          let q : s .tail ≡ k =
-          eqb-true _ _ (sym (Stamps.same-is bits c mark n g (s .tail) k r)
-          ∙ ap (λ (y : Stamp). same y (Word k)) (sym (Stamps.unmarked-tail bits c mark n g ed (s .tail) b)) ∙ ap (same (unmarkedOf f (E .tail))) (sym word) ∙ d) in
-          omega (arith, inv .low)
+      even d = let q : s .tail ≡ k = tail-tests h k word low late young d in omega (arith, inv .low)
 
       speaks-closed : Speaks (O6 h) call.Pop [] [] PopClosed
       speaks-closed =

@@ -192,22 +192,22 @@ module _ (bits : Width) (c n workers : ℕ) (base : Base bits c n workers) (ed :
     -- ---- an act
 
     module _ (lose : Bool) (busy : viewOf (stood m w) .busy ≡ true) (young : Recent c mark n s (pic .ages w) (look c (stood m w))) (early : m .meter < meterMost) where
-      abbrev i : ℕ
+      abbrev pub i : ℕ
       i = spot bits c n workers base s m pic w l lose busy
 
-      abbrev a : Acted
+      abbrev pub a : Acted
       a = result bits c n workers base s m pic w l lose busy
 
-      abbrev u : Shared
+      abbrev pub u : Shared
       u = next bits c n workers base s m pic w l lose busy young
 
-      abbrev act : Event
+      abbrev pub act : Event
       act = event w (stood m w) (a .place) (lossAt bits m w lose)
 
-      abbrev told-on : Story
+      abbrev pub told-on : Story
       told-on = st ++ Does act ∷ []
 
-      moves : Moves c s u w i (a .place)
+      pub moves : Moves c s u w i (a .place)
       moves =
           let stp = stepped bits c n workers base s m pic w l lose busy young in
           let up = grown bits c n workers base m (o .h) r w l lose busy young in
@@ -219,7 +219,7 @@ module _ (bits : Width) (c n workers : ℕ) (base : Base bits c n workers) (ed :
             inv = acted-pictured bits c n workers base s m pic w l lose busy young early .inv;
           }
 
-      outcome : Outcome bits c n ed (base .ground) st s (pic .inv) (pic .shut) (o .shelf) w i (pic .ages w) (lossAt bits m w lose) u (stood m w) a
+      pub outcome : Outcome bits c n ed (base .ground) st s (pic .inv) (pic .shut) (o .shelf) w i (pic .ages w) (lossAt bits m w lose) u (stood m w) a
       outcome =
           let z = getD (m .ring .slots) i (slot 0 0) in
           let same-act : a ≡ actOf bits (fixed c mark ed) (endsOf c mark n s (pic .shut)) (getD (m .ring .slots) i (slot 0 0)) (stood m w) lose =
@@ -228,7 +228,7 @@ module _ (bits : Width) (c n workers : ℕ) (base : Base bits c n workers) (ed :
           subst (Row bits c n ed (base .ground) st s (pic .inv) (pic .shut) (o .shelf) w i (pic .ages w) (lossAt bits m w lose) (stood m w)) (sym same-act)
           (row bits c n ed (base .ground) st s (pic .inv) (pic .shut) (o .shelf) w i (pic .ages w) (lossAt bits m w lose) z (stood m w) lose busy (pic .stands w) young (o .dues w)) u moves
 
-      new-item : movedOf (a .place) ≡ Tail → itemsOf (known c ed st .each w .calls) ≡ u .item (s .tail) ∷ []
+      pub new-item : movedOf (a .place) ≡ Tail → itemsOf (known c ed st .each w .calls) ≡ u .item (s .tail) ∷ []
       new-item e =
           let x = claims-item (tale (look c (a .place))) (sym (shows c (a .place) .1) ∙ e) in
           let is : itemIn (a .place) ≡ x .0 ∷ [] = shows c (a .place) .0 ∙ x .1 in
@@ -254,13 +254,13 @@ module _ (bits : Width) (c n workers : ℕ) (base : Base bits c n workers) (ed :
           (λ k e. moment-else c ed st act j far ∙ ap (heard (changeOf ed act) (known c ed st .count + 1)) e) (pic .ages j)
           (some-else c n ed st act s u i j far moves _ shelf-on (pic .ages j)) (room-else c n ed st act s u i j far moves _ shelf-on (pic .ages j)) (task (stood m j)) (o .dues j)
 
-      went : stood (acted bits m w (stood m w) lose) w ≡ a .place
+      pub went : stood (acted bits m w (stood m w) lose) w ≡ a .place
       went = acted-stood bits c n workers base s m pic w l lose busy
 
-      same-event : eventOf bits m w lose (acted bits m w (stood m w) lose) ≡ act
+      pub same-event : eventOf bits m w lose (acted bits m w (stood m w) lose) ≡ act
       same-event = ap (λ (q : Place). event w (stood m w) q (lossAt bits m w lose)) went
 
-      stood-else : (j : ℕ) → j ≢ w → stood (acted bits m w (stood m w) lose) j ≡ stood m j
+      pub stood-else : (j : ℕ) → j ≢ w → stood (acted bits m w (stood m w) lose) j ≡ stood m j
       unfolding actedBy stored
       stood-else j far = ap (λ (z : Worker). z .place) (getD-set-other (m .workers) w j _ idler far)
 
@@ -311,6 +311,11 @@ module _ (bits : Width) (c n workers : ℕ) (base : Base bits c n workers) (ed :
             answers = answers-on;
             changes = changes-on;
           }
+
+      -- ring and ages behind it
+      pub act-behind : (Q : Shared → (ℕ → Age) → Type 0) → Q u (upd (pic .ages) w (new-age bits c n workers base s m pic w l lose busy)) → Q (told-act .reached .ring) (told-act .reached .pictured .ages)
+      unfolding told-act
+      act-behind Q o = did-after bits c n workers base m _ r w l lose busy young early (λ (z : Shared) (b : Bool) (ages : ℕ → Age). Q z ages) o
 
     -- ---- a call begun
 
@@ -385,6 +390,10 @@ module _ (bits : Width) (c n workers : ℕ) (base : Base bits c n workers) (ed :
           go-change : (earlier later : Story) (e : Event) → Last st (Begun w cl) earlier (Does e) later ⊎ Earlier st (Begun w cl) earlier (Does e) later → Changes ed (known c ed earlier .queue) e
           go-change earlier later e (inr p) = o .changes earlier (p .left) e (p .was)
           go-change earlier later e (inl p) = absurd (let y = p .one in let q : _≡_ {A = ℕ} 0 1 = cc in omega arith)
+
+      pub begun-behind : (Q : Shared → (ℕ → Age) → Type 0) → Q s (pic .ages) → Q (told-begun .reached .ring) (told-begun .reached .pictured .ages)
+      unfolding told-begun
+      begun-behind Q o = begun-after bits c n workers base m _ r w l cl idle (λ (z : Shared) (b : Bool) (ages : ℕ → Age). Q z ages) o
 
   -- every accepted entry leads on
   pub told-kept : (m : Machine) (st : Story) (en : Entry) (after-it : Machine) (acts : List Event) → Told m st → InWindow bits m (actsIn st) → Turned bits m en after-it acts → Told after-it (st ++ (begunIn en ++ map Does acts))
