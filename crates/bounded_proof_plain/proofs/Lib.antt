@@ -9,3 +9,4 @@ pub mod Lined
 pub mod OneStep
 pub mod Linear
 pub mod Linearizable
+pub mod TwoCloses
