@@ -6,6 +6,7 @@ pub mod Plain
 pub mod Leads
 pub mod Line
 pub mod Lined
+pub mod Replies
 pub mod OneStep
 pub mod Linear
 pub mod Linearizable

@@ -1,20 +1,15 @@
 -- A run of the plain queue, one step a call, along a story: one element more, and a step put in at a moment that has been.
-use mathlib.Core.Path.{_≡_, refl, sym, ap, _∙_, subst}
+use mathlib.Core.Path.{_≡_, refl, sym, ap, _∙_}
 use mathlib.Core.Logic.{_≢_, _⊎_, inl, inr}
-use mathlib.Core.Bool.{Bool, true, false, cond, true≢false}
+use mathlib.Core.Bool.{false}
 use mathlib.Core.List.{List, [], _∷_, _++_}
 use Prim.Native.Nat.{ℕ, suc, _+_, _≤_, _<_}
 use native.Mathlib.Omega.{arith}
-use native.Mathlib.Decide.{ℕ-discrete, decLt, decLe}
-use lib.Dec.{eqb, ltb, leb}
-use lib.ListN.{length, take, drop, length-append}
-use borrow.Author.Tests.{eq-eqb, ne-eqb, lt-ltb, le-ltb, le-leb, eqb-true}
+use native.Mathlib.Decide.{ℕ-discrete}
+use lib.ListN.{length, take, length-append}
 use Rattle.queue_entries.specs.declared.Call.{Call}
-use Rattle.queue_entries.specs.declared.Call.the-variants as call
-use Rattle.queue_plain.specs.Plain.{Queue, Reply, queue, answerOf, leftBy, fullOf}
-use Rattle.queue_plain.specs.Plain as plain
+use Rattle.queue_plain.specs.Plain.{Queue, Reply, queue, answerOf, leftBy}
 use Rattle.queue_plain.specs.OneStep.{Step, Follows}
-use Rattle.queue_plain.specs.Story.{Known}
 use Rattle.queue_plain.proofs.Stories.{take-more, take-whole, queue-past}
 use Rattle.bounded_demands.specs.Stories.{Element, Story, known, queueAt, changeOf, actor}
 use Rattle.bounded_proof_invariant.proofs.Upd.{upd, upd-same, upd-at, upd-else}

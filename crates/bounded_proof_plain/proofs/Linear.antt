@@ -1,13 +1,12 @@
 -- Every story of calls that are one step each has a run of the plain queue, one step a call: linearizable in the classical sense. Proved along every schedule.
 use mathlib.Core.Path.{_≡_, refl, sym, ap, _∙_, subst}
 use mathlib.Core.Logic.{_≢_, _⊎_, inl, inr}
-use mathlib.Core.Bool.{Bool, true, false, cond, true≢false}
-use mathlib.Core.List.{List, [], _∷_, _++_, map, append-nil}
-use Prim.Native.Nat.{ℕ, suc, _+_, _≤_, _<_}
+use mathlib.Core.Bool.{Bool, true, false, true≢false}
+use mathlib.Core.List.{List, [], _∷_, _++_, map}
+use Prim.Native.Nat.{ℕ, _+_, _≤_, _<_}
 use native.Mathlib.Omega.{arith}
 use native.Mathlib.Decide.{ℕ-discrete}
-use lib.Dec.{eqb}
-use lib.ListN.{length, getD, set, take, length-append}
+use lib.ListN.{length, take, length-append}
 use lib.Seq.{getD-set-same, getD-set-other}
 use Rattle.queue_entries.specs.declared.Call.{Call}
 use Rattle.queue_entries.specs.declared.Call.the-variants as call
@@ -30,10 +29,10 @@ use Rattle.bounded_machine.specs.Machine.{idler}
 use Rattle.bounded_machine.specs.Turn.{beginner, begun, acted}
 use Rattle.bounded_machine.proofs.Kept.{few-workers}
 use Rattle.bounded_demands.specs.Notions.{InWindow}
-use Rattle.bounded_demands.specs.Stories.{Element, Story, known, changeOf, actor, oneStep, OnlySuch, At, momentOf}
+use Rattle.bounded_demands.specs.Stories.{Story, known, changeOf, actor, oneStep, OnlySuch}
 use Rattle.bounded_proof_invariant.proofs.Ring.{Shared}
 use Rattle.bounded_proof_each_act.proofs.Sight.{Age}
-use Rattle.bounded_proof_demand2.proofs.Turns.{Turned, began, did, stood, eventOf}
+use Rattle.bounded_proof_demand2.proofs.Turns.{Turned, began, did, stood}
 use Rattle.bounded_proof_demand2.proofs.Lists.{Last, Earlier, split-end}
 use Rattle.bounded_proof_demand2.proofs.Pictured.{Base}
 use Rattle.bounded_proof_demand2.proofs.Reached.{recent-in}

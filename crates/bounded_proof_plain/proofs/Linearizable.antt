@@ -1,34 +1,29 @@
 -- One step a call, proved; and that two closes of edition 1 are not.
 use mathlib.Core.Path.{_≡_, refl, sym, ap, _∙_, subst}
-use mathlib.Core.Logic.{_⊎_, inl, inr}
-use mathlib.Core.Bool.{Bool, true, false, cond, true≢false}
-use mathlib.Core.List.{List, [], _∷_, _++_}
-use Prim.Native.Nat.{ℕ, suc, _+_, _<_, _≤_}
+use mathlib.Core.Logic.{inl}
+use mathlib.Core.Bool.{false}
+use mathlib.Core.List.{List, [], _++_}
+use Prim.Native.Nat.{ℕ, _+_}
 use native.Mathlib.Omega.{arith}
-use native.Mathlib.Decide.{decLt}
-use lib.ListN.{length, take}
+use lib.ListN.{length}
 use Rattle.queue_entries.specs.Entries.{entryOf}
-use Rattle.queue_plain.specs.Plain.{Queue, queue}
-use Rattle.queue_plain.specs.OneStep.{Step, Follows}
-use Rattle.queue_plain.specs.Story.{Begun, Does, elementsBy, actsIn, knownFrom}
+use Rattle.queue_plain.specs.Plain.{queue}
+use Rattle.queue_plain.specs.Story.{Does, elementsBy, actsIn, knownFrom}
 use Rattle.queue_plain.proofs.Stories.{acts-story}
 use Rattle.queue_schedules.proofs.Histories.{entries-lead-while}
-use Rattle.bounded_words.specs.declared.Stamp.{Stamp}
 use Rattle.bounded_words.specs.declared.Width.{Width}
 use Rattle.bounded_words.specs.declared.Width.the-variants.{SixtyFour}
-use Rattle.bounded_places.specs.declared.Place.{Place}
 use Rattle.bounded_places.specs.declared.Place.the-variants.{Idle, F7}
 use Rattle.bounded_places.specs.declared.Answer.the-variants.{Nothing}
 use Rattle.bounded_places.specs.declared.Worker.{Worker}
 use Rattle.bounded_machine.specs.declared.Machine.{Machine}
 use Rattle.bounded_machine.specs.declared.Did.{Did}
-use Rattle.bounded_machine.specs.declared.Event.{Event}
 use Rattle.bounded_machine.specs.Machine.{freshWith}
 use Rattle.bounded_machine.specs.Turn.{turnAt, turnOfBy}
 use Rattle.bounded_machine.specs.Run.{runAt}
 use Rattle.bounded_machine.specs.History.{eventsOf}
 use Rattle.bounded_demands.specs.Notions.{withRecords, AllowedWith, machineAfter, InWindow, KeepsWindow}
-use Rattle.bounded_demands.specs.Stories.{Story, storyOf, known, oneStep, OnlySuch, At, momentFrom}
+use Rattle.bounded_demands.specs.Stories.{Story, storyOf, oneStep, OnlySuch, momentFrom}
 use Rattle.bounded_demands.specs.Demands.{OneByOne, OneStep, OneStepInWindow}
 use Rattle.bounded_demands.proofs.Refusals.{ring-queue}
 use Rattle.bounded_proof_demand2.proofs.Turns.{turned, stood}

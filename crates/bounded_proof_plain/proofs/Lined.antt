@@ -1,20 +1,20 @@
 -- Along a story of calls that are one step each: the run of the plain queue, one step a call, and what it has for each worker.
 use mathlib.Core.Path.{_≡_, refl, sym, ap, _∙_, subst}
 use mathlib.Core.Logic.{_≢_, _⊎_, inl, inr}
-use mathlib.Core.Bool.{Bool, true, false, cond, true≢false}
-use mathlib.Core.List.{List, [], _∷_, _++_, append-nil}
-use Prim.Native.Nat.{ℕ, suc, _+_, _≤_, _<_}
+use mathlib.Core.Bool.{true, false}
+use mathlib.Core.List.{List, [], _∷_, _++_}
+use Prim.Native.Nat.{ℕ, _+_, _≤_, _<_}
 use native.Mathlib.Omega.{arith}
 use native.Mathlib.Decide.{ℕ-discrete}
 use lib.Dec.{eqb}
-use lib.ListN.{length, take, drop, length-append}
+use lib.ListN.{length, take, length-append}
 use Rattle.queue_entries.specs.declared.Call.{Call}
 use Rattle.queue_entries.specs.declared.Call.the-variants as call
-use Rattle.queue_plain.specs.Plain.{Queue, Reply, queue, answerOf, leftBy, fullOf}
+use Rattle.queue_plain.specs.Plain.{Reply, queue}
 use Rattle.queue_plain.specs.Plain as plain
-use Rattle.queue_plain.specs.OneStep.{Step, Follows}
-use Rattle.queue_plain.specs.Story.{Begun, Does, Doing, Known, itemsOf}
-use Rattle.queue_plain.proofs.Stories.{take-more, take-whole, queue-now, queue-past, known-count}
+use Rattle.queue_plain.specs.OneStep.{Step}
+use Rattle.queue_plain.specs.Story.{Does, Doing}
+use Rattle.queue_plain.proofs.Stories.{take-more}
 use Rattle.bounded_places.specs.declared.Kind.{Kind}
 use Rattle.bounded_places.specs.declared.Answer.{Answer}
 use Rattle.bounded_places.specs.declared.Place.{Place}
@@ -23,14 +23,14 @@ use Rattle.bounded_places.specs.Places.{viewOf}
 use Rattle.bounded_words.specs.declared.Stamp.{Stamp}
 use Rattle.bounded_machine.specs.declared.Machine.{Machine}
 use Rattle.bounded_machine.specs.declared.Event.{Event}
-use Rattle.bounded_demands.specs.Stories.{Element, Story, known, queueAt, changeOf, actor, replyOf, oneStep, Moment, At, heard, momentOf}
+use Rattle.bounded_demands.specs.Stories.{Story, known, changeOf, replyOf, oneStep, At, heard, momentOf}
 use Rattle.bounded_proof_invariant.proofs.Ring.{Shared}
 use Rattle.bounded_proof_each_act.proofs.Sight.{Age}
 use Rattle.bounded_proof_demand2.proofs.Turns.{stood}
 use Rattle.bounded_proof_demand2.proofs.Lists.{Last, Earlier, split-end}
 use Rattle.bounded_proof_plain.proofs.Shelf.{each-else, moment-else}
 use Rattle.bounded_proof_plain.proofs.Work.{pushing}
-use Rattle.bounded_proof_plain.proofs.Line.{OfCall, Line, stepBy, no-step, none-one}
+use Rattle.bounded_proof_plain.proofs.Line.{Line, no-step, none-one}
 
 -- what a call that has taken v out answers
 abbrev pub outOf : Call → ℕ → Reply

@@ -3,7 +3,7 @@ use mathlib.Core.Path.{_≡_, refl, sym, ap, _∙_, subst}
 use mathlib.Core.Logic.{_≢_, _⊎_, inl, inr}
 use mathlib.Core.Bool.{Bool, true, false, cond, true≢false}
 use mathlib.Core.List.{List, [], _∷_, _++_, append-nil}
-use Prim.Native.Nat.{ℕ, suc, _+_, _*_, _-_, _≤_, _<_}
+use Prim.Native.Nat.{ℕ, _+_, _*_, _-_, _≤_, _<_}
 use native.Mathlib.Omega.{arith}
 use native.Mathlib.Decide.{decLt}
 use lib.Dec.{eqb}
@@ -34,13 +34,12 @@ use Rattle.bounded_places.specs.Places.{viewOf}
 use Rattle.bounded_acts.specs.declared.Acted.{Acted}
 use Rattle.bounded_acts.specs.Acts.{stay, losing, afterTail, endP3, endF6, endO3, tailTo, headTo, valueTo, fullAt, forcedTail, countOf, yesNo, actOf}
 use Rattle.bounded_machine.specs.declared.Event.{Event}
-use Rattle.bounded_machine.specs.declared.Moved.{Moved}
-use Rattle.bounded_machine.specs.declared.Moved.the-variants.{Neither, Tail, Head}
+use Rattle.bounded_machine.specs.declared.Moved.the-variants.{Neither, Tail}
 use Rattle.bounded_machine.specs.History.{event, movedOf}
 use Rattle.bounded_machine.proofs.Kept.{either, exchanged}
-use Rattle.bounded_causes.specs.Causes.{standOf, claimsTail, claimsHead}
-use Rattle.bounded_demands.specs.Notions.{itemIn, tailBy, headBy, holdingAt}
-use Rattle.bounded_demands.specs.Stories.{Element, Story, known, queueAt, changeOf, actor, replyOf, putBy, takenBy, givenBack, Moment, At, AfterNextTail, AfterNextHead, Timing, Now, Stays, timingOf, timed, momentOf}
+use Rattle.bounded_causes.specs.Causes.{claimsTail, claimsHead}
+use Rattle.bounded_demands.specs.Notions.{itemIn, headBy, holdingAt}
+use Rattle.bounded_demands.specs.Stories.{Story, known, queueAt, changeOf, actor, replyOf, putBy, takenBy, givenBack, At, Now, Stays, timingOf, momentOf}
 use Rattle.bounded_demands.specs.Demands.{Answered, Meant, Changes}
 use Rattle.bounded_proof_invariant.proofs.Width.{Near, turn-long, word-one}
 use Rattle.bounded_proof_invariant.proofs.Ring.{Shared, Latest, Inv}
@@ -48,8 +47,8 @@ use Rattle.bounded_proof_each_act.proofs.Stamps
 use Rattle.bounded_proof_each_act.proofs.Stamps.{Ground, fixed, W, tailWord}
 use Rattle.bounded_proof_each_act.proofs.Sight.{Age, aged, look, endsOf, Stands, Young, Recent}
 use Rattle.bounded_proof_demand2.proofs.Counts.{count-is}
-use Rattle.bounded_proof_plain.proofs.Shelf.{each-own, moment-own, queue-act, Shelved, Moves, Point, point-now, point-on, item-course, latest-new, latest-kept}
-use Rattle.bounded_proof_plain.proofs.Work.{Task, task, pushing, Work, Set, then, GivenBy, EnteredBy, Front, SwapsBy, TakesBy, CountsBy, SeenSome, NoneYet, SeenRoom, FullYet, Due}
+use Rattle.bounded_proof_plain.proofs.Shelf.{each-own, moment-own, queue-act, Shelved, Moves, point-now, point-on, item-course, latest-new, latest-kept}
+use Rattle.bounded_proof_plain.proofs.Work.{task, pushing, Work, Set, then, GivenBy, EnteredBy, Front, SwapsBy, TakesBy, CountsBy, SeenSome, NoneYet, SeenRoom, FullYet, Due}
 
 -- ---- small laws
 

@@ -3,7 +3,7 @@ use mathlib.Core.Path.{_≡_, refl, sym, ap, _∙_, subst}
 use mathlib.Core.Logic.{_≢_}
 use mathlib.Core.Bool.{Bool, true, false, cond}
 use mathlib.Core.List.{List, [], _∷_, _++_, append-nil}
-use Prim.Native.Nat.{ℕ, zero, suc, _+_, _≤_, _<_}
+use Prim.Native.Nat.{ℕ, suc, _+_, _≤_, _<_}
 use native.Mathlib.Omega.{arith}
 use native.Mathlib.Decide.{decLt}
 use lib.Dec.{eqb}
@@ -12,7 +12,7 @@ use lib.Seq.{getD-append-seam}
 use borrow.Author.Tests.{eq-eqb, ne-eqb}
 use Rattle.queue_entries.specs.declared.Call.{Call}
 use Rattle.queue_plain.specs.Plain.{Queue, queue, fullOf}
-use Rattle.queue_plain.specs.Story.{Begun, Does, Change, Known, Doing, beginning, doingWith, changedBy, itemsOf, fresh, knownWith, knownFrom}
+use Rattle.queue_plain.specs.Story.{Begun, Does, Change, Known, beginning, doingWith, changedBy, itemsOf, fresh, knownWith, knownFrom}
 use Rattle.queue_plain.proofs.Stories.{known-end, known-count}
 use Rattle.bounded_places.specs.declared.Place.{Place}
 use Rattle.bounded_machine.specs.declared.Event.{Event}
@@ -21,8 +21,8 @@ use Rattle.bounded_machine.specs.declared.Moved.the-variants.{Neither, Tail, He
 use Rattle.bounded_machine.specs.History.{movedOf}
 use Rattle.bounded_causes.specs.Causes.{claimsTail, claimsHead}
 use Rattle.bounded_demands.specs.Notions.{itemIn, tailBy, headBy}
-use Rattle.bounded_demands.specs.Stories.{Element, Story, known, queueAt, changeOf, actor, Moment, At, AfterNextTail, AfterNextHead, Timing, Now, Stays, IfSome, IfRoom, timingOf, timed, heard, momentWith, momentFrom, momentOf}
-use Rattle.bounded_proof_invariant.proofs.Ring.{Shared, Latest, Inv, Change as RingChange, taken-else}
+use Rattle.bounded_demands.specs.Stories.{Element, Story, known, changeOf, actor, Moment, At, AfterNextTail, AfterNextHead, Timing, Now, Stays, IfSome, IfRoom, timingOf, timed, heard, momentWith, momentFrom, momentOf}
+use Rattle.bounded_proof_invariant.proofs.Ring.{Shared, Latest, Inv, taken-else}
 use Rattle.bounded_proof_invariant.proofs.Effects.{Course, same, moved, tail-course}
 
 -- ---- one element more

@@ -1,33 +1,27 @@
 -- Along every schedule that keeps the window: the plain queue is the ring's, and every answer so far was that queue's.
 use mathlib.Core.Path.{_≡_, refl, sym, ap, _∙_, subst}
 use mathlib.Core.Logic.{_≢_, _⊎_, inl, inr}
-use mathlib.Core.Bool.{Bool, true, false, cond, true≢false}
-use mathlib.Core.List.{List, [], _∷_, _++_, map, append-nil}
-use Prim.Native.Nat.{ℕ, suc, _+_, _*_, _-_, _≤_, _<_}
+use mathlib.Core.Bool.{Bool, true, false, cond}
+use mathlib.Core.List.{List, [], _∷_, _++_, map}
+use Prim.Native.Nat.{ℕ, _+_, _-_, _<_}
 use native.Mathlib.Omega.{arith}
 use native.Mathlib.Decide.{ℕ-discrete}
-use lib.Dec.{eqb}
 use lib.ListN.{length, getD, set, length-append}
 use lib.Seq.{getD-set-same, getD-set-other}
 use Rattle.queue_entries.specs.Limits.{meterMost}
-use Rattle.queue_entries.specs.Schedules.{runBy, historyBy}
 use Rattle.queue_entries.specs.declared.Call.{Call}
 use Rattle.queue_entries.specs.declared.Call.the-variants as call
 use Rattle.queue_entries.specs.declared.Order.the-variants.{Begin, Act}
 use Rattle.queue_entries.specs.declared.Entry.{Entry}
-use Rattle.queue_entries.specs.declared.Entry.the-variants.{Unreadable, Asks}
-use Rattle.queue_entries.specs.Entries.{entryOf}
+use Rattle.queue_entries.specs.declared.Entry.the-variants.{Asks}
 use Rattle.queue_plain.specs.Plain.{Queue}
-use Rattle.queue_plain.specs.Story.{Begun, Does, Doing, itemsOf, begunIn, actsIn, changedBy, knownFrom}
-use Rattle.queue_plain.proofs.Stories.{acts-end, acts-story, queue-now, known-count}
-use Rattle.bounded_words.specs.declared.Stamp.{Stamp}
+use Rattle.queue_plain.specs.Story.{Begun, Does, Doing, itemsOf, begunIn, actsIn}
+use Rattle.queue_plain.proofs.Stories.{acts-end, queue-now, known-count}
 use Rattle.bounded_words.specs.declared.Fixed.{Fixed}
 use Rattle.bounded_words.specs.declared.Width.{Width}
 use Rattle.bounded_words.specs.Words.{markOf, markedOf}
-use Rattle.bounded_places.specs.declared.Slot.{Slot}
 use Rattle.bounded_places.specs.declared.Ends.{Ends}
 use Rattle.bounded_places.specs.declared.Answer.{Answer}
-use Rattle.bounded_places.specs.declared.Loss.{Loss}
 use Rattle.bounded_places.specs.declared.Place.{Place}
 use Rattle.bounded_places.specs.declared.Place.the-variants.{Idle}
 use Rattle.bounded_places.specs.declared.Worker.{Worker}
@@ -38,25 +32,25 @@ use Rattle.bounded_machine.specs.declared.Machine.{Machine}
 use Rattle.bounded_machine.specs.declared.Event.{Event}
 use Rattle.bounded_machine.specs.declared.Moved.{Moved}
 use Rattle.bounded_machine.specs.declared.Moved.the-variants.{Neither, Tail, Head}
-use Rattle.bounded_machine.specs.Machine.{slot, idler, placeOf, freshWith}
+use Rattle.bounded_machine.specs.Machine.{slot, idler, placeOf}
 use Rattle.bounded_machine.proofs.Kept.{few-workers}
-use Rattle.bounded_machine.specs.Turn.{turnAt, turnOfBy, beginner, begun, acted, actedBy, stored}
-use Rattle.bounded_machine.specs.History.{event, lossAt, eventsOf, movedOf}
-use Rattle.bounded_demands.specs.Notions.{itemIn, tailBy, headBy, InWindow}
-use Rattle.bounded_demands.specs.Stories.{Element, Story, known, queueAt, changeOf, actor, Moment, At, AfterNextTail, AfterNextHead, heard, momentOf}
+use Rattle.bounded_machine.specs.Turn.{beginner, begun, acted, actedBy, stored}
+use Rattle.bounded_machine.specs.History.{event, lossAt, movedOf}
+use Rattle.bounded_demands.specs.Notions.{itemIn, InWindow}
+use Rattle.bounded_demands.specs.Stories.{Story, known, changeOf, actor, At, heard, momentOf}
 use Rattle.bounded_demands.specs.Demands.{Answered, Meant, Changes}
 use Rattle.bounded_proof_invariant.proofs.Upd.{upd, upd-same, upd-else}
-use Rattle.bounded_proof_invariant.proofs.Ring.{Shared, Inv}
-use Rattle.bounded_proof_invariant.proofs.Effects.{Effect, Still, Tailed, Taken, Grabbed, Forced, Fills, Swaps, Frees, Gives, after, Course, same}
+use Rattle.bounded_proof_invariant.proofs.Ring.{Shared}
+use Rattle.bounded_proof_invariant.proofs.Effects.{Effect, Still, Tailed, Taken, Grabbed, Forced, Fills, Swaps, Frees, Gives, after, same}
 use Rattle.bounded_proof_each_act.proofs.Stamps.{fixed, marked-tail}
-use Rattle.bounded_proof_each_act.proofs.Sight.{Age, aged, look, Tale, Quiet, Heading, Tailing, Giving, tale, told, endsOf, Recent}
-use Rattle.bounded_proof_demand2.proofs.Turns.{Turned, began, did, turned, stood, eventOf}
+use Rattle.bounded_proof_each_act.proofs.Sight.{Age, look, Tale, Quiet, Heading, Tailing, Giving, tale, told, endsOf, Recent}
+use Rattle.bounded_proof_demand2.proofs.Turns.{Turned, began, did, stood, eventOf}
 use Rattle.bounded_proof_demand2.proofs.Lists.{Last, Earlier, split-end}
 use Rattle.bounded_proof_demand2.proofs.Logged.{itemsBy, movedBy, shows}
-use Rattle.bounded_proof_demand2.proofs.Pictured.{Base, Pictured, begun-pictured, acted-pictured, stepped, coursed, effect, spot, next, result, acted-stood, new-age}
+use Rattle.bounded_proof_demand2.proofs.Pictured.{Base, Pictured, acted-pictured, stepped, coursed, effect, spot, next, result, acted-stood, new-age}
 use Rattle.bounded_proof_demand2.proofs.Reached.{Reached, grown, entered, begun-after, did-after, recent-in}
-use Rattle.bounded_proof_plain.proofs.Shelf.{known-act, each-own, each-else, queue-act, moment-else, each-begun, each-unbegun, queue-begun, moment-begun, Waits, Shelved, Moves, items-on, point-now}
-use Rattle.bounded_proof_plain.proofs.Work.{Task, Starts, task, Work, Set, then, SeenSome, NoneYet, SeenRoom, FullYet, Due, due-else}
+use Rattle.bounded_proof_plain.proofs.Shelf.{each-else, queue-act, moment-else, each-begun, each-unbegun, queue-begun, moment-begun, Shelved, Moves, items-on, point-now}
+use Rattle.bounded_proof_plain.proofs.Work.{Starts, task, Work, Set, then, SeenSome, NoneYet, SeenRoom, FullYet, Due, due-else}
 use Rattle.bounded_proof_plain.proofs.Rows.{Outcome, Row, row}
 
 -- ---- what an effect puts at tail
