@@ -21,6 +21,7 @@ use Rattle.queue_plain.specs.Story.{itemsOf as itemsBegun}
 use Rattle.bounded_words.specs.declared.Stamp.{Stamp}
 use Rattle.bounded_words.specs.declared.Width.{Width}
 use Rattle.bounded_words.specs.declared.Width.the-variants.{Sixteen, SixtyFour}
+use Rattle.bounded_words.specs.Limits.{wide}
 use Rattle.bounded_words.specs.Words.{fixedOf, indexOf, markedOf, unmarkedOf, lapBehind}
 use Rattle.bounded_places.specs.declared.Answer.{Answer}
 use Rattle.bounded_places.specs.declared.Answer.the-variants.{Yes, PopClosed}
@@ -64,7 +65,7 @@ use Rattle.bounded.specs.Bounded.{makeOf, stepOf}
 use Rattle.bounded_parts.specs.declared.Metered.{Metered}
 use Rattle.bounded_parts.specs.Parts.{meteredOf, Filled, filled}
 use Rattle.bounded_lent.specs.Lent.{Lent, Gone}
-use Rattle.bounded_demands.specs.Stories.{Story, storyOf, known, queueAt, changeOf, actor, replyOf, putBy, takenBy, givenBack, itemAt, At, momentOf}
+use Rattle.bounded_demands.specs.Stories.{Story, storyOf, known, queueAt, changeOf, actor, replyOf, putBy, takenBy, givenBack, itemAt, At, momentOf, momentNamed, inStory}
 use Rattle.bounded_demands.specs.Lending.{Lending, Promise, holding, holds-did, holds-ran, steps, heldIn, actsLent}
 use Rattle.bounded_demands.specs.Foretold.{foretold, Telling, toldIn, tellings, asForetold}
 use Rattle.bounded_demands.specs.Eight.{closedF, caseF}
@@ -144,6 +145,22 @@ abbrev pub AnswersPlainInWindow : Definition → Type 0
 AnswersPlainInWindow d =
     (capacity workers edition : ℕ) → AllowedWith (d .records) capacity workers edition → (s : List ℕ) → KeepsWindow d (freshWith (d .records) capacity workers edition) [] s
     → PlainThroughout capacity edition (machineAfter d capacity workers edition s) (actsOf d capacity workers edition s) (storyOf d capacity workers edition s)
+
+-- What the program names (`replay --moments`): at every act of the first sixteen workers, what `name_moment` of crate bounded_moments answers, by what was kept along the story before it,
+-- is the moment of its call. Of less than 2^64 entries; the meter ends a run before.
+abbrev pub NamesMoments : ℕ → ℕ → Story → Type 0
+NamesMoments capacity edition s =
+    length s < wide → (earlier later : Story) (act : Event) → s ≡ earlier ++ Does act ∷ later → act .worker < workersMost
+    → inStory (momentNamed capacity earlier act) ≡ momentOf capacity edition (act .worker) (earlier ++ Does act ∷ [])
+
+abbrev pub MomentsKept : Definition → Type 0
+MomentsKept d =
+    (capacity workers edition : ℕ) → AllowedWith (d .records) capacity workers edition → (s : List ℕ) → NamesMoments capacity edition (storyOf d capacity workers edition s)
+
+abbrev pub MomentsKeptInWindow : Definition → Type 0
+MomentsKeptInWindow d =
+    (capacity workers edition : ℕ) → AllowedWith (d .records) capacity workers edition → (s : List ℕ) → KeepsWindow d (freshWith (d .records) capacity workers edition) [] s
+    → NamesMoments capacity edition (storyOf d capacity workers edition s)
 
 -- ==== 1. Any machine, entry or schedule handed in gets an answer or a numbered refusal; a refused step changes nothing.
 -- That each gets an answer is what the functions of crates bounded and bounded_narrow promise: none has a `requires`, and each answer is equal to a

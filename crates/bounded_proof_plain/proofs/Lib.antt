@@ -3,3 +3,4 @@ pub mod Work
 pub mod Rows
 pub mod Told
 pub mod Plain
+pub mod Moments

@@ -39,8 +39,11 @@ use Rattle.bounded_machine.specs.declared.Moved.the-variants.{Neither, Tail, He
 use Rattle.bounded_machine.specs.History.{event, movedOf}
 use Rattle.bounded_machine.proofs.Kept.{either, exchanged}
 use Rattle.bounded_causes.specs.Causes.{standOf, claimsTail, claimsHead}
+use Rattle.bounded_moments.specs.declared.Timing.{Timing}
+use Rattle.bounded_moments.specs.declared.Timing.the-variants.{Now, Stays}
+use Rattle.bounded_moments.specs.Moments.{timingOf}
 use Rattle.bounded_demands.specs.Notions.{itemIn, tailBy, headBy, holdingAt}
-use Rattle.bounded_demands.specs.Stories.{Element, Story, known, queueAt, changeOf, actor, replyOf, putBy, takenBy, givenBack, Moment, At, AfterNextTail, AfterNextHead, Timing, Now, Stays, timingOf, timed, momentOf}
+use Rattle.bounded_demands.specs.Stories.{Element, Story, known, queueAt, changeOf, actor, replyOf, putBy, takenBy, givenBack, Moment, At, AfterNextTail, AfterNextHead, timed, momentOf}
 use Rattle.bounded_demands.specs.Demands.{Answered, Meant, Changes}
 use Rattle.bounded_proof_invariant.proofs.Width.{Near, turn-long, word-one}
 use Rattle.bounded_proof_invariant.proofs.Ring.{Shared, Latest, Inv}

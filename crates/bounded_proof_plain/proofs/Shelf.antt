@@ -20,8 +20,9 @@ use Rattle.bounded_machine.specs.declared.Moved.{Moved}
 use Rattle.bounded_machine.specs.declared.Moved.the-variants.{Neither, Tail, Head}
 use Rattle.bounded_machine.specs.History.{movedOf}
 use Rattle.bounded_causes.specs.Causes.{claimsTail, claimsHead}
+use Rattle.bounded_moments.specs.Moments.{timingOf}
 use Rattle.bounded_demands.specs.Notions.{itemIn, tailBy, headBy}
-use Rattle.bounded_demands.specs.Stories.{Element, Story, known, queueAt, changeOf, actor, Moment, At, timingOf, timed, heard, momentWith, momentFrom, momentOf}
+use Rattle.bounded_demands.specs.Stories.{Element, Story, known, queueAt, changeOf, actor, Moment, At, timed, heard, momentWith, momentFrom, momentOf}
 use Rattle.bounded_proof_invariant.proofs.Ring.{Shared, Latest, Inv, Change as RingChange, taken-else}
 use Rattle.bounded_proof_invariant.proofs.Effects.{Course, same, moved, tail-course}
 
