@@ -3,7 +3,7 @@ use mathlib.Core.Path.{_≡_, refl, sym, ap, _∙_, subst}
 use mathlib.Core.Logic.{_≢_, _⊎_, inl, inr}
 use mathlib.Core.Bool.{Bool, true, false, cond}
 use mathlib.Core.List.{List, [], _∷_, _++_, map}
-use Prim.Native.Nat.{ℕ, suc, _+_, _≤_, _<_}
+use Prim.Native.Nat.{ℕ, zero, suc, _+_, _≤_, _<_}
 use native.Mathlib.Omega.{arith}
 use native.Mathlib.Nat.{mod-eq-of-lt}
 use native.Mathlib.Decide.{ℕ-discrete}
@@ -232,14 +232,14 @@ module _ (c ed : ℕ) where
         place = refl;
         tallied = refl;
         capacity = refl;
-        long = length-replicate workersMost _;
+        long = length-replicate workersMost (ofWorker (moments.Before 0));
         each = λ w few. ap (λ (x : OfWorker). inStory (x .moment)) (same-at workersMost w);
         names = λ earlier later act q few. absurd (nil-split earlier (Does act) later q);
       }
     where
       same-at : (n i : ℕ) → getD (replicate n (ofWorker (moments.Before 0))) i (ofWorker (moments.Before 0)) ≡ ofWorker (moments.Before 0)
-      same-at 0 i = refl
-      same-at (suc n) 0 = refl
+      same-at zero i = refl
+      same-at (suc n) zero = refl
       same-at (suc n) (suc i) = same-at n i
 
 -- ---- along every schedule
@@ -248,7 +248,7 @@ module _ (bits : Width) (records c workers ed : ℕ) (a : AllowedWith records c 
   sound-kept : (m : Machine) (st : Story) (en : Entry) (after-it : Machine) (acts : List Event) → Tells bits records c workers ed a m st → (length st < wide → Sound c ed st) → Turned bits m en after-it acts
       → length (st ++ (begunIn en ++ map Does acts)) < wide → Sound c ed (st ++ (begunIn en ++ map Does acts))
   sound-kept m st en after-it acts o s (began w cl l idle) few =
-      let early : length st + 1 < wide = omega (arith, few, length-append st (Begun {E = Event} w cl ∷ [])) in
+      let early : length st + 1 < wide = omega (arith, few, length-append st (Begun w cl ∷ [])) in
       sound-begun c ed st (s (omega arith)) early w cl
   sound-kept m st en after-it acts o s (did w lose l busy early-act) few =
       let early : length st + 1 < wide = omega (arith, few, length-append st (map Does acts)) in
