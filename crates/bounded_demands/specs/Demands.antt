@@ -44,12 +44,16 @@ use Rattle.bounded_machine.specs.Contents.{countIn, contentsOf, contentsRefusal
 use Rattle.bounded_machine.specs.Turn.{byWords, bySchedule}
 use Rattle.bounded_machine.specs.Run.{runFrom, runOfBy, runOf}
 use Rattle.bounded_machine.specs.History.{eventsOf, movedOf, readsAt, stockOf, untakenOf}
+use Rattle.bounded_causes.specs.declared.Stand.{Stand}
 use Rattle.bounded_causes.specs.declared.Deed.{Deed}
 use Rattle.bounded_causes.specs.declared.Causes.{Causes}
 use Rattle.bounded_causes.specs.declared.Watches.{Watches}
 use Rattle.bounded_causes.specs.declared.Named.{Named}
 use Rattle.bounded_causes.specs.Causes as causes
 use Rattle.bounded_causes.specs.Causes.{watchOf, namedOf}
+use Rattle.bounded_moments.specs.declared.Moments.{Moments}
+use Rattle.bounded_moments.specs.declared.Named.{Named as NamedMoment}
+use Rattle.bounded_moments.specs.Moments as moments
 use Rattle.bounded_widths.specs.declared.Machine as widths
 use Rattle.bounded_widths.specs.Widths.{widened, narrowed}
 use Rattle.bounded_narrow.specs.Narrow as narrow
@@ -218,7 +222,7 @@ pub record OnlyOne {M D R : Type 0} (f : Face M D R) : Type 0 where
   pub capacity : (m : M) (x y : Told) → x ≡ capacityOf (f .wide m) → y ≡ capacityOf (f .wide m) → x ≡ y
   pub broken : (m : M) (x y : Bool) → x ≡ brokenOf (f .wide m) → y ≡ brokenOf (f .wide m) → x ≡ y
 
--- And of what is counted along a run for reports (crates bounded_stock and bounded_causes).
+-- And of what is counted along a run for reports (crates bounded_stock, bounded_causes and bounded_moments).
 pub record OnlyOneCount : Type 0 where
   pub moved : (p : Place) (x y : Moved) → x ≡ movedOf p → y ≡ movedOf p → x ≡ y
   pub reads : (p : Place) (x y : Bool) → x ≡ readsAt p → y ≡ readsAt p → x ≡ y
@@ -226,6 +230,12 @@ pub record OnlyOneCount : Type 0 where
   pub stock : (t : Tally) (x y : ℕ) → x ≡ stockOf t → y ≡ stockOf t → x ≡ y
   pub kept : (x y : Watches) → x ≡ causes.start → y ≡ causes.start → x ≡ y
   pub named : (ws : Watches) (w : ℕ) (p q : Place) (l : Loss) (x y : Named) → x ≡ namedOf ws w p q l → y ≡ namedOf ws w p q l → x ≡ y
+  pub stands : (p : Place) (x y : Stand) → x ≡ causes.standOf p → y ≡ causes.standOf p → x ≡ y
+  pub at-tail : (m : Moved) (x y : Bool) → x ≡ causes.claimsTail m → y ≡ causes.claimsTail m → x ≡ y
+  pub at-head : (m : Moved) (x y : Bool) → x ≡ causes.claimsHead m → y ≡ causes.claimsHead m → x ≡ y
+  pub moments-kept : (capacity : ℕ) (x y : Moments) → x ≡ moments.start capacity → y ≡ moments.start capacity → x ≡ y
+  pub moments-begun : (ms : Moments) (x y : Moments) → x ≡ moments.begunOf ms → y ≡ moments.begunOf ms → x ≡ y
+  pub moment-named : (ms : Moments) (w : ℕ) (p q : Place) (x y : NamedMoment) → x ≡ moments.namedOf ms w p q → y ≡ moments.namedOf ms w p q → x ≡ y
 
 -- Demand 1 of a face.
 pub record Demand1 {M D R : Type 0} (f : Face M D R) : Type 0 where

@@ -116,7 +116,11 @@ fn timing_of(before: Place, after: Place) -> Timing
 fn before_unless(pending: bool, until: Moment, place: u64) -> Moment
     ensures { λ r. ⌜ r ≡ cond pending until (Moment.Before place) ⌝ }
 {
-    if pending { until } else { Moment::Before(place) }
+    if pending {
+        until
+    } else {
+        Moment::Before(place)
+    }
 }
 
 fn timed(t: Timing, place: u64, waits: u64, capacity: u64, was: Moment) -> Moment
@@ -133,7 +137,11 @@ fn timed(t: Timing, place: u64, waits: u64, capacity: u64, was: Moment) -> Momen
 fn after_if(claimed: bool, place: u64, pending: Moment) -> Moment
     ensures { λ r. ⌜ r ≡ cond claimed (Moment.After place) pending ⌝ }
 {
-    if claimed { Moment::After(place) } else { pending }
+    if claimed {
+        Moment::After(place)
+    } else {
+        pending
+    }
 }
 
 fn heard(moved: Moved, place: u64, was: Moment) -> Moment
@@ -143,10 +151,18 @@ fn heard(moved: Moved, place: u64, was: Moment) -> Moment
         Moment::Before(k) => Moment::Before(k),
         Moment::After(k) => Moment::After(k),
         Moment::AfterNextTail => {
-            after_if(bounded_causes::claims_tail(moved), place, Moment::AfterNextTail)
+            after_if(
+                bounded_causes::claims_tail(moved),
+                place,
+                Moment::AfterNextTail,
+            )
         }
         Moment::AfterNextHead => {
-            after_if(bounded_causes::claims_head(moved), place, Moment::AfterNextHead)
+            after_if(
+                bounded_causes::claims_head(moved),
+                place,
+                Moment::AfterNextHead,
+            )
         }
     }
 }
@@ -219,11 +235,7 @@ fn waiting(t: Tally) -> u64
 {
     let tail = t.tail;
     let head = t.head;
-    if head.0 <= tail.0 {
-        tail.0 - head.0
-    } else {
-        0
-    }
+    if head.0 <= tail.0 { tail.0 - head.0 } else { 0 }
 }
 
 // An accepted begin: what is then kept.

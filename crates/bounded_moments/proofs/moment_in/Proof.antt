@@ -25,7 +25,7 @@ returns c = search needs
 
 -- src/lib.rt:174:1
 returns-2 : tie.Need-returns-2
-returns-2 c = 
+returns-2 c =
     let over : length (c .before .args .t1) ≤ c .before .args .w = omega (arith, c .before .good) in
     ap (λ (x : OfWorker). x .moment) (sym (List·getD-eq-default (c .before .args .t1) (ofWorker (Before 0)) over))
 
