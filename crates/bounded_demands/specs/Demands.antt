@@ -22,6 +22,7 @@ use Rattle.queue_plain.specs.Story.{itemsOf as itemsBegun}
 use Rattle.bounded_words.specs.declared.Stamp.{Stamp}
 use Rattle.bounded_words.specs.declared.Width.{Width}
 use Rattle.bounded_words.specs.declared.Width.the-variants.{Sixteen, SixtyFour}
+use Rattle.bounded_words.specs.Limits.{wide}
 use Rattle.bounded_words.specs.Words.{fixedOf, indexOf, markedOf, unmarkedOf, lapBehind}
 use Rattle.bounded_places.specs.declared.Answer.{Answer}
 use Rattle.bounded_places.specs.declared.Answer.the-variants.{Yes, PopClosed}
@@ -44,12 +45,16 @@ use Rattle.bounded_machine.specs.Contents.{countIn, contentsOf, contentsRefusal
 use Rattle.bounded_machine.specs.Turn.{byWords, bySchedule}
 use Rattle.bounded_machine.specs.Run.{runFrom, runOfBy, runOf}
 use Rattle.bounded_machine.specs.History.{eventsOf, movedOf, readsAt, stockOf, untakenOf}
+use Rattle.bounded_causes.specs.declared.Stand.{Stand}
 use Rattle.bounded_causes.specs.declared.Deed.{Deed}
 use Rattle.bounded_causes.specs.declared.Causes.{Causes}
 use Rattle.bounded_causes.specs.declared.Watches.{Watches}
 use Rattle.bounded_causes.specs.declared.Named.{Named}
 use Rattle.bounded_causes.specs.Causes as causes
 use Rattle.bounded_causes.specs.Causes.{watchOf, namedOf}
+use Rattle.bounded_moments.specs.declared.Moments.{Moments}
+use Rattle.bounded_moments.specs.declared.Named.{Named as NamedMoment}
+use Rattle.bounded_moments.specs.Moments as moments
 use Rattle.bounded_widths.specs.declared.Machine as widths
 use Rattle.bounded_widths.specs.Widths.{widened, narrowed}
 use Rattle.bounded_narrow.specs.Narrow as narrow
@@ -65,7 +70,7 @@ use Rattle.bounded.specs.Bounded.{makeOf, stepOf}
 use Rattle.bounded_parts.specs.declared.Metered.{Metered}
 use Rattle.bounded_parts.specs.Parts.{meteredOf, Filled, filled}
 use Rattle.bounded_lent.specs.Lent.{Lent, Gone}
-use Rattle.bounded_demands.specs.Stories.{Story, storyOf, oneStep, OnlySuch, twoCloses, known, queueAt, changeOf, actor, replyOf, putBy, takenBy, givenBack, itemAt, At, momentOf}
+use Rattle.bounded_demands.specs.Stories.{Story, storyOf, oneStep, OnlySuch, twoCloses, known, queueAt, changeOf, actor, replyOf, putBy, takenBy, givenBack, itemAt, At, momentOf, momentNamed, inStory}
 use Rattle.bounded_demands.specs.Lending.{Lending, Promise, holding, holds-did, holds-ran, steps, heldIn, actsLent}
 use Rattle.bounded_demands.specs.Foretold.{foretold, Telling, toldIn, tellings, asForetold}
 use Rattle.bounded_demands.specs.Eight.{closedF, caseF}
@@ -179,6 +184,22 @@ OneStepInWindow d =
 abbrev pub ClosesNotOneStep : Definition → Type 0
 ClosesNotOneStep d = OneByOne 1 1 (storyOf d 1 2 1 twoCloses) → ⊥
 
+-- What the program names (`replay --moments`): at every act of the first sixteen workers, what `name_moment` of crate bounded_moments answers, by what was kept along the story before it,
+-- is the moment of its call. Of less than 2^64 entries; the meter ends a run before.
+abbrev pub NamesMoments : ℕ → ℕ → Story → Type 0
+NamesMoments capacity edition s =
+    length s < wide → (earlier later : Story) (act : Event) → s ≡ earlier ++ Does act ∷ later → act .worker < workersMost
+    → inStory (momentNamed capacity earlier act) ≡ momentOf capacity edition (act .worker) (earlier ++ Does act ∷ [])
+
+abbrev pub MomentsKept : Definition → Type 0
+MomentsKept d =
+    (capacity workers edition : ℕ) → AllowedWith (d .records) capacity workers edition → (s : List ℕ) → NamesMoments capacity edition (storyOf d capacity workers edition s)
+
+abbrev pub MomentsKeptInWindow : Definition → Type 0
+MomentsKeptInWindow d =
+    (capacity workers edition : ℕ) → AllowedWith (d .records) capacity workers edition → (s : List ℕ) → KeepsWindow d (freshWith (d .records) capacity workers edition) [] s
+    → NamesMoments capacity edition (storyOf d capacity workers edition s)
+
 -- ==== 1. Any machine, entry or schedule handed in gets an answer or a numbered refusal; a refused step changes nothing.
 -- That each gets an answer is what the functions of crates bounded and bounded_narrow promise: none has a `requires`, and each answer is equal to a
 -- definition. What follows speaks of these definitions, face by face (`Face` of Notions.antt).
@@ -235,7 +256,7 @@ pub record OnlyOne {M D R : Type 0} (f : Face M D R) : Type 0 where
   pub capacity : (m : M) (x y : Told) → x ≡ capacityOf (f .wide m) → y ≡ capacityOf (f .wide m) → x ≡ y
   pub broken : (m : M) (x y : Bool) → x ≡ brokenOf (f .wide m) → y ≡ brokenOf (f .wide m) → x ≡ y
 
--- And of what is counted along a run for reports (crates bounded_stock and bounded_causes).
+-- And of what is counted along a run for reports (crates bounded_stock, bounded_causes and bounded_moments).
 pub record OnlyOneCount : Type 0 where
   pub moved : (p : Place) (x y : Moved) → x ≡ movedOf p → y ≡ movedOf p → x ≡ y
   pub reads : (p : Place) (x y : Bool) → x ≡ readsAt p → y ≡ readsAt p → x ≡ y
@@ -243,6 +264,12 @@ pub record OnlyOneCount : Type 0 where
   pub stock : (t : Tally) (x y : ℕ) → x ≡ stockOf t → y ≡ stockOf t → x ≡ y
   pub kept : (x y : Watches) → x ≡ causes.start → y ≡ causes.start → x ≡ y
   pub named : (ws : Watches) (w : ℕ) (p q : Place) (l : Loss) (x y : Named) → x ≡ namedOf ws w p q l → y ≡ namedOf ws w p q l → x ≡ y
+  pub stands : (p : Place) (x y : Stand) → x ≡ causes.standOf p → y ≡ causes.standOf p → x ≡ y
+  pub at-tail : (m : Moved) (x y : Bool) → x ≡ causes.claimsTail m → y ≡ causes.claimsTail m → x ≡ y
+  pub at-head : (m : Moved) (x y : Bool) → x ≡ causes.claimsHead m → y ≡ causes.claimsHead m → x ≡ y
+  pub moments-kept : (capacity : ℕ) (x y : Moments) → x ≡ moments.start capacity → y ≡ moments.start capacity → x ≡ y
+  pub moments-begun : (ms : Moments) (x y : Moments) → x ≡ moments.begunOf ms → y ≡ moments.begunOf ms → x ≡ y
+  pub moment-named : (ms : Moments) (w : ℕ) (p q : Place) (x y : NamedMoment) → x ≡ moments.namedOf ms w p q → y ≡ moments.namedOf ms w p q → x ≡ y
 
 -- Demand 1 of a face.
 pub record Demand1 {M D R : Type 0} (f : Face M D R) : Type 0 where

@@ -22,6 +22,12 @@ use Rattle.bounded_machine.specs.declared.Event.{Event}
 use Rattle.bounded_machine.specs.Machine.{freshWith}
 use Rattle.bounded_machine.specs.History.{eventsOf, movedOf}
 use Rattle.bounded_causes.specs.Causes.{standOf, claimsTail, claimsHead}
+use Rattle.bounded_moments.specs.declared.Timing.{Timing}
+use Rattle.bounded_moments.specs.declared.Timing.the-variants.{Now, Stays, IfSome, IfRoom}
+use Rattle.bounded_moments.specs.declared.Moment as declared
+use Rattle.bounded_moments.specs.declared.Moment.the-variants as moments
+use Rattle.bounded_moments.specs.declared.Moments.{Moments}
+use Rattle.bounded_moments.specs.Moments.{timingOf, start, begunOf, namedOf}
 use Rattle.bounded_demands.specs.Notions.{Definition, acts}
 
 abbrev pub Element : Type 0
@@ -149,55 +155,7 @@ pub data Moment : Type 0 where
   At : ℕ → Moment
   AfterNextTail AfterNextHead : Moment
 
--- What an act of its own makes of a call's moment: it is now, just before the act; it stays; now if something waits, else directly after the next tail claim; now
--- if there is room, else directly after the next head claim.
-pub data Timing : Type 0 where
-  Now Stays IfSome IfRoom : Timing
-
--- Of an act that answers: Closed, Empty and a yes now; a no now at the only act of its call (close, is_closed), else at the moment that its loads gave it.
-abbrev pub timingSaid : ℕ → Answer → Timing
-timingSaid far Nothing = Stays
-timingSaid far Pushed = Stays
-timingSaid far (Full x) = Stays
-timingSaid far (Closed x) = Now
-timingSaid far (Displaced v) = Stays
-timingSaid far (Popped v) = Stays
-timingSaid far Empty = Now
-timingSaid far PopClosed = Now
-timingSaid far (Len n) = Stays
-timingSaid far Yes = Now
-timingSaid far No = cond (eqb far 1) Now Stays
-
--- Else by where it leads: to P2 when it loaded or found t, to P4 and O4 when it claimed, to len's third load when it loaded head, to the second loads of is_empty
--- and is_full.
-abbrev pub timingOf : Place → Place → Timing
-timingOf p (Idle a) = timingSaid (standOf p .far) a
-timingOf p (P1 k x) = Stays
-timingOf p (P2 k t x) = Now
-timingOf p (P3 k t x) = Stays
-timingOf p (P4 t x) = Now
-timingOf p (P5 t) = Stays
-timingOf p (P6 t x) = Stays
-timingOf p (F6 t x) = Stays
-timingOf p (F7 t x) = Stays
-timingOf p (F8 t x) = Stays
-timingOf p (F9 t old) = Stays
-timingOf p O1 = Stays
-timingOf p (O2 h) = Stays
-timingOf p (O3 h) = Stays
-timingOf p (O4 h) = Now
-timingOf p (O5 h v) = Stays
-timingOf p (O6 h) = Stays
-timingOf p Len1 = Stays
-timingOf p (Len2 t) = Stays
-timingOf p (Len3 t h) = Now
-timingOf p Empty1 = Stays
-timingOf p (Empty2 h) = IfSome
-timingOf p Full1 = Stays
-timingOf p (Full2 t) = IfRoom
-timingOf p Close1 = Stays
-timingOf p IsClosed1 = Stays
-
+-- What an act of its own makes of a call's moment; `timingOf` says which.
 abbrev pub timed : Timing → Known → Moment → Moment
 timed Now k was = At (k .count)
 timed Stays k was = was
@@ -245,3 +203,28 @@ OnlySuch such (Does e ∷ s) = OnlySuch such s
 -- Capacity 1, with one item in: worker 0's force_push up to F7; worker 1 closes; F7, which clears the mark in edition 1; worker 1 closes again.
 unfoldable pub twoCloses : List ℕ
 twoCloses = 0 ∷ 1 ∷ acts 0 5 ++ 1 ∷ 2 ∷ acts 0 3 ++ 22 ∷ 0 ∷ acts 1 1 ++ acts 0 1 ++ 22 ∷ 0 ∷ acts 1 1
+
+-- ---- as the functions of crate bounded_moments keep them
+
+abbrev pub momentsWith : Moments → Element → Moments
+momentsWith ms (Begun w c) = begunOf ms
+momentsWith ms (Does e) = namedOf ms (e .worker) (e .before) (e .after) .moments
+
+unfoldable pub momentsFrom : Moments → Story → Moments
+momentsFrom ms [] = ms
+momentsFrom ms (x ∷ s) = momentsFrom (momentsWith ms x) s
+
+-- After this story.
+abbrev pub momentsKept : ℕ → Story → Moments
+momentsKept capacity s = momentsFrom (start capacity) s
+
+-- Of an act after it: what `name_moment` answers.
+abbrev pub momentNamed : ℕ → Story → Event → declared.Moment
+momentNamed capacity earlier act = namedOf (momentsKept capacity earlier) (act .worker) (act .before) (act .after) .moment
+
+-- Just before entry j, j elements stand before the moment; directly after it, one more.
+abbrev pub inStory : declared.Moment → Moment
+inStory (moments.Before j) = At j
+inStory (moments.After j) = At (j + 1)
+inStory moments.AfterNextTail = AfterNextTail
+inStory moments.AfterNextHead = AfterNextHead

@@ -11,3 +11,4 @@ pub mod OneStep
 pub mod Linear
 pub mod Linearizable
 pub mod TwoCloses
+pub mod Moments

@@ -39,7 +39,10 @@ use Rattle.bounded_machine.specs.Turn.{acted}
 use Rattle.bounded_machine.specs.History.{movedOf, lossAt}
 use Rattle.bounded_causes.specs.Causes.{standOf, claimsTail, claimsHead}
 use Rattle.bounded_demands.specs.Notions.{holdingAt}
-use Rattle.bounded_demands.specs.Stories.{Story, known, queueAt, changeOf, actor, replyOf, putBy, takenBy, At, Timing, Now, Stays, IfSome, IfRoom, timingOf, timed, momentOf}
+use Rattle.bounded_moments.specs.declared.Timing.{Timing}
+use Rattle.bounded_moments.specs.declared.Timing.the-variants.{Now, Stays, IfSome, IfRoom}
+use Rattle.bounded_moments.specs.Moments.{timingOf}
+use Rattle.bounded_demands.specs.Stories.{Story, known, queueAt, changeOf, actor, replyOf, putBy, takenBy, At, timed, momentOf}
 use Rattle.bounded_demands.specs.Demands.{Answered, Meant}
 use Rattle.bounded_proof_invariant.proofs.Upd.{upd, upd-same, upd-else}
 use Rattle.bounded_proof_invariant.proofs.Ring.{Grab, Await, Hand, Shared, Owns, ViewOk, CellOk}

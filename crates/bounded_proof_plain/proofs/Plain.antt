@@ -217,13 +217,22 @@ module _ (bits : Width) (records c workers ed : ℕ) (a : AllowedWith records c 
   unfolding turnOfBy
   one-entry m st i j o window e = told-kept bits c n workers (base-of bits records c workers ed a) ed m st (entryOf i j) _ _ o window (turned bits m (entryOf i j) e)
 
-  pub told-after : (s : List ℕ) → KeepsWindow (withRecords records bits) (freshWith records c workers ed) [] s → Tells (machineAfter (withRecords records bits) c workers ed s) (storyOf (withRecords records bits) c workers ed s)
-  told-after s keeps =
-      entries-lead-while (ring-queue bits) (elementsBy (eventsOf bits)) (λ (m : Machine) (st : Story). InWindow bits m (actsIn st)) Tells one-entry s (freshWith records c workers ed) [] 0
-      (λ before after e.
-      subst (InWindow bits (runAt bits (freshWith records c workers ed) 0 before .machine)) (sym (acts-story (λ (d : Did). d .refusal) (λ (d : Did). d .machine) (turnAt bits) (eventsOf bits) before (freshWith records c workers ed)))
-      (keeps before after e))
-      told-first
+  -- with whatever else each entry leads on
+  module _ (Q : Machine → Story → Type 0) (step : (m : Machine) (st : Story) (i j : ℕ) → Tells m st → Q m st → turnAt bits m i j .refusal ≡ 0
+      → Q (turnAt bits m i j .machine) (st ++ elementsBy (eventsOf bits) m (entryOf i j) (turnAt bits m i j .machine))) (first : Q (freshWith records c workers ed) []) where
+    pub told-with : (s : List ℕ) → KeepsWindow (withRecords records bits) (freshWith records c workers ed) [] s
+        → Tells (machineAfter (withRecords records bits) c workers ed s) (storyOf (withRecords records bits) c workers ed s)
+        × Q (machineAfter (withRecords records bits) c workers ed s) (storyOf (withRecords records bits) c workers ed s)
+    told-with s keeps =
+        entries-lead-while (ring-queue bits) (elementsBy (eventsOf bits)) (λ (m : Machine) (st : Story). InWindow bits m (actsIn st)) (λ (m : Machine) (st : Story). Tells m st × Q m st)
+        (λ m st i j both window e. (one-entry m st i j (both .0) window e, step m st i j (both .0) (both .1) e)) s (freshWith records c workers ed) [] 0
+        (λ before after e.
+        subst (InWindow bits (runAt bits (freshWith records c workers ed) 0 before .machine)) (sym (acts-story (λ (d : Did). d .refusal) (λ (d : Did). d .machine) (turnAt bits) (eventsOf bits) before (freshWith records c workers ed)))
+        (keeps before after e))
+        (told-first, first)
+
+  told-after : (s : List ℕ) → KeepsWindow (withRecords records bits) (freshWith records c workers ed) [] s → Tells (machineAfter (withRecords records bits) c workers ed s) (storyOf (withRecords records bits) c workers ed s)
+  told-after s keeps = told-with (λ m st. Unit {0}) (λ m st i j o q e. tt) tt s keeps .0
 
 pub plain-in-window : (bits : Width) (records : ℕ) → AnswersPlainInWindow (withRecords records bits)
 plain-in-window bits records c workers ed a s keeps =

@@ -23,7 +23,10 @@ use Rattle.bounded_places.specs.declared.Place.{Place}
 use Rattle.bounded_places.specs.declared.Place.the-variants.{Idle, P1, P2, P3, P4, P5, P6, F6, F7, F8, F9, O1, O2, O3, O4, O5, O6, Len1, Len2, Len3, Empty1, Empty2, Full1, Full2, Close1, IsClosed1}
 use Rattle.bounded_places.specs.Places.{viewOf}
 use Rattle.bounded_causes.specs.Causes.{standOf}
-use Rattle.bounded_demands.specs.Stories.{oneStep, At, Timing, Now, Stays, IfSome, IfRoom, timingSaid, timingOf}
+use Rattle.bounded_moments.specs.declared.Timing.{Timing}
+use Rattle.bounded_moments.specs.declared.Timing.the-variants.{Now, Stays, IfSome, IfRoom}
+use Rattle.bounded_moments.specs.Moments.{timingSaid, timingOf}
+use Rattle.bounded_demands.specs.Stories.{oneStep, At}
 use Rattle.bounded_proof_plain.proofs.Work.{pushing}
 use Rattle.bounded_proof_plain.proofs.Rows.{pushed-item}
 use Rattle.bounded_proof_plain.proofs.Told.{i, a, u, act}

@@ -39,7 +39,9 @@ use Rattle.bounded_machine.specs.History.{event, movedOf}
 use Rattle.bounded_machine.proofs.Kept.{either, exchanged}
 use Rattle.bounded_causes.specs.Causes.{claimsTail, claimsHead}
 use Rattle.bounded_demands.specs.Notions.{itemIn, headBy, holdingAt}
-use Rattle.bounded_demands.specs.Stories.{Story, known, queueAt, changeOf, actor, replyOf, putBy, takenBy, givenBack, At, Now, Stays, timingOf, momentOf}
+use Rattle.bounded_moments.specs.declared.Timing.the-variants.{Now, Stays}
+use Rattle.bounded_moments.specs.Moments.{timingOf}
+use Rattle.bounded_demands.specs.Stories.{Story, known, queueAt, changeOf, actor, replyOf, putBy, takenBy, givenBack, At, momentOf}
 use Rattle.bounded_demands.specs.Demands.{Answered, Meant, Changes}
 use Rattle.bounded_proof_invariant.proofs.Width.{Near, turn-long, word-one}
 use Rattle.bounded_proof_invariant.proofs.Ring.{Shared, Latest, Inv}

@@ -21,7 +21,10 @@ use Rattle.bounded_machine.specs.declared.Moved.the-variants.{Neither, Tail, He
 use Rattle.bounded_machine.specs.History.{movedOf}
 use Rattle.bounded_causes.specs.Causes.{claimsTail, claimsHead}
 use Rattle.bounded_demands.specs.Notions.{itemIn, tailBy, headBy}
-use Rattle.bounded_demands.specs.Stories.{Element, Story, known, changeOf, actor, Moment, At, AfterNextTail, AfterNextHead, Timing, Now, Stays, IfSome, IfRoom, timingOf, timed, heard, momentWith, momentFrom, momentOf}
+use Rattle.bounded_moments.specs.declared.Timing.{Timing}
+use Rattle.bounded_moments.specs.declared.Timing.the-variants.{Now, Stays, IfSome, IfRoom}
+use Rattle.bounded_moments.specs.Moments.{timingOf}
+use Rattle.bounded_demands.specs.Stories.{Element, Story, known, changeOf, actor, Moment, At, AfterNextTail, AfterNextHead, timed, heard, momentWith, momentFrom, momentOf}
 use Rattle.bounded_proof_invariant.proofs.Ring.{Shared, Latest, Inv, taken-else}
 use Rattle.bounded_proof_invariant.proofs.Effects.{Course, same, moved, tail-course}
 

@@ -17,6 +17,7 @@ fn start(at: usize) -> Run {
         whole: false,
         at: at,
         summary: replay_bounded_counts::summary::none(),
+        answers: replay_bounded_counts::moments::none(0),
     }
 }
 
@@ -82,9 +83,11 @@ fn of_the_whole(broken: bool, whole: Whole) -> Whole {
 fn made(b: Making, whole: Whole, at: usize) -> Run {
     let of_all = of_the_whole(b.broken, whole);
     let summary = replay_bounded_lines::refused_of(of_all.refusal);
-    let ring = b.ring;
+    let metered = b.ring;
+    let ring = metered.ring;
+    let fixed = ring.fixed;
     Run {
-        ring: ring,
+        ring: metered,
         records: replay_bounded_entries::idlers(),
         count: b.count,
         made: true,
@@ -93,6 +96,7 @@ fn made(b: Making, whole: Whole, at: usize) -> Run {
         whole: of_all.refusal != 0,
         at: at,
         summary: summary,
+        answers: replay_bounded_counts::moments::none(fixed.capacity),
     }
 }
 
@@ -161,7 +165,7 @@ fn finish(r: Run, o: Options, out: &mut [u8]) -> usize {
 fn some(r: Run, o: Options, whole: Whole, list: &[u64], n: usize, out: &mut [u8]) -> Run {
     let before = r.place;
     let after = pairs(r, o, whole, list, n, out);
-    replay_input::say::progress(before, after.place);
+    replay_input::say::progress(before, after.place, after.at);
     after
 }
 
@@ -178,7 +182,7 @@ fn all(
     let mut run = start(at);
     let mut reading = begun;
     let mut turns = u64::MAX;
-    while turns > 0 && replay_input::source::goes_on(reading.event, run.refusal) {
+    while turns > 0 && replay_input::source::tells_on(reading.event, run.refusal, run.at) {
         turns -= 1;
         reading = replay_input::source::next(fd, o.many, reading, bytes, list);
         run = some(run, o, whole, list, reading.count, out);
