@@ -5,7 +5,7 @@
 //! calls are ended in turn so that the contents are seen. Or the compact set, without a bound: every act from every state that
 //! can be reached, each in a schedule that ends right after it, so that all slots are compared after each act.
 
-use crate::call::code::{CLOSE, FORCE_PUSH, LEN, POP, PUSH};
+use crate::call::code::{CLOSE, FORCE_PUSH, IS_EMPTY, LEN, POP, PUSH};
 use crate::drive::{Program, Run};
 use crate::interleaved::end_all_calls;
 use crate::machine::Machine;
@@ -53,7 +53,7 @@ pub fn cases(queue: Queue) -> Vec<(Preload, Vec<u64>)> {
             for (gone, held, pairs) in [
                 (0, 30, [[PUSH, PUSH], [PUSH, POP], [PUSH, LEN], [PUSH, CLOSE]].as_slice()),
                 (30, 0, &[[PUSH, PUSH], [PUSH, POP]]),
-                (30, 1, &[[POP, POP], [POP, LEN]]),
+                (30, 1, &[[POP, POP], [POP, LEN], [POP, IS_EMPTY]]),
                 (29, 2, &[[POP, POP]]),
             ] {
                 all.extend(pairs.iter().map(|pair| (of(gone, held), pair.to_vec())));
