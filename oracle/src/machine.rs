@@ -270,8 +270,8 @@ impl Machine {
     /// Tail is claimed by a won exchange and by the store of F7; a value is read by the call that won head.
     fn count_stock(&mut self, action: Action, seen: &Seen) {
         match action {
-            Action::WeakExchange(Word::Tail, ..) if stage::met().won => self.stock += 1,
-            Action::Store(Word::Tail, _) | Action::FetchAdd(Word::Tail, _) => self.stock += 1,
+            Action::WeakExchange(Word::Tail, ..) if stage::met().won => self.stock = self.stock.wrapping_add(1),
+            Action::Store(Word::Tail, _) | Action::FetchAdd(Word::Tail, _) => self.stock = self.stock.wrapping_add(1),
             Action::Value(_) if seen.won == Some(Word::Head) => self.stock = self.stock.wrapping_sub(1),
             _ => {}
         }

@@ -76,7 +76,10 @@ impl Options {
         while let Some(argument) = arguments.next() {
             match argument.strip_prefix("--") {
                 None => options.plain.push(argument),
-                Some(flag @ ("quiet" | "many" | "compact" | "closing" | "causes" | "losses" | "stock" | "moments" | "plain" | "list" | "lent")) => {
+                Some(
+                    flag @ ("quiet" | "many" | "compact" | "closing" | "causes" | "losses" | "stock" | "moments"
+                    | "plain" | "list" | "lent"),
+                ) => {
                     options.flags.push(flag.into());
                 }
                 Some(
@@ -108,9 +111,11 @@ impl Options {
     fn queue(&self) -> Result<Queue, String> {
         let name = self.value("queue").unwrap_or("bounded");
         match Queue::named(name).ok_or(format!("--queue: no such queue: {name}\n{USAGE}"))? {
-            Queue::Bounded { edition, .. } => {
-                Ok(Queue::Bounded { edition: self.number_or("edition", edition)?, bits: self.bits()?, lent: self.flag("lent") })
-            }
+            Queue::Bounded { edition, .. } => Ok(Queue::Bounded {
+                edition: self.number_or("edition", edition)?,
+                bits: self.bits()?,
+                lent: self.flag("lent"),
+            }),
             other if self.flag("lent") => Err(format!("--lent: {other:?} lends none\n{USAGE}")),
             other => match ["edition", "bits"].into_iter().find(|name| self.value(name).is_some()) {
                 Some(name) => Err(format!("--{name}: {other:?} has none\n{USAGE}")),
@@ -211,7 +216,8 @@ fn driven(options: &Options, drive: impl FnOnce(&mut Run) -> Result<(), String>)
         println!("answers no of an empty queue at a block's end {}", run.tally.no_of_empty);
     }
     println!("{:.1} s, {:.0} acts a second", seconds, run.tally.acts as f64 / seconds);
-    result.map_err(|message| options.value("seed").map_or(message.clone(), |seed| format!("seed {seed}: {message}")))?;
+    result
+        .map_err(|message| options.value("seed").map_or(message.clone(), |seed| format!("seed {seed}: {message}")))?;
     println!("{compared}");
     Ok(())
 }

@@ -338,7 +338,9 @@ impl Account {
                     self.answers += 1;
                 } else {
                     let (answer, plainly) = (told(answer), told(plainly));
-                    self.wrong(format!("worker {worker}: {call} answers {answer}; the plain queue at={moment} {plainly}"));
+                    self.wrong(format!(
+                        "worker {worker}: {call} answers {answer}; the plain queue at={moment} {plainly}"
+                    ));
                 }
                 self.at = Some(moment.to_string());
             }
@@ -347,14 +349,19 @@ impl Account {
                     self.no_of_empty += 1;
                 } else {
                     let (answer, plainly) = (told(answer), told(now.sight.answer(under.call)));
-                    self.wrong(format!("worker {worker}: {call} answers {answer}, which has no moment; the plain queue now {plainly}"));
+                    self.wrong(format!(
+                        "worker {worker}: {call} answers {answer}, which has no moment; the plain queue now {plainly}"
+                    ));
                 }
                 self.at = Some("none".into());
             }
         }
         if !meant(under, answer) {
             let Under { puts, takes, .. } = under;
-            self.wrong(format!("worker {worker}: {call} answers {}, having put in {puts} and taken out {takes}", told(answer)));
+            self.wrong(format!(
+                "worker {worker}: {call} answers {}, having put in {puts} and taken out {takes}",
+                told(answer)
+            ));
         }
     }
 
@@ -416,11 +423,21 @@ fn forbidden(effect: Effect, under: Under, plain: Sight) -> Option<&'static str>
     let same_since_given = || matches!(under.named, Named::At(moment) if plain.same_items(moment.sight));
     let nothing_in_since_given = || matches!(under.named, Named::At(moment) if plain.put == moment.sight.put);
     let (allowed, else_why) = match effect {
-        Effect::PutIn => (!plain.closed && !plain.full && !plain.held, "an item comes into a plain queue that is closed or full"),
+        Effect::PutIn => {
+            (!plain.closed && !plain.full && !plain.held, "an item comes into a plain queue that is closed or full")
+        }
         Effect::TakeOut => (plain.waiting > 0, "an item goes out of a plain queue in which none waits"),
-        Effect::MakeRoom => (plain.full && same_since_given(), "F6 is won, and the plain queue is not full or not as when t was given"),
-        Effect::PutInThere => (!plain.full && nothing_in_since_given(), "F7, and the plain queue is full or another item came in since F6"),
-        Effect::Replace => (!plain.closed && plain.full && !plain.held, "an item is displaced in a plain queue that is closed or not full"),
+        Effect::MakeRoom => {
+            (plain.full && same_since_given(), "F6 is won, and the plain queue is not full or not as when t was given")
+        }
+        Effect::PutInThere => (
+            !plain.full && nothing_in_since_given(),
+            "F7, and the plain queue is full or another item came in since F6",
+        ),
+        Effect::Replace => (
+            !plain.closed && plain.full && !plain.held,
+            "an item is displaced in a plain queue that is closed or not full",
+        ),
         Effect::None | Effect::LetGo | Effect::Close => (true, ""),
     };
     (!allowed).then_some(else_why)
