@@ -234,8 +234,9 @@ impl Account {
     pub fn act(&mut self, worker: usize, action: Action, met: Met, answer: Option<State>) {
         let Some(mut under) = self.calls[worker] else { return };
         let now = Moment { entry: self.entry, after: false, sight: self.plain.sight() };
-        self.look(&mut under, action, met, now);
-        let effect = effect(self.making, under, action, met);
+        look(&mut under, action, met, now);
+        self.look_at_block_end(&mut under, action, met);
+        let effect = effect(under, action, met);
         if let Some(why) = forbidden(effect, under, now.sight) {
             self.wrong(format!("worker {worker}: {why}"));
         }
@@ -248,37 +249,24 @@ impl Account {
         }
     }
 
-    /// What an act of its own makes of a call's moment.
-    fn look(&mut self, under: &mut Under, action: Action, met: Met, now: Moment) {
-        use Action::{Exchange, FetchOr, Load, Nothing, WeakExchange};
-        use Word::{Head, State, Tail};
-        under.named = match (under.call, action) {
-            // The act that gave t, or the won claim.
-            (Call::Push(_) | Call::ForcePush(_), Load(Tail) | WeakExchange(Tail, ..)) => Named::At(now),
-            (Call::Pop, WeakExchange(Head, ..)) if met.won => Named::At(now),
-            (Call::Pop, Load(Tail)) => Named::At(now),
-            (Call::Len, Load(Head)) => Named::At(now),
-            // A no; a yes is named at its last act.
-            (Call::IsEmpty, Load(Head)) if now.sight.waiting > 0 => Named::At(now),
-            (Call::IsEmpty, Load(Head)) => Named::AfterNext(Tail),
-            (Call::IsFull, Load(Tail)) if !now.sight.full => Named::At(now),
-            (Call::IsFull, Load(Tail)) => Named::AfterNext(Head),
-            (Call::IsFull, Nothing) => Named::At(now),
-            (Call::Close, FetchOr(..)) | (Call::IsClosed, Load(_)) => Named::At(now),
-            (_, Exchange(State, ..) | Load(State)) => Named::At(now),
-            _ => under.named,
-        };
-        if let (Making::Unbounded, Call::IsEmpty, Load(Head)) = (self.making, under.call, action) {
-            under.found_block_end = met.found / 2 % BLOCK_POSITIONS == BLOCK_POSITIONS - 1;
-            if under.found_block_end != self.calls.iter().flatten().any(|call| call.at_block_end) {
-                self.wrong(format!("head's index {} and the pops at a block's end do not agree", met.found));
-            }
+    /// Of the unbounded queue: which pops have claimed a block's last slot and not stored head's index yet, and that head's index stands at a block's end, for
+    /// an `is_empty` that loads it, exactly while there is one.
+    fn look_at_block_end(&mut self, under: &mut Under, action: Action, met: Met) {
+        if self.making != Making::Unbounded {
+            return;
         }
-        match (self.making, under.call, action) {
-            (Making::Unbounded, Call::Pop, WeakExchange(Head, expected, _)) if met.won => {
-                under.at_block_end = expected / 2 % BLOCK_POSITIONS == BLOCK_POSITIONS - 2;
+        let offset = |index: usize| index / 2 % BLOCK_POSITIONS;
+        match (under.call, action) {
+            (Call::Pop, Action::WeakExchange(Word::Head, claimed, _)) if met.won => {
+                under.at_block_end = offset(claimed) == BLOCK_POSITIONS - 2;
             }
-            (Making::Unbounded, Call::Pop, Action::Store(Head, _)) => under.at_block_end = false,
+            (Call::Pop, Action::Store(Word::Head, _)) => under.at_block_end = false,
+            (Call::IsEmpty, Action::Load(Word::Head)) => {
+                under.found_block_end = offset(met.found) == BLOCK_POSITIONS - 1;
+                if under.found_block_end != self.calls.iter().flatten().any(|call| call.at_block_end) {
+                    self.wrong(format!("head's index {} and the pops at a block's end do not agree", met.found));
+                }
+            }
             _ => {}
         }
     }
@@ -400,20 +388,44 @@ const BLOCK_POSITIONS: usize = 32;
 /// The bit of the one-slot queue's word that says that an item waits.
 const PUSHED: usize = 2;
 
+/// What an act of its own makes of a call's moment.
+fn look(under: &mut Under, action: Action, met: Met, now: Moment) {
+    use Action::{Exchange, FetchOr, Load, Nothing, WeakExchange};
+    use Word::{Head, State, Tail};
+    under.named = match (under.call, action) {
+        // The act that gave t, or the won claim.
+        (Call::Push(_) | Call::ForcePush(_), Load(Tail) | WeakExchange(Tail, ..)) => Named::At(now),
+        (Call::Pop, WeakExchange(Head, ..)) if met.won => Named::At(now),
+        (Call::Pop, Load(Tail)) => Named::At(now),
+        (Call::Len, Load(Head)) => Named::At(now),
+        // A no; a yes is named at its last act.
+        (Call::IsEmpty, Load(Head)) if now.sight.waiting > 0 => Named::At(now),
+        (Call::IsEmpty, Load(Head)) => Named::AfterNext(Tail),
+        (Call::IsFull, Load(Tail)) if !now.sight.full => Named::At(now),
+        (Call::IsFull, Load(Tail)) => Named::AfterNext(Head),
+        (Call::IsFull, Nothing) => Named::At(now),
+        (Call::Close, FetchOr(..)) | (Call::IsClosed, Load(_)) => Named::At(now),
+        // The one-slot queue: its one word.
+        (_, Exchange(State, ..) | Load(State)) => Named::At(now),
+        _ => under.named,
+    };
+}
+
 /// Which action changes the plain queue, and how.
-fn effect(making: Making, under: Under, action: Action, met: Met) -> Effect {
+fn effect(under: Under, action: Action, met: Met) -> Effect {
     use Action::{Exchange, FetchAdd, FetchAnd, FetchOr, Store, WeakExchange};
     use Word::{Head, State, Tail};
-    match (making, under.call, action) {
-        (_, Call::Push(_) | Call::ForcePush(_), WeakExchange(Tail, ..)) if met.won => Effect::PutIn,
-        (_, Call::Pop, WeakExchange(Head, ..)) if met.won => Effect::TakeOut,
-        (_, Call::ForcePush(_), WeakExchange(Head, ..)) if met.won => Effect::MakeRoom,
-        (_, Call::ForcePush(_), Store(Tail, _) | FetchAdd(Tail, _)) => Effect::PutInThere,
-        (_, Call::ForcePush(_), Exchange(State, expected, _)) if met.won && expected & PUSHED != 0 => Effect::Replace,
-        (_, Call::Push(_) | Call::ForcePush(_), Exchange(State, ..)) if met.won => Effect::PutIn,
-        (_, Call::Pop, Exchange(State, ..)) if met.won => Effect::TakeOut,
-        (Making::Single, Call::Pop, FetchAnd(State, _)) if under.holds => Effect::LetGo,
-        (_, Call::Close, FetchOr(..)) => Effect::Close,
+    match (under.call, action) {
+        (Call::Push(_) | Call::ForcePush(_), WeakExchange(Tail, ..)) if met.won => Effect::PutIn,
+        (Call::Pop, WeakExchange(Head, ..)) if met.won => Effect::TakeOut,
+        (Call::ForcePush(_), WeakExchange(Head, ..)) if met.won => Effect::MakeRoom,
+        // F7; the unbounded queue, which adds to tail as well, has no force_push.
+        (Call::ForcePush(_), Store(Tail, _) | FetchAdd(Tail, _)) => Effect::PutInThere,
+        (Call::ForcePush(_), Exchange(State, expected, _)) if met.won && expected & PUSHED != 0 => Effect::Replace,
+        (Call::Push(_) | Call::ForcePush(_), Exchange(State, ..)) if met.won => Effect::PutIn,
+        (Call::Pop, Exchange(State, ..)) if met.won => Effect::TakeOut,
+        (Call::Pop, FetchAnd(State, _)) if under.holds => Effect::LetGo,
+        (Call::Close, FetchOr(..)) => Effect::Close,
         _ => Effect::None,
     }
 }
