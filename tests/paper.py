@@ -393,6 +393,51 @@ def causes(history):
     return [cause for cause in CAUSES if hold.get(cause)]
 
 
+# What an answer means: which acts change the plain queue, and which moment is an answer's. The table stands in docs/DIFFERENTIAL.md.
+
+class Plainly:
+    puts, takes = CLAIMS['tail'], CLAIMS['head']
+    holds = lets_go = ()
+    gave_t = ('P1', 'P2'), ('P3', 'P2')
+
+    def __init__(self, capacity, edition):
+        self.capacity = capacity
+        self.opens = [('F7', 'F8')] if edition == 1 else []
+
+    def forbids(self, story, call, way):
+        queue = story.queues[-1]
+        if way == ('P3', 'P4'):
+            return queue.closed or story.full(queue)
+        if way == ('O3', 'O4'):
+            return queue.waiting() == 0
+        if way == ('F6', 'F7'):
+            given = story.queue_at(story.own(call, *self.gave_t))
+            return not story.full(queue) or (queue.put, queue.out) != (given.put, given.out)
+        if way == ('F7', 'F8'):
+            return story.full(queue) or queue.put != story.queue_at(story.own(call, ('F6', 'F7'))).put
+        return False
+
+    def moment(self, story, call, answer):
+        if answer[0] == 'Pushed':
+            return story.own(call, ('P3', 'P4'))
+        if answer[0] in ('Full', 'Displaced'):
+            return story.own(call, *self.gave_t)
+        if answer[0] == 'Popped':
+            return story.own(call, ('O3', 'O4'))
+        if call.name == 'len':
+            return story.own(call, ('len2', 'len3'))
+        if call.name == 'is_empty' and answer == ('No',):
+            loaded = story.own(call, ('is_empty1', 'is_empty2'))
+            return loaded if story.queue_at(loaded).waiting() > 0 else story.first_after(loaded, self.puts)
+        if call.name == 'is_full' and answer == ('No',):
+            loaded = story.own(call, ('is_full1', 'is_full2'))
+            return story.first_after(loaded, self.takes) if story.full(story.queue_at(loaded)) else loaded
+        return story.last(call)
+
+    def answers_no_of_empty(self, story, call, answer):
+        return False
+
+
 # "Broken", under Eleven ways to be turned away
 
 def index_amiss(ring, word):

@@ -187,6 +187,32 @@ FIRST = {
 }
 
 
+# What an answer means: which acts change the plain queue of one item, and which moment is an answer's. The table stands in docs/DIFFERENTIAL.md.
+
+class Plainly:
+    capacity = 1
+    puts = ('A1', 'A2'), ('B1', 'B2'), ('B1', 'B4')
+    takes = ('C1', 'C2'), ('B1', 'B4')
+    opens = ()
+    holds, lets_go = [('C1', 'C2')], [('C3', 'idle')]
+
+    def forbids(self, story, call, way):
+        queue = story.queues[-1]
+        if way in self.puts and (queue.closed or queue.held):
+            return True
+        if way in self.takes:
+            return queue.waiting() == 0
+        return way in self.puts and queue.waiting() > 0
+
+    def moment(self, story, call, answer):
+        if answer[0] in ('Pushed', 'Displaced', 'Popped'):
+            return story.own(call, *self.puts, *self.takes)
+        return story.last(call)
+
+    def answers_no_of_empty(self, story, call, answer):
+        return False
+
+
 # Refusals
 
 def broken(machine):

@@ -402,6 +402,41 @@ WEAK_EXCHANGES = ('U7', 'V4')
 TAKING = ('U3', 'U4')
 
 
+# What an answer means: which acts change the plain queue, and which moment is an answer's. The table stands in docs/DIFFERENTIAL.md.
+
+class Plainly:
+    capacity = None
+    puts = ('U7', 'U9'), ('U7', 'U12')
+    takes = ('V4', 'V6'), ('V4', 'V10')
+    opens = holds = lets_go = ()
+
+    def forbids(self, story, call, way):
+        queue = story.queues[-1]
+        return (way in self.puts and queue.closed) or (way in self.takes and queue.waiting() == 0)
+
+    def moment(self, story, call, answer):
+        if answer[0] == 'Pushed':
+            return story.own(call, *self.puts)
+        if call.name == 'push' and answer[0] == 'Closed':
+            return story.own(call, ('U1', 'U2'), ('U7', 'U8'))
+        if answer[0] == 'Popped':
+            return story.own(call, *self.takes)
+        if call.name == 'len':
+            return story.own(call, ('len2', 'len3'))
+        if call.name == 'is_empty' and answer == ('No',):
+            loaded = story.own(call, ('is_empty1', 'is_empty2'))
+            return loaded if story.queue_at(loaded).waiting() > 0 else story.first_after(loaded, self.puts)
+        return story.last(call)
+
+    def answers_no_of_empty(self, story, call, answer):
+        """Nothing waited at its load of head and nothing came in since, but head's index stood at a block's end: a pop that has claimed the block's last slot
+        has not stored the index behind it yet."""
+        if call.name != 'is_empty' or answer != ('No',):
+            return False
+        loaded = story.own(call, ('is_empty1', 'is_empty2'))
+        return offset(story.entries[loaded.place].left.h) == SLOTS
+
+
 # Broken: "a worker count out of limits, a busy record past it, or a next act (but taking), or with all idle Drop's walk, that uses a free
 # block, no block or a slot past 30". Used is a block of which a word or a value is read or written, or which is freed; and the block
 # set aside at U9, where the source unwraps it.

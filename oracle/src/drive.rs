@@ -83,6 +83,11 @@ impl Program {
     pub fn shows_causes(self) -> bool {
         matches!(self, Program::Replay(Show { causes: true, .. }))
     }
+
+    /// Whether it matters where the plain queue stood.
+    pub fn tells_plain(self) -> bool {
+        matches!(self, Program::Replay(Show { plain, moments, .. }) if plain || moments)
+    }
 }
 
 /// A differential run: schedules are judged as they come and compared in batches. Without a module they are only counted.
@@ -123,6 +128,11 @@ impl Run {
 
     pub fn add(&mut self, schedule: Schedule) -> Result<(), String> {
         let expected = self.program.prints_in_place(&schedule, &mut self.tally);
+        if let Some(fault) = self.tally.fault.take() {
+            self.keep("plain.in", &schedule.prefix(fault.entry as usize + 1).text())?;
+            let (number, place) = (self.tally.schedules, self.save.display());
+            return Err(format!("schedule {number}, {fault}; see plain.in in {place}"));
+        }
         if self.module.is_none() {
             return Ok(());
         }

@@ -5,8 +5,8 @@
 //! calls are ended in turn so that the contents are seen. Or the compact set, without a bound: every act from every state that
 //! can be reached, each in a schedule that ends right after it, so that all slots are compared after each act.
 
-use crate::call::code::{CLOSE, FORCE_PUSH, LEN, POP, PUSH};
-use crate::drive::Run;
+use crate::call::code::{CLOSE, FORCE_PUSH, IS_EMPTY, LEN, POP, PUSH};
+use crate::drive::{Program, Run};
 use crate::interleaved::end_all_calls;
 use crate::machine::Machine;
 use crate::queue::{Making, Queue};
@@ -53,7 +53,7 @@ pub fn cases(queue: Queue) -> Vec<(Preload, Vec<u64>)> {
             for (gone, held, pairs) in [
                 (0, 30, [[PUSH, PUSH], [PUSH, POP], [PUSH, LEN], [PUSH, CLOSE]].as_slice()),
                 (30, 0, &[[PUSH, PUSH], [PUSH, POP]]),
-                (30, 1, &[[POP, POP], [POP, LEN]]),
+                (30, 1, &[[POP, POP], [POP, LEN], [POP, IS_EMPTY]]),
                 (29, 2, &[[POP, POP]]),
             ] {
                 all.extend(pairs.iter().map(|pair| (of(gone, held), pair.to_vec())));
@@ -124,7 +124,7 @@ fn compact(run: &mut Run, preload: Preload, calls: &[u64]) -> Result<(), String>
     while let Some(path) = open.pop_front() {
         let (schedule, machine) = walked(preload, calls, &path);
         run.add(schedule)?;
-        if seen.insert(snapshot(&machine, run.program.shows_causes())) {
+        if seen.insert(snapshot(&machine, run.program)) {
             open.extend(options(&machine).iter().map(|option| [path.as_slice(), &[*option]].concat()));
         }
     }
@@ -179,12 +179,14 @@ pub fn options(machine: &Machine) -> Vec<u64> {
 }
 
 /// All but the meter, which no act looks at below its limit, and what workers have lost, which none looks at; where causes are shown,
-/// also what they would be told by.
-fn snapshot(machine: &Machine, causes: bool) -> String {
+/// also what they would be told by, and where answers are held to the plain queue, also what that would be.
+fn snapshot(machine: &Machine, program: Program) -> String {
+    let causes = program.shows_causes();
     let states: Vec<_> = (0..machine.workers() as u64).filter_map(|worker| machine.state(worker)).collect();
     let told_by: Vec<_> = (0..machine.workers()).filter(|_| causes).map(|worker| machine.would_be(worker)).collect();
     let mut shown = String::new();
     machine.source().write_words(&mut shown);
     machine.source().write_slots(&mut shown);
-    format!("{shown} {states:?} {told_by:?}")
+    let plain = if program.tells_plain() { machine.plain().shown() } else { String::new() };
+    format!("{shown} {states:?} {told_by:?} {plain}")
 }

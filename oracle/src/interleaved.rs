@@ -1,6 +1,7 @@
 //! Random schedules of 1 to 16 workers, 17 to 64 whose records are lent. What is likely changes from phase to phase, so that queues run full and empty, exchanges
 //! are lost, and workers sleep over whole laps with stale words in hand.
 
+use crate::call::code::{POP, PUSH};
 use crate::call::Entry;
 use crate::drive::Run;
 use crate::machine::Machine;
@@ -83,7 +84,8 @@ pub fn drive(run: &mut Run, acts: u64, seed: u64, closing: bool) -> Result<(), S
             let making = Making::small(run.queue, &mut random);
             let length = 20 + random.below(200);
             let (workers, close_from) = (2 + random.below(4) as u64, random.below(length));
-            schedule_closed(&mut random, making, workers, 0, length, close_from)
+            let before = Before { gone: gone_at_first(making, &mut random), held: 0 };
+            schedule_closed(&mut random, making, workers, before, length, close_from)
         } else {
             let making = Making::random(run.queue, &mut random);
             let workers = run.queue.workers(&mut random);
@@ -114,6 +116,20 @@ fn held_at_first(making: Making, random: &mut Random) -> u64 {
     0
 }
 
+/// How many items go through a short schedule's queue before: in the unbounded one so many that its workers meet at the end of a block.
+fn gone_at_first(making: Making, random: &mut Random) -> u64 {
+    if making == Making::Unbounded {
+        return random.pick(&[0, 28, 29, 30, 31]);
+    }
+    0
+}
+
+/// Items pushed and popped, and items pushed, before the schedule proper.
+struct Before {
+    gone: u64,
+    held: u64,
+}
+
 /// Items that fit into all blocks but for the last slot, which needs one block more.
 const ALL_SLOTS: usize = 64 * 31 - 1;
 
@@ -121,20 +137,25 @@ const ALL_SLOTS: usize = 64 * 31 - 1;
 pub fn schedule(random: &mut Random, making: Making, workers: u64, held: u64, length: usize) -> Schedule {
     // Little happens once the queue is closed, so closing comes late or not at all.
     let close_from = if random.once_in(2) { length - random.below(length.min(1500)) } else { length };
-    schedule_closed(random, making, workers, held, length, close_from)
+    schedule_closed(random, making, workers, Before { gone: 0, held }, length, close_from)
 }
 
 fn schedule_closed(
     random: &mut Random,
     making: Making,
     workers: u64,
-    held: u64,
+    before: Before,
     length: usize,
     close_from: usize,
 ) -> Schedule {
     let mut schedule = Schedule::new(making, workers);
     let mut machine = Machine::make(making, workers).expect("within the limits");
-    (0..held).for_each(|item| whole_call(&mut schedule, &mut machine, 0, item));
+    let mut whole = |code, item| whole_call(&mut schedule, &mut machine, code, item);
+    for item in 0..before.gone {
+        whole(PUSH, item);
+        whole(POP, 0);
+    }
+    (0..before.held).for_each(|item| whole(PUSH, item));
     mixed(random, &mut schedule, &mut machine, length, close_from);
     if random.once_in(2) {
         end_all_calls(&mut schedule, &mut machine);

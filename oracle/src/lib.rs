@@ -28,6 +28,7 @@ pub mod exhaustive;
 pub mod interleaved;
 pub mod list;
 pub mod machine;
+pub mod plain;
 pub mod queue;
 pub mod random;
 pub mod schedule;

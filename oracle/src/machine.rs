@@ -4,6 +4,7 @@
 use crate::call::{Call, Entry};
 use crate::causes::{Causes, Watch};
 use crate::coroutine::Coroutine;
+use crate::plain::Account;
 use crate::queue::{Making, Queue};
 use crate::source::{items_dropped, Seen, Source};
 use crate::stage::{self, Action, Pending, Said, Word};
@@ -55,22 +56,28 @@ pub struct Machine {
     stock: u64,
     watch: Watch,
     because: Option<Causes>,
+    plain: Account,
     pub tally: Tally,
 }
 
 impl Machine {
     pub fn make(making: Making, workers: u64) -> Result<Machine, Refusal> {
-        let source = making.source(workers)?;
-        Ok(Machine {
+        Ok(Machine::over(making, making.source(workers)?, workers as usize))
+    }
+
+    /// A machine over a fresh queue.
+    pub(crate) fn over(making: Making, source: Box<dyn Source>, workers: usize) -> Machine {
+        Machine {
             kind: making.queue(),
             queue: Box::into_raw(source),
             workers: (0..workers).map(|_| Worker::new()).collect(),
             meter: 0,
             stock: 0,
-            watch: Watch::new(workers as usize),
+            watch: Watch::new(workers),
             because: None,
+            plain: Account::new(making, workers),
             tally: Tally::new(making.queue()),
-        })
+        }
     }
 
     pub fn source(&self) -> &dyn Source {
@@ -110,6 +117,11 @@ impl Machine {
         self.workers[worker].busy.map(|busy| self.watch.causes(worker, busy.call))
     }
 
+    /// The plain queue along the entries so far.
+    pub fn plain(&self) -> &Account {
+        &self.plain
+    }
+
     pub fn workers(&self) -> usize {
         self.workers.len()
     }
@@ -147,12 +159,16 @@ impl Machine {
     pub fn enter(&mut self, first: u64, second: u64) -> Refusal {
         let worker = first / 16;
         self.because = None;
+        self.plain.next();
         let done = match Entry::decode(self.kind, first % 16, second) {
             None => Err(9),
             Some(_) if self.worker(worker).is_none() => Err(3),
             Some(Entry::Begin(call)) => self.begin(worker as usize, call),
             Some(Entry::Act { lose }) => self.act(worker as usize, lose),
         };
+        if done.is_ok() {
+            self.plain.done();
+        }
         let refusal = done.err().unwrap_or(0);
         self.tally.refusal(refusal);
         refusal
@@ -164,6 +180,7 @@ impl Machine {
             return Err(4);
         }
         self.workers[worker].losses = Losses::default();
+        self.plain.begin(worker, call);
         CALL.set(Some((call, self.queue)));
         self.resume(worker);
         self.settle(worker, call, Seen::default());
@@ -189,9 +206,13 @@ impl Machine {
         self.resume(worker);
         self.count_act(worker, place, pending.action, lose, &seen);
         self.count_stock(pending.action, &seen);
-        let causes = self.watch.act(worker, call, pending.action, stage::met());
-        self.source().note(&mut seen, pending, stage::met());
+        let met = stage::met();
+        let causes = self.watch.act(worker, call, pending.action, met);
+        self.source().note(&mut seen, pending, met);
         self.settle(worker, call, seen);
+        let Worker { busy, state, .. } = &self.workers[worker];
+        let answer = busy.is_none().then_some(*state);
+        self.plain.act(worker, pending.action, met, answer);
         self.count_back(worker, place, causes);
         Ok(())
     }
@@ -249,19 +270,24 @@ impl Machine {
     /// Tail is claimed by a won exchange and by the store of F7; a value is read by the call that won head.
     fn count_stock(&mut self, action: Action, seen: &Seen) {
         match action {
-            Action::WeakExchange(Word::Tail, ..) if stage::met().won => self.stock += 1,
-            Action::Store(Word::Tail, _) | Action::FetchAdd(Word::Tail, _) => self.stock += 1,
+            Action::WeakExchange(Word::Tail, ..) if stage::met().won => self.stock = self.stock.wrapping_add(1),
+            Action::Store(Word::Tail, _) | Action::FetchAdd(Word::Tail, _) => self.stock = self.stock.wrapping_add(1),
             Action::Value(_) if seen.won == Some(Word::Head) => self.stock = self.stock.wrapping_sub(1),
             _ => {}
         }
     }
 
-    /// What the source's `Drop` meets, or refusal 4. The queue is gone afterwards, so this comes last.
-    pub fn contents(self) -> Result<Vec<u64>, Refusal> {
+    /// What the source's `Drop` meets, or refusal 4, and the plain queue at the end. The queue is gone afterwards, so this comes last.
+    pub fn ended(mut self) -> (Result<Vec<u64>, Refusal>, Account) {
+        let plain = std::mem::replace(&mut self.plain, Account::new(Making::Single, 0));
         if self.any_busy() {
-            return Err(4);
+            return (Err(4), plain);
         }
-        Ok(items_dropped(|| drop(self)))
+        (Ok(items_dropped(|| drop(self))), plain)
+    }
+
+    pub fn contents(self) -> Result<Vec<u64>, Refusal> {
+        self.ended().0
     }
 
     fn any_busy(&self) -> bool {

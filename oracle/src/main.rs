@@ -14,7 +14,7 @@ use std::time::Instant;
 use std::{env, fs};
 
 const USAGE: &str =
-    "Each command takes --queue bounded|single|unbounded, bounded unless told, and for bounded --edition N, 1 unless told, --bits 16|64, 64 unless told, and --lent, and, but for list, walk and walks, --causes, --losses and --stock.
+    "Each command takes --queue bounded|single|unbounded, bounded unless told, and for bounded --edition N, 1 unless told, --bits 16|64, 64 unless told, and --lent, and, but for list, walk and walks, --causes, --losses and --stock; and, for each queue and but for those, --moments and --plain.
 judge expect FILE|- [--quiet] [--many]
 judge sequential --calls N --seed S [--quiet] [--module CMD [--many]] [--batch ENTRIES] [--save DIR]
 judge interleaved --acts N --seed S [--closing] [--quiet] [--module CMD [--many]] [--batch ENTRIES] [--save DIR]
@@ -76,7 +76,10 @@ impl Options {
         while let Some(argument) = arguments.next() {
             match argument.strip_prefix("--") {
                 None => options.plain.push(argument),
-                Some(flag @ ("quiet" | "many" | "compact" | "closing" | "causes" | "losses" | "stock" | "list" | "lent")) => {
+                Some(
+                    flag @ ("quiet" | "many" | "compact" | "closing" | "causes" | "losses" | "stock" | "moments"
+                    | "plain" | "list" | "lent"),
+                ) => {
                     options.flags.push(flag.into());
                 }
                 Some(
@@ -108,9 +111,11 @@ impl Options {
     fn queue(&self) -> Result<Queue, String> {
         let name = self.value("queue").unwrap_or("bounded");
         match Queue::named(name).ok_or(format!("--queue: no such queue: {name}\n{USAGE}"))? {
-            Queue::Bounded { edition, .. } => {
-                Ok(Queue::Bounded { edition: self.number_or("edition", edition)?, bits: self.bits()?, lent: self.flag("lent") })
-            }
+            Queue::Bounded { edition, .. } => Ok(Queue::Bounded {
+                edition: self.number_or("edition", edition)?,
+                bits: self.bits()?,
+                lent: self.flag("lent"),
+            }),
             other if self.flag("lent") => Err(format!("--lent: {other:?} lends none\n{USAGE}")),
             other => match ["edition", "bits"].into_iter().find(|name| self.value(name).is_some()) {
                 Some(name) => Err(format!("--{name}: {other:?} has none\n{USAGE}")),
@@ -135,6 +140,8 @@ impl Options {
                 causes: self.flag("causes"),
                 losses: self.flag("losses"),
                 stock: self.flag("stock"),
+                moments: self.flag("moments"),
+                plain: self.flag("plain"),
             }),
             (_, Some(name)) => Err(format!("--{name} is of the ring alone\n{USAGE}")),
         }
@@ -168,12 +175,17 @@ fn expect(options: &Options, program: Program) -> Result<(), String> {
     let mut tally = Tally::new(queue);
     if !options.flag("many") {
         print!("{}", program.prints(&Schedule::parse(queue, &text)?, &mut tally)?);
-        return Ok(());
+        return unplain(&tally);
     }
     for schedule in Schedule::parse_many(queue, &text)? {
         println!("{}{SEPARATOR}", program.prints_in_place(&schedule, &mut tally));
+        unplain(&tally).map_err(|fault| format!("schedule {}, {fault}", tally.schedules))?;
     }
     Ok(())
+}
+
+fn unplain(tally: &Tally) -> Result<(), String> {
+    tally.fault.as_ref().map_or(Ok(()), |fault| Err(fault.to_string()))
 }
 
 fn walk_asked(options: &Options) -> Result<Walk, String> {
@@ -197,8 +209,15 @@ fn driven(options: &Options, drive: impl FnOnce(&mut Run) -> Result<(), String>)
     if run.program.shows_causes() {
         print!("{}", run.tally.backs);
     }
+    if options.flag("plain") {
+        println!("answers of the plain queue {}", run.tally.plain_answers);
+    }
+    if options.flag("plain") && run.queue == Queue::Unbounded {
+        println!("answers no of an empty queue at a block's end {}", run.tally.no_of_empty);
+    }
     println!("{:.1} s, {:.0} acts a second", seconds, run.tally.acts as f64 / seconds);
-    result?;
+    result
+        .map_err(|message| options.value("seed").map_or(message.clone(), |seed| format!("seed {seed}: {message}")))?;
     println!("{compared}");
     Ok(())
 }

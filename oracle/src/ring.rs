@@ -108,13 +108,17 @@ impl Ring {
             (2, Bits::Sixteen) => Box::new(edition_2_sixteen_bits::Bounded::new(capacity)),
             _ => return None,
         };
+        Some(Ring::over(queue, capacity))
+    }
+
+    fn over(queue: Box<dyn Bounded>, capacity: usize) -> Ring {
         queue.head().give_name(Word::Head);
         queue.tail().give_name(Word::Tail);
         for slot in 0..capacity {
             queue.stamp(slot).give_name(Word::Stamp(slot));
             queue.value(slot).name.set(slot);
         }
-        Some(Ring { queue, capacity })
+        Ring { queue, capacity }
     }
 }
 
@@ -193,5 +197,85 @@ impl Source for Ring {
             let _ = write!(out, " ({},{})", self.word(Word::Stamp(slot)), self.value(slot));
         }
         out.push('\n');
+    }
+}
+
+/// That the plain queue finds what is wrong: slips of `slips.rs`, planted in copies of bounded.rs.
+#[cfg(test)]
+mod tests {
+    use super::*;
+    use crate::interleaved::mixed;
+    use crate::machine::Machine;
+    use crate::plain::Fault;
+    use crate::queue::Queue;
+    use crate::random::Random;
+    use crate::schedule::Schedule;
+
+    /// The item that a slip writes in the place of its call's.
+    const ANOTHER: u64 = 777;
+
+    include!("slips.rs");
+    include!(concat!(env!("OUT_DIR"), "/slips.rs"));
+
+    /// A ring whose places have no names: a slip may come to an action that no place stands for.
+    struct Nameless(Ring);
+
+    impl Source for Nameless {
+        fn answer(&self, call: Call) -> State {
+            self.0.answer(call)
+        }
+
+        fn place(&self, _: Call, _: Pending, _: &Seen) -> State {
+            Kind::None.alone()
+        }
+
+        fn word(&self, word: Word) -> u64 {
+            self.0.word(word)
+        }
+
+        fn value(&self, slot: usize) -> u64 {
+            self.0.value(slot)
+        }
+
+        fn write_words(&self, out: &mut String) {
+            self.0.write_words(out);
+        }
+
+        fn write_slots(&self, out: &mut String) {
+            self.0.write_slots(out);
+        }
+    }
+
+    /// The first fault in random schedules of small rings with closes in them, counted as of this edition.
+    fn first_fault(edition: u64, ring: impl Fn(usize) -> Ring) -> Option<Fault> {
+        let mut random = Random::new(5);
+        for _ in 0..3000 {
+            let (capacity, workers) = (1 + random.below(2), 2 + random.below(2) as u64);
+            let making = Queue::ring(edition, Bits::SixtyFour).making(capacity as u64);
+            let mut machine = Machine::over(making, Box::new(Nameless(ring(capacity))), workers as usize);
+            mixed(&mut random, &mut Schedule::new(making, workers), &mut machine, 150, 60);
+            if let Some(fault) = machine.plain().fault() {
+                return Some(fault.clone());
+            }
+        }
+        None
+    }
+
+    #[test]
+    fn each_slip_is_found() {
+        for (number, (name, ..)) in SLIPS.iter().enumerate() {
+            let ring = |capacity| Ring::over(slipped(capacity).swap_remove(number).1, capacity);
+            let fault = first_fault(1, ring).unwrap_or_else(|| panic!("{name}: not found"));
+            println!("{name}: {fault}");
+        }
+    }
+
+    #[test]
+    fn the_other_edition_is_found_and_the_same_is_right() {
+        for (counted, run) in [(1, 2), (2, 1)] {
+            let ring = |edition| move |capacity| Ring::new(capacity, edition, Bits::SixtyFour).expect("an edition");
+            assert!(first_fault(counted, ring(run)).is_some(), "edition {run} counted as {counted}");
+            assert_eq!(first_fault(counted, ring(counted)), None);
+        }
     }
 }

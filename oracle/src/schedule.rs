@@ -105,6 +105,10 @@ pub struct Show {
     pub losses: bool,
     /// The stock after each.
     pub stock: bool,
+    /// The moment that an answer is named at.
+    pub moments: bool,
+    /// Nothing more; but an answer that is not the plain queue's is a fault.
+    pub plain: bool,
 }
 
 /// What `replay` must print.
@@ -142,7 +146,7 @@ fn run_on(mut machine: Machine, schedule: &Schedule, show: Show, out: &mut Strin
     }
     tally.add(&machine.tally);
     machine.source().write_slots(out);
-    contents(out, machine, tally);
+    contents(out, machine, show.plain, tally);
 }
 
 /// Place and refusal of a schedule of which nothing is run, on a machine that is not broken: 11, then 9 at its first place.
@@ -169,6 +173,9 @@ fn run_entries(machine: &mut Machine, schedule: &Schedule, show: Show, out: &mut
             }
             if show.stock {
                 let _ = write!(out, " stock={}", machine.stock());
+            }
+            if let Some(moment) = machine.plain().moment().filter(|_| show.moments) {
+                let _ = write!(out, " at={moment}");
             }
             out.push('\n');
         }
@@ -201,10 +208,12 @@ fn losses(out: &mut String, machine: &Machine, worker: u64) {
     };
 }
 
-fn contents(out: &mut String, machine: Machine, tally: &mut Tally) {
+fn contents(out: &mut String, machine: Machine, checks_plain: bool, tally: &mut Tally) {
     out.push_str("contents");
-    match machine.contents() {
+    let (contents, mut plain) = machine.ended();
+    match contents {
         Ok(items) => {
+            plain.left(&items);
             tally.items_met += items.len() as u64;
             for item in items {
                 let _ = write!(out, " {item}");
@@ -216,4 +225,8 @@ fn contents(out: &mut String, machine: Machine, tally: &mut Tally) {
         }
     }
     out.push('\n');
+    tally.count_plain(&plain);
+    if checks_plain && tally.fault.is_none() {
+        tally.fault = plain.fault().cloned();
+    }
 }

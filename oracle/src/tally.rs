@@ -2,6 +2,7 @@
 
 use crate::call::Call;
 use crate::causes::Backs;
+use crate::plain::{Account, Fault};
 use crate::queue::Queue;
 use crate::state::Kind;
 use std::fmt;
@@ -41,6 +42,11 @@ pub struct Tally {
     pub items_met: u64,
     /// Not among what the fixed lists tell of themselves, nor shown with the rest.
     pub backs: Backs,
+    /// Answers that are the plain queue's, and those of `is_empty` that are not, as the unbounded source has it. Not shown with the rest either.
+    pub plain_answers: u64,
+    pub no_of_empty: u64,
+    /// The first thing that was not as a plain queue has it, if that was asked for.
+    pub fault: Option<Fault>,
 }
 
 impl Tally {
@@ -59,7 +65,16 @@ impl Tally {
             contents_refused: [0; REFUSALS],
             items_met: 0,
             backs: Backs::new(),
+            plain_answers: 0,
+            no_of_empty: 0,
+            fault: None,
         }
+    }
+
+    pub fn count_plain(&mut self, plain: &Account) {
+        let (answers, no_of_empty) = plain.answers();
+        self.plain_answers += answers;
+        self.no_of_empty += no_of_empty;
     }
 
     pub fn place(&mut self, kind: Kind) {
@@ -112,6 +127,8 @@ impl Tally {
         self.closes_met += other.closes_met;
         self.items_met += other.items_met;
         self.backs.add(&other.backs);
+        self.plain_answers += other.plain_answers;
+        self.no_of_empty += other.no_of_empty;
         add_all(&mut self.places, &other.places);
         add_all(self.answers.as_flattened_mut(), other.answers.as_flattened());
         add_all(self.exchanges.as_flattened_mut(), other.exchanges.as_flattened());

@@ -129,11 +129,35 @@ fn losses() {
     }
 }
 
+/// The moment of an answer: last on the line of an act that ends a call, and of no other line.
+#[test]
+fn moments() {
+    let named = |queue, input, quiet, stock| shown(queue, input, Show { quiet, stock, moments: true, ..Show::default() });
+    let input = "1 1 2 0 8 0 8 0 8 0 6 0 8 0 8 0";
+    let lines = [
+        "0 0 h=0 t=0 m=0 w0=O1 stock=0",
+        "1 0 h=0 t=0 m=1 w0=O2(0) stock=0",
+        "2 0 h=0 t=0 m=2 w0=O6(0) stock=0",
+        "3 0 h=0 t=0 m=3 w0=idle:empty stock=0 at=3",
+        "4 0 h=0 t=0 m=3 w0=close1 stock=0",
+        "5 0 h=0 t=2 m=4 w0=idle:yes stock=0 at=5",
+        "6 5 h=0 t=2 m=4 w0=idle:yes stock=0",
+    ];
+    let all = format!("made 0\n{}\nslots (0,0)\ncontents\n", lines.join("\n"));
+    assert_eq!(named(Queue::RING, input, false, true), all);
+    assert_eq!(named(Queue::RING, input, true, false), quiet(input));
+    // Two workers: a push comes in between the loads of is_empty, and a pop takes it out again.
+    let between = "1 2 20 0 24 0 0 5 8 0 8 0 8 0 8 0 8 0 2 0 8 0 8 0 8 0 24 0";
+    assert!(named(Queue::RING, between, false, false).contains("\n12 0 h=4 t=4 m=10 w1=idle:no at=5+\n"));
+    assert!(named(Queue::Single, "1 5 0 8 0", false, false).contains("\n1 0 s=0 m=1 w0=idle:no at=1\n"));
+}
+
 /// Request 9: where a call goes back, before the losses and the stock, and nowhere else.
 #[test]
 fn causes() {
-    let caused =
-        |input, quiet, more| shown(Queue::RING, input, Show { quiet, causes: true, losses: more, stock: more });
+    let caused = |input, quiet, more| {
+        shown(Queue::RING, input, Show { quiet, causes: true, losses: more, stock: more, ..Show::default() })
+    };
     let input = "2 2 16 6 24 0 24 0 25 0 0 5 25 0";
     let lines = [
         "0 0 h=0 t=0 m=0 w1=P1:push(6) lost=0,0 stock=0",

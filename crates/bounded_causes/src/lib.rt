@@ -143,7 +143,7 @@ fn looks(close: bool, far: u64) -> Stand
     }
 }
 
-fn stand_of(p: Place) -> Stand
+pub fn stand_of(p: Place) -> Stand
     ensures { λ r. ⌜ r ≡ standOf p ⌝ }
 {
     match p {
@@ -188,7 +188,7 @@ fn pick(first: bool, a: bool, b: bool) -> bool
     if first { a } else { b }
 }
 
-fn claims_tail(m: Moved) -> bool
+pub fn claims_tail(m: Moved) -> bool
     ensures { λ r. ⌜ r ≡ claimsTail m ⌝ }
 {
     match m {
@@ -198,7 +198,7 @@ fn claims_tail(m: Moved) -> bool
     }
 }
 
-fn claims_head(m: Moved) -> bool
+pub fn claims_head(m: Moved) -> bool
     ensures { λ r. ⌜ r ≡ claimsHead m ⌝ }
 {
     match m {

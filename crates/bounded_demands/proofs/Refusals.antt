@@ -66,6 +66,12 @@ only-one-count =
       stock = λ t. one _;
       kept = one _;
       named = λ ws w p q l. one _;
+      stands = λ p. one _;
+      at-tail = λ m. one _;
+      at-head = λ m. one _;
+      moments-kept = λ capacity. one _;
+      moments-begun = λ ms. one _;
+      moment-named = λ ms w p q. one _;
     }
 
 -- ---- unchanged

@@ -8,15 +8,21 @@ use mathlib.Core.Path.{_≡_}
 use lib.ListN.{length, take, drop}
 use Rattle.queue_entries.specs.Limits.{workersMost, meterMost}
 use Rattle.queue_entries.specs.declared.Call.{Call}
+use Rattle.queue_entries.specs.declared.Call.the-variants.{Close}
 use Rattle.queue_entries.specs.declared.Told.{Told}
 use Rattle.queue_entries.specs.Told.{told}
 use Rattle.queue_entries.specs.declared.Order.the-variants.{Act}
 use Rattle.queue_entries.specs.declared.Entry.the-variants.{Unreadable, Asks}
 use Rattle.queue_entries.specs.Entries.{entryOf}
 use Rattle.queue_schedules.specs.Reading.{Readable}
+use Rattle.queue_plain.specs.Plain.{Queue, queue, answerOf}
+use Rattle.queue_plain.specs.OneStep.{Step, Follows}
+use Rattle.queue_plain.specs.Story.{Does, actsIn, fresh, cameFrom, wentFrom}
+use Rattle.queue_plain.specs.Story.{itemsOf as itemsBegun}
 use Rattle.bounded_words.specs.declared.Stamp.{Stamp}
 use Rattle.bounded_words.specs.declared.Width.{Width}
 use Rattle.bounded_words.specs.declared.Width.the-variants.{Sixteen, SixtyFour}
+use Rattle.bounded_words.specs.Limits.{wide}
 use Rattle.bounded_words.specs.Words.{fixedOf, indexOf, markedOf, unmarkedOf, lapBehind}
 use Rattle.bounded_places.specs.declared.Answer.{Answer}
 use Rattle.bounded_places.specs.declared.Answer.the-variants.{Yes, PopClosed}
@@ -24,14 +30,14 @@ use Rattle.bounded_places.specs.declared.Loss.{Loss}
 use Rattle.bounded_places.specs.declared.Loss.the-variants as loss
 use Rattle.bounded_places.specs.declared.Loss.the-variants.{ByWords, BySchedule}
 use Rattle.bounded_places.specs.declared.Place.{Place}
-use Rattle.bounded_places.specs.declared.Place.the-variants.{Idle, Empty2, Full2, Len3}
+use Rattle.bounded_places.specs.declared.Place.the-variants.{Idle, F7, Empty2, Full2, Len3}
 use Rattle.bounded_places.specs.declared.Worker.{Worker}
 use Rattle.bounded_places.specs.Places as places
 use Rattle.bounded_acts.specs.Acts as tables
 use Rattle.bounded_machine.specs.declared.Machine.{Machine}
 use Rattle.bounded_machine.specs.declared.Event.{Event}
 use Rattle.bounded_machine.specs.declared.Moved.{Moved}
-use Rattle.bounded_machine.specs.declared.Moved.the-variants.{Tail}
+use Rattle.bounded_machine.specs.declared.Moved.the-variants.{Neither, Tail}
 use Rattle.bounded_machine.specs.declared.Tally.{Tally}
 use Rattle.bounded_machine.specs.Machine.{freshOf, recordOf, placeOf, blank, freshWith}
 use Rattle.bounded_machine.specs.Broken.{brokenOf, allIdle, brokenWith}
@@ -39,12 +45,16 @@ use Rattle.bounded_machine.specs.Contents.{countIn, contentsOf, contentsRefusal
 use Rattle.bounded_machine.specs.Turn.{byWords, bySchedule}
 use Rattle.bounded_machine.specs.Run.{runFrom, runOfBy, runOf}
 use Rattle.bounded_machine.specs.History.{eventsOf, movedOf, readsAt, stockOf, untakenOf}
+use Rattle.bounded_causes.specs.declared.Stand.{Stand}
 use Rattle.bounded_causes.specs.declared.Deed.{Deed}
 use Rattle.bounded_causes.specs.declared.Causes.{Causes}
 use Rattle.bounded_causes.specs.declared.Watches.{Watches}
 use Rattle.bounded_causes.specs.declared.Named.{Named}
 use Rattle.bounded_causes.specs.Causes as causes
 use Rattle.bounded_causes.specs.Causes.{watchOf, namedOf}
+use Rattle.bounded_moments.specs.declared.Moments.{Moments}
+use Rattle.bounded_moments.specs.declared.Named.{Named as NamedMoment}
+use Rattle.bounded_moments.specs.Moments as moments
 use Rattle.bounded_widths.specs.declared.Machine as widths
 use Rattle.bounded_widths.specs.Widths.{widened, narrowed}
 use Rattle.bounded_narrow.specs.Narrow as narrow
@@ -60,6 +70,7 @@ use Rattle.bounded.specs.Bounded.{makeOf, stepOf}
 use Rattle.bounded_parts.specs.declared.Metered.{Metered}
 use Rattle.bounded_parts.specs.Parts.{meteredOf, Filled, filled}
 use Rattle.bounded_lent.specs.Lent.{Lent, Gone}
+use Rattle.bounded_demands.specs.Stories.{Story, storyOf, oneStep, OnlySuch, twoCloses, known, queueAt, changeOf, actor, replyOf, putBy, takenBy, givenBack, itemAt, At, momentOf, momentNamed, inStory}
 use Rattle.bounded_demands.specs.Lending.{Lending, Promise, holding, holds-did, holds-ran, steps, heldIn, actsLent}
 use Rattle.bounded_demands.specs.Foretold.{foretold, Telling, toldIn, tellings, asForetold}
 use Rattle.bounded_demands.specs.Eight.{closedF, caseF}
@@ -68,6 +79,126 @@ use Rattle.bounded_demands.specs.Walkings.{Walking, walkings, walked}
 use Rattle.bounded_demands.specs.Shelves.{Shelf, stockAtMost, fullest}
 use Rattle.bounded_demands.specs.Notions.{goesBack, WayBack, watches, causesIn, Caused, otherHand, deed, DoneSince, LatestBy, Tells, Alone, goingsBack}
 use Rattle.bounded_demands.specs.Retries.{Retry, retries, lastIn, backBy, onlyOwn}
+
+-- ==== What an answer means: every run of the ring is a run of a plain queue (crates/queue_plain). The story of a schedule is its accepted entries, begins too; the plain queue along it,
+-- and what each call has put in and taken out, are `known` of Stories.antt.
+
+-- After the story `earlier` an act of its worker answers a. Inside the call that it is in, after its begin and not after this act, there is a moment at which the plain queue, asked that
+-- call, gives that answer; `momentOf` names it.
+pub record Answered (capacity edition : ℕ) (earlier : Story) (act : Event) (a : Answer) : Type 0 where
+  pub call : Call
+  pub its : known capacity edition earlier .each (act .worker) .calls ≡ call ∷ []
+  pub moment : ℕ
+  pub named : momentOf capacity edition (act .worker) (earlier ++ Does act ∷ []) ≡ At moment
+  pub begun : known capacity edition earlier .each (act .worker) .begun < moment
+  pub inside : moment ≤ length earlier
+  pub plain : answerOf (queueAt capacity edition moment earlier) call ∷ [] ≡ replyOf a
+
+-- A call that answered Pushed put its item in once and took none out; Displaced one of each; Popped took out the one that it hands out and put in none; any other answer neither. Full and
+-- Closed give the item back that the call came with. After a close, whatever it answered, the queue is closed.
+pub record Meant (capacity edition : ℕ) (earlier : Story) (act : Event) (a : Answer) : Type 0 where
+  pub put : known capacity edition (earlier ++ Does act ∷ []) .each (act .worker) .puts ≡ putBy a (itemsBegun (known capacity edition earlier .each (act .worker) .calls))
+  pub took : known capacity edition (earlier ++ Does act ∷ []) .each (act .worker) .takes ≡ takenBy a
+  pub back : (x : ℕ) → givenBack a ≡ x ∷ [] → itemsBegun (known capacity edition earlier .each (act .worker) .calls) ≡ x ∷ []
+  pub closed : known capacity edition earlier .each (act .worker) .calls ≡ Close ∷ [] → known capacity edition (earlier ++ Does act ∷ []) .queue .closed ≡ true
+
+-- The plain queue just before an act that changes it: something waits where the front goes out, there is room where an item comes in, and a push (which has no head claim behind it) finds it
+-- open; a force_push that displaces finds it full; a close that answers yes finds it open.
+pub record Changes (edition : ℕ) (q : Queue) (act : Event) : Type 0 where
+  pub takes : changeOf edition act .takes ≡ true → 0 < length (q .items)
+  pub puts : changeOf edition act .puts ≡ true → length (q .items) < q .capacity
+  pub while-open : changeOf edition act .puts ≡ true → movedOf (act .before) ≡ Neither → q .closed ≡ false
+  pub full : (t : Stamp) (x : ℕ) → act .after ≡ F7 t x → length (q .items) ≡ q .capacity
+  pub closes : changeOf edition act .closes ≡ true → q .closed ≡ false
+
+-- While a push or force_push is under way, the item in its record is the one of its begin.
+abbrev pub ItemKept : ℕ → ℕ → Machine → Story → Type 0
+ItemKept capacity edition m s = (w x : ℕ) → itemAt (placeOf (m .workers) w) ≡ x ∷ [] → itemsBegun (known capacity edition s .each w .calls) ≡ x ∷ []
+
+pub record NothingLost (capacity edition : ℕ) (m : Machine) (s : Story) : Type 0 where
+  -- what came in, in order, is what went out, in order, and then what waits
+  pub in-order : cameFrom actor (changeOf edition) (fresh capacity) s ≡ wentFrom actor (changeOf edition) (fresh capacity) s ++ known capacity edition s .queue .items
+  -- with all workers idle these are the contents
+  pub contents : allIdle (m .workers) ≡ true → contentsOf m ≡ known capacity edition s .queue .items
+  -- what a call under way has taken out is one item at most, and then a slot is in its worker's hand (it lets go: demand 3); what a call has taken out that has ended, it handed out (`Meant`)
+  pub hands : (w v : ℕ) (more : List ℕ) → places.viewOf (placeOf (m .workers) w) .busy ≡ true → known capacity edition s .each w .takes ≡ v ∷ more
+      → (more ≡ []) × (t : Stamp) × InHand (placeOf (m .workers) w) t
+
+-- A call that ended before another began comes before it in the plain queue's run.
+abbrev pub InCallOrder : ℕ → ℕ → Story → Type 0
+InCallOrder capacity edition s =
+    (earlier between later : Story) (first second : Event) (a b : Answer) (i j : ℕ) → s ≡ earlier ++ Does first ∷ between ++ Does second ∷ later
+    → first .after ≡ Idle a → second .after ≡ Idle b → length earlier < known capacity edition (earlier ++ Does first ∷ between) .each (second .worker) .begun
+    → momentOf capacity edition (first .worker) (earlier ++ Does first ∷ []) ≡ At i → momentOf capacity edition (second .worker) (earlier ++ Does first ∷ between ++ Does second ∷ []) ≡ At j → i < j
+
+pub record PlainThroughout (capacity edition : ℕ) (m : Machine) (h : List Event) (s : Story) : Type 0 where
+  -- it is the story of the same acts
+  pub acts : actsIn s ≡ h
+  pub answers : (earlier later : Story) (act : Event) (a : Answer) → s ≡ earlier ++ Does act ∷ later → act .after ≡ Idle a → Answered capacity edition earlier act a × Meant capacity edition earlier act a
+  pub changes : (earlier later : Story) (act : Event) → s ≡ earlier ++ Does act ∷ later → Changes edition (known capacity edition earlier .queue) act
+  pub item-kept : ItemKept capacity edition m s
+  pub nothing-lost : NothingLost capacity edition m s
+  pub call-order : InCallOrder capacity edition s
+
+-- Every capacity, every number of workers, both editions, every schedule; and every schedule that keeps the window.
+abbrev pub AnswersPlain : Definition → Type 0
+AnswersPlain d =
+    (capacity workers edition : ℕ) → AllowedWith (d .records) capacity workers edition → (s : List ℕ)
+    → PlainThroughout capacity edition (machineAfter d capacity workers edition s) (actsOf d capacity workers edition s) (storyOf d capacity workers edition s)
+
+abbrev pub AnswersPlainInWindow : Definition → Type 0
+AnswersPlainInWindow d =
+    (capacity workers edition : ℕ) → AllowedWith (d .records) capacity workers edition → (s : List ℕ) → KeepsWindow d (freshWith (d .records) capacity workers edition) [] s
+    → PlainThroughout capacity edition (machineAfter d capacity workers edition s) (actsOf d capacity workers edition s) (storyOf d capacity workers edition s)
+
+-- ---- force_push as one step: linearizable in the classical sense
+
+-- One run of the plain queue, every call one step: the steps taken just before each element of the story (at most one), and the queue there. Every call that answered took one step inside
+-- it, with that answer; a step is of a call under way, and no call takes two.
+pub record OneByOne (capacity edition : ℕ) (s : Story) : Type 0 where
+  pub steps : ℕ → List Step
+  pub queues : ℕ → Queue
+  pub first : queues 0 ≡ queue [] false capacity
+  pub follows : (i : ℕ) → i < length s → Follows (queues i) (steps i) (queues (suc i))
+  pub single : (i : ℕ) → length (steps i) ≤ 1
+  pub answered : (earlier later : Story) (act : Event) (a : Answer) → s ≡ earlier ++ Does act ∷ later → act .after ≡ Idle a
+      → (i : ℕ) × (x : Step) × (steps i ≡ x ∷ []) × (known capacity edition earlier .each (act .worker) .begun < i) × (i ≤ length earlier)
+      × (x .worker ≡ act .worker) × (known capacity edition earlier .each (act .worker) .calls ≡ x .call ∷ []) × (x .reply ∷ [] ≡ replyOf a)
+  pub own : (i : ℕ) (x : Step) → steps i ≡ x ∷ []
+      → (i < length s) × (known capacity edition (take i s) .each (x .worker) .calls ≡ x .call ∷ []) × (known capacity edition (take i s) .each (x .worker) .begun < i)
+  pub once : (i j : ℕ) (x y : Step) → i < j → steps i ≡ x ∷ [] → steps j ≡ y ∷ [] → x .worker ≡ y .worker → i < known capacity edition (take j s) .each (y .worker) .begun
+
+-- So it is in edition 2 with push, force_push, pop, close and is_closed, and in edition 1 with push, force_push and pop; a force_push that displaces takes its step at the act that gave it
+-- its word. (With len, is_empty or is_full it is not: case G.)
+abbrev pub OneStep : Definition → Type 0
+OneStep d =
+    (capacity workers edition : ℕ) → AllowedWith (d .records) capacity workers edition → (s : List ℕ) → OnlySuch (oneStep edition) (storyOf d capacity workers edition s)
+    → OneByOne capacity edition (storyOf d capacity workers edition s)
+
+abbrev pub OneStepInWindow : Definition → Type 0
+OneStepInWindow d =
+    (capacity workers edition : ℕ) → AllowedWith (d .records) capacity workers edition → (s : List ℕ) → KeepsWindow d (freshWith (d .records) capacity workers edition) [] s
+    → OnlySuch (oneStep edition) (storyOf d capacity workers edition s) → OneByOne capacity edition (storyOf d capacity workers edition s)
+
+-- In edition 1 close is not: two closes, one after the other, both answer yes.
+abbrev pub ClosesNotOneStep : Definition → Type 0
+ClosesNotOneStep d = OneByOne 1 1 (storyOf d 1 2 1 twoCloses) → ⊥
+
+-- What the program names (`replay --moments`): at every act of the first sixteen workers, what `name_moment` of crate bounded_moments answers, by what was kept along the story before it,
+-- is the moment of its call. Of less than 2^64 entries; the meter ends a run before.
+abbrev pub NamesMoments : ℕ → ℕ → Story → Type 0
+NamesMoments capacity edition s =
+    length s < wide → (earlier later : Story) (act : Event) → s ≡ earlier ++ Does act ∷ later → act .worker < workersMost
+    → inStory (momentNamed capacity earlier act) ≡ momentOf capacity edition (act .worker) (earlier ++ Does act ∷ [])
+
+abbrev pub MomentsKept : Definition → Type 0
+MomentsKept d =
+    (capacity workers edition : ℕ) → AllowedWith (d .records) capacity workers edition → (s : List ℕ) → NamesMoments capacity edition (storyOf d capacity workers edition s)
+
+abbrev pub MomentsKeptInWindow : Definition → Type 0
+MomentsKeptInWindow d =
+    (capacity workers edition : ℕ) → AllowedWith (d .records) capacity workers edition → (s : List ℕ) → KeepsWindow d (freshWith (d .records) capacity workers edition) [] s
+    → NamesMoments capacity edition (storyOf d capacity workers edition s)
 
 -- ==== 1. Any machine, entry or schedule handed in gets an answer or a numbered refusal; a refused step changes nothing.
 -- That each gets an answer is what the functions of crates bounded and bounded_narrow promise: none has a `requires`, and each answer is equal to a
@@ -125,7 +256,7 @@ pub record OnlyOne {M D R : Type 0} (f : Face M D R) : Type 0 where
   pub capacity : (m : M) (x y : Told) → x ≡ capacityOf (f .wide m) → y ≡ capacityOf (f .wide m) → x ≡ y
   pub broken : (m : M) (x y : Bool) → x ≡ brokenOf (f .wide m) → y ≡ brokenOf (f .wide m) → x ≡ y
 
--- And of what is counted along a run for reports (crates bounded_stock and bounded_causes).
+-- And of what is counted along a run for reports (crates bounded_stock, bounded_causes and bounded_moments).
 pub record OnlyOneCount : Type 0 where
   pub moved : (p : Place) (x y : Moved) → x ≡ movedOf p → y ≡ movedOf p → x ≡ y
   pub reads : (p : Place) (x y : Bool) → x ≡ readsAt p → y ≡ readsAt p → x ≡ y
@@ -133,6 +264,12 @@ pub record OnlyOneCount : Type 0 where
   pub stock : (t : Tally) (x y : ℕ) → x ≡ stockOf t → y ≡ stockOf t → x ≡ y
   pub kept : (x y : Watches) → x ≡ causes.start → y ≡ causes.start → x ≡ y
   pub named : (ws : Watches) (w : ℕ) (p q : Place) (l : Loss) (x y : Named) → x ≡ namedOf ws w p q l → y ≡ namedOf ws w p q l → x ≡ y
+  pub stands : (p : Place) (x y : Stand) → x ≡ causes.standOf p → y ≡ causes.standOf p → x ≡ y
+  pub at-tail : (m : Moved) (x y : Bool) → x ≡ causes.claimsTail m → y ≡ causes.claimsTail m → x ≡ y
+  pub at-head : (m : Moved) (x y : Bool) → x ≡ causes.claimsHead m → y ≡ causes.claimsHead m → x ≡ y
+  pub moments-kept : (capacity : ℕ) (x y : Moments) → x ≡ moments.start capacity → y ≡ moments.start capacity → x ≡ y
+  pub moments-begun : (ms : Moments) (x y : Moments) → x ≡ moments.begunOf ms → y ≡ moments.begunOf ms → x ≡ y
+  pub moment-named : (ms : Moments) (w : ℕ) (p q : Place) (x y : NamedMoment) → x ≡ moments.namedOf ms w p q → y ≡ moments.namedOf ms w p q → x ≡ y
 
 -- Demand 1 of a face.
 pub record Demand1 {M D R : Type 0} (f : Face M D R) : Type 0 where

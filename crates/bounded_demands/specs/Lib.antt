@@ -1,4 +1,5 @@
 pub mod Notions
+pub mod Stories
 pub mod Walkings
 pub mod Demands
 pub mod Eight

@@ -27,7 +27,7 @@ use Rattle.bounded_proof_demand2.proofs.Counts.{tally-head}
 use Rattle.bounded_proof_demand2.proofs.Lists.{Last, Earlier, split-end, Listed, listed-same, listed-more, latest-in, latest-one}
 
 -- what a tale adds to the lists of a history
-abbrev itemsBy : Tale → List ℕ
+abbrev pub itemsBy : Tale → List ℕ
 itemsBy Quiet = []
 itemsBy Heading = []
 itemsBy (Tailing x) = x ∷ []

@@ -429,6 +429,28 @@ module _ (bits : Width) (c n workers : ℕ) (base : Base bits c n workers) where
     did-behind lose busy young early =
         ap (λ (b : Bool). (next bits c n workers base (r .ring) m (r .pictured) w l lose busy young, b)) (acted-shut bits c n workers base (r .ring) m (r .pictured) w l lose busy young early)
 
+    -- ring, mark and ages afterwards, together
+    pub begun-after : (q : Call) (idle : viewOf (stood m w) .busy ≡ false) (Q : Shared → Bool → (ℕ → Age) → Type 0) → Q (r .ring) (r .pictured .shut) (r .pictured .ages)
+        → Q (entered m h (Asks w (Begin q)) (begun m w (beginOf q)) [] r tt (began w q l idle) .ring) (entered m h (Asks w (Begin q)) (begun m w (beginOf q)) [] r tt (began w q l idle) .pictured .shut)
+        (entered m h (Asks w (Begin q)) (begun m w (beginOf q)) [] r tt (began w q l idle) .pictured .ages)
+    unfolding entered
+    begun-after q idle Q o =
+        subst (λ (b : Bool). Q (r .ring) b (begun-pictured bits c n workers base (r .ring) m (r .pictured) w l q idle .ages)) (sym (begun-shut bits c n workers base (r .ring) m (r .pictured) w l q idle))
+        (subst (Q (r .ring) (r .pictured .shut)) (sym (begun-ages bits c n workers base (r .ring) m (r .pictured) w l q idle)) o)
+
+    pub did-after : (lose : Bool) (busy : viewOf (stood m w) .busy ≡ true) (young : Recent c (markOf c) n (r .ring) (r .pictured .ages w) (look c (stood m w))) (early : m .meter < meterMost)
+        (Q : Shared → Bool → (ℕ → Age) → Type 0)
+        → Q (next bits c n workers base (r .ring) m (r .pictured) w l lose busy young) (stepped bits c n workers base (r .ring) m (r .pictured) w l lose busy young .shut)
+        (upd (r .pictured .ages) w (new-age bits c n workers base (r .ring) m (r .pictured) w l lose busy))
+        → Q (entered m h (Asks w (Act lose)) (acted bits m w (stood m w) lose) (eventOf bits m w lose (acted bits m w (stood m w) lose) ∷ []) r young (did w lose l busy early) .ring)
+        (entered m h (Asks w (Act lose)) (acted bits m w (stood m w) lose) (eventOf bits m w lose (acted bits m w (stood m w) lose) ∷ []) r young (did w lose l busy early) .pictured .shut)
+        (entered m h (Asks w (Act lose)) (acted bits m w (stood m w) lose) (eventOf bits m w lose (acted bits m w (stood m w) lose) ∷ []) r young (did w lose l busy early) .pictured .ages)
+    unfolding entered
+    did-after lose busy young early Q o =
+        let u = next bits c n workers base (r .ring) m (r .pictured) w l lose busy young in
+        subst (λ (b : Bool). Q u b (acted-pictured bits c n workers base (r .ring) m (r .pictured) w l lose busy young early .ages)) (sym (acted-shut bits c n workers base (r .ring) m (r .pictured) w l lose busy young early))
+        (subst (Q u (stepped bits c n workers base (r .ring) m (r .pictured) w l lose busy young .shut)) (sym (acted-ages bits c n workers base (r .ring) m (r .pictured) w l lose busy young early)) o)
+
     -- the acting worker afterwards
     pub own-next : (lose : Bool) (busy : viewOf (stood m w) .busy ≡ true) (young : Recent c (markOf c) n (r .ring) (r .pictured .ages w) (look c (stood m w))) (early : m .meter < meterMost)
         (Q : Shared → Age → Place → Type 0)

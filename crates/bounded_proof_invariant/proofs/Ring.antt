@@ -139,7 +139,7 @@ latest-else who new m n w j k le ne old add l =
     later i a b (no p) q = let z : m ≤ i = omega arith in ne (sym q ∙ add i z b)
 
 module _ (c : ℕ) (s u : Shared) (w i : ℕ) (inv : Inv c s) (d : Change c s u w i) where
-  taken-else : (j k : ℕ) → j ≢ w → Latest (s .taker) (s .head) j k → Latest (u .taker) (u .head) j k
+  pub taken-else : (j k : ℕ) → j ≢ w → Latest (s .taker) (s .head) j k → Latest (u .taker) (u .head) j k
   taken-else j k n = latest-else (s .taker) (u .taker) (s .head) (u .head) w j k (d .headUp) n (d .takerOld) (d .takerNew)
 
   tailed-else : (j k : ℕ) → j ≢ w → Latest (s .tailer) (s .tail) j k → Latest (u .tailer) (u .tail) j k

@@ -82,23 +82,43 @@ module _ {M D R E : Type 0} (q : Queue M D R) (acts : M → Entry → M → List
             (history-on at a b [] t ∙ ap (λ (l : List E). actsAt at a b ++ l) (history-none (next at a b)) ∙ append-nil (actsAt at a b)),
       )
 
-  -- What every accepted entry leads on from machine and history to machine and history, every list of entries does.
-  module _ (P : M → List E → Type 0) (step : (m : M) (h : List E) (a b : ℕ) → P m h → q .refusal (q .turn m a b) ≡ 0 → P (next m a b) (h ++ actsAt m a b)) where
+  -- What every accepted entry leads on from machine and history to machine and history, where W holds of them, every list of entries does, each of whose beginnings leads to where W holds.
+  module _ (W P : M → List E → Type 0) (step : (m : M) (h : List E) (a b : ℕ) → P m h → W m h → q .refusal (q .turn m a b) ≡ 0 → P (next m a b) (h ++ actsAt m a b)) where
+    abbrev pub Each : ℕ → M → List E → List ℕ → Type 0
+    Each i m h s = (before after : List ℕ) → s ≡ before ++ after → W (q .machineIn (runIn q m i before)) (h ++ historyIn m before)
+
     stopped : (m : M) (h : List E) (x : R) (l : List E) → P m h → q .machineIn x ≡ m → l ≡ [] → P (q .machineIn x) (h ++ l)
     stopped m h x l p e n = subst (λ (y : M). P y (h ++ l)) (sym e) (subst (P m) (sym (ap (λ (k : List E). h ++ k) n ∙ append-nil h)) p)
 
-    pub entries-lead : (s : List ℕ) (m : M) (h : List E) (i : ℕ) → P m h → P (q .machineIn (runIn q m i s)) (h ++ historyIn m s)
-    entries-lead [] m h i p = stopped m h _ _ p (ap (q .machineIn) (run-none q m i) ∙ q .machine-is 0 i m) (history-none m)
-    entries-lead (a ∷ []) m h i p = stopped m h _ _ p (ap (q .machineIn) (run-half q m i a) ∙ q .machine-is 0 i m) (history-half m a)
-    entries-lead (a ∷ b ∷ s) m h i p =
-        go (λ (z : P (next m a b) (h ++ actsAt m a b)). entries-lead s (next m a b) (h ++ actsAt m a b) (i + 1) z) (taken q m a b) refl
+    here : (s : List ℕ) (m : M) (h : List E) (i : ℕ) → Each i m h s → W m h
+    here s m h i each =
+        let o = each [] s refl in
+        subst (λ (y : M). W y h) (ap (q .machineIn) (run-none q m i) ∙ q .machine-is 0 i m)
+        (subst (W (q .machineIn (runIn q m i []))) (ap (λ (k : List E). h ++ k) (history-none m) ∙ append-nil h) o)
+
+    onwards : (a b : ℕ) (s : List ℕ) (m : M) (h : List E) (i : ℕ) → taken q m a b ≡ true → Each i m h (a ∷ b ∷ s) → Each (i + 1) (next m a b) (h ++ actsAt m a b) s
+    onwards a b s m h i e each before after z =
+        let o = each (a ∷ b ∷ before) after (ap (λ (l : List ℕ). a ∷ b ∷ l) z) in
+        subst (λ (x : R). W (q .machineIn x) ((h ++ actsAt m a b) ++ historyIn (next m a b) before)) (run-on q m i a b before e)
+        (subst (W (q .machineIn (runIn q m i (a ∷ b ∷ before)))) (ap (λ (l : List E). h ++ l) (history-on m a b before e) ∙ sym (append-assoc h (actsAt m a b) (historyIn (next m a b) before))) o)
+
+    pub entries-lead-while : (s : List ℕ) (m : M) (h : List E) (i : ℕ) → Each i m h s → P m h → P (q .machineIn (runIn q m i s)) (h ++ historyIn m s)
+    entries-lead-while [] m h i each p = stopped m h _ _ p (ap (q .machineIn) (run-none q m i) ∙ q .machine-is 0 i m) (history-none m)
+    entries-lead-while (a ∷ []) m h i each p = stopped m h _ _ p (ap (q .machineIn) (run-half q m i a) ∙ q .machine-is 0 i m) (history-half m a)
+    entries-lead-while (a ∷ b ∷ s) m h i each p =
+        go (λ (more : Each (i + 1) (next m a b) (h ++ actsAt m a b) s) (z : P (next m a b) (h ++ actsAt m a b)). entries-lead-while s (next m a b) (h ++ actsAt m a b) (i + 1) more z) (taken q m a b) refl
       where
-        go : (P (next m a b) (h ++ actsAt m a b) → P (q .machineIn (runIn q (next m a b) (i + 1) s)) ((h ++ actsAt m a b) ++ historyIn (next m a b) s))
+        go : (Each (i + 1) (next m a b) (h ++ actsAt m a b) s → P (next m a b) (h ++ actsAt m a b) → P (q .machineIn (runIn q (next m a b) (i + 1) s)) ((h ++ actsAt m a b) ++ historyIn (next m a b) s))
             → (c : Bool) → taken q m a b ≡ c → P (q .machineIn (runIn q m i (a ∷ b ∷ s))) (h ++ historyIn m (a ∷ b ∷ s))
         go more true e =
             subst (λ (x : R). P (q .machineIn x) (h ++ historyIn m (a ∷ b ∷ s))) (sym (run-on q m i a b s e))
             (subst (P (q .machineIn (runIn q (next m a b) (i + 1) s)))
             (append-assoc h (actsAt m a b) (historyIn (next m a b) s) ∙ ap (λ (l : List E). h ++ l) (sym (history-on m a b s e)))
-            (more (step m h a b p (eqb-true _ 0 e))))
+            (more (onwards a b s m h i e each) (step m h a b p (here (a ∷ b ∷ s) m h i each) (eqb-true _ 0 e))))
         go more false e =
             stopped m h _ _ p (ap (q .machineIn) (run-halt q m i a b s e) ∙ q .machine-is _ i m) (history-halt m a b s e)
+
+  -- The same where nothing is asked of the way.
+  module _ (P : M → List E → Type 0) (step : (m : M) (h : List E) (a b : ℕ) → P m h → q .refusal (q .turn m a b) ≡ 0 → P (next m a b) (h ++ actsAt m a b)) where
+    pub entries-lead : (s : List ℕ) (m : M) (h : List E) (i : ℕ) → P m h → P (q .machineIn (runIn q m i s)) (h ++ historyIn m s)
+    entries-lead s m h i p = entries-lead-while (λ (z : M) (l : List E). Unit {0}) P (λ z l a b o w e. step z l a b o e) s m h i (λ before after e. tt) p

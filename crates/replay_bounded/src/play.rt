@@ -17,6 +17,7 @@ fn start(at: usize) -> Run {
         whole: false,
         at: at,
         summary: replay_bounded_counts::summary::none(),
+        answers: replay_bounded_counts::moments::none(0),
     }
 }
 
@@ -82,9 +83,11 @@ fn of_the_whole(broken: bool, whole: Whole) -> Whole {
 fn made(b: Making, whole: Whole, at: usize) -> Run {
     let of_all = of_the_whole(b.broken, whole);
     let summary = replay_bounded_lines::refused_of(of_all.refusal);
-    let ring = b.ring;
+    let metered = b.ring;
+    let ring = metered.ring;
+    let fixed = ring.fixed;
     Run {
-        ring: ring,
+        ring: metered,
         records: replay_bounded_entries::idlers(),
         count: b.count,
         made: true,
@@ -93,6 +96,7 @@ fn made(b: Making, whole: Whole, at: usize) -> Run {
         whole: of_all.refusal != 0,
         at: at,
         summary: summary,
+        answers: replay_bounded_counts::moments::none(fixed.capacity),
     }
 }
 

@@ -8,6 +8,7 @@ use bounded_places::Worker;
 use bounded_words::Fixed;
 use bounded_words::Width;
 use queue_entries::Told;
+use replay_bounded_counts::moments::Answers;
 use replay_bounded_counts::summary::Summary;
 use replay_options::Options;
 
@@ -25,6 +26,7 @@ pub struct Run {
     // where the text to be written goes on
     pub at: usize,
     pub summary: Summary,
+    pub answers: Answers,
 }
 
 pub fn idlers() -> [Worker; bounded_parts::RECORDS] {
@@ -73,6 +75,7 @@ fn steps(r: Run, o: Options, list: &[u64], from: usize, out: &mut [u8]) -> Run {
     let mut refusal = r.refusal;
     let mut at = r.at;
     let mut s = r.summary;
+    let mut answers = r.answers;
     if list.len() == 0 {
         return r;
     }
@@ -105,6 +108,10 @@ fn steps(r: Run, o: Options, list: &[u64], from: usize, out: &mut [u8]) -> Run {
         meter = t.meter;
         refusal = t.refusal;
         s = replay_bounded_lines::counted(o, s, refusal, first, before, after);
+        if o.moments {
+            answers = replay_bounded_counts::moments::after(answers, refusal, first, before, after);
+        }
+        let ended = answers.latest;
         at = replay_bounded_lines::line_unless(
             o,
             out,
@@ -115,6 +122,7 @@ fn steps(r: Run, o: Options, list: &[u64], from: usize, out: &mut [u8]) -> Run {
             bounded_text_machine::numbers_of(f, ends, count, meter),
             after,
             s,
+            ended,
         );
         place = replay_bounded_lines::next_place(place, refusal);
     }
@@ -128,6 +136,7 @@ fn steps(r: Run, o: Options, list: &[u64], from: usize, out: &mut [u8]) -> Run {
         whole: false,
         at: at,
         summary: s,
+        answers: answers,
     }
 }
 
@@ -136,7 +145,7 @@ pub fn numbers_in(l: Metered, count: u64) -> [u64; 8] {
     bounded_text_machine::numbers_of(ring.fixed, ring.ends, count, l.meter)
 }
 
-// The same, with ring and records lent for each entry.
+// The same, with ring and records lent for each entry; moments are not kept of these.
 fn lends(r: Run, o: Options, list: &[u64], from: usize, out: &mut [u8]) -> Run {
     let mut ring = r.ring;
     let mut records = r.records;
@@ -145,6 +154,8 @@ fn lends(r: Run, o: Options, list: &[u64], from: usize, out: &mut [u8]) -> Run {
     let mut refusal = r.refusal;
     let mut at = r.at;
     let mut s = r.summary;
+    let answers = r.answers;
+    let ended = answers.latest;
     if list.len() == 0 {
         return r;
     }
@@ -172,6 +183,7 @@ fn lends(r: Run, o: Options, list: &[u64], from: usize, out: &mut [u8]) -> Run {
             numbers_in(ring, count),
             after,
             s,
+            ended,
         );
         place = replay_bounded_lines::next_place(place, refusal);
     }
@@ -185,6 +197,7 @@ fn lends(r: Run, o: Options, list: &[u64], from: usize, out: &mut [u8]) -> Run {
         whole: false,
         at: at,
         summary: s,
+        answers: answers,
     }
 }
 
@@ -223,6 +236,7 @@ fn at_once(r: Run, bits: Width, list: &[u64]) -> Run {
     let records = r.records;
     let m = holding(l, records, r.count);
     let s = r.summary;
+    let answers = r.answers;
     let ran = bounded_runs::run(bits, m, list);
     let after = ran.machine;
     let others = records_of(after);
@@ -236,6 +250,7 @@ fn at_once(r: Run, bits: Width, list: &[u64]) -> Run {
         whole: false,
         at: r.at,
         summary: s,
+        answers: answers,
     }
 }
 

@@ -1,5 +1,6 @@
 // What replay writes of a run of the ring that needs no ring in hand: the line of an entry, and the counts at the end.
 use bounded_places::Worker;
+use replay_bounded_counts::moments::Ended;
 use replay_bounded_counts::summary::Summary;
 use replay_options::Options;
 
@@ -62,6 +63,13 @@ fn stock_if(asked: bool, out: &mut [u8], at: usize, s: Summary) -> usize {
     at
 }
 
+fn moment_if(asked: bool, out: &mut [u8], at: usize, e: Ended) -> usize {
+    if asked {
+        return replay_bounded_counts::moments::tell(out, at, e);
+    }
+    at
+}
+
 // PLACE R h=H t=T m=M wN=S, and what is asked beside it
 pub fn line_unless(
     o: Options,
@@ -73,6 +81,7 @@ pub fn line_unless(
     numbers: [u64; 8],
     after: Worker,
     s: Summary,
+    e: Ended,
 ) -> usize {
     if o.quiet {
         return at;
@@ -82,8 +91,9 @@ pub fn line_unless(
     let q = causes_if(o.causes, out, p, s);
     let r = losses_if(o.losses, out, q, w < numbers[6], after);
     let t = stock_if(o.stock, out, r, s);
-    let u = text_output::byte(out, t, b'\n');
-    text_output::settle(out, u)
+    let u = moment_if(o.moments, out, t, e);
+    let v = text_output::byte(out, u, b'\n');
+    text_output::settle(out, v)
 }
 
 pub fn next_place(place: u64, refusal: u64) -> u64 {

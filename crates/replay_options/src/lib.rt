@@ -31,6 +31,9 @@ pub struct Options {
     pub causes: bool,
     // the number of the argument --causes; 0: there is none
     pub causes_at: usize,
+    pub moments: bool,
+    // the number of the argument --moments; 0: there is none
+    pub moments_at: usize,
     pub losses: bool,
     // the number of the argument --losses; 0: there is none
     pub losses_at: usize,
@@ -81,6 +84,8 @@ fn none() -> Options {
         quiet: false,
         causes: false,
         causes_at: 0,
+        moments: false,
+        moments_at: 0,
         losses: false,
         losses_at: 0,
         stock: false,
@@ -228,6 +233,11 @@ fn with_word(before: Options, i: usize, word: &[u8]) -> Options {
         o.causes_at = i;
         return o;
     }
+    if equal(word, b"--moments") {
+        o.moments = true;
+        o.moments_at = i;
+        return o;
+    }
     if equal(word, b"--losses") {
         o.losses = true;
         o.losses_at = i;
@@ -279,8 +289,8 @@ fn arguments() -> Options {
     o
 }
 
-// An option that is still without its value at the end is of no use; nor is an edition, a width, lent records, causes, losses or a stock of a queue that has none. Lent
-// records are of 64 bits, and causes are watched for sixteen workers.
+// An option that is still without its value at the end is of no use; nor is an edition, a width, lent records, causes, moments, losses or a stock of a queue that has none.
+// Lent records are of 64 bits; causes and moments are kept for sixteen workers.
 pub fn read() -> Options {
     let mut o = arguments();
     if o.naming != 0 {
@@ -297,6 +307,9 @@ pub fn read() -> Options {
     }
     if o.causes && (o.lent || o.queue != BOUNDED) {
         o.wrong = o.causes_at;
+    }
+    if o.moments && (o.lent || o.queue != BOUNDED) {
+        o.wrong = o.moments_at;
     }
     if o.losses && o.queue != BOUNDED {
         o.wrong = o.losses_at;
@@ -326,7 +339,7 @@ pub fn complain(program: &[u8], i: usize) {
 pub fn help() -> bool {
     io::write_all(
         libc::STDOUT_FILENO,
-        b"replay [--queue NAME] [--edition N] [--bits N] [--lent] [--quiet] [--causes] [--losses] [--stock] [--summary] [--many] [--tape] [FILE]\n\
+        b"replay [--queue NAME] [--edition N] [--bits N] [--lent] [--quiet] [--causes] [--moments] [--losses] [--stock] [--summary] [--many] [--tape] [FILE]\n\
         \n\
         Runs a schedule on the stamped ring, or on another queue. It is read from FILE, or from standard input: unsigned decimal\n\
         numbers separated by white space. The first is the capacity (1 to 1024), the second the number of\n\
@@ -351,11 +364,13 @@ pub fn help() -> bool {
         \x20             code 1 is refusal 9, and 23: no block is free; it has no --summary\n\
         \x20 --edition 2      the ring whose force_push keeps a close (1 unless told)\n\
         \x20 --bits 16   the ring whose head, tail and stamps have sixteen bits, so that they come round (64 unless told)\n\
-        \x20 --lent      ring and records are lent for each entry, as a host's are: up to 64 workers; of 64 bits, and with no --causes\n\
+        \x20 --lent      ring and records are lent for each entry, as a host's are: up to 64 workers; of 64 bits, and with no --causes or --moments\n\
         \x20 --quiet     no line for each entry, one for the whole\n\
         \x20 --causes    after the worker, where its act goes back to an earlier place, because=LIST: schedule (which made its\n\
         \x20             exchange fail), own-end (moved or marked since its word was loaded or found), other-end (moved since\n\
         \x20             the last stamp load), hand (another worker had a slot in hand at that load)\n\
+        \x20 --moments   last on the line of an act that ends its call at=J: a plain queue gives that answer just before entry J;\n\
+        \x20             at=J+: directly after entry J\n\
         \x20 --losses    after each entry's worker lost=D,S: the exchanges that its present call, or its last one, lost because\n\
         \x20             the words differed, and by the schedule; - where there is no such worker\n\
         \x20 --stock     at the end of each entry's line stock=N: the items claimed at tail whose value is not yet read out\n\

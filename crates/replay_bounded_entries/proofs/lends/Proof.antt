@@ -17,10 +17,10 @@ use Rattle.replay_bounded_lines.proofs.next_place.Reads as next-place-reads
 use Rattle.replay_bounded_entries.proofs.numbers_in.Reads as numbers-in-reads
 
 abbrev Inv-loop : tie.InvT-loop
-Inv-loop o list from out₀ ring₀ records₀ count place₀ refusal₀ at₀ s₀ last i₀ out ring records place refusal at s i = (length out ≡ length out₀) × (last < length list)
+Inv-loop o list from out₀ ring₀ records₀ count place₀ refusal₀ at₀ s₀ answers ended last i₀ out ring records place refusal at s i = (length out ≡ length out₀) × (last < length list)
 
 abbrev μ-loop : tie.MeasureT-loop
-μ-loop o list from out₀ ring₀ records₀ count place₀ refusal₀ at₀ s₀ last i₀ out ring records place refusal at s i = last - i
+μ-loop o list from out₀ ring₀ records₀ count place₀ refusal₀ at₀ s₀ answers ended last i₀ out ring records place refusal at s i = last - i
 
 record-at : (c : tie.After-worker-of Inv-loop μ-loop) → c .worker-of .result < recordsMost
 record-at c = subst (λ (k : ℕ). k < recordsMost) (sym (c .worker-of .ensures)) (worker-below _ recordsMost (omega arith))

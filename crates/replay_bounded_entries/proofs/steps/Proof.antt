@@ -14,6 +14,7 @@ use Rattle.bounded_entries.proofs.slot_for.Reads as slot-for-reads
 use Rattle.bounded_entries.proofs.step_on.Reads as step-on-reads
 use Rattle.bounded_entries.proofs.worker_of.Reads as worker-of-reads
 use Rattle.bounded_text_machine.proofs.numbers_of.Reads as numbers-of-reads
+use Rattle.replay_bounded_counts.proofs.moments.after.Reads as after-reads
 use Rattle.replay_bounded_lines.proofs.counted.Reads as counted-reads
 use Rattle.replay_bounded_lines.proofs.line_unless.Reads as line-unless-reads
 use Rattle.replay_bounded_lines.proofs.next_place.Reads as next-place-reads
@@ -21,10 +22,10 @@ use Rattle.replay_bounded_entries.proofs.width.Reads as width-reads
 use Rattle.replay_bounded_entries.proofs.with_meter.Reads as with-meter-reads
 
 abbrev Inv-loop : tie.InvT-loop
-Inv-loop o list from out₀ f ends₀ slots₀ workers₀ count meter₀ place₀ refusal₀ at₀ s₀ last bits i₀ out ends slots workers meter place refusal at s i = (length out ≡ length out₀) × (last < length list)
+Inv-loop o list from out₀ f ends₀ slots₀ workers₀ count meter₀ place₀ refusal₀ at₀ s₀ answers₀ last bits i₀ out ends slots workers meter place refusal at s answers i = (length out ≡ length out₀) × (last < length list)
 
 abbrev μ-loop : tie.MeasureT-loop
-μ-loop o list from out₀ f ends₀ slots₀ workers₀ count meter₀ place₀ refusal₀ at₀ s₀ last bits i₀ out ends slots workers meter place refusal at s i = last - i
+μ-loop o list from out₀ f ends₀ slots₀ workers₀ count meter₀ place₀ refusal₀ at₀ s₀ answers₀ last bits i₀ out ends slots workers meter place refusal at s answers i = last - i
 
 record-at : (c : tie.After-worker-of Inv-loop μ-loop) → c .worker-of .result < recordsMost
 record-at c = subst (λ (k : ℕ). k < recordsMost) (sym (c .worker-of .ensures)) (worker-below _ recordsMost (omega arith))
@@ -98,6 +99,9 @@ array-set-from-workers c = record-at (c .before .before .before .before .before 
 counted-requires : tie.Need-counted-requires Inv-loop μ-loop
 counted-requires c κs = search needs
 
+after-requires : tie.Need-after-requires Inv-loop μ-loop
+after-requires c κs = search needs
+
 numbers-of-requires : tie.Need-numbers-of-requires Inv-loop μ-loop
 numbers-of-requires c κs = search needs
 
@@ -108,10 +112,10 @@ next-place-requires : tie.Need-next-place-requires Inv-loop μ-loop
 next-place-requires c κs = search needs
 
 loop-less : tie.Need-loop-less Inv-loop μ-loop
-loop-less c = omega (arith, c .before .before .before .before .before .before .before .before .before .before .before .before .before .before .before .before .before .before .loop-test .taken)
+loop-less c = omega (arith, c .before .before .before .before .before .before .before .before .before .before .before .before .before .before .before .before .before .before .before .before .loop-test .taken)
 
 loop-again : tie.Need-loop-again Inv-loop μ-loop
-loop-again c = (omega (arith, c .before .before .before .before .before .before .before .before .before .before .before .before .before .before .before .before .before .before .before .loop .inv .0), c .before .before .before .before .before .before .before .before .before .before .before .before .before .before .before .before .before .before .before .loop .inv .1)
+loop-again c = (omega (arith, c .before .before .before .before .before .before .before .before .before .before .before .before .before .before .before .before .before .before .before .before .before .loop .inv .0), c .before .before .before .before .before .before .before .before .before .before .before .before .before .before .before .before .before .before .before .before .before .loop .inv .1)
 
 with-meter-requires : tie.Need-with-meter-requires Inv-loop μ-loop
 with-meter-requires c κs = search needs
@@ -150,6 +154,7 @@ steps-spec =
     mul-workers
     array-set-from-workers
     counted-requires
+    after-requires
     numbers-of-requires
     line-unless-requires
     next-place-requires

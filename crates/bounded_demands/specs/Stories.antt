@@ -1,0 +1,230 @@
+-- The ring's story, with a plain queue along it: what each act does to that queue, and at which moment an answer is that queue's.
+use Prim.Native.Nat.{ℕ, _+_}
+use mathlib.Core.Bool.{Bool, true, false, cond}
+use mathlib.Core.List.{List, [], _∷_, _++_}
+use mathlib.Core.Path.{_≡_}
+use lib.Dec.{eqb}
+use lib.ListN.{length}
+use Rattle.queue_entries.specs.Schedules.{historyBy}
+use Rattle.queue_entries.specs.declared.Call.{Call}
+use Rattle.queue_entries.specs.declared.Call.the-variants as call
+use Rattle.queue_plain.specs.Plain.{Queue, fullOf}
+use Rattle.queue_plain.specs.Plain as plain
+use Rattle.queue_plain.specs.Story as stories
+use Rattle.queue_plain.specs.Story.{Begun, Does, Change, Known, elementsBy, fresh, knownWith}
+use Rattle.bounded_places.specs.declared.Answer.{Answer}
+use Rattle.bounded_places.specs.declared.Answer.the-variants.{Nothing, Pushed, Full, Closed, Displaced, Popped, Empty, PopClosed, Len, Yes, No}
+use Rattle.bounded_places.specs.declared.Place.{Place}
+use Rattle.bounded_places.specs.declared.Place.the-variants.{Idle, P1, P2, P3, P4, P5, P6, F6, F7, F8, F9, O1, O2, O3, O4, O5, O6, Len1, Len2, Len3, Empty1, Empty2, Full1, Full2, Close1, IsClosed1}
+use Rattle.bounded_machine.specs.declared.Machine.{Machine}
+use Rattle.bounded_machine.specs.declared.Did.{Did}
+use Rattle.bounded_machine.specs.declared.Event.{Event}
+use Rattle.bounded_machine.specs.Machine.{freshWith}
+use Rattle.bounded_machine.specs.History.{eventsOf, movedOf}
+use Rattle.bounded_causes.specs.Causes.{standOf, claimsTail, claimsHead}
+use Rattle.bounded_moments.specs.declared.Timing.{Timing}
+use Rattle.bounded_moments.specs.declared.Timing.the-variants.{Now, Stays, IfSome, IfRoom}
+use Rattle.bounded_moments.specs.declared.Moment as declared
+use Rattle.bounded_moments.specs.declared.Moment.the-variants as moments
+use Rattle.bounded_moments.specs.declared.Moments.{Moments}
+use Rattle.bounded_moments.specs.Moments.{timingOf, start, begunOf, namedOf}
+use Rattle.bounded_demands.specs.Notions.{Definition, acts}
+
+abbrev pub Element : Type 0
+Element = stories.Element Event
+
+abbrev pub Story : Type 0
+Story = stories.Story Event
+
+-- Of a schedule's entries, up to the first that is refused: oldest first, as `actsOf` has its acts.
+abbrev pub storyFrom : Definition → Machine → List ℕ → Story
+storyFrom d = historyBy (λ (r : Did). r .refusal) (λ (r : Did). r .machine) (d .turn) (elementsBy (eventsOf (d .width)))
+
+abbrev pub storyOf : Definition → ℕ → ℕ → ℕ → List ℕ → Story
+storyOf d capacity workers edition s = storyFrom d (freshWith (d .records) capacity workers edition) s
+
+-- ---- the plain queue
+
+-- No call answers Nothing.
+abbrev pub replyOf : Answer → List plain.Reply
+replyOf Nothing = []
+replyOf Pushed = plain.Pushed ∷ []
+replyOf (Full x) = plain.Full x ∷ []
+replyOf (Closed x) = plain.Closed x ∷ []
+replyOf (Displaced v) = plain.Displaced v ∷ []
+replyOf (Popped v) = plain.Popped v ∷ []
+replyOf Empty = plain.Empty ∷ []
+replyOf PopClosed = plain.EmptyAndClosed ∷ []
+replyOf (Len n) = plain.Count n ∷ []
+replyOf Yes = plain.Yes ∷ []
+replyOf No = plain.No ∷ []
+
+-- In at a tail claim (a won P3, F7), out at a head claim (a won O3, a won F6), closed by a close that answers yes, and opened again by edition 1's F7 alone: the
+-- act that leads from a head claim to a tail claim.
+abbrev pub changeOf : ℕ → Event → Change
+changeOf edition e =
+    record {
+      takes = claimsHead (movedOf (e .after));
+      puts = claimsTail (movedOf (e .after));
+      closes = cond (standOf (e .before) .close) (standOf (e .after) .yes) false;
+      opens = cond (eqb edition 2) false (cond (claimsHead (movedOf (e .before))) (claimsTail (movedOf (e .after))) false);
+    }
+
+abbrev pub actor : Event → ℕ
+actor e = e .worker
+
+abbrev pub known : ℕ → ℕ → Story → Known
+known capacity edition s = stories.known actor (changeOf edition) capacity s
+
+abbrev pub queueAt : ℕ → ℕ → ℕ → Story → Queue
+queueAt capacity edition n s = stories.queueAt actor (changeOf edition) capacity n s
+
+-- What a call that came with these items and answered so has put in, what it has taken out, and what it gives back.
+abbrev pub putBy : Answer → List ℕ → List ℕ
+putBy Nothing x = []
+putBy Pushed x = x
+putBy (Full y) x = []
+putBy (Closed y) x = []
+putBy (Displaced v) x = x
+putBy (Popped v) x = []
+putBy Empty x = []
+putBy PopClosed x = []
+putBy (Len n) x = []
+putBy Yes x = []
+putBy No x = []
+
+abbrev pub takenBy : Answer → List ℕ
+takenBy Nothing = []
+takenBy Pushed = []
+takenBy (Full x) = []
+takenBy (Closed x) = []
+takenBy (Displaced v) = v ∷ []
+takenBy (Popped v) = v ∷ []
+takenBy Empty = []
+takenBy PopClosed = []
+takenBy (Len n) = []
+takenBy Yes = []
+takenBy No = []
+
+abbrev pub givenBack : Answer → List ℕ
+givenBack Nothing = []
+givenBack Pushed = []
+givenBack (Full x) = x ∷ []
+givenBack (Closed x) = x ∷ []
+givenBack (Displaced v) = []
+givenBack (Popped v) = []
+givenBack Empty = []
+givenBack PopClosed = []
+givenBack (Len n) = []
+givenBack Yes = []
+givenBack No = []
+
+-- The item that a push or force_push under way has in its record, up to the write.
+abbrev pub itemAt : Place → List ℕ
+itemAt (Idle a) = []
+itemAt (P1 k x) = x ∷ []
+itemAt (P2 k t x) = x ∷ []
+itemAt (P3 k t x) = x ∷ []
+itemAt (P4 t x) = x ∷ []
+itemAt (P5 t) = []
+itemAt (P6 t x) = x ∷ []
+itemAt (F6 t x) = x ∷ []
+itemAt (F7 t x) = x ∷ []
+itemAt (F8 t x) = x ∷ []
+itemAt (F9 t old) = []
+itemAt O1 = []
+itemAt (O2 h) = []
+itemAt (O3 h) = []
+itemAt (O4 h) = []
+itemAt (O5 h v) = []
+itemAt (O6 h) = []
+itemAt Len1 = []
+itemAt (Len2 t) = []
+itemAt (Len3 t h) = []
+itemAt Empty1 = []
+itemAt (Empty2 h) = []
+itemAt Full1 = []
+itemAt (Full2 t) = []
+itemAt Close1 = []
+itemAt IsClosed1 = []
+
+-- ---- moments
+
+-- The moment of an answer: after the first n elements; or directly after the next tail claim, or head claim, if one comes.
+pub data Moment : Type 0 where
+  At : ℕ → Moment
+  AfterNextTail AfterNextHead : Moment
+
+-- What an act of its own makes of a call's moment; `timingOf` says which.
+abbrev pub timed : Timing → Known → Moment → Moment
+timed Now k was = At (k .count)
+timed Stays k was = was
+timed IfSome k was = cond (eqb (length (k .queue .items)) 0) AfterNextTail (At (k .count))
+timed IfRoom k was = cond (fullOf (k .queue)) AfterNextHead (At (k .count))
+
+-- What another's act makes of it, n elements standing before the moment directly after that act.
+abbrev pub heard : Change → ℕ → Moment → Moment
+heard d n (At k) = At k
+heard d n AfterNextTail = cond (d .puts) (At n) AfterNextTail
+heard d n AfterNextHead = cond (d .takes) (At n) AfterNextHead
+
+abbrev pub momentWith : ℕ → ℕ → Known → Moment → Element → Moment
+momentWith edition w k was (Begun v c) = was
+momentWith edition w k was (Does e) =
+    cond (eqb w (e .worker)) (timed (timingOf (e .before) (e .after)) k was) (heard (changeOf edition e) (k .count + 1) was)
+
+unfoldable pub momentFrom : ℕ → ℕ → Known → Moment → Story → Moment
+momentFrom edition w k was [] = was
+momentFrom edition w k was (x ∷ s) = momentFrom edition w (knownWith actor (changeOf edition) k x) (momentWith edition w k was x) s
+
+-- Of worker w's call, under way or its last.
+abbrev pub momentOf : ℕ → ℕ → ℕ → Story → Moment
+momentOf capacity edition w s = momentFrom edition w (fresh capacity) (At 0) s
+
+-- ---- one step a call
+
+-- The calls of which each is one step in this edition: push, force_push and pop; in edition 2 close and is_closed too.
+abbrev pub oneStep : ℕ → Call → Bool
+oneStep edition (call.Push x) = true
+oneStep edition (call.ForcePush x) = true
+oneStep edition call.Pop = true
+oneStep edition call.Len = false
+oneStep edition call.IsEmpty = false
+oneStep edition call.IsFull = false
+oneStep edition call.Close = eqb edition 2
+oneStep edition call.IsClosed = eqb edition 2
+
+-- No other call is begun.
+abbrev pub OnlySuch : (Call → Bool) → Story → Type 0
+OnlySuch such [] = Unit {0}
+OnlySuch such (Begun w c ∷ s) = (such c ≡ true) × OnlySuch such s
+OnlySuch such (Does e ∷ s) = OnlySuch such s
+
+-- Capacity 1, with one item in: worker 0's force_push up to F7; worker 1 closes; F7, which clears the mark in edition 1; worker 1 closes again.
+unfoldable pub twoCloses : List ℕ
+twoCloses = 0 ∷ 1 ∷ acts 0 5 ++ 1 ∷ 2 ∷ acts 0 3 ++ 22 ∷ 0 ∷ acts 1 1 ++ acts 0 1 ++ 22 ∷ 0 ∷ acts 1 1
+
+-- ---- as the functions of crate bounded_moments keep them
+
+abbrev pub momentsWith : Moments → Element → Moments
+momentsWith ms (Begun w c) = begunOf ms
+momentsWith ms (Does e) = namedOf ms (e .worker) (e .before) (e .after) .moments
+
+unfoldable pub momentsFrom : Moments → Story → Moments
+momentsFrom ms [] = ms
+momentsFrom ms (x ∷ s) = momentsFrom (momentsWith ms x) s
+
+-- After this story.
+abbrev pub momentsKept : ℕ → Story → Moments
+momentsKept capacity s = momentsFrom (start capacity) s
+
+-- Of an act after it: what `name_moment` answers.
+abbrev pub momentNamed : ℕ → Story → Event → declared.Moment
+momentNamed capacity earlier act = namedOf (momentsKept capacity earlier) (act .worker) (act .before) (act .after) .moment
+
+-- Just before entry j, j elements stand before the moment; directly after it, one more.
+abbrev pub inStory : declared.Moment → Moment
+inStory (moments.Before j) = At j
+inStory (moments.After j) = At (j + 1)
+inStory moments.AfterNextTail = AfterNextTail
+inStory moments.AfterNextHead = AfterNextHead

@@ -1,0 +1,1 @@
+// Every answer is a plain queue's, proved (proofs/). No code.
