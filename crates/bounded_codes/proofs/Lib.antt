@@ -1,0 +1,3 @@
+mod Along
+pub mod Codes
+pub mod Standing
