@@ -40,7 +40,7 @@ skip c a b d f ws n m v e = ap (λ (k : ℕ). set (c ∷ a ∷ b ∷ d ∷ f ∷
     five-more : n ≡ suc (suc (suc (suc (suc m))))
     five-more = omega (arith, e)
 
-beyond : (c a b d f : ℕ) (ws : List ℕ) (n m : ℕ) → n ≡ m + 5 → getD (c ∷ a ∷ b ∷ d ∷ f ∷ ws) n 0 ≡ getD ws m 0
+pub beyond : (c a b d f : ℕ) (ws : List ℕ) (n m : ℕ) → n ≡ m + 5 → getD (c ∷ a ∷ b ∷ d ∷ f ∷ ws) n 0 ≡ getD ws m 0
 beyond c a b d f ws n m e = ap (λ (k : ℕ). getD (c ∷ a ∷ b ∷ d ∷ f ∷ ws) k 0) five-more
   where
     five-more : n ≡ suc (suc (suc (suc (suc m))))

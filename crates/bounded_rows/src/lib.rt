@@ -34,7 +34,7 @@ pub fn ends_in(head: &[u64]) -> Ends
     }
 }
 
-fn put_head(head: &mut [u64], e: Ends, meter: u64)
+pub fn put_head(head: &mut [u64], e: Ends, meter: u64)
     requires { ⌜ length (now head) ≡ 8 ⌝ }
     ensures { λ _. ⌜ now (head .exit) ≡ withHead (now (head .entry)) e meter ⌝ }
 {
