@@ -15,7 +15,13 @@ pub struct Reply {
 
 // A fresh ring and all records idle; refusal 1, 2 or 18, or 6 for slices of other lengths.
 #[no_mangle]
-pub extern "C" fn fern_ring_make(head: &mut [u64], slots: &mut [u64], records: &mut [u64], capacity: u64, edition: u64) -> u64
+pub extern "C" fn fern_ring_make(
+    head: &mut [u64],
+    slots: &mut [u64],
+    records: &mut [u64],
+    capacity: u64,
+    edition: u64,
+) -> u64
     ensures { λ r. ⌜ after r (words (now (head .exit)) (now (slots .exit)) (now (records .exit))) ≡ makeWords (words (now (head .entry)) (now (slots .entry)) (now (records .entry))) capacity edition ⌝ }
 {
     if bounded_slices::shaped(head, slots, records) {} else {
@@ -38,7 +44,13 @@ pub extern "C" fn fern_ring_make(head: &mut [u64], slots: &mut [u64], records: &
 
 // The entry of two words: the number of its refusal, 0 where it was not refused.
 #[no_mangle]
-pub extern "C" fn fern_ring_step(head: &mut [u64], slots: &mut [u64], records: &mut [u64], first: u64, second: u64) -> u64
+pub extern "C" fn fern_ring_step(
+    head: &mut [u64],
+    slots: &mut [u64],
+    records: &mut [u64],
+    first: u64,
+    second: u64,
+) -> u64
     ensures { λ r. ⌜ after r (words (now (head .exit)) (now (slots .exit)) (now (records .exit))) ≡ stepWords (words (now (head .entry)) (now (slots .entry)) (now (records .entry))) first second ⌝ }
 {
     if bounded_slices::broken(head, slots, records) {
@@ -49,7 +61,12 @@ pub extern "C" fn fern_ring_step(head: &mut [u64], slots: &mut [u64], records: &
 
 // A schedule, entry by entry, to its end or to the first refusal; 6 is judged once, since no entry breaks what is not broken.
 #[no_mangle]
-pub extern "C" fn fern_ring_run(head: &mut [u64], slots: &mut [u64], records: &mut [u64], schedule: &[u64]) -> Reply
+pub extern "C" fn fern_ring_run(
+    head: &mut [u64],
+    slots: &mut [u64],
+    records: &mut [u64],
+    schedule: &[u64],
+) -> Reply
     ensures { λ r. ⌜ ended r (words (now (head .exit)) (now (slots .exit)) (now (records .exit))) ≡ runWords (words (now (head .entry)) (now (slots .entry)) (now (records .entry))) (now (schedule .entry)) ⌝ }
 {
     if bounded_slices::broken(head, slots, records) {
@@ -62,7 +79,13 @@ pub extern "C" fn fern_ring_run(head: &mut [u64], slots: &mut [u64], records: &m
     let n = bounded_parts::entries_of(whole);
     let mut i = 0;
     while i < n {
-        let refusal = bounded_rows::turn(head, slots, records, schedule[2 * i], schedule[2 * i + 1]);
+        let refusal = bounded_rows::turn(
+            head,
+            slots,
+            records,
+            schedule[2 * i],
+            schedule[2 * i + 1],
+        );
         if refusal != 0 {
             return Reply {
                 refusal: refusal,
@@ -84,7 +107,11 @@ pub extern "C" fn fern_ring_run(head: &mut [u64], slots: &mut [u64], records: &m
 pub extern "C" fn fern_ring_broken(head: &[u64], slots: &[u64], records: &[u64]) -> u64
     ensures { λ r. ⌜ r ≡ brokenRefusal (words (now (head .entry)) (now (slots .entry)) (now (records .entry))) ⌝ }
 {
-    if bounded_slices::broken(head, slots, records) { 6 } else { 0 }
+    if bounded_slices::broken(head, slots, records) {
+        6
+    } else {
+        0
+    }
 }
 
 fn reply_of(t: Told) -> Reply
@@ -120,7 +147,12 @@ pub extern "C" fn fern_ring_capacity(head: &[u64], slots: &[u64], records: &[u64
 
 // The items as `Drop` would meet them, written at the buffer's start; how many. Nothing is removed.
 #[no_mangle]
-pub extern "C" fn fern_ring_contents(head: &[u64], slots: &[u64], records: &[u64], buffer: &mut [u64]) -> Reply
+pub extern "C" fn fern_ring_contents(
+    head: &[u64],
+    slots: &[u64],
+    records: &[u64],
+    buffer: &mut [u64],
+) -> Reply
     ensures { λ r. ⌜ listed r (now (buffer .exit)) ≡ contentsWords (words (now (head .entry)) (now (slots .entry)) (now (records .entry))) (now (buffer .entry)) ⌝ }
 {
     if bounded_slices::broken(head, slots, records) {

@@ -15,7 +15,9 @@ use bounded_words::Stamp;
 
 // How many words there are for the ring but for its slots, for the slots and for a record.
 pub const HEAD: usize = 8;
+
 pub const SLOTS: usize = 2048;
+
 pub const RECORD: usize = 5;
 
 // The number of this layout, in the last word of the head.
