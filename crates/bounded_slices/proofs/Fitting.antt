@@ -4,9 +4,9 @@ use mathlib.Core.Path.{_≡_, refl, sym, ap, _∙_, subst}
 use mathlib.Core.Bool.{Bool, true, false, cond, not}
 use mathlib.Core.List.{List, [], _∷_}
 use native.Mathlib.Omega.{arith}
-use lib.Dec.{eqb}
+use lib.Dec.{ltb, eqb}
 use lib.ListN.{length, getD}
-use borrow.Author.Tests.{eq-eqb, ne-eqb}
+use borrow.Author.Tests.{eq-eqb, ne-eqb, lt-ltb, le-ltb}
 use Rattle.queue_entries.specs.Limits.{all}
 use Rattle.queue_entries.proofs.Limits.{all-more, all-failed, all-passed}
 use Rattle.queue_entries.proofs.Pick.{equal, other}
@@ -16,8 +16,11 @@ use Rattle.bounded_words.specs.Words.{Fair}
 use Rattle.bounded_places.specs.declared.Ends.{Ends}
 use Rattle.bounded_places.specs.declared.Worker.{Worker}
 use Rattle.bounded_machine.specs.Machine.{recordOf}
-use Rattle.bounded_machine.specs.Broken.{recordFits}
-use Rattle.bounded_codes.specs.Codes.{standsFor}
+use Rattle.bounded_places.specs.declared.Held.{Held}
+use Rattle.bounded_places.specs.Places.{viewOf, fitsOf}
+use Rattle.bounded_machine.specs.Broken.{placeFits, recordFits}
+use Rattle.bounded_codes.specs.Codes.{placeIn, standsFor}
+use Rattle.bounded_codes.proofs.Ranges.{busy-is}
 use Rattle.bounded_parts.specs.Parts.{ringFits}
 use Rattle.bounded_lent.specs.Lent.{eachFits, brokenLent}
 use Rattle.bounded_lent.proofs.Turning.{ring-broken, records-broken, ring-fair}
@@ -25,6 +28,34 @@ use Rattle.bounded_rows.specs.Rows.{words, layout, fixedIn, endsIn, recordAt, p
 use Rattle.bounded_rows.proofs.Lists.{many, room, get, beyond}
 use Rattle.bounded_rows.proofs.Standing.{shaped-all}
 use Rattle.bounded_slices.specs.Slices.{brokenWords}
+
+-- ---- one record
+module _ (rs : List ℕ) (i : ℕ) (f : Fixed) (meter : ℕ) (counted : Bool) where
+  pub many-differed : meter < getD rs (i * 5 + 3) 0 → false ≡ recordFits f meter (recordAt rs i) counted
+  unfolding recordFits recordAt
+  many-differed l = sym (rw (lt-ltb meter (getD rs (i * 5 + 3) 0) l) refl)
+
+  module _ (d : getD rs (i * 5 + 3) 0 ≤ meter) where
+    pub many-failed : meter < getD rs (i * 5 + 4) 0 → false ≡ recordFits f meter (recordAt rs i) counted
+    unfolding recordFits recordAt
+    many-failed l = sym (rw (le-ltb meter (getD rs (i * 5 + 3) 0) d, lt-ltb meter (getD rs (i * 5 + 4) 0) l) refl)
+
+    module _ (e : getD rs (i * 5 + 4) 0 ≤ meter) where
+      by-place : recordFits f meter (recordAt rs i) counted ≡ cond (not (ltb (getD rs (i * 5) 0) 11)) (cond counted (fitsOf f (viewOf (placeIn (getD rs (i * 5) 0) (getD rs (i * 5 + 1) 0) (getD rs (i * 5 + 2) 0)) .held)) false) true
+      unfolding recordFits placeFits recordAt
+      by-place =
+          rw (le-ltb meter (getD rs (i * 5 + 3) 0) d, le-ltb meter (getD rs (i * 5 + 4) 0) e)
+          (ap (λ (t : Bool). cond t (cond counted (fitsOf f (viewOf (placeIn (getD rs (i * 5) 0) (getD rs (i * 5 + 1) 0) (getD rs (i * 5 + 2) 0)) .held)) false) true) (busy-is (getD rs (i * 5) 0) (getD rs (i * 5 + 1) 0) (getD rs (i * 5 + 2) 0)))
+
+      pub idle-fits : getD rs (i * 5) 0 < 11 → true ≡ recordFits f meter (recordAt rs i) counted
+      idle-fits l = sym (by-place ∙ rw (lt-ltb (getD rs (i * 5) 0) 11 l) refl)
+
+      module _ (g : 11 ≤ getD rs (i * 5) 0) where
+        pub past-count : counted ≡ false → false ≡ recordFits f meter (recordAt rs i) counted
+        past-count c = sym (by-place ∙ rw (le-ltb (getD rs (i * 5) 0) 11 g, c) refl)
+
+        pub by-held : counted ≡ true → (h : Held) → h ≡ viewOf (placeIn (getD rs (i * 5) 0) (getD rs (i * 5 + 1) 0) (getD rs (i * 5 + 2) 0)) .held → (r : Bool) → r ≡ fitsOf f h → r ≡ recordFits f meter (recordAt rs i) counted
+        by-held c h eh r er = er ∙ ap (fitsOf f) eh ∙ sym (by-place ∙ rw (le-ltb (getD rs (i * 5) 0) 11 g, c) refl)
 
 -- ---- every record: both tests of each are one test of all
 all-both : (n i : ℕ) (p q : ℕ → Bool) → all n i (λ (k : ℕ). cond (p k) (q k) false) ≡ cond (all n i p) (all n i q) false
@@ -95,10 +126,10 @@ module _ (rs : List ℕ) (f : Fixed) (meter : ℕ) (counted : Bool) where
       pub no-place : p ≡ false → false ≡ Told
       no-place h = all-failed test n i Told (g .back) false l (sym (ap (λ (b : Bool). cond b (recordFits f meter (recordOf (recordsIn rs) i) counted) false) (sym ep ∙ h))) refl
 
-      module _ (hp : p ≡ true) (r : Worker) (er : r ≡ recordAt rs i) (b : Bool) (eb : b ≡ recordFits f meter r counted) where
+      module _ (hp : p ≡ true) (b : Bool) (eb : b ≡ recordFits f meter (recordAt rs i) counted) where
         told : b ≡ test i
         told =
-            eb ∙ ap (λ (x : Worker). recordFits f meter x counted) (er ∙ sym (get rs i (omega (arith, l, g .many-are))))
+            eb ∙ ap (λ (x : Worker). recordFits f meter x counted) (sym (get rs i (omega (arith, l, g .many-are))))
             ∙ sym (ap (λ (t : Bool). cond t (recordFits f meter (recordOf (recordsIn rs) i) counted) false) (sym ep ∙ hp))
 
         pub no-fit : b ≡ false → false ≡ Told

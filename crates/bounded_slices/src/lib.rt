@@ -1,12 +1,13 @@
 // The three slices that a host lends, each as a whole: how long they are, whether they stand for a ring and records that are not broken, and a ring stored there.
 ghost use mathlib.Core.Path.{_≡_};
 ghost use mathlib.Core.Bool.{false, cond};
-ghost use Prim.Native.Nat.{_*_, _%_};
+ghost use Prim.Native.Nat.{_+_, _*_, _%_, _<_};
 ghost use lib.ListN.{length, replicate};
 ghost use Rattle.bounded_words.specs.Limits.{slotsMost};
 ghost use Rattle.bounded_words.specs.Words.{Fair};
+ghost use Rattle.bounded_machine.specs.Broken.{recordFits};
 ghost use Rattle.bounded_lent.specs.Lent.{eachFits};
-ghost use Rattle.bounded_rows.specs.Rows.{words, headOf, slotsOf, slotsIn, recordsIn, shaped, placed};
+ghost use Rattle.bounded_rows.specs.Rows.{words, headOf, slotsOf, slotsIn, recordAt, recordsIn, shaped, placed};
 ghost use Rattle.bounded_slices.specs.Slices.{withFixed, brokenWords};
 use bounded_parts::Metered;
 use bounded_places::Slot;
@@ -35,6 +36,29 @@ pub fn shaped(head: &[u64], slots: &[u64], records: &[u64]) -> bool
     records.len() % RECORD == 0
 }
 
+// Whether the i-th record fits the ring, by its words; as `bounded_machine::record_fits` of the record that they stand for.
+fn fits_at(records: &[u64], i: usize, f: Fixed, meter: u64, counted: bool) -> bool
+    requires { ⌜ Fair f ⌝ }
+    requires { ⌜ i * 5 + 4 < length (now records) ⌝ }
+    ensures { λ r. ⌜ r ≡ recordFits f meter (recordAt (now (records .entry)) i) counted ⌝ }
+{
+    let at = i * RECORD;
+    if meter < records[at + 3] {
+        return false;
+    }
+    if meter < records[at + 4] {
+        return false;
+    }
+    if records[at] < 11 {
+        return true;
+    }
+    if counted {} else {
+        return false;
+    }
+    let held = bounded_codes::words_held(records[at], records[at + 1], records[at + 2]);
+    bounded_places::fits(f, held)
+}
+
 // Whether every record stands for a place and fits the ring, as one within the count does or as one past it, which has to be idle.
 pub fn records_fit(records: &[u64], f: Fixed, meter: u64, counted: bool) -> bool
     requires { ⌜ Fair f ⌝ }
@@ -47,8 +71,7 @@ pub fn records_fit(records: &[u64], f: Fixed, meter: u64, counted: bool) -> bool
         if bounded_rows::placed_at(records, i) {} else {
             return false;
         }
-        let r = bounded_rows::record_at(records, i);
-        if bounded_machine::record_fits(f, meter, r, counted) {} else {
+        if fits_at(records, i, f, meter, counted) {} else {
             return false;
         }
         i += 1;

@@ -5,9 +5,8 @@ use Rattle.bounded_slices.proofs.records_fit.Statement.{statement}
 use Rattle.bounded_slices.proofs.records_fit.Tie as tie
 use Rattle.bounded_slices.proofs.records_fit.Reads as reads
 use Rattle.bounded_slices.proofs.records_fit.Lts as lts
-use Rattle.bounded_machine.proofs.record_fits.Reads as record-fits-reads
+use Rattle.bounded_slices.proofs.fits_at.Reads as fits-at-reads
 use Rattle.bounded_rows.proofs.placed_at.Reads as placed-at-reads
-use Rattle.bounded_rows.proofs.record_at.Reads as record-at-reads
 
 abbrev Inv-loop : tie.InvT-loop
 Inv-loop records f meter counted n i₀ i = Going records f meter counted n i
@@ -27,13 +26,9 @@ placed-at-requires c κs = search (needs, in-reach)
 returns : tie.Need-returns Inv-loop μ-loop
 returns c = search (needs, no-place)
 
--- src/lib.rt:59:13
-record-at-requires : tie.Need-record-at-requires Inv-loop μ-loop
-record-at-requires c κs = search (needs, in-reach)
-
 -- src/lib.rt:60:12
-record-fits-requires : tie.Need-record-fits-requires Inv-loop μ-loop
-record-fits-requires c κs = search needs
+fits-at-requires : tie.Need-fits-at-requires Inv-loop μ-loop
+fits-at-requires c κs = search (needs, in-reach)
 
 -- src/lib.rt:61:13
 returns-2 : tie.Need-returns-2 Inv-loop μ-loop
@@ -64,8 +59,7 @@ records-fit-spec =
     loop-holds
     placed-at-requires
     returns
-    record-at-requires
-    record-fits-requires
+    fits-at-requires
     returns-2
     add-i
     loop-less
