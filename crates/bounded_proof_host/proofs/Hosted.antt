@@ -154,7 +154,7 @@ unfolding makeWords
 refused-make w capacity edition =
     either (λ (x : After). (x .answer ≡ 0 → ⊥) → x .words ≡ w) (shaped w) (madeFrom w (makeLent (recordsIn (w .records)) capacity edition)) (after 6 w)
     (λ b. either (λ (x : After). (x .answer ≡ 0 → ⊥) → x .words ≡ w) (eqb (makeLent (recordsIn (w .records)) capacity edition .answer) 0) (afterOf (makeLent (recordsIn (w .records)) capacity edition)) (after (makeLent (recordsIn (w .records)) capacity edition .answer) w)
-        (λ z h. absurd (h (eqb-true (makeLent (recordsIn (w .records)) capacity edition .answer) 0 z))) (λ z h. refl))
+    (λ z h. absurd (h (eqb-true (makeLent (recordsIn (w .records)) capacity edition .answer) 0 z))) (λ z h. refl))
     (λ b h. refl)
 
 pub refused-words : RefusedWords face
@@ -277,9 +277,10 @@ went-on (first ∷ second ∷ rest) l ys sound place =
     go : (b : Bool) → eqb (did .refusal) 0 ≡ b → (place + 1 ≤ after-it .place) × (heldIn (steps item11 (lent 0 (x .ring) (x .records)) (take (2 * (after-it .place - (place + 1))) rest)) ≡ after-it .machine)
         → Goal (cond (eqb (did .refusal) 0) (runAt SixtyFour (did .machine) (place + 1) rest) (ran (did .refusal) place (held l ys)))
     go true e more =
-        subst Goal (ap (λ (m : Machine). runAt SixtyFour m (place + 1) rest) held-is ∙ sym (ap (λ (b : Bool). cond b (runAt SixtyFour (did .machine) (place + 1) rest) (ran (did .refusal) place (held l ys))) e))
-        (omega (arith, more .0),
-        ap (λ (k : ℕ). heldIn (steps item11 (lent 0 l ys) (take k (first ∷ second ∷ rest)))) (two-more (after-it .place) (more .0)) ∙ steps-any (x .answer) 0 (x .ring) (x .records) (take (2 * (after-it .place - (place + 1))) rest) ∙ more .1)
+        subst Goal (ap (λ (m : Machine). runAt SixtyFour m (place + 1) rest) held-is ∙ sym (ap (λ (b : Bool). cond b (runAt SixtyFour (did .machine) (place + 1) rest) (ran (did .refusal) place (held l ys))) e)) (
+          omega (arith, more .0),
+          ap (λ (k : ℕ). heldIn (steps item11 (lent 0 l ys) (take k (first ∷ second ∷ rest)))) (two-more (after-it .place) (more .0)) ∙ steps-any (x .answer) 0 (x .ring) (x .records) (take (2 * (after-it .place - (place + 1))) rest) ∙ more .1,
+        )
     go false e more =
         subst Goal (sym (ap (λ (b : Bool). cond b (runAt SixtyFour (did .machine) (place + 1) rest) (ran (did .refusal) place (held l ys))) e))
         (omega arith, ap (λ (k : ℕ). heldIn (steps item11 (lent 0 l ys) (take k (first ∷ second ∷ rest)))) (nought place))
@@ -385,7 +386,7 @@ mixed (x ∷ rest) w s h =
     let one = one-doing x w s h in
     let stands-then : stand (doneBy face w x) ≡ true = ap stand (one .0) ∙ led (entriesOf face w x) w s .stands in
     let sound-then : brokenLent (meteredIn (doneBy face w x)) (recordsIn (doneBy face w x .records)) ≡ false =
-        ap (λ (z : Words). brokenLent (meteredIn z) (recordsIn (z .records))) (one .0) ∙ sound-after (entriesOf face w x) w s h in
+    ap (λ (z : Words). brokenLent (meteredIn z) (recordsIn (z .records))) (one .0) ∙ sound-after (entriesOf face w x) w s h in
     mixed rest (doneBy face w x) stands-then sound-then
     ∙ ap (λ (z : Words). stepsWords z (entriesBy face (doneBy face w x) rest)) (one .0)
     ∙ sym (steps-on (entriesOf face w x) (entriesBy face (doneBy face w x) rest) w (one .1))

@@ -122,6 +122,6 @@ abbrev pub HostedThroughout : Hosting → Type 0
 HostedThroughout d =
     (w : Words) (capacity edition : ℕ) → d .make w capacity edition .answer ≡ 0 → (doings : List Doing)
     → Demand2 (withRecords (length (recordsIn (w .records))) SixtyFour) capacity (length (recordsIn (w .records))) edition (heldWords (leftBy d (d .make w capacity edition .words) doings))
-        (actsWords d (d .make w capacity edition .words) (entriesBy d (d .make w capacity edition .words) doings))
+    (actsWords d (d .make w capacity edition .words) (entriesBy d (d .make w capacity edition .words) doings))
     × Demand3 (withRecords (length (recordsIn (w .records))) SixtyFour) (heldWords (leftBy d (d .make w capacity edition .words) doings))
-        (actsWords d (d .make w capacity edition .words) (entriesBy d (d .make w capacity edition .words) doings))
+    (actsWords d (d .make w capacity edition .words) (entriesBy d (d .make w capacity edition .words) doings))
