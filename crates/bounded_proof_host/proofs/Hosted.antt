@@ -41,6 +41,7 @@ use Rattle.bounded_rows.proofs.Lists.{many-slots}
 use Rattle.bounded_slices.specs.Slices.{brokenWords}
 use Rattle.bounded_host.specs.declared.Reply.{Reply}
 use Rattle.bounded_host.specs.Host.{reply, madeFrom, makeWords, stepWords, Ended, ended, endedOf, runWords, capacityWords, listed, contentsWords}
+use Rattle.bounded_host.proofs.Running.{judged-six}
 use Rattle.bounded_demands.specs.Notions.{withRecords}
 use Rattle.bounded_demands.specs.Lending.{item11, steps, heldIn, actsLent, holding, holds-did, holds-ran}
 use Rattle.bounded_demands.specs.Demands.{Demand2, Demand3, AsHeld, OnlyTheActing}
@@ -156,9 +157,6 @@ refused-make w capacity edition =
     (λ b. either (λ (x : After). (x .answer ≡ 0 → ⊥) → x .words ≡ w) (eqb (makeLent (recordsIn (w .records)) capacity edition .answer) 0) (afterOf (makeLent (recordsIn (w .records)) capacity edition)) (after (makeLent (recordsIn (w .records)) capacity edition .answer) w)
     (λ z h. absurd (h (eqb-true (makeLent (recordsIn (w .records)) capacity edition .answer) 0 z))) (λ z h. refl))
     (λ b h. refl)
-
-pub refused-words : RefusedWords face
-refused-words = record { make = refused-make; step = refused-step }
 
 -- ---- as the machine that holds its records
 module _ (w : Words) (s : stand w ≡ true) (e : List ℕ) where
@@ -358,6 +356,18 @@ module _ (w : Words) (st : stand w ≡ true) (sound : brokenLent (meteredIn w) (
     where
       q : scheduleBy (λ (d : Did). d .refusal) (λ (d : Did). d .machine) turnOf ran (λ (m : Machine). brokenLent (meteredIn w) (recordsIn (w .records))) entryOf (heldWords w) s .machine ≡ heldWords (stepsWords w entries)
       q = sym ran-is ∙ sym (led entries w st .machine)
+
+refused-run : (w : Words) (s : List ℕ) → ranOf (searchBy entryOf 0 s) (runWords w s .answer .number) s ≡ [] → runWords w s .words ≡ w
+unfolding stepsWords
+refused-run w s none = go (stand w) refl (brokenLent (meteredIn w) (recordsIn (w .records))) refl
+  where
+    go : (a : Bool) → stand w ≡ a → (b : Bool) → brokenLent (meteredIn w) (recordsIn (w .records)) ≡ b → runWords w s .words ≡ w
+    go false ea b eb = ap (λ (x : Ended). x .words) (malformed .run w s ea)
+    go true ea true eb = run-words w ea s ∙ ap (λ (g : Gone). wordsOf (g .ring) (g .records)) (sym (judged-six (meteredIn w) (recordsIn (w .records)) s eb)) ∙ same-words w (standing w ea)
+    go true ea false eb = run-as-steps w ea eb s ∙ ap (stepsWords w) none
+
+pub refused-words : RefusedWords face
+refused-words = record { make = refused-make; step = refused-step; run = refused-run }
 
 -- ---- any mixture is steps one after another
 sound-after : (entries : List ℕ) (w : Words) → stand w ≡ true → brokenLent (meteredIn w) (recordsIn (w .records)) ≡ false → brokenLent (meteredIn (stepsWords w entries)) (recordsIn (stepsWords w entries .records)) ≡ false

@@ -65,11 +65,6 @@ pub record Malformed (d : Hosting) : Type 0 where
   pub capacity : (w : Words) → stand w ≡ false → d .capacity w ≡ reply 6 0
   pub contents : (w : Words) (buffer : List ℕ) → stand w ≡ false → d .contents w buffer ≡ listed (reply 6 0) buffer
 
--- A refused call changes no word; of a schedule, if its first entry was refused or the whole.
-pub record RefusedWords (d : Hosting) : Type 0 where
-  pub make : (w : Words) (capacity edition : ℕ) → (d .make w capacity edition .answer ≡ 0 → ⊥) → d .make w capacity edition .words ≡ w
-  pub step : (w : Words) (first second : ℕ) → (d .step w first second .answer ≡ 0 → ⊥) → d .step w first second .words ≡ w
-
 -- "In a step only the acting record may change."
 pub record OnlyTheActingWords (d : Hosting) : Type 0 where
   pub others : (w : Words) (first second k : ℕ) → stand w ≡ true → (k ≡ first / 16 → ⊥) → recordOf (recordsIn (d .step w first second .words .records)) k ≡ recordOf (recordsIn (w .records)) k
@@ -99,6 +94,12 @@ leftBy d w (x ∷ rest) = leftBy d (doneBy d w x) rest
 abbrev pub ranOf : Finding → ℕ → List ℕ → List ℕ
 ranOf AllRead place s = take (2 * place) s
 ranOf (UnreadableAt at) place s = []
+
+-- A refused call changes no word; of a schedule, if no entry of it was run: the whole was refused, or its first entry.
+pub record RefusedWords (d : Hosting) : Type 0 where
+  pub make : (w : Words) (capacity edition : ℕ) → (d .make w capacity edition .answer ≡ 0 → ⊥) → d .make w capacity edition .words ≡ w
+  pub step : (w : Words) (first second : ℕ) → (d .step w first second .answer ≡ 0 → ⊥) → d .step w first second .words ≡ w
+  pub run : (w : Words) (s : List ℕ) → ranOf (searchBy entryOf 0 s) (d .run w s .answer .number) s ≡ [] → d .run w s .words ≡ w
 
 abbrev pub entriesOf : Hosting → Words → Doing → List ℕ
 entriesOf d w (stepping first second) = first ∷ second ∷ []
