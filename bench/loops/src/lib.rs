@@ -1,6 +1,8 @@
 //! What the two races share: processor time, a schedule's words, five runs of each in turns. Each race is a program of its own, since a plain loop with
 //! two callers in one program is compiled otherwise, and slower.
 
+pub mod words;
+
 use std::process::exit;
 
 extern "C" {

@@ -170,7 +170,7 @@ module _ (ys : List Worker) (capacity edition : ℕ) (made : makeLent ys capacit
   unfolding accepted
   held-fresh = ap heldIn made-is ∙ held-again (freshWith n capacity n edition) (fresh-whole .1 ∙ sym (fresh-whole .0))
 
-  sound-fresh : brokenLent (makeLent ys capacity edition .ring) (makeLent ys capacity edition .records) ≡ false
+  pub sound-fresh : brokenLent (makeLent ys capacity edition .ring) (makeLent ys capacity edition .records) ≡ false
   unfolding accepted
   sound-fresh =
       let F = freshWith n capacity n edition in

@@ -1,0 +1,4 @@
+mod Along
+pub mod Codes
+pub mod Standing
+pub mod Ranges

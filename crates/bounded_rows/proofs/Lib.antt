@@ -1,0 +1,4 @@
+pub mod Lists
+mod Words
+pub mod Standing
+mod Turning

@@ -1,0 +1,157 @@
+// The three slices that a host lends, each as a whole: how long they are, whether they stand for a ring and records that are not broken, and a ring stored there.
+ghost use mathlib.Core.Path.{_≡_};
+ghost use mathlib.Core.Bool.{false, cond};
+ghost use Prim.Native.Nat.{_+_, _*_, _%_, _<_};
+ghost use lib.ListN.{length, replicate};
+ghost use Rattle.bounded_words.specs.Limits.{slotsMost};
+ghost use Rattle.bounded_words.specs.Words.{Fair};
+ghost use Rattle.bounded_machine.specs.Broken.{recordFits};
+ghost use Rattle.bounded_lent.specs.Lent.{eachFits};
+ghost use Rattle.bounded_rows.specs.Rows.{words, headOf, slotsOf, slotsIn, recordAt, recordsIn, shaped, placed};
+ghost use Rattle.bounded_slices.specs.Slices.{withFixed, brokenWords};
+use bounded_parts::Metered;
+use bounded_places::Slot;
+use bounded_words::Fixed;
+use bounded_words::Stamp;
+
+// How many words there are for the ring but for its slots, for the slots and for a record.
+pub const HEAD: usize = 8;
+
+pub const SLOTS: usize = 2048;
+
+pub const RECORD: usize = 5;
+
+// The number of this layout, in the last word of the head.
+pub const LAYOUT: u64 = 1;
+
+pub fn shaped(head: &[u64], slots: &[u64], records: &[u64]) -> bool
+    ensures { λ r. ⌜ r ≡ shaped (words (now (head .entry)) (now (slots .entry)) (now (records .entry))) ⌝ }
+{
+    if head.len() == HEAD {} else {
+        return false;
+    }
+    if slots.len() == SLOTS {} else {
+        return false;
+    }
+    records.len() % RECORD == 0
+}
+
+// Whether the i-th record fits the ring, by its words; as `bounded_machine::record_fits` of the record that they stand for.
+fn fits_at(records: &[u64], i: usize, f: Fixed, meter: u64, counted: bool) -> bool
+    requires { ⌜ Fair f ⌝ }
+    requires { ⌜ i * 5 + 4 < length (now records) ⌝ }
+    ensures { λ r. ⌜ r ≡ recordFits f meter (recordAt (now (records .entry)) i) counted ⌝ }
+{
+    let at = i * RECORD;
+    if meter < records[at + 3] {
+        return false;
+    }
+    if meter < records[at + 4] {
+        return false;
+    }
+    if records[at] < 11 {
+        return true;
+    }
+    if counted {} else {
+        return false;
+    }
+    let held = bounded_codes::words_held(records[at], records[at + 1], records[at + 2]);
+    bounded_places::fits(f, held)
+}
+
+// Whether every record stands for a place and fits the ring, as one within the count does or as one past it, which has to be idle.
+pub fn records_fit(records: &[u64], f: Fixed, meter: u64, counted: bool) -> bool
+    requires { ⌜ Fair f ⌝ }
+    requires { ⌜ length (now records) % 5 ≡ 0 ⌝ }
+    ensures { λ r. ⌜ r ≡ cond (placed (now (records .entry))) (eachFits f meter counted (recordsIn (now (records .entry)))) false ⌝ }
+{
+    let n = records.len() / RECORD;
+    let mut i = 0;
+    while i < n {
+        if bounded_rows::placed_at(records, i) {} else {
+            return false;
+        }
+        if fits_at(records, i, f, meter, counted) {} else {
+            return false;
+        }
+        i += 1;
+    }
+    true
+}
+
+pub fn broken(head: &[u64], slots: &[u64], records: &[u64]) -> bool
+    ensures { λ r. ⌜ r ≡ brokenWords (words (now (head .entry)) (now (slots .entry)) (now (records .entry))) ⌝ }
+{
+    if shaped(head, slots, records) {} else {
+        return true;
+    }
+    if head[7] == LAYOUT {} else {
+        return true;
+    }
+    let f = bounded_rows::fixed_in(head);
+    let e = bounded_rows::ends_in(head);
+    if bounded_parts::ring_fits(f, e, records.len() / RECORD) {} else {
+        return true;
+    }
+    !records_fit(records, f, head[6], true)
+}
+
+fn put_fixed(head: &mut [u64], f: Fixed)
+    requires { ⌜ length (now head) ≡ 8 ⌝ }
+    ensures { λ _. ⌜ now (head .exit) ≡ withFixed (now (head .entry)) f ⌝ }
+{
+    head[0] = f.mark;
+    head[1] = f.lap;
+    head[2] = f.capacity;
+    head[3] = f.edition;
+}
+
+pub fn put_ring(head: &mut [u64], l: Metered)
+    requires { ⌜ length (now head) ≡ 8 ⌝ }
+    ensures { λ _. ⌜ now (head .exit) ≡ headOf l ⌝ }
+{
+    let ring = l.ring;
+    let f = ring.fixed;
+    let e = ring.ends;
+    put_fixed(head, f);
+    bounded_rows::put_head(head, e, l.meter);
+    head[7] = LAYOUT;
+}
+
+pub fn put_slots(slots: &mut [u64], all: [Slot; bounded_words::SLOTS])
+    requires { ⌜ length (now slots) ≡ slotsMost * 2 ⌝ }
+    ensures { λ _. ⌜ now (slots .exit) ≡ slotsOf all ⌝ }
+{
+    let mut i = 0;
+    while i < bounded_words::SLOTS {
+        bounded_rows::put_slot(slots, i, all[i]);
+        i += 1;
+    }
+}
+
+pub fn put_zeros(records: &mut [u64])
+    ensures { λ _. ⌜ now (records .exit) ≡ replicate (length (now (records .entry))) 0 ⌝ }
+{
+    let n = records.len();
+    let mut i = 0;
+    while i < n {
+        records[i] = 0;
+        i += 1;
+    }
+}
+
+pub fn slots_in(slots: &[u64]) -> [Slot; bounded_words::SLOTS]
+    requires { ⌜ length (now slots) ≡ slotsMost * 2 ⌝ }
+    ensures { λ r. ⌜ r ≡ slotsIn (now (slots .entry)) ⌝ }
+{
+    let mut all = [Slot {
+        stamp: Stamp(0),
+        value: 0,
+    }; bounded_words::SLOTS];
+    let mut i = 0;
+    while i < bounded_words::SLOTS {
+        all[i] = bounded_rows::slot_at(slots, i);
+        i += 1;
+    }
+    all
+}

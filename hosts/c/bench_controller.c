@@ -1,0 +1,116 @@
+/* What a bench controller does with the queue: two readers put the speeds of pumps in, a judge takes them out, one
+ * action at a time in the order that the controller chooses. Then an entry that is refused, and a ring that somebody
+ * has broken. It writes what happened, a line each, and ends with status 1 where something is not as it should be. */
+#include "fernmoldew.h"
+
+#include <inttypes.h>
+#include <stdio.h>
+#include <string.h>
+
+enum { READER_A, READER_B, JUDGE, WORKERS };
+
+static uint64_t head[FERN_HEAD], slots[FERN_SLOTS], records[WORKERS][FERN_RECORD];
+static int wrong;
+
+/* The three slices, as every call takes them. */
+#define LENT head, FERN_HEAD, slots, FERN_SLOTS, &records[0][0], (size_t)WORKERS * FERN_RECORD
+
+static uint64_t step(uint64_t worker, enum fern_call call, uint64_t item) {
+    return fern_ring_step(LENT, fern_entry(worker, call), item);
+}
+
+static void expect(bool right, const char *what) {
+    if (!right) {
+        wrong = 1;
+        fprintf(stderr, "bench_controller: not so: %s\n", what);
+    }
+}
+
+/* One call of one worker to its end, nobody else acting meanwhile: at most seven acts. */
+static int alone(uint64_t worker, enum fern_call call, uint64_t item) {
+    int acts = 0;
+    uint64_t refusal = step(worker, call, item);
+    while (refusal == FERN_ACCEPTED && fern_busy(records[worker])) {
+        refusal = step(worker, FERN_ACT, 0);
+        acts++;
+    }
+    expect(refusal == FERN_ACCEPTED && acts <= 7, "a call ends within seven acts");
+    return acts;
+}
+
+static void say(const char *who, const uint64_t record[FERN_RECORD]) {
+    static const char *const answers[] = {"nothing", "pushed", "empty", "closed", "yes", "no", "full", "closed", "displaced", "popped", "len"};
+    printf("%s: %s", who, answers[fern_answer(record)]);
+    if (fern_has_value(record))
+        printf(" %" PRIu64, fern_value(record));
+    printf("\n");
+}
+
+int main(void) {
+    uint64_t refusal = fern_ring_make(LENT, 2, 1);
+    if (refusal != FERN_ACCEPTED) {
+        fprintf(stderr, "bench_controller: %s\n", fern_refusal_says(refusal));
+        return 1;
+    }
+    printf("capacity %" PRIu64 "\n", fern_ring_capacity(LENT).number);
+
+    /* Two readers at once, turn about: both get in, each at a slot of its own. */
+    step(READER_A, FERN_PUSH, 2950);
+    step(READER_B, FERN_PUSH, 3010);
+    while (fern_busy(records[READER_A]) || fern_busy(records[READER_B])) {
+        if (fern_busy(records[READER_A]))
+            step(READER_A, FERN_ACT, 0);
+        if (fern_busy(records[READER_B]))
+            step(READER_B, FERN_ACT, 0);
+    }
+    say("reader A", records[READER_A]);
+    say("reader B", records[READER_B]);
+
+    /* The ring is full: the third speed is handed back. */
+    alone(READER_A, FERN_PUSH, 2980);
+    say("reader A", records[READER_A]);
+    expect(fern_answer(records[READER_A]) == FERN_FULL && fern_value(records[READER_A]) == 2980, "a push into a full ring is handed its item back");
+
+    uint64_t items[FERN_CAPACITY];
+    struct fern_reply waiting = fern_ring_contents(LENT, items, FERN_CAPACITY);
+    printf("waiting:");
+    for (uint64_t i = 0; i < waiting.number; i++)
+        printf(" %" PRIu64, items[i]);
+    printf("\n");
+
+    /* The judge takes them out in the order of their claims. */
+    for (int i = 0; i < 2; i++) {
+        alone(JUDGE, FERN_POP, 0);
+        say("judge", records[JUDGE]);
+        expect(fern_value(records[JUDGE]) == items[i], "items come out in the order in which they waited");
+    }
+    alone(JUDGE, FERN_POP, 0);
+    say("judge", records[JUDGE]);
+
+    /* A whole call as a schedule. */
+    const uint64_t schedule[] = {fern_entry(READER_A, FERN_PUSH), 2990, fern_entry(READER_A, FERN_ACT), 0, fern_entry(READER_A, FERN_ACT), 0, fern_entry(READER_A, FERN_ACT), 0, fern_entry(READER_A, FERN_ACT), 0, fern_entry(READER_A, FERN_ACT), 0};
+    struct fern_reply ran = fern_ring_run(LENT, schedule, sizeof schedule / sizeof *schedule);
+    printf("a schedule of %" PRIu64 " entries: %s\n", ran.number, fern_refusal_says(ran.refusal));
+    say("reader A", records[READER_A]);
+
+    /* What is refused changes no word. */
+    uint64_t before[FERN_HEAD + WORKERS * FERN_RECORD], after[FERN_HEAD + WORKERS * FERN_RECORD];
+    memcpy(before, head, sizeof head);
+    memcpy(before + FERN_HEAD, records, sizeof records);
+    refusal = step(JUDGE, FERN_ACT, 0);
+    printf("an act of an idle worker: refusal %" PRIu64 ", %s\n", refusal, fern_refusal_says(refusal));
+    memcpy(after, head, sizeof head);
+    memcpy(after + FERN_HEAD, records, sizeof records);
+    expect(refusal == FERN_IDLE && memcmp(before, after, sizeof before) == 0, "a refused step changes no word");
+
+    /* A ring that somebody wrote over. */
+    head[FERN_HEAD_MARK]++;
+    refusal = step(JUDGE, FERN_POP, 0);
+    printf("a mark that is not by rule: refusal %" PRIu64 ", %s\n", refusal, fern_refusal_says(refusal));
+    expect(refusal == FERN_BROKEN && fern_ring_broken(LENT) == FERN_BROKEN, "a broken ring is refused");
+    head[FERN_HEAD_MARK]--;
+    records[JUDGE][FERN_RECORD_CODE] = 99;
+    expect(fern_ring_broken(LENT) == FERN_BROKEN, "a code that no place has is refused");
+    printf("a code that no place has: refusal %" PRIu64 "\n", step(JUDGE, FERN_POP, 0));
+    return wrong;
+}

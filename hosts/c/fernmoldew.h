@@ -1,0 +1,248 @@
+/* fernmoldew.h: the proved bounded queue, linked into a program of yours.
+ *
+ * What no proof speaks of, and you must see to: the slices of a call must not overlap, each must be as long as is
+ * said, two calls on the same words must not run at once, and nobody else may write the words between two calls.
+ * Everything else is refused with a number, and a refused call changes no word.
+ *
+ * The ring and its workers' records are words in your memory, three arrays of uint64_t that you keep and lend with
+ * each call:
+ *
+ *     head     FERN_HEAD words: mark, lap, capacity, edition, head, tail, meter, layout number
+ *     slots    FERN_SLOTS words, two for each of 1,024 slots: stamp and value. The first `capacity` slots are used.
+ *     records  FERN_RECORD words for each worker, 1 to FERN_WORKERS of them side by side: code, first, second,
+ *              differed, failed. All zeros is a worker that is idle and has no answer yet.
+ *
+ * A step is an entry of two words: `first` is 16 times the worker's number plus a code (FERN_PUSH .. FERN_ACT_LOSE),
+ * `second` is the item of a push or a force_push, else 0. A call is begun by one entry and then goes on by one atomic
+ * action with each FERN_ACT; the worker's record says where it stands. README.md of this folder shows a whole call.
+ *
+ * Words that stand for no ring and records (a wrong length, a code that there is none of, a word that is not used
+ * and not 0, another layout number) are refusal FERN_BROKEN, as are those of a broken ring. */
+#ifndef FERNMOLDEW_H
+#define FERNMOLDEW_H
+
+#include <stdbool.h>
+#include <stddef.h>
+#include <stdint.h>
+
+#ifdef __cplusplus
+extern "C" {
+#endif
+
+enum {
+    FERN_HEAD = 8,
+    FERN_SLOTS = 2048,
+    FERN_RECORD = 5,
+    FERN_WORKERS = 64,    /* the most workers */
+    FERN_CAPACITY = 1024, /* the most slots */
+    FERN_LAYOUT = 1       /* the layout number, in the last word of the head */
+};
+
+/* The words of the head. */
+enum fern_head {
+    FERN_HEAD_MARK,
+    FERN_HEAD_LAP,
+    FERN_HEAD_CAPACITY,
+    FERN_HEAD_EDITION,
+    FERN_HEAD_HEAD,
+    FERN_HEAD_TAIL,
+    FERN_HEAD_METER,
+    FERN_HEAD_LAYOUT
+};
+
+/* The words of a record. */
+enum fern_record {
+    FERN_RECORD_CODE,
+    FERN_RECORD_FIRST,
+    FERN_RECORD_SECOND,
+    FERN_RECORD_DIFFERED, /* exchanges of the present or the last call that were lost because the words differed */
+    FERN_RECORD_FAILED    /* and because the schedule made them fail */
+};
+
+/* What a worker is asked for: the low four bits of an entry's first word. */
+enum fern_call {
+    FERN_PUSH,
+    FERN_FORCE_PUSH,
+    FERN_POP,
+    FERN_LEN,
+    FERN_IS_EMPTY,
+    FERN_IS_FULL,
+    FERN_CLOSE,
+    FERN_IS_CLOSED,
+    FERN_ACT,     /* one atomic action of the call that was begun */
+    FERN_ACT_LOSE /* the same, and its weak exchange fails */
+};
+
+/* Refusals. A call of this library answers 0, or one of 1 to 11 or 18; the others are those of tapes, of walks and
+ * of the unbounded queue, here so that every number has its name. */
+enum fern_refusal {
+    FERN_ACCEPTED = 0,
+    FERN_BAD_CAPACITY = 1,     /* capacity 0, or above FERN_CAPACITY */
+    FERN_BAD_COUNT = 2,        /* no workers, or more than FERN_WORKERS */
+    FERN_NO_SUCH_WORKER = 3,   /* the worker's number is not below the count */
+    FERN_BUSY = 4,             /* a busy worker was to begin a call; contents while any is busy */
+    FERN_IDLE = 5,             /* an act of an idle worker */
+    FERN_BROKEN = 6,           /* the words stand for no ring and records, or for broken ones */
+    FERN_METER_FULL = 7,       /* the meter is at 4,294,967,295 */
+    FERN_NO_WEAK_EXCHANGE = 8, /* FERN_ACT_LOSE where no weak exchange comes next */
+    FERN_UNREADABLE = 9,       /* an entry that cannot be read: a code above 9, an item where there is none */
+    FERN_BUFFER_SHORT = 10,    /* the buffer is shorter than the contents */
+    FERN_ODD_SCHEDULE = 11,    /* a schedule of an odd number of words */
+    FERN_TAPE_CUT = 12,        /* a tape that is cut short */
+    FERN_TAPE_FIELD = 13,      /* a tape's field of an unknown tag, a wrong length or place, or the other variant */
+    FERN_TAPE_CODE = 14,       /* a code that is not allowed under its tag */
+    FERN_TAPE_MORE = 15,       /* bytes after a tape's end */
+    FERN_TAPE_ROOM = 16,       /* an output buffer too short for a tape or a schedule */
+    FERN_TAPE_ENTRY = 17,      /* an entry that a tape can't carry */
+    FERN_BAD_EDITION = 18,     /* an edition that is neither 1 nor 2 */
+    FERN_WALK_LIMITS = 19,     /* a walk of more than 3 workers or 12 acts */
+    FERN_WALK_IDLE = 20,       /* a walk with an idle worker */
+    FERN_WALK_METER = 21,      /* fewer acts left on the meter than the walk is deep */
+    FERN_WALK_ROOM = 22,       /* a buffer shorter than the walk's list */
+    FERN_NO_BLOCK = 23         /* the unbounded queue needs a block and none is free */
+};
+
+/* Where a worker stands: a record's code. Codes up to FERN_LAST_ANSWER are of idle workers, by what the last call
+ * answered; those from FERN_FULL to FERN_LEN_IS have a value in the record's first word. Codes above it are the
+ * places of document 01; codes 6 to 32 hold a first word (an item at P1, else t or h), 21 to 32 a second (an item, a
+ * value, or len's head). What is not held is 0. */
+enum fern_code {
+    FERN_NOTHING,      /* no call yet */
+    FERN_PUSHED,       /* push: the item is in; force_push: and none went out for it */
+    FERN_EMPTY,        /* pop: there was none */
+    FERN_POP_CLOSED,   /* pop: there was none, and the queue is closed */
+    FERN_YES,          /* is_empty, is_full, is_closed; close: it was open */
+    FERN_NO,
+    FERN_FULL,         /* push: the item is handed back */
+    FERN_CLOSED,       /* push, force_push: the queue is closed, the item is handed back */
+    FERN_DISPLACED,    /* force_push: the item is in, and this one went out for it */
+    FERN_POPPED,       /* pop: this item */
+    FERN_LEN_IS,       /* len */
+    FERN_LAST_ANSWER = FERN_LEN_IS,
+    FERN_P1_PUSH,
+    FERN_P1_FORCE,
+    FERN_EMPTY2,
+    FERN_FULL2,
+    FERN_P5,
+    FERN_O2,
+    FERN_O3,
+    FERN_O4,
+    FERN_O6,
+    FERN_LEN2,
+    FERN_LEN3,
+    FERN_P2_PUSH,
+    FERN_P2_FORCE,
+    FERN_P3_PUSH,
+    FERN_P3_FORCE,
+    FERN_P4,
+    FERN_P6,
+    FERN_F6,
+    FERN_F7,
+    FERN_F8,
+    FERN_F9,
+    FERN_O5,
+    FERN_O1,
+    FERN_LEN1,
+    FERN_EMPTY1,
+    FERN_FULL1,
+    FERN_CLOSE1,
+    FERN_IS_CLOSED1,
+    FERN_CODES
+};
+
+/* A refusal, 0 where there is none, and what was asked for: 0 where it was refused, but an entry's place from run. */
+struct fern_reply {
+    uint64_t refusal;
+    uint64_t number;
+};
+
+/* A fresh ring of so many slots in edition 1 (the source's) or 2 (a close that holds), and all records idle; what the
+ * words were does not matter. Refusals 1, 2, 18; 6 for slices of other lengths. */
+uint64_t fern_ring_make(uint64_t *head, size_t head_words, uint64_t *slots, size_t slots_words, uint64_t *records,
+                        size_t records_words, uint64_t capacity, uint64_t edition);
+
+/* One entry. It judges all that is lent first, every time: refusals 6, 9, 3, then 4 (begin) or 5, 7, 8 (act). */
+uint64_t fern_ring_step(uint64_t *head, size_t head_words, uint64_t *slots, size_t slots_words, uint64_t *records,
+                        size_t records_words, uint64_t first, uint64_t second);
+
+/* A schedule of entries, two words each, to its end or to the first refusal: 0 and how many entries there are, or the
+ * refusal and the entry's place from 0. Refusals 6, 11 and 9 are given before anything is run; of any other, the
+ * entries before it stand. It judges once, and so is the quicker way for many entries. */
+struct fern_reply fern_ring_run(uint64_t *head, size_t head_words, uint64_t *slots, size_t slots_words,
+                                uint64_t *records, size_t records_words, const uint64_t *schedule,
+                                size_t schedule_words);
+
+/* The items in the order in which they would be popped, at the buffer's start; how many. Nothing is removed.
+ * Refusals 6, 4, 10. */
+struct fern_reply fern_ring_contents(const uint64_t *head, size_t head_words, const uint64_t *slots,
+                                     size_t slots_words, const uint64_t *records, size_t records_words,
+                                     uint64_t *buffer, size_t buffer_words);
+
+/* The ring's capacity. Refusal 6. */
+struct fern_reply fern_ring_capacity(const uint64_t *head, size_t head_words, const uint64_t *slots,
+                                     size_t slots_words, const uint64_t *records, size_t records_words);
+
+/* FERN_BROKEN where every call would be refused for what is lent, else 0. */
+uint64_t fern_ring_broken(const uint64_t *head, size_t head_words, const uint64_t *slots, size_t slots_words,
+                          const uint64_t *records, size_t records_words);
+
+/* An entry's first word. */
+static inline uint64_t fern_entry(uint64_t worker, enum fern_call call) {
+    return 16 * worker + (uint64_t)call;
+}
+
+/* Whether a worker has a call under way. */
+static inline bool fern_busy(const uint64_t record[FERN_RECORD]) {
+    return record[FERN_RECORD_CODE] > FERN_LAST_ANSWER;
+}
+
+/* What the last call of an idle worker answered: FERN_NOTHING to FERN_LEN_IS. */
+static inline enum fern_code fern_answer(const uint64_t record[FERN_RECORD]) {
+    return (enum fern_code)record[FERN_RECORD_CODE];
+}
+
+/* Whether that answer has a value, and the value. */
+static inline bool fern_has_value(const uint64_t record[FERN_RECORD]) {
+    return record[FERN_RECORD_CODE] >= FERN_FULL && record[FERN_RECORD_CODE] <= FERN_LEN_IS;
+}
+
+static inline uint64_t fern_value(const uint64_t record[FERN_RECORD]) {
+    return record[FERN_RECORD_FIRST];
+}
+
+/* A refusal in words. */
+static inline const char *fern_refusal_says(uint64_t refusal) {
+    static const char *const says[] = {
+        "accepted",
+        "the capacity is 0 or above 1,024",
+        "there are no workers, or more than 64",
+        "there is no such worker",
+        "a worker is busy",
+        "the worker is idle",
+        "the words stand for no ring and records, or for broken ones",
+        "the meter is at its last number",
+        "no weak exchange comes next",
+        "an entry cannot be read",
+        "the buffer is shorter than the contents",
+        "the schedule has an odd number of words",
+        "the tape is cut short",
+        "a tape's field has an unknown tag, a wrong length or place, or is of the other variant",
+        "a code is not allowed under its tag",
+        "there are bytes after the tape's end",
+        "the output buffer is too short",
+        "a tape can't carry an entry",
+        "the edition is neither 1 nor 2",
+        "a walk of more than 3 workers or 12 acts",
+        "a walk with an idle worker",
+        "fewer acts are left on the meter than the walk is deep",
+        "the buffer is shorter than the walk's list",
+        "no block is free",
+    };
+    return refusal < sizeof says / sizeof *says ? says[refusal] : "no refusal of this number";
+}
+
+#ifdef __cplusplus
+}
+#endif
+
+#endif

@@ -1,0 +1,464 @@
+//! The bounded queue of concurrent-queue 2.5.0, proved, and stepped one atomic action at a time.
+//!
+//! Each worker has a call under way or is idle. [`Ring::begin`] begins a call, [`Ring::act`] does the one atomic action that comes next in it, in
+//! whatever order you choose among the workers; [`Ring::call`] does a whole call with nobody acting meanwhile. A refused call of this library changes nothing.
+//!
+//! ```
+//! use fernmoldew::{Answer, Call, Edition, Ring, Workers};
+//!
+//! let mut workers = Workers::new(2);
+//! let mut ring = Ring::new(4, Edition::Source, &mut workers)?;
+//! assert_eq!(ring.call(&mut workers, 0, Call::Push(2950))?, Answer::Pushed);
+//! // worker 1 pops, action by action
+//! ring.begin(&mut workers, 1, Call::Pop)?;
+//! let mut acts = 0;
+//! while workers.get(1).busy() {
+//!     ring.act(&mut workers, 1)?;
+//!     acts += 1;
+//! }
+//! assert_eq!((workers.get(1).answer(), acts), (Some(Answer::Popped(2950)), 5));
+//! # Ok::<(), fernmoldew::Refusal>(())
+//! ```
+//!
+//! The library behind it is compiled from proved Rattle (crates/bounded_host); its promises are of the words that a [`Ring`] and its [`Workers`] hold.
+//! They hold if a ring is lent the same workers throughout, as this crate's borrows leave to you: lend another ring's and refusal 6 alone judges them.
+
+use std::error::Error;
+use std::fmt;
+
+#[repr(C)]
+struct Reply {
+    refusal: u64,
+    number: u64,
+}
+
+extern "C" {
+    fn fern_ring_make(head: *mut u64, n: usize, slots: *mut u64, m: usize, records: *mut u64, k: usize, capacity: u64, edition: u64) -> u64;
+    fn fern_ring_step(head: *mut u64, n: usize, slots: *mut u64, m: usize, records: *mut u64, k: usize, first: u64, second: u64) -> u64;
+    fn fern_ring_run(head: *mut u64, n: usize, slots: *mut u64, m: usize, records: *mut u64, k: usize, schedule: *const u64, length: usize) -> Reply;
+    fn fern_ring_contents(head: *const u64, n: usize, slots: *const u64, m: usize, records: *const u64, k: usize, buffer: *mut u64, room: usize) -> Reply;
+    fn fern_ring_capacity(head: *const u64, n: usize, slots: *const u64, m: usize, records: *const u64, k: usize) -> Reply;
+    fn fern_ring_broken(head: *const u64, n: usize, slots: *const u64, m: usize, records: *const u64, k: usize) -> u64;
+}
+
+/// The words of a ring but for its slots, of its slots, and of a worker's record.
+pub const HEAD_WORDS: usize = 8;
+pub const SLOT_WORDS: usize = 2048;
+pub const RECORD_WORDS: usize = 5;
+
+/// Why something was refused. This library answers 1 to 11 and 18; the others are those of tapes, of walks and of the unbounded queue.
+#[derive(Clone, Copy, Debug, PartialEq, Eq, Hash, PartialOrd, Ord)]
+#[repr(u64)]
+pub enum Refusal {
+    Capacity = 1,
+    Count = 2,
+    NoSuchWorker = 3,
+    Busy = 4,
+    Idle = 5,
+    Broken = 6,
+    Meter = 7,
+    NoWeakExchange = 8,
+    Unreadable = 9,
+    BufferShort = 10,
+    OddSchedule = 11,
+    TapeCut = 12,
+    TapeField = 13,
+    TapeCode = 14,
+    TapeMore = 15,
+    TapeRoom = 16,
+    TapeEntry = 17,
+    Edition = 18,
+    WalkLimits = 19,
+    WalkIdle = 20,
+    WalkMeter = 21,
+    WalkRoom = 22,
+    NoBlock = 23,
+}
+
+impl Refusal {
+    /// Every refusal, in the order of its numbers.
+    pub const ALL: [Refusal; 23] = [
+        Refusal::Capacity,
+        Refusal::Count,
+        Refusal::NoSuchWorker,
+        Refusal::Busy,
+        Refusal::Idle,
+        Refusal::Broken,
+        Refusal::Meter,
+        Refusal::NoWeakExchange,
+        Refusal::Unreadable,
+        Refusal::BufferShort,
+        Refusal::OddSchedule,
+        Refusal::TapeCut,
+        Refusal::TapeField,
+        Refusal::TapeCode,
+        Refusal::TapeMore,
+        Refusal::TapeRoom,
+        Refusal::TapeEntry,
+        Refusal::Edition,
+        Refusal::WalkLimits,
+        Refusal::WalkIdle,
+        Refusal::WalkMeter,
+        Refusal::WalkRoom,
+        Refusal::NoBlock,
+    ];
+
+    /// The refusal of this number.
+    ///
+    /// ```
+    /// use fernmoldew::Refusal;
+    /// assert_eq!(Refusal::of(6), Some(Refusal::Broken));
+    /// assert_eq!(Refusal::of(0), None);
+    /// ```
+    pub fn of(number: u64) -> Option<Refusal> {
+        let place = usize::try_from(number).ok()?.checked_sub(1)?;
+        Refusal::ALL.get(place).copied()
+    }
+
+    pub fn number(self) -> u64 {
+        self as u64
+    }
+}
+
+impl fmt::Display for Refusal {
+    fn fmt(&self, f: &mut fmt::Formatter<'_>) -> fmt::Result {
+        let why = match self {
+            Refusal::Capacity => "the capacity is 0 or above 1,024",
+            Refusal::Count => "there are no workers, or more than 64",
+            Refusal::NoSuchWorker => "there is no such worker",
+            Refusal::Busy => "a worker is busy",
+            Refusal::Idle => "the worker is idle",
+            Refusal::Broken => "the words stand for no ring and records, or for broken ones",
+            Refusal::Meter => "the meter is at its last number",
+            Refusal::NoWeakExchange => "no weak exchange comes next",
+            Refusal::Unreadable => "an entry cannot be read",
+            Refusal::BufferShort => "the buffer is shorter than the contents",
+            Refusal::OddSchedule => "the schedule has an odd number of words",
+            Refusal::TapeCut => "the tape is cut short",
+            Refusal::TapeField => "a tape's field has an unknown tag, a wrong length or place, or is of the other variant",
+            Refusal::TapeCode => "a code is not allowed under its tag",
+            Refusal::TapeMore => "there are bytes after the tape's end",
+            Refusal::TapeRoom => "the output buffer is too short",
+            Refusal::TapeEntry => "a tape can't carry an entry",
+            Refusal::Edition => "the edition is neither 1 nor 2",
+            Refusal::WalkLimits => "a walk of more than 3 workers or 12 acts",
+            Refusal::WalkIdle => "a walk with an idle worker",
+            Refusal::WalkMeter => "fewer acts are left on the meter than the walk is deep",
+            Refusal::WalkRoom => "the buffer is shorter than the walk's list",
+            Refusal::NoBlock => "no block is free",
+        };
+        write!(f, "refusal {}: {why}", self.number())
+    }
+}
+
+impl Error for Refusal {}
+
+/// A schedule that was refused, and the place of the entry, from 0.
+#[derive(Clone, Copy, Debug, PartialEq, Eq)]
+pub struct Stopped {
+    pub refusal: Refusal,
+    pub place: u64,
+}
+
+impl fmt::Display for Stopped {
+    fn fmt(&self, f: &mut fmt::Formatter<'_>) -> fmt::Result {
+        write!(f, "entry {}: {}", self.place, self.refusal)
+    }
+}
+
+impl Error for Stopped {}
+
+/// The library answers no number but those of refusals.
+fn judged(number: u64) -> Result<(), Refusal> {
+    match Refusal::of(number) {
+        None => Ok(()),
+        Some(refusal) => Err(refusal),
+    }
+}
+
+fn told(reply: Reply) -> Result<u64, Refusal> {
+    judged(reply.refusal).map(|()| reply.number)
+}
+
+/// Which ring it is: the source's, or the one in which a close holds (a force_push does not lose it).
+#[derive(Clone, Copy, Debug, PartialEq, Eq)]
+pub enum Edition {
+    Source = 1,
+    CloseHolds = 2,
+}
+
+/// What a worker is asked to do.
+#[derive(Clone, Copy, Debug, PartialEq, Eq)]
+pub enum Call {
+    Push(u64),
+    ForcePush(u64),
+    Pop,
+    Len,
+    IsEmpty,
+    IsFull,
+    Close,
+    IsClosed,
+}
+
+impl Call {
+    fn words(self) -> (u64, u64) {
+        match self {
+            Call::Push(item) => (0, item),
+            Call::ForcePush(item) => (1, item),
+            Call::Pop => (2, 0),
+            Call::Len => (3, 0),
+            Call::IsEmpty => (4, 0),
+            Call::IsFull => (5, 0),
+            Call::Close => (6, 0),
+            Call::IsClosed => (7, 0),
+        }
+    }
+
+    /// The entry of a schedule with which a worker begins this call.
+    pub fn entry(self, worker: usize) -> [u64; 2] {
+        let (code, item) = self.words();
+        [16 * worker as u64 + code, item]
+    }
+}
+
+/// The entries of a schedule for an act of a worker, and for one whose weak exchange fails.
+pub fn act_entry(worker: usize) -> [u64; 2] {
+    [16 * worker as u64 + 8, 0]
+}
+
+pub fn losing_entry(worker: usize) -> [u64; 2] {
+    [16 * worker as u64 + 9, 0]
+}
+
+/// What a call answered.
+#[derive(Clone, Copy, Debug, PartialEq, Eq, Hash)]
+pub enum Answer {
+    /// No call yet.
+    Nothing,
+    /// The item is in; of a force_push, with none displaced.
+    Pushed,
+    /// There was none to pop.
+    Empty,
+    /// There was none to pop, and the queue is closed.
+    PopClosed,
+    Yes,
+    No,
+    /// The item is handed back.
+    Full(u64),
+    /// The queue is closed, and the item is handed back.
+    Closed(u64),
+    /// The item is in, and this one went out for it.
+    Displaced(u64),
+    Popped(u64),
+    Len(u64),
+}
+
+/// Where one worker stands.
+#[derive(Clone, Copy, Debug, PartialEq, Eq)]
+pub struct Worker {
+    words: [u64; RECORD_WORDS],
+}
+
+impl Worker {
+    /// Whether it has a call under way.
+    pub fn busy(&self) -> bool {
+        self.words[0] > 10
+    }
+
+    /// What its last call answered; none while it is busy.
+    pub fn answer(&self) -> Option<Answer> {
+        let value = self.words[1];
+        Some(match self.words[0] {
+            0 => Answer::Nothing,
+            1 => Answer::Pushed,
+            2 => Answer::Empty,
+            3 => Answer::PopClosed,
+            4 => Answer::Yes,
+            5 => Answer::No,
+            6 => Answer::Full(value),
+            7 => Answer::Closed(value),
+            8 => Answer::Displaced(value),
+            9 => Answer::Popped(value),
+            10 => Answer::Len(value),
+            _ => return None,
+        })
+    }
+
+    /// How many exchanges its present or last call lost because the words differed.
+    pub fn differed(&self) -> u64 {
+        self.words[3]
+    }
+
+    /// And how many because the schedule made them fail.
+    pub fn failed(&self) -> u64 {
+        self.words[4]
+    }
+}
+
+/// The records of a ring's workers, side by side.
+#[derive(Clone, Debug, PartialEq, Eq)]
+pub struct Workers {
+    words: Vec<u64>,
+}
+
+impl Workers {
+    /// So many idle workers; a ring takes 1 to 64.
+    pub fn new(count: usize) -> Workers {
+        Workers { words: vec![0; RECORD_WORDS * count] }
+    }
+
+    /// Workers whose records are these words: five each, as fernmoldew.h lays them out. They are judged with each call.
+    pub fn from_words(words: Vec<u64>) -> Workers {
+        Workers { words }
+    }
+
+    pub fn words(&self) -> &[u64] {
+        &self.words
+    }
+
+    pub fn len(&self) -> usize {
+        self.words.len() / RECORD_WORDS
+    }
+
+    pub fn is_empty(&self) -> bool {
+        self.words.is_empty()
+    }
+
+    /// # Panics
+    /// Where there is no such worker.
+    pub fn get(&self, worker: usize) -> Worker {
+        let at = RECORD_WORDS * worker;
+        Worker { words: self.words[at..at + RECORD_WORDS].try_into().expect("five words") }
+    }
+
+    pub fn iter(&self) -> impl Iterator<Item = Worker> + '_ {
+        (0..self.len()).map(|worker| self.get(worker))
+    }
+}
+
+/// A ring.
+#[derive(Clone, Debug, PartialEq, Eq)]
+pub struct Ring {
+    head: [u64; HEAD_WORDS],
+    slots: Box<[u64; SLOT_WORDS]>,
+}
+
+impl Ring {
+    /// A fresh ring of 1 to 1,024 slots; all workers become idle.
+    pub fn new(capacity: u64, edition: Edition, workers: &mut Workers) -> Result<Ring, Refusal> {
+        let mut ring = Ring::from_words([0; HEAD_WORDS], Box::new([0; SLOT_WORDS]));
+        ring.make(workers, capacity, edition as u64)?;
+        Ok(ring)
+    }
+
+    /// A ring of these words, as fernmoldew.h lays them out: another's, an archive's. They are judged with each call.
+    pub fn from_words(head: [u64; HEAD_WORDS], slots: Box<[u64; SLOT_WORDS]>) -> Ring {
+        Ring { head, slots }
+    }
+
+    pub fn head_words(&self) -> &[u64; HEAD_WORDS] {
+        &self.head
+    }
+
+    pub fn slot_words(&self) -> &[u64; SLOT_WORDS] {
+        &self.slots
+    }
+
+    /// Makes it anew, in an edition by its number.
+    pub fn make(&mut self, workers: &mut Workers, capacity: u64, edition: u64) -> Result<(), Refusal> {
+        let (Ring { head, slots }, Workers { words }) = (self, workers);
+        // SAFETY: three slices that are borrowed apart, each as long as is said; no other call runs on them.
+        judged(unsafe { fern_ring_make(head.as_mut_ptr(), head.len(), slots.as_mut_ptr(), slots.len(), words.as_mut_ptr(), words.len(), capacity, edition) })
+    }
+
+    /// One entry of two words, as schedules have them.
+    pub fn step(&mut self, workers: &mut Workers, first: u64, second: u64) -> Result<(), Refusal> {
+        let (Ring { head, slots }, Workers { words }) = (self, workers);
+        // SAFETY: as above.
+        judged(unsafe { fern_ring_step(head.as_mut_ptr(), head.len(), slots.as_mut_ptr(), slots.len(), words.as_mut_ptr(), words.len(), first, second) })
+    }
+
+    /// A schedule, two words an entry, to its end: how many entries it has. Refusals 6, 11 and 9 come before anything is run; of any other the entries before it stand.
+    pub fn run(&mut self, workers: &mut Workers, schedule: &[u64]) -> Result<u64, Stopped> {
+        let (Ring { head, slots }, Workers { words }) = (self, workers);
+        // SAFETY: as above; the schedule is read alone.
+        let Reply { refusal, number } = unsafe { fern_ring_run(head.as_mut_ptr(), head.len(), slots.as_mut_ptr(), slots.len(), words.as_mut_ptr(), words.len(), schedule.as_ptr(), schedule.len()) };
+        judged(refusal).map(|()| number).map_err(|refusal| Stopped { refusal, place: number })
+    }
+
+    /// A worker begins a call: no act yet.
+    pub fn begin(&mut self, workers: &mut Workers, worker: usize, call: Call) -> Result<(), Refusal> {
+        let [first, second] = call.entry(worker);
+        self.step(workers, first, second)
+    }
+
+    /// The one atomic action that comes next in a worker's call.
+    pub fn act(&mut self, workers: &mut Workers, worker: usize) -> Result<(), Refusal> {
+        let [first, second] = act_entry(worker);
+        self.step(workers, first, second)
+    }
+
+    /// The same, where that is a weak exchange, and it fails.
+    pub fn act_losing(&mut self, workers: &mut Workers, worker: usize) -> Result<(), Refusal> {
+        let [first, second] = losing_entry(worker);
+        self.step(workers, first, second)
+    }
+
+    /// A whole call, nobody else acting meanwhile.
+    pub fn call(&mut self, workers: &mut Workers, worker: usize, call: Call) -> Result<Answer, Refusal> {
+        self.begin(workers, worker, call)?;
+        loop {
+            self.act(workers, worker)?;
+            if let Some(answer) = workers.get(worker).answer() {
+                return Ok(answer);
+            }
+        }
+    }
+
+    /// The items in the order in which they would be popped. Nothing is removed.
+    ///
+    /// ```
+    /// use fernmoldew::{Call, Edition, Refusal, Ring, Workers};
+    ///
+    /// let mut workers = Workers::new(1);
+    /// let mut ring = Ring::new(2, Edition::Source, &mut workers)?;
+    /// ring.call(&mut workers, 0, Call::Push(7))?;
+    /// ring.call(&mut workers, 0, Call::Push(8))?;
+    /// assert_eq!(ring.contents(&workers)?, [7, 8]);
+    /// ring.begin(&mut workers, 0, Call::Pop)?;
+    /// assert_eq!(ring.contents(&workers), Err(Refusal::Busy));
+    /// # Ok::<(), Refusal>(())
+    /// ```
+    pub fn contents(&self, workers: &Workers) -> Result<Vec<u64>, Refusal> {
+        let mut items = vec![0; SLOT_WORDS / 2];
+        let count = self.contents_into(workers, &mut items)?;
+        items.truncate(count);
+        Ok(items)
+    }
+
+    /// The same into a buffer, of which the rest is left as it was: how many.
+    pub fn contents_into(&self, workers: &Workers, buffer: &mut [u64]) -> Result<usize, Refusal> {
+        let (Ring { head, slots }, Workers { words }) = (self, workers);
+        // SAFETY: the three are read alone, and the buffer is borrowed apart from them; each is as long as is said.
+        let count = told(unsafe { fern_ring_contents(head.as_ptr(), head.len(), slots.as_ptr(), slots.len(), words.as_ptr(), words.len(), buffer.as_mut_ptr(), buffer.len()) })?;
+        Ok(count as usize)
+    }
+
+    pub fn capacity(&self, workers: &Workers) -> Result<u64, Refusal> {
+        let (Ring { head, slots }, Workers { words }) = (self, workers);
+        // SAFETY: the three are read alone, each as long as is said.
+        told(unsafe { fern_ring_capacity(head.as_ptr(), head.len(), slots.as_ptr(), slots.len(), words.as_ptr(), words.len()) })
+    }
+
+    /// Whether every call would be refused for the words of the ring and these workers.
+    pub fn broken(&self, workers: &Workers) -> bool {
+        let (Ring { head, slots }, Workers { words }) = (self, workers);
+        // SAFETY: as above.
+        unsafe { fern_ring_broken(head.as_ptr(), head.len(), slots.as_ptr(), slots.len(), words.as_ptr(), words.len()) != 0 }
+    }
+
+    /// How many acts were accepted since it was made.
+    pub fn meter(&self) -> u64 {
+        self.head[6]
+    }
+}
