@@ -42,7 +42,7 @@ pub record Scene (st : Story) (s : Single) (l b c : Bool) : Type 0 where
   pub rests : l ≡ false → b ≡ true → known st .queue .items ≡ s .value ∷ []
   pub room : roomTaken st ≡ cond l (cond b 0 1) 0
 
-none-of : (l : List ℕ) → length l ≡ 0 → l ≡ []
+pub none-of : (l : List ℕ) → length l ≡ 0 → l ≡ []
 none-of [] h = refl
 none-of (x ∷ l) h = absurd (omega arith)
 
@@ -57,6 +57,9 @@ taken-up true false h = refl
 taken-up false true h = refl
 taken-up false false h = absurd (h refl refl)
 
+not-idle : (q : Place) → viewOf q .busy ≡ true → (a : Answer) → q ≡ Idle a → ⊥
+not-idle q h a e = true≢false (sym h ∙ ap (λ (z : Place). viewOf z .busy) e)
+
 module _ (st : Story) (s : Single) (l b c : Bool) (sc : Scene st s l b c) (w : ℕ) where
   abbrev act : Place → Place → Event
   act p q = event w p q
@@ -67,15 +70,16 @@ module _ (st : Story) (s : Single) (l b c : Bool) (sc : Scene st s l b c) (w : �
   abbrev q₀ : Queue
   q₀ = known st .queue
 
-  -- what the act leads to; and an item comes in only where the queue is open
+  -- what the act leads to, or answers; and an item comes in only where the queue is open
   pub record Outcome (p q : Place) (v : ℕ) : Type 0 where
     pub due : Due (now p q) v w q
+    pub said : (a : Answer) → q ≡ Idle a → Spoken (now p q) w a
     pub while-open : (x : ℕ) → itemOf (accessOf q) ≡ x ∷ [] → c ≡ false
 
   -- ---- an act that puts nothing in and takes nothing out
   module _ (p q : Place) (quiet : accessOf q ≡ none) where
-    to : (v : ℕ) → Due (now p q) v w q → Outcome p q v
-    to v o = record { due = o; while-open = λ x e. absurd (no-cons (sym (ap itemOf quiet) ∙ e)) }
+    to : (v : ℕ) → viewOf q .busy ≡ true → Due (now p q) v w q → Outcome p q v
+    to v busy o = record { due = o; said = λ a e. absurd (not-idle q busy a e); while-open = λ x e. absurd (no-cons (sym (ap itemOf quiet) ∙ e)) }
 
     still : (cl : Call) (put took : List ℕ) → Work st w cl put took → Work (now p q) w cl put took
     still = work-still actor changeOf 1 st (act p q) (ap (λ (a : Access). eqb (length (itemOf a)) 1) quiet) (ap isRead quiet)
@@ -88,10 +92,14 @@ module _ (st : Story) (s : Single) (l b c : Bool) (sc : Scene st s l b c) (w : �
     here : timingOf p q ≡ Now → (cl : Call) (r : Reply) → Work st w cl [] [] → answerOf (askedOf (roomTaken st) q₀ cl) cl ≡ r → Decided (now p q) w cl [] [] r
     here at cl r o says = decided-now st (act p q) cl [] [] r at o (still cl [] [] o) says
 
-  speaks : (p : Place) (a : Answer) (r : Reply) → replyOf a ≡ r ∷ [] → (cl : Call) → Decided (now p (Idle a)) w cl (plain.putBy (itemsOf (cl ∷ [])) r) (plain.takenBy r) r
-      → Spoken (now p (Idle a)) w a
-  speaks p a r e cl o other same-reply =
-      (cl, subst (λ (z : Reply). Decided (now p (Idle a)) w cl (plain.putBy (itemsOf (cl ∷ [])) z) (plain.takenBy z) z) (cons-first (sym e ∙ same-reply)) o)
+  speaks : (p : Place) (a : Answer) (r : Reply) (v : ℕ) → replyOf a ≡ r ∷ [] → (cl : Call) → Decided (now p (Idle a)) w cl (plain.putBy (itemsOf (cl ∷ [])) r) (plain.takenBy r) r
+      → Outcome p (Idle a) v
+  speaks p a r v e cl o =
+      record {
+        due = tt;
+        said = λ x is. let one : a ≡ x = cc in subst (Spoken (now p (Idle a)) w) one (record { reply = r; says = e; call = cl; decided = o });
+        while-open = λ x is. absurd (no-cons is);
+      }
 
   -- ---- the bits
   pushed-is : (y : Bool) → pushedIn (s .state) ≡ y → b ≡ y
@@ -121,10 +129,8 @@ module _ (st : Story) (s : Single) (l b c : Bool) (sc : Scene st s l b c) (w : �
   a1 x v o =
       either (λ (q : Place). Outcome (A1 x) q v) (same (s .state) (state 0)) (A2 x) (cond (closedIn (s .state)) (Idle (Closed x)) (Idle (Full x))) won
       (λ t. either (λ (q : Place). Outcome (A1 x) q v) (closedIn (s .state)) (Idle (Closed x)) (Idle (Full x))
-      (λ d. to (A1 x) (Idle (Closed x)) refl v
-      (speaks (A1 x) (Closed x) (plain.Closed x) refl (call.Push x) (here (A1 x) (Idle (Closed x)) refl refl (call.Push x) (plain.Closed x) o (push-closed asked x (closed-is true d)))))
-      (λ d. to (A1 x) (Idle (Full x)) refl v
-      (speaks (A1 x) (Full x) (plain.Full x) refl (call.Push x)
+      (λ d. (speaks (A1 x) (Closed x) (plain.Closed x) v refl (call.Push x) (here (A1 x) (Idle (Closed x)) refl refl (call.Push x) (plain.Closed x) o (push-closed asked x (closed-is true d)))))
+      (λ d. (speaks (A1 x) (Full x) (plain.Full x) v refl (call.Push x)
       (here (A1 x) (Idle (Full x)) refl refl (call.Push x) (plain.Full x) o (push-full asked x (closed-is false d) (eq-eqb _ _ (sc .long ∙ taken-up l b (not-zero t d) ∙ sym less)))))))
     where
       asked : Queue
@@ -149,6 +155,7 @@ module _ (st : Story) (s : Single) (l b c : Bool) (sc : Scene st s l b c) (w : �
             due =
                 decided-now st (act (A1 x) (A2 x)) (call.Push x) _ _ plain.Pushed refl o (work-on actor changeOf 1 st (act (A1 x) (A2 x)) (call.Push x) [] [] o)
                 (push-room asked x (sc .flag ∙ ec) (ne-eqb (length (q₀ .items)) (q₀ .capacity - roomTaken st) (λ e. omega (arith, none-waits eb, none-taken el, room-is))));
+            said = λ a f. absurd (not-idle (A2 x) refl a f);
             while-open = λ y e. ec;
           }
 
@@ -157,12 +164,11 @@ module _ (st : Story) (s : Single) (l b c : Bool) (sc : Scene st s l b c) (w : �
       → Outcome (B1 e x) (cond (closedIn (s .state)) (Idle (Closed x)) (cond (same (s .state) e) (cond (pushedIn (s .state)) (B4 x) (B2 x)) (B1 (unlocked (s .state)) x))) v
   b1 e x v same-value k o =
       either (λ (q : Place). Outcome (B1 e x) q v) (closedIn (s .state)) (Idle (Closed x)) (cond (same (s .state) e) (cond (pushedIn (s .state)) (B4 x) (B2 x)) (B1 (unlocked (s .state)) x))
-      (λ d. to (B1 e x) (Idle (Closed x)) refl v
-      (speaks (B1 e x) (Closed x) (plain.Closed x) refl (call.ForcePush x)
+      (λ d. (speaks (B1 e x) (Closed x) (plain.Closed x) v refl (call.ForcePush x)
       (here (B1 e x) (Idle (Closed x)) refl refl (call.ForcePush x) (plain.Closed x) o (force-closed q₀ x (closed-is true d)))))
       (λ d. either (λ (q : Place). Outcome (B1 e x) q v) (same (s .state) e) (cond (pushedIn (s .state)) (B4 x) (B2 x)) (B1 (unlocked (s .state)) x)
       (λ t. either (λ (q : Place). Outcome (B1 e x) q v) (pushedIn (s .state)) (B4 x) (B2 x) (over d t) (into d t))
-      (λ t. to (B1 e x) (B1 (unlocked (s .state)) x) refl v (still (B1 e x) (B1 (unlocked (s .state)) x) refl (call.ForcePush x) [] [] o)))
+      (λ t. to (B1 e x) (B1 (unlocked (s .state)) x) refl v refl (still (B1 e x) (B1 (unlocked (s .state)) x) refl (call.ForcePush x) [] [] o)))
     where
       open-now : closedIn (s .state) ≡ false → c ≡ false
       open-now d = sym (closed-of (s .state) l b c (sc .is)) ∙ d
@@ -180,6 +186,7 @@ module _ (st : Story) (s : Single) (l b c : Bool) (sc : Scene st s l b c) (w : �
                 (decided-now st (act (B1 e x) (B4 x)) (call.ForcePush x) _ _ (plain.Displaced (s .value)) refl o
                 (subst (Work (now (B1 e x) (B4 x)) w (call.ForcePush x) (itemsOf (call.ForcePush x ∷ []))) (ap (take 1) items) done)
                 (force-full q₀ x (s .value) [] (closed-is false d) (eq-eqb _ _ (one-waits (pushed-is true y) ∙ sym room-is)) items));
+            said = λ a f. absurd (not-idle (B4 x) refl a f);
             while-open = λ z g. open-now d;
           }
 
@@ -189,6 +196,7 @@ module _ (st : Story) (s : Single) (l b c : Bool) (sc : Scene st s l b c) (w : �
             due =
                 decided-now st (act (B1 e x) (B2 x)) (call.ForcePush x) _ _ plain.Pushed refl o (work-on actor changeOf 1 st (act (B1 e x) (B2 x)) (call.ForcePush x) [] [] o)
                 (force-room q₀ x (closed-is false d) (ne-eqb (length (q₀ .items)) (q₀ .capacity) (λ g. omega (arith, none-waits (pushed-is false y), room-is))));
+            said = λ a f. absurd (not-idle (B2 x) refl a f);
             while-open = λ z g. open-now d;
           }
 
@@ -198,11 +206,10 @@ module _ (st : Story) (s : Single) (l b c : Bool) (sc : Scene st s l b c) (w : �
   c1 e v same-value k o =
       either (λ (q : Place). Outcome (C1 e) q v) (same (s .state) e) C2 (cond (pushedIn (s .state)) (C1 (unlocked (s .state))) (cond (closedIn (s .state)) (Idle PopClosed) (Idle Empty))) won
       (λ t. either (λ (q : Place). Outcome (C1 e) q v) (pushedIn (s .state)) (C1 (unlocked (s .state))) (cond (closedIn (s .state)) (Idle PopClosed) (Idle Empty))
-      (λ y. to (C1 e) (C1 (unlocked (s .state))) refl v (still (C1 e) (C1 (unlocked (s .state))) refl call.Pop [] [] o))
+      (λ y. to (C1 e) (C1 (unlocked (s .state))) refl v refl (still (C1 e) (C1 (unlocked (s .state))) refl call.Pop [] [] o))
       (λ y. either (λ (q : Place). Outcome (C1 e) q v) (closedIn (s .state)) (Idle PopClosed) (Idle Empty)
-      (λ d. to (C1 e) (Idle PopClosed) refl v
-      (speaks (C1 e) PopClosed plain.EmptyAndClosed refl call.Pop (here (C1 e) (Idle PopClosed) refl refl call.Pop plain.EmptyAndClosed o (nothing-there true d y))))
-      (λ d. to (C1 e) (Idle Empty) refl v (speaks (C1 e) Empty plain.Empty refl call.Pop (here (C1 e) (Idle Empty) refl refl call.Pop plain.Empty o (nothing-there false d y))))))
+      (λ d. (speaks (C1 e) PopClosed plain.EmptyAndClosed v refl call.Pop (here (C1 e) (Idle PopClosed) refl refl call.Pop plain.EmptyAndClosed o (nothing-there true d y))))
+      (λ d. (speaks (C1 e) Empty plain.Empty v refl call.Pop (here (C1 e) (Idle Empty) refl refl call.Pop plain.Empty o (nothing-there false d y))))))
     where
       nothing-there : (shut : Bool) → closedIn (s .state) ≡ shut → pushedIn (s .state) ≡ false → answerOf q₀ call.Pop ≡ cond shut plain.EmptyAndClosed plain.Empty
       nothing-there shut d y =
@@ -217,6 +224,7 @@ module _ (st : Story) (s : Single) (l b c : Bool) (sc : Scene st s l b c) (w : �
                 subst (Taking (now (C1 e) C2) w) (sym same-value)
                 (decided-now st (act (C1 e) C2) call.Pop _ _ (plain.Popped (s .value)) refl o
                 (subst (Work (now (C1 e) C2) w call.Pop []) (ap (take 1) items) (work-on actor changeOf 1 st (act (C1 e) C2) call.Pop [] [] o)) (pop-front q₀ (s .value) [] items));
+            said = λ a f. absurd (not-idle C2 refl a f);
             while-open = λ x g. absurd (no-cons g);
           }
 
@@ -224,24 +232,23 @@ module _ (st : Story) (s : Single) (l b c : Bool) (sc : Scene st s l b c) (w : �
   tells : (p : Place) (a : Answer) (r : Reply) (cl : Call) (v : ℕ) → replyOf a ≡ r ∷ [] → timingOf p (Idle a) ≡ Now → plain.putBy (itemsOf (cl ∷ [])) r ≡ [] → plain.takenBy r ≡ [] → Work st w cl [] []
       → answerOf (askedOf (roomTaken st) q₀ cl) cl ≡ r → Outcome p (Idle a) v
   tells p a r cl v says at no-put no-take o is =
-      to p (Idle a) refl v (speaks p a r says cl (rw (no-put, no-take) (here p (Idle a) refl at cl r o is)))
+      speaks p a r v says cl (rw (no-put, no-take) (here p (Idle a) refl at cl r o is))
 
   pub row : (p : Place) → viewOf p .busy ≡ true → Expects p → Due st (s .value) w p → Outcome p (actOf s p .place) (actOf s p .single .value)
   unfolding stay
   row (Idle a) busy k o = absurd (true≢false (sym busy))
   row (A1 x) busy k o = a1 x _ o
-  row (A2 x) busy k o = to (A2 x) A3 refl _ (x, kept (A2 x) A3 refl refl _ _ _ _ o)
-  row A3 busy k o = to A3 (Idle Pushed) refl _ (speaks A3 Pushed plain.Pushed refl (call.Push (o .0)) (kept A3 (Idle Pushed) refl refl _ _ _ _ (o .1)))
+  row (A2 x) busy k o = to (A2 x) A3 refl _ refl (x, kept (A2 x) A3 refl refl _ _ _ _ o)
+  row A3 busy k o = speaks A3 Pushed plain.Pushed _ refl (call.Push (o .0)) (kept A3 (Idle Pushed) refl refl _ _ _ _ (o .1))
   row (B1 e x) busy k o = b1 e x _ (value-still e filled) k o
-  row (B2 x) busy k o = to (B2 x) B3 refl _ (x, kept (B2 x) B3 refl refl _ _ _ _ o)
-  row B3 busy k o = to B3 (Idle Pushed) refl _ (speaks B3 Pushed plain.Pushed refl (call.ForcePush (o .0)) (kept B3 (Idle Pushed) refl refl _ _ _ _ (o .1)))
-  row (B4 x) busy k o = to (B4 x) (B5 (s .value)) refl _ (x, kept (B4 x) (B5 (s .value)) refl refl _ _ _ _ o)
+  row (B2 x) busy k o = to (B2 x) B3 refl _ refl (x, kept (B2 x) B3 refl refl _ _ _ _ o)
+  row B3 busy k o = speaks B3 Pushed plain.Pushed _ refl (call.ForcePush (o .0)) (kept B3 (Idle Pushed) refl refl _ _ _ _ (o .1))
+  row (B4 x) busy k o = to (B4 x) (B5 (s .value)) refl _ refl (x, kept (B4 x) (B5 (s .value)) refl refl _ _ _ _ o)
   row (B5 old) busy k o =
-      to (B5 old) (Idle (Displaced old)) refl _
-      (speaks (B5 old) (Displaced old) (plain.Displaced old) refl (call.ForcePush (o .0)) (kept (B5 old) (Idle (Displaced old)) refl refl _ _ _ _ (o .1)))
+      speaks (B5 old) (Displaced old) (plain.Displaced old) _ refl (call.ForcePush (o .0)) (kept (B5 old) (Idle (Displaced old)) refl refl _ _ _ _ (o .1))
   row (C1 e) busy k o = c1 e _ (value-still e (takenOf e)) k o
-  row C2 busy k o = to C2 (C3 (s .value)) refl _ (kept C2 (C3 (s .value)) refl refl _ _ _ _ o)
-  row (C3 v) busy k o = to (C3 v) (Idle (Popped v)) refl _ (speaks (C3 v) (Popped v) (plain.Popped v) refl call.Pop (kept (C3 v) (Idle (Popped v)) refl refl _ _ _ _ o))
+  row C2 busy k o = to C2 (C3 (s .value)) refl _ refl (kept C2 (C3 (s .value)) refl refl _ _ _ _ o)
+  row (C3 v) busy k o = speaks (C3 v) (Popped v) (plain.Popped v) _ refl call.Pop (kept (C3 v) (Idle (Popped v)) refl refl _ _ _ _ o)
   row Len1 busy k o =
       tells Len1 (Len (lenOf (s .state))) (plain.Count (lenOf (s .state))) call.Len _ refl refl refl refl o
       (ap plain.Count (sc .long ∙ ap (λ (z : Bool). cond z 1 0) (sym (pushed-of (s .state) l b c (sc .is)))))

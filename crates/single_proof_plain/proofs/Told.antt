@@ -1,232 +1,388 @@
 -- Along every schedule: the plain queue is the slot's, and every answer so far was that queue's.
-use Prim.Native.Nat.{ℕ, _+_, _-_, _≤_, _<_}
+use Prim.Native.Nat.{ℕ, _≤_, _<_}
 use native.Mathlib.Omega.{arith}
 use native.Mathlib.Decide.{ℕ-discrete}
 use mathlib.Core.Path.{_≡_, refl, sym, ap, _∙_, subst}
 use mathlib.Core.Logic.{_≢_, _⊎_, inl, inr}
-use mathlib.Core.Bool.{Bool, true, false, cond, not, true≢false}
+use mathlib.Core.Bool.{Bool, true, false, cond, true≢false}
 use mathlib.Core.List.{List, [], _∷_, _++_, map, append-nil}
 use lib.Dec.{eqb}
 use lib.ListN.{length, drop}
-use Rattle.queue_entries.specs.Limits.{meterMost}
 use Rattle.queue_entries.specs.declared.Call.{Call}
 use Rattle.queue_entries.specs.declared.Call.the-variants as call
 use Rattle.queue_entries.specs.declared.Entry.{Entry}
-use Rattle.queue_schedules.proofs.Splits.{Order, earlier, same, later, one-more, cons-first, no-cons, no-split}
+use Rattle.queue_schedules.proofs.Splits.{Order, earlier, same, later, one-more, no-split}
 use Rattle.queue_plain.specs.Plain.{Reply, Queue, answerOf}
 use Rattle.queue_plain.specs.Plain as plain
-use Rattle.queue_plain.specs.Story.{Begun, Does, Doing, itemsOf, begunIn, actsIn, changedBy}
+use Rattle.queue_plain.specs.Story.{Begun, Does, Doing, itemsOf, begunIn, actsIn}
 use Rattle.queue_plain.proofs.Stories.{acts-end, each-own, each-else, queue-act, each-unbegun, queue-begun, capacity-is}
 use Rattle.queue_plain.proofs.Calls.{work-begun, back-came}
-use Rattle.single_words.specs.declared.State.{State}
-use Rattle.single_words.specs.Words.{lockedIn, pushedIn}
 use Rattle.single_places.specs.declared.Single.{Single}
 use Rattle.single_places.specs.declared.Answer.{Answer}
-use Rattle.single_places.specs.declared.Answer.the-variants.{Nothing, Pushed, Full, Closed, Displaced, Popped, Empty, PopClosed, Len, Yes, No}
 use Rattle.single_places.specs.declared.Place.{Place}
-use Rattle.single_places.specs.declared.Place.the-variants.{Idle, A1, A2, A3, B1, B2, B3, B4, B5, C1, C2, C3, Len1, Empty1, Full1, Close1, IsClosed1}
+use Rattle.single_places.specs.declared.Place.the-variants.{Idle}
 use Rattle.single_places.specs.Places.{viewOf, beginOf}
 use Rattle.single_acts.specs.declared.Acted.{Acted}
-use Rattle.single_acts.specs.Acts.{stay, stateTo, valueTo, actOf}
+use Rattle.single_acts.specs.Acts.{actOf}
 use Rattle.single_machine.specs.declared.Machine.{Machine}
 use Rattle.single_machine.specs.declared.Event.{Event}
 use Rattle.single_machine.specs.Turn.{begun, acted}
 use Rattle.single_machine.specs.History.{event}
 use Rattle.single_demands.specs.Notions.{Access, none, writes, swaps, reads, accessOf, itemOf, isRead, waitsAfter, waiting, isClose, closedBy}
-use Rattle.single_demands.specs.Stories.{Story, known, changeOf, actor, replyOf, itemAt, popping, roomTaken, momentOf}
+use Rattle.single_demands.specs.Stories.{Element, Story, known, changeOf, actor, replyOf, putBy, takenBy, givenBack, roomTaken, askedAt, momentOf}
 use Rattle.single_demands.specs.Demands.{Answered, Meant, Changes}
 use Rattle.single_proof_demand2.proofs.Log.{waiting-more, closed-more}
-use Rattle.single_proof_demand2.proofs.Words.{word, locked-of, pushed-of}
-use Rattle.single_proof_demand2.proofs.Effects.{Hand, free, putting, put, swapping, swapped, taking, took, handOf, fills, holding, accessBy, access-is, Opens, opens-put, opens-swap, opens-take, LetsOff, off-put, off-swapped, off-took, Effect, rests, shuts, locks, puts, swaps-in, gets, unlocks, effect}
-use Rattle.single_proof_demand2.proofs.Grip.{Grip, loose, held, Does as Holds, Rests}
+use Rattle.single_proof_demand2.proofs.Words.{word, pushed-of}
+use Rattle.single_proof_demand2.proofs.Effects.{Hand, free, handOf, fills, holding, accessBy, Opens, opens-put, opens-swap, opens-take, Effect, effect}
+use Rattle.single_proof_demand2.proofs.Grip.{Grip, loose, held, Rests}
 use Rattle.single_proof_demand2.proofs.Turns.{Turned, began, did, stood}
 use Rattle.single_proof_demand2.proofs.Reached.{Reached, hands, in-row, begun-stood, begun-else, begun-reached, acted-stood, acted-else, acted-single, acted-reached}
-use Rattle.single_proof_demand2.proofs.Hands.{pushed, closed-holds}
-use Rattle.single_proof_plain.proofs.Work.{moment-else, room-act, moment-begun, room-begun, longer, asked-past, Work, Decided, Spoken, Due, due-else}
+use Rattle.single_proof_demand2.proofs.Hands.{pushed}
+use Rattle.single_proof_plain.proofs.Work.{moment-else, moment-begun, room-begun, longer, asked-past, Work, Spoken, Due, due-else}
 use Rattle.single_proof_plain.proofs.Rows.{Scene, Outcome, row}
+use Rattle.single_proof_plain.proofs.Slot.{item-of, closing, item-written, Takes, kind-of, value-kept, roomIn, room-word, room-on}
 
--- ---- what is read off a place
+-- ---- an exchange that takes the slot: what it makes of the items, and where it may
 
--- a pop's hand is the one that leaves the word unpushed
-pub popping-is : (p : Place) → popping p ≡ not (fills (handOf p))
-popping-is (Idle a) = refl
-popping-is (A1 x) = refl
-popping-is (A2 x) = refl
-popping-is A3 = refl
-popping-is (B1 e x) = refl
-popping-is (B2 x) = refl
-popping-is B3 = refl
-popping-is (B4 x) = refl
-popping-is (B5 old) = refl
-popping-is (C1 e) = refl
-popping-is C2 = refl
-popping-is (C3 v) = refl
-popping-is Len1 = refl
-popping-is Empty1 = refl
-popping-is Full1 = refl
-popping-is Close1 = refl
-popping-is IsClosed1 = refl
+items-by : (b : Bool) (g : Hand) (items came was : List ℕ) → Opens b g → length items ≡ cond b 1 0 → ((x : ℕ) → itemOf (accessBy g) ≡ x ∷ [] → came ≡ x ∷ [])
+    → cond (isRead (accessBy g)) (drop 1 items) items ++ cond (eqb (length (itemOf (accessBy g))) 1) came [] ≡ waitsAfter (accessBy g) was
+items-by b g [] came was (opens-put {x = x}) long item = item x refl
+items-by b g (y ∷ items) came was opens-put long item = absurd (omega arith)
+items-by b g [] came was opens-swap long item = absurd (omega arith)
+items-by b g (y ∷ []) came was (opens-swap {x = x}) long item = item x refl
+items-by b g (y ∷ z ∷ items) came was opens-swap long item = absurd (omega arith)
+items-by b g [] came was opens-take long item = absurd (omega arith)
+items-by b g (y ∷ []) came was opens-take long item = refl
+items-by b g (y ∷ z ∷ items) came was opens-take long item = absurd (omega arith)
 
--- ---- the item of a call under way
-module _ (st : Story) (v w : ℕ) where
-  abbrev Came : ℕ → Type 0
-  Came x = itemsOf (known st .each w .calls) ≡ x ∷ []
+takes-some : (b : Bool) (g : Hand) → Opens b g → isRead (accessBy g) ≡ true → b ≡ true
+takes-some b g opens-put e = absurd (true≢false (sym e))
+takes-some b g opens-swap e = refl
+takes-some b g opens-take e = refl
 
-  no-item : {P : Type 0} (x : ℕ) → [] ≡ x ∷ [] → P
-  no-item x e = absurd (no-cons e)
+takes-none : (b : Bool) (g : Hand) → Opens b g → isRead (accessBy g) ≡ false → b ≡ false
+takes-none b g opens-put e = refl
+takes-none b g opens-swap e = absurd (true≢false e)
+takes-none b g opens-take e = absurd (true≢false e)
 
-  pub item-of : (p : Place) → Due st v w p → (x : ℕ) → itemAt p ≡ x ∷ [] → Came x
-  unfolding itemsOf
-  item-of (Idle a) o x e = no-item x e
-  item-of (A1 y) o x e = ap itemsOf (o .its) ∙ e
-  item-of (A2 y) o x e = ap itemsOf (o .work .its) ∙ e
-  item-of A3 o x e = no-item x e
-  item-of (B1 z y) o x e = ap itemsOf (o .its) ∙ e
-  item-of (B2 y) o x e = ap itemsOf (o .work .its) ∙ e
-  item-of B3 o x e = no-item x e
-  item-of (B4 y) o x e = ap itemsOf (o .work .its) ∙ e
-  item-of (B5 old) o x e = no-item x e
-  item-of (C1 z) o x e = no-item x e
-  item-of C2 o x e = no-item x e
-  item-of (C3 u) o x e = no-item x e
-  item-of Len1 o x e = no-item x e
-  item-of Empty1 o x e = no-item x e
-  item-of Full1 o x e = no-item x e
-  item-of Close1 o x e = no-item x e
-  item-of IsClosed1 o x e = no-item x e
+written-by : (a : Access) → eqb (length (itemOf a)) 1 ≡ true → (x : ℕ) × (itemOf a ≡ x ∷ [])
+written-by none e = absurd (true≢false (sym e))
+written-by (writes x) e = (x, refl)
+written-by (swaps x) e = (x, refl)
+written-by reads e = absurd (true≢false (sym e))
 
-  -- only a close's act is at Close1
-  other-call : {P : Type 0} (c : Call) → known st .each w .calls ≡ c ∷ [] → known st .each w .calls ≡ call.Close ∷ [] → (c ≡ call.Close → P) → P
-  other-call c its e f = f (cons-first (sym its ∙ e))
+-- a call that begins
+begun-due : (st : Story) (v w : ℕ) (c : Call) → Work st w c [] [] → Due st v w (beginOf c)
+begun-due st v w (call.Push x) o = o
+begun-due st v w (call.ForcePush x) o = o
+begun-due st v w call.Pop o = o
+begun-due st v w call.Len o = o
+begun-due st v w call.IsEmpty o = o
+begun-due st v w call.IsFull o = o
+begun-due st v w call.Close o = o
+begun-due st v w call.IsClosed o = o
 
-  pub closing : (p : Place) → viewOf p .busy ≡ true → Due st v w p → known st .each w .calls ≡ call.Close ∷ [] → isClose p ≡ true
-  closing (Idle a) busy o e = absurd (true≢false (sym busy))
-  closing (A1 y) busy o e = other-call (call.Push y) (o .its) e (λ z. absurd (let q : _≡_ {A = ℕ} 0 1 = cc in omega arith))
-  closing (A2 y) busy o e = other-call (call.Push y) (o .work .its) e (λ z. absurd (let q : _≡_ {A = ℕ} 0 1 = cc in omega arith))
-  closing A3 busy o e = other-call (call.Push (o .0)) (o .1 .work .its) e (λ z. absurd (let q : _≡_ {A = ℕ} 0 1 = cc in omega arith))
-  closing (B1 s y) busy o e = other-call (call.ForcePush y) (o .its) e (λ z. absurd (let q : _≡_ {A = ℕ} 0 1 = cc in omega arith))
-  closing (B2 y) busy o e = other-call (call.ForcePush y) (o .work .its) e (λ z. absurd (let q : _≡_ {A = ℕ} 0 1 = cc in omega arith))
-  closing B3 busy o e = other-call (call.ForcePush (o .0)) (o .1 .work .its) e (λ z. absurd (let q : _≡_ {A = ℕ} 0 1 = cc in omega arith))
-  closing (B4 y) busy o e = other-call (call.ForcePush y) (o .work .its) e (λ z. absurd (let q : _≡_ {A = ℕ} 0 1 = cc in omega arith))
-  closing (B5 old) busy o e = other-call (call.ForcePush (o .0)) (o .1 .work .its) e (λ z. absurd (let q : _≡_ {A = ℕ} 0 1 = cc in omega arith))
-  closing (C1 s) busy o e = other-call call.Pop (o .its) e (λ z. absurd (let q : _≡_ {A = ℕ} 0 1 = cc in omega arith))
-  closing C2 busy o e = other-call call.Pop (o .work .its) e (λ z. absurd (let q : _≡_ {A = ℕ} 0 1 = cc in omega arith))
-  closing (C3 u) busy o e = other-call call.Pop (o .work .its) e (λ z. absurd (let q : _≡_ {A = ℕ} 0 1 = cc in omega arith))
-  closing Len1 busy o e = other-call call.Len (o .its) e (λ z. absurd (let q : _≡_ {A = ℕ} 0 1 = cc in omega arith))
-  closing Empty1 busy o e = other-call call.IsEmpty (o .its) e (λ z. absurd (let q : _≡_ {A = ℕ} 0 1 = cc in omega arith))
-  closing Full1 busy o e = other-call call.IsFull (o .its) e (λ z. absurd (let q : _≡_ {A = ℕ} 0 1 = cc in omega arith))
-  closing Close1 busy o e = refl
-  closing IsClosed1 busy o e = other-call call.IsClosed (o .its) e (λ z. absurd (let q : _≡_ {A = ℕ} 0 1 = cc in omega arith))
+begun-single : (m : Machine) (w : ℕ) (q : Place) → begun m w q .single ≡ m .single
+unfolding begun
+begun-single m w q = refl
 
--- what an exchange is to write is the item in the record
-pub item-written : (q : Place) (x : ℕ) → itemOf (accessOf q) ≡ x ∷ [] → itemAt q ≡ x ∷ []
-item-written (Idle a) x e = e
-item-written (A1 y) x e = absurd (no-cons e)
-item-written (A2 y) x e = e
-item-written A3 x e = e
-item-written (B1 s y) x e = absurd (no-cons e)
-item-written (B2 y) x e = e
-item-written B3 x e = e
-item-written (B4 y) x e = e
-item-written (B5 old) x e = e
-item-written (C1 s) x e = e
-item-written C2 x e = e
-item-written (C3 u) x e = e
-item-written Len1 x e = e
-item-written Empty1 x e = e
-item-written Full1 x e = e
-item-written Close1 x e = e
-item-written IsClosed1 x e = e
+-- ---- what every reached machine and its story have behind them
 
--- ---- what an act does to the slot, by its kind of effect
-module _ (s : Single) (l b c : Bool) (p : Place) where
-  -- it takes the slot, or leaves the plain queue as it is
-  pub record Takes (q : Place) : Type 0 where
-    pub hand : Hand
-    pub unlocked-then : l ≡ false
-    pub is : accessOf q ≡ accessBy hand
-    pub opens : Opens b hand
+module _ (workers : ℕ) where
+  pub record Told (m : Machine) (st : Story) : Type 0 where
+    pub reached : Reached workers m (actsIn st)
+    pub items : known st .queue .items ≡ waiting (actsIn st)
+    pub flag : known st .queue .closed ≡ closedBy (actsIn st)
+    pub room : roomTaken st ≡ roomIn (m .single .state)
+    pub dues : (w : ℕ) → Due st (m .single .value) w (stood m w)
+    pub answers : (xs ys : Story) (act : Event) (a : Answer) → st ≡ xs ++ Does act ∷ ys → act .after ≡ Idle a → Answered xs act a × Meant xs act a
+    pub changes : (xs ys : Story) (act : Event) → st ≡ xs ++ Does act ∷ ys → Changes xs act
 
-  pub kind-of : (a : Acted) → Effect s l b c p a → (accessOf (a .place) ≡ none) ⊎ Takes (a .place)
-  unfolding stay
-  kind-of a (rests q f fq n o) = inl (access-is q ∙ ap accessBy fq)
-  kind-of a (shuts q f fq n o) = inl (access-is q ∙ ap accessBy fq)
-  kind-of a (locks q g f e hq o n) = inr (record { hand = g; unlocked-then = e; is = access-is q ∙ ap accessBy hq; opens = o })
-  kind-of a (puts q x f hq n) = inl (access-is q ∙ ap accessBy hq)
-  kind-of a (swaps-in q x f hq n) = inl (ap accessOf hq)
-  kind-of a (gets q f hq n) = inl (ap accessOf hq)
-  kind-of a (unlocks q o n) = inl (off (handOf p) q o)
-    where
-      off : (g : Hand) (q : Place) → LetsOff g q → accessOf q ≡ none
-      off g q off-put = refl
-      off g q off-swapped = refl
-      off g q off-took = refl
+  module _ (m : Machine) (st : Story) (o : Told m st) where
+    abbrev r : Reached workers m (actsIn st)
+    r = o .reached
 
-  -- a worker that has not the slot in hand leaves the value
-  pub value-kept : (a : Acted) → Effect s l b c p a → handOf p ≡ free → a .single .value ≡ s .value
-  unfolding stay stateTo valueTo
-  value-kept a (rests q f fq n o) e = refl
-  value-kept a (shuts q f fq n o) e = refl
-  value-kept a (locks q g f z hq o n) e = refl
-  value-kept a (puts q x f hq n) e = absurd (true≢false (ap holding (sym f ∙ e)))
-  value-kept a (swaps-in q x f hq n) e = absurd (true≢false (ap holding (sym f ∙ e)))
-  value-kept a (gets q f hq n) e = refl
-  value-kept a (unlocks q o n) e = refl
+    abbrev s : Single
+    s = m .single
 
--- the room that a pop takes, of a word
-abbrev pub roomIn : State → ℕ
-roomIn x = cond (lockedIn x) (cond (pushedIn x) 0 1) 0
+    abbrev c : Bool
+    c = r .closed
 
-pub room-word : (x : State) (l b c : Bool) → x ≡ word l b c → roomIn x ≡ cond l (cond b 0 1) 0
-room-word x l b c e = rw (locked-of x l b c e, pushed-of x l b c e)
+    -- the word's bits, and whose hand they tell of
+    pub record Bits : Type 0 where
+      pub l : Bool
+      pub b : Bool
+      pub scene : Scene st (m .single) l b (o .reached .closed)
+      pub hold : (w : ℕ) → holding (hands m w) ≡ true → (l ≡ true) × (b ≡ fills (hands m w))
 
-module _ (st : Story) (s : Single) (l b c : Bool) (is : s .state ≡ word l b c) (room : roomTaken st ≡ cond l (cond b 0 1) 0) (w : ℕ) (p : Place)
-    (hold : holding (handOf p) ≡ true → (l ≡ true) × (b ≡ fills (handOf p))) where
-  counts : (q : Place) → _≡_ {A = ℕ} (cond (popping q) 1 0) (cond (fills (handOf q)) 0 1)
-  counts q = ap (λ (z : Bool). cond z 1 0) (popping-is q) ∙ go (fills (handOf q))
-    where
-      go : (f : Bool) → _≡_ {A = ℕ} (cond (not f) 1 0) (cond f 0 1)
-      go true = refl
-      go false = refl
+    pub bits : Bits
+    bits = go (r .grip)
+      where
+        long : (l b : Bool) → s .state ≡ word l b c → length (known st .queue .items) ≡ cond b 1 0
+        long l b is =
+            ap length (o .items) ∙ sym (pushed workers m (actsIn st) r) ∙ ap (λ (z : Bool). cond z 1 0) (pushed-of (s .state) l b c is)
 
-  abbrev Leaves : Place → State → Type 0
-  Leaves q x = roomTaken (st ++ Does (event w p q) ∷ []) ≡ roomIn x
+        go : Grip (hands m) (m .single) (actsIn st) (o .reached .closed) → Bits
+        go (loose b is free-all rest) =
+            record {
+              l = false;
+              b = b;
+              scene =
+                  record {
+                    is = is;
+                    flag = o .flag ∙ sym (r .closed-is);
+                    long = long false b is;
+                    rests = λ z e. o .items ∙ subst (Rests (actsIn st) (s .value)) e rest .0;
+                    room = o .room ∙ room-word (s .state) false b c is;
+                  };
+              hold = λ w e. absurd (true≢false (sym e ∙ ap holding (free-all w)));
+            }
+        go (held u g hu is alone d) =
+            record {
+              l = true;
+              b = fills g;
+              scene =
+                  record {
+                    is = is;
+                    flag = o .flag ∙ sym (r .closed-is);
+                    long = long true (fills g) is;
+                    rests = λ z e. absurd (true≢false z);
+                    room = o .room ∙ room-word (s .state) true (fills g) c is;
+                  };
+              hold = λ w e. by w e (ℕ-discrete w u);
+            }
+          where
+            by : (w : ℕ) → holding (hands m w) ≡ true → Dec (w ≡ u) → (true ≡ true) × (fills g ≡ fills (hands m w))
+            by w e (yes z) = (refl, ap fills (sym (ap (hands m) z ∙ hu)))
+            by w e (no ne) = absurd (true≢false (sym e ∙ ap holding (alone w ne)))
 
-  leaves : (q : Place) (x : State) (g k : Hand) → handOf p ≡ g → handOf q ≡ k → cond l (cond b 0 1) 0 + cond (fills k) 0 1 - cond (fills g) 0 1 ≡ roomIn x → Leaves q x
-  leaves q x g k hp hq e =
-      room-act st (event w p q) ∙ rw (room, counts q, counts p, hp, hq) e
+    -- beside a worker that has the slot in hand another has not
+    other-free : (j w : ℕ) → j ≢ w → holding (hands m j) ≡ true → hands m w ≡ free
+    other-free j w ne e = go (r .grip)
+      where
+        go : Grip (hands m) (m .single) (actsIn st) (o .reached .closed) → hands m w ≡ free
+        go (loose b is free-all rest) = free-all w
+        go (held u g hu is alone d) = by (ℕ-discrete w u)
+          where
+            by : Dec (w ≡ u) → hands m w ≡ free
+            by (no far) = alone w far
+            by (yes z) = absurd (true≢false (sym e ∙ ap holding (alone j (λ y. ne (y ∙ sym z)))))
 
-  same-room : (n : ℕ) → n + 0 - 0 ≡ n
-  same-room n = omega arith
+    module _ (w : ℕ) (mine : w < m .count) where
+      -- ---- an act
+      module _ (busy : viewOf (stood m w) .busy ≡ true) where
+        abbrev p : Place
+        p = stood m w
 
-  pub room-on : (a : Acted) → Effect s l b c p a → Leaves (a .place) (a .single .state)
-  unfolding stay stateTo valueTo
-  room-on a (rests q f fq n o) = leaves q (s .state) free free f fq (same-room _ ∙ sym (room-word (s .state) l b c is))
-  room-on a (shuts q f fq n o) = leaves q (word l b true) free free f fq (same-room _ ∙ sym (room-word (word l b true) l b true refl))
-  room-on a (locks q g f e hq o n) =
-      leaves q (word true (fills g) c) free g f hq
-      (ap (λ (z : Bool). cond z (cond b 0 1) 0 + cond (fills g) 0 1 - 0) e ∙ go (cond (fills g) 0 1) ∙ sym (room-word (word true (fills g) c) true (fills g) c refl))
-    where
-      go : (n : ℕ) → 0 + n - 0 ≡ n
-      go n = omega arith
-  room-on a (puts q x f hq n) = leaves q (s .state) (putting x) put f hq (same-room _ ∙ sym (room-word (s .state) l b c is))
-  room-on a (swaps-in q x f hq n) = leaves q (s .state) (swapping x) (swapped (s .value)) f (ap handOf hq) (same-room _ ∙ sym (room-word (s .state) l b c is))
-  room-on a (gets q f hq n) = leaves q (s .state) taking (took (s .value)) f (ap handOf hq) (both _ ∙ sym (room-word (s .state) l b c is))
-    where
-      both : (n : ℕ) → n + 1 - 1 ≡ n
-      both n = omega arith
-  room-on a (unlocks q o n) = off (handOf p) q refl o
-    where
-      none-left : (g : Hand) → handOf p ≡ g → holding g ≡ true → cond l (cond b 0 1) 0 + 0 - cond (fills g) 0 1 ≡ roomIn (word false b c)
-      none-left g e h =
-          let z = hold (ap holding e ∙ h) in
-          rw (z .0, z .1, e) (go (fills g)) ∙ sym (room-word (word false b c) false b c refl)
-        where
-          go : (f : Bool) → cond f 0 1 + 0 - cond f 0 1 ≡ 0
-          go true = refl
-          go false = refl
+        abbrev a : Acted
+        a = actOf (m .single) (stood m w)
 
-      off : (g : Hand) (q : Place) → handOf p ≡ g → LetsOff g q → Leaves q (word false b c)
-      off g q e off-put = leaves q (word false b c) put free e refl (none-left put e refl)
-      off g q e (off-swapped {old = old}) = leaves q (word false b c) (swapped old) free e refl (none-left (swapped old) e refl)
-      off g q e (off-took {v = v}) = leaves q (word false b c) (took v) free e refl (none-left (took v) e refl)
+        abbrev act : Event
+        act = event w (stood m w) (actOf (m .single) (stood m w) .place)
+
+        abbrev st′ : Story
+        st′ = st ++ Does act ∷ []
+
+        eff : Effect s (bits .l) (bits .b) c p a
+        eff = effect s (bits .l) (bits .b) c (bits .scene .is) p busy (r .expects w)
+
+        out : Outcome st s (bits .l) (bits .b) c (bits .scene) w p (a .place) (a .single .value)
+        out = row st s (bits .l) (bits .b) c (bits .scene) w p busy (r .expects w) (o .dues w)
+
+        own : known st′ .each w .calls ≡ known st .each w .calls
+        own = ap (λ (z : Doing). z .calls) (each-own actor changeOf 1 st act)
+
+        item : (x : ℕ) → itemOf (accessOf (a .place)) ≡ x ∷ [] → itemsOf (known st .each w .calls) ≡ x ∷ []
+        item x e = sym (ap itemsOf own) ∙ item-of st′ (a .single .value) w (a .place) (out .due) x (item-written (a .place) x e)
+
+        items-on : known st′ .queue .items ≡ waiting (actsIn st′)
+        items-on =
+            ap (λ (z : Queue). z .items) (queue-act actor changeOf 1 st act) ∙ go (kind-of s (bits .l) (bits .b) c p a eff) ∙ sym (waiting-more (actsIn st) act)
+            ∙ ap waiting (sym (acts-end st (Does act)))
+          where
+            Becomes : Access → Type 0
+            Becomes z =
+                cond (isRead z) (drop 1 (known st .queue .items)) (known st .queue .items) ++ cond (eqb (length (itemOf z)) 1) (itemsOf (known st .each w .calls)) [] ≡ waitsAfter z (waiting (actsIn st))
+
+            go : (accessOf (a .place) ≡ none) ⊎ Takes s (bits .l) (bits .b) c p (a .place) → Becomes (accessOf (a .place))
+            go (inl e) = subst Becomes (sym e) (append-nil (known st .queue .items) ∙ o .items)
+            go (inr t) =
+                subst Becomes (sym (t .is))
+                (items-by (bits .b) (t .hand) (known st .queue .items) (itemsOf (known st .each w .calls)) (waiting (actsIn st)) (t .opens) (bits .scene .long)
+                (λ x e. item x (ap itemOf (t .is) ∙ e)))
+
+        flag-on : known st′ .queue .closed ≡ closedBy (actsIn st′)
+        flag-on =
+            ap (λ (z : Queue). z .closed) (queue-act actor changeOf 1 st act) ∙ ap (λ (z : Bool). cond (isClose p) true z) (o .flag) ∙ sym (closed-more (actsIn st) act)
+            ∙ ap closedBy (sym (acts-end st (Does act)))
+
+        -- ---- its answer
+        answered : (x : Answer) → Spoken st′ w x → Answered st act x
+        answered x z =
+            let d = z .decided in
+            let begun-same : known st′ .each w .begun ≡ known st .each w .begun = ap (λ (y : Doing). y .begun) (each-own actor changeOf 1 st act) in
+            let inside : momentOf w st′ ≤ length st = omega (arith, d .inside, longer st (Does act)) in
+            record {
+              call = z .call;
+              its = sym own ∙ d .work .its;
+              moment = momentOf w st′;
+              named = refl;
+              begun = omega (arith, begun-same, d .begun);
+              inside = inside;
+              plain = ap (λ (y : Reply). y ∷ []) (ap (λ (q : Queue). answerOf q (z .call)) (sym (asked-past st (Does act) (momentOf w st′) (z .call) inside)) ∙ d .plain) ∙ sym (z .says);
+            }
+
+        meant : (x : Answer) → Spoken st′ w x → Meant st act x
+        meant x z =
+            let d = z .decided in
+            let its : known st .each w .calls ≡ z .call ∷ [] = sym own ∙ d .work .its in
+            record {
+              put =
+                  d .work .puts ∙ ap (λ (y : List Call). plain.putBy (itemsOf y) (z .reply)) (sym its)
+                  ∙ ap (plain.meaningOf (plain.putBy (itemsOf (known st .each w .calls)))) (sym (z .says));
+              took = d .work .takes ∙ ap (plain.meaningOf plain.takenBy) (sym (z .says));
+              back =
+                  λ y e. ap itemsOf its
+                  ∙ back-came (askedAt (momentOf w st′) st′ (z .call)) (z .call) y (ap plain.givenBack (d .plain) ∙ sym (ap (plain.meaningOf plain.givenBack) (z .says)) ∙ e);
+              closed =
+                  λ e. ap (λ (q : Queue). q .closed) (queue-act actor changeOf 1 st act)
+                  ∙ ap (λ (y : Bool). cond y true (known st .queue .closed)) (closing st (s .value) w p busy (o .dues w) e);
+            }
+
+        -- ---- what it changes
+        changed : Changes st act
+        changed = go (kind-of s (bits .l) (bits .b) c p a eff)
+          where
+            size : (y : Bool) → bits .b ≡ y → length (known st .queue .items) ≡ cond y 1 0
+            size y e = bits .scene .long ∙ ap (λ (z : Bool). cond z 1 0) e
+
+            go : (accessOf (a .place) ≡ none) ⊎ Takes s (bits .l) (bits .b) c p (a .place) → Changes st act
+            go (inl e) =
+                record {
+                  takes = λ y. absurd (no-take y);
+                  puts = λ y z. absurd (no-put y);
+                  full = λ y z. absurd (no-put y);
+                  while-open = λ y. absurd (no-put y);
+                  let-go = λ y. absurd (neither y);
+                }
+              where
+                no-take : changeOf act .takes ≡ true → ⊥
+                no-take y = true≢false (sym y ∙ ap isRead e)
+
+                no-put : changeOf act .puts ≡ true → ⊥
+                no-put y = true≢false (sym y ∙ ap (λ (z : Access). eqb (length (itemOf z)) 1) e)
+
+                neither : (changeOf act .takes ≡ true) ⊎ (changeOf act .puts ≡ true) → ⊥
+                neither (inl y) = no-take y
+                neither (inr y) = no-put y
+            go (inr t) =
+                record {
+                  takes = λ y. omega (arith, size true (takes-some (bits .b) (t .hand) (t .opens) (sym (ap isRead (t .is)) ∙ y)));
+                  puts =
+                      λ y z. omega (arith, size false (takes-none (bits .b) (t .hand) (t .opens) (sym (ap isRead (t .is)) ∙ z)), capacity-is actor changeOf 1 st);
+                  full =
+                      λ y z. size true (takes-some (bits .b) (t .hand) (t .opens) (sym (ap isRead (t .is)) ∙ z)) ∙ sym (capacity-is actor changeOf 1 st);
+                  while-open = λ y. let x = written-by (accessOf (a .place)) y in bits .scene .flag ∙ out .while-open (x .0) (x .1);
+                  let-go = λ y. bits .scene .room ∙ ap (λ (z : Bool). cond z (cond (bits .b) 0 1) 0) (t .unlocked-then);
+                }
+
+        -- ---- one act more
+        abbrev next : Machine
+        next = acted m w (stood m w)
+
+        went : stood next w ≡ a .place
+        went = acted-stood m w p (in-row workers m (actsIn st) r w mine)
+
+        due-each : (j : ℕ) → Due st′ (next .single .value) j (stood next j)
+        due-each j = subst (λ (z : Single). Due st′ (z .value) j (stood next j)) (sym (acted-single m w p)) (go (ℕ-discrete j w))
+          where
+            go : Dec (j ≡ w) → Due st′ (a .single .value) j (stood next j)
+            go (yes e) = subst (λ (i : ℕ). Due st′ (a .single .value) i (stood next i)) (sym e) (subst (Due st′ (a .single .value) w) (sym went) (out .due))
+            go (no ne) =
+                subst (Due st′ (a .single .value) j) (sym (acted-else m w p j ne))
+                (due-else st (Does act) j (s .value) (a .single .value) (each-else actor changeOf 1 st act j ne) (moment-else st act j ne) (stood m j)
+                (λ e. value-kept s (bits .l) (bits .b) c p a eff (other-free j w ne e)) (o .dues j))
+
+        told-q : Told next st′
+        told-q =
+            record {
+              reached =
+                  subst (Reached workers next) (sym (acts-end st (Does act)))
+                  (subst (λ (x : Place). Reached workers next (actsIn st ++ event w p x ∷ [])) went (acted-reached workers m (actsIn st) r w mine busy));
+              items = items-on;
+              flag = flag-on;
+              room =
+                  room-on st s (bits .l) (bits .b) c (bits .scene .is) (bits .scene .room) w p (bits .hold w) a eff
+                  ∙ ap (λ (z : Single). roomIn (z .state)) (sym (acted-single m w p));
+              dues = due-each;
+              answers = λ xs ys e x q said. go-answer xs ys e x said (one-more st (Does act) xs ys (Does e) q);
+              changes = λ xs ys e q. go-change xs ys e (one-more st (Does act) xs ys (Does e) q);
+            }
+          where
+            go-answer : (xs ys : Story) (e : Event) (x : Answer) → e .after ≡ Idle x → Order xs (Does e) ys st (Does act) [] → Answered xs e x × Meant xs e x
+            go-answer xs ys e x said (earlier zs was left) = o .answers xs zs e x was said
+            go-answer xs ys e x said (same whole one rest) =
+                let is : e ≡ act = cc in
+                let spoken = out .said x (ap (λ (z : Event). z .after) (sym is) ∙ said) in
+                rw (whole, is) (answered x spoken, meant x spoken)
+            go-answer xs ys e x said (later zs was left) = absurd (no-split zs (Does e) ys left)
+
+            go-change : (xs ys : Story) (e : Event) → Order xs (Does e) ys st (Does act) [] → Changes xs e
+            go-change xs ys e (earlier zs was left) = o .changes xs zs e was
+            go-change xs ys e (same whole one rest) = let is : e ≡ act = cc in rw (whole, is) changed
+            go-change xs ys e (later zs was left) = absurd (no-split zs (Does e) ys left)
+
+        pub told-act : Told next (st ++ Does (event w p (stood next w)) ∷ [])
+        told-act = subst (λ (x : Place). Told next (st ++ Does (event w p x) ∷ [])) (sym went) told-q
+
+      -- ---- a call begun
+      module _ (cl : Call) (idle : viewOf (stood m w) .busy ≡ false) where
+        abbrev begun-on : Story
+        begun-on = st ++ Begun w cl ∷ []
+
+        abbrev new : Machine
+        new = begun m w (beginOf cl)
+
+        same-acts : actsIn begun-on ≡ actsIn st
+        same-acts = acts-end st (Begun w cl) ∙ append-nil (actsIn st)
+
+        due-begun : (j : ℕ) → Due begun-on (new .single .value) j (stood new j)
+        due-begun j = subst (λ (z : Single). Due begun-on (z .value) j (stood new j)) (sym (begun-single m w (beginOf cl))) (go (ℕ-discrete j w))
+          where
+            go : Dec (j ≡ w) → Due begun-on (s .value) j (stood new j)
+            go (yes e) =
+                subst (λ (i : ℕ). Due begun-on (s .value) i (stood new i)) (sym e)
+                (subst (Due begun-on (s .value) w) (sym (begun-stood m w (beginOf cl) (in-row workers m (actsIn st) r w mine))) (begun-due begun-on (s .value) w cl (work-begun actor changeOf 1 st w cl)))
+            go (no ne) =
+                subst (Due begun-on (s .value) j) (sym (begun-else m w (beginOf cl) j ne))
+                (due-else st (Begun w cl) j (s .value) (s .value) (each-unbegun actor changeOf 1 st w cl j ne) (moment-begun st w cl j) (stood m j) (λ e. refl) (o .dues j))
+
+        pub told-begun : Told new begun-on
+        told-begun =
+            record {
+              reached = subst (Reached workers new) (sym same-acts) (begun-reached workers m (actsIn st) r w mine cl idle);
+              items = ap (λ (z : Queue). z .items) (queue-begun actor changeOf 1 st w cl) ∙ o .items ∙ ap waiting (sym same-acts);
+              flag = ap (λ (z : Queue). z .closed) (queue-begun actor changeOf 1 st w cl) ∙ o .flag ∙ ap closedBy (sym same-acts);
+              room = room-begun st w cl ∙ o .room ∙ ap (λ (z : Single). roomIn (z .state)) (sym (begun-single m w (beginOf cl)));
+              dues = due-begun;
+              answers = λ xs ys e x q said. go-answer xs ys e x said (one-more st (Begun w cl) xs ys (Does e) q);
+              changes = λ xs ys e q. go-change xs ys e (one-more st (Begun w cl) xs ys (Does e) q);
+            }
+          where
+            no-begin : (e : Event) → _≡_ {A = Element} (Does e) (Begun w cl) → ⊥
+            no-begin e y = let q : _≡_ {A = ℕ} 0 1 = cc in omega arith
+
+            go-answer : (xs ys : Story) (e : Event) (x : Answer) → e .after ≡ Idle x → Order xs (Does e) ys st (Begun w cl) [] → Answered xs e x × Meant xs e x
+            go-answer xs ys e x said (earlier zs was left) = o .answers xs zs e x was said
+            go-answer xs ys e x said (same whole one rest) = absurd (no-begin e one)
+            go-answer xs ys e x said (later zs was left) = absurd (no-split zs (Does e) ys left)
+
+            go-change : (xs ys : Story) (e : Event) → Order xs (Does e) ys st (Begun w cl) [] → Changes xs e
+            go-change xs ys e (earlier zs was left) = o .changes xs zs e was
+            go-change xs ys e (same whole one rest) = absurd (no-begin e one)
+            go-change xs ys e (later zs was left) = absurd (no-split zs (Does e) ys left)
+
+  -- every accepted entry leads on
+  pub told-kept : (m : Machine) (st : Story) (en : Entry) (next : Machine) (acts : List Event) → Told m st → Turned m en next acts → Told next (st ++ (begunIn en ++ map Does acts))
+  told-kept m st en next acts o (began w cl mine idle) = told-begun m st o w mine cl idle
+  told-kept m st en next acts o (did w lose mine busy early) = told-act m st o w mine busy

@@ -98,9 +98,12 @@ decided-now st e c put took r now was work says =
 
 -- ---- by the place where the worker stands, the slot's value being v
 
--- what a call has answered, it has decided so, and has put in and taken out what that means
-abbrev pub Spoken : Story → ℕ → Answer → Type 0
-Spoken st w a = (r : Reply) → replyOf a ≡ r ∷ [] → (c : Call) × Decided st w c (plain.putBy (itemsOf (c ∷ [])) r) (plain.takenBy r) r
+-- what a call answers, it has decided so, and has put in and taken out what that means
+pub record Spoken (st : Story) (w : ℕ) (a : Answer) : Type 0 where
+  pub reply : Reply
+  pub says : replyOf a ≡ reply ∷ []
+  pub call : Call
+  pub decided : Decided st w call (plain.putBy (itemsOf (call ∷ [])) reply) (plain.takenBy reply) reply
 
 abbrev pub Entered : Story → ℕ → Call → Type 0
 Entered st w c = Decided st w c (itemsOf (c ∷ [])) [] plain.Pushed
@@ -112,7 +115,7 @@ abbrev pub Taking : Story → ℕ → ℕ → Type 0
 Taking st w v = Decided st w call.Pop [] (v ∷ []) (plain.Popped v)
 
 abbrev pub Due : Story → ℕ → ℕ → Place → Type 0
-Due st v w (Idle a) = Spoken st w a
+Due st v w (Idle a) = Unit {0}
 Due st v w (A1 x) = Work st w (call.Push x) [] []
 Due st v w (A2 x) = Entered st w (call.Push x)
 Due st v w A3 = (x : ℕ) × Entered st w (call.Push x)
@@ -140,7 +143,7 @@ module _ (st : Story) (x : Element) (w v u : ℕ) (each : known (st ++ x ∷ [])
       carried st x w c put took put took r (work-else c put took (o .work)) (ap (λ (z : Doing). z .begun) each) kept o
 
   pub due-else : (p : Place) → (holding (handOf p) ≡ true → u ≡ v) → Due st v w p → Due (st ++ x ∷ []) u w p
-  due-else (Idle a) same o = λ r e. (o r e .0, decided-else _ _ _ r (o r e .1))
+  due-else (Idle a) same o = tt
   due-else (A1 y) same o = work-else _ _ _ o
   due-else (A2 y) same o = decided-else _ _ _ _ o
   due-else A3 same o = (o .0, decided-else _ _ _ _ (o .1))
