@@ -2,7 +2,7 @@
 use mathlib.Core.Path.{_≡_, refl, sym, ap, _∙_, subst}
 use mathlib.Core.Logic.{_≢_, _⊎_, inl, inr}
 use mathlib.Core.Bool.{Bool, true, false, cond, true≢false}
-use mathlib.Core.List.{List, [], _∷_, _++_, append-nil}
+use mathlib.Core.List.{List, [], _∷_, _++_}
 use Prim.Native.Nat.{ℕ, suc, _+_, _*_, _-_, _≤_, _<_}
 use native.Mathlib.Omega.{arith}
 use native.Mathlib.Decide.{decLt}
@@ -11,10 +11,12 @@ use lib.ListN.{length, getD, take, drop, length-append}
 use borrow.Author.Tests.{eqb-true, eqb-false, eq-eqb, ne-eqb}
 use Rattle.queue_entries.specs.declared.Call.{Call}
 use Rattle.queue_entries.specs.declared.Call.the-variants as call
-use Rattle.queue_plain.specs.Plain.{Queue, Reply, answerOf, fullOf, frontOf}
+use Rattle.queue_plain.specs.Plain.{Queue, Reply, answerOf, fullOf}
 use Rattle.queue_plain.specs.Plain as plain
 use Rattle.queue_plain.specs.Story.{Does, Doing, doingWith, itemsOf}
-use Rattle.queue_plain.proofs.Stories.{queue-past, queue-now, known-count}
+use Rattle.queue_plain.proofs.Stories.{queue-past, queue-now, known-count, each-own, queue-act}
+use Rattle.queue_plain.proofs.Calls as calls
+use Rattle.queue_plain.proofs.Answers.{none-of, push-closed, push-room, push-full, force-closed, force-room, force-full, pop-front, pop-none}
 use Rattle.bounded_words.specs.declared.Stamp.{Stamp}
 use Rattle.bounded_words.specs.declared.Fixed.{Fixed}
 use Rattle.bounded_words.specs.declared.Width.{Width}
@@ -48,7 +50,7 @@ use Rattle.bounded_proof_each_act.proofs.Stamps
 use Rattle.bounded_proof_each_act.proofs.Stamps.{Ground, fixed, W, tailWord}
 use Rattle.bounded_proof_each_act.proofs.Sight.{Age, aged, look, endsOf, Stands, Young, Recent}
 use Rattle.bounded_proof_demand2.proofs.Counts.{count-is}
-use Rattle.bounded_proof_plain.proofs.Shelf.{each-own, moment-own, queue-act, Shelved, Moves, Point, point-now, point-on, item-course, latest-new, latest-kept}
+use Rattle.bounded_proof_plain.proofs.Shelf.{moment-own, Shelved, Moves, Point, point-now, point-on, item-course, latest-new, latest-kept}
 use Rattle.bounded_proof_plain.proofs.Work.{Task, task, pushing, Work, Set, then, GivenBy, EnteredBy, Front, SwapsBy, TakesBy, CountsBy, SeenSome, NoneYet, SeenRoom, FullYet, Due}
 
 -- ---- small laws
@@ -68,10 +70,6 @@ front-of (x ∷ l) h = refl
 first-of : (l : List ℕ) → 0 < length l → take 1 l ≡ getD l 0 0 ∷ []
 first-of [] h = absurd (omega arith)
 first-of (x ∷ l) h = refl
-
-none-of : (l : List ℕ) → length l ≡ 0 → l ≡ []
-none-of [] h = refl
-none-of (x ∷ l) h = absurd (omega arith)
 
 latest-same : (who : ℕ → ℕ) (count w j k : ℕ) → Latest who count w j → Latest who count w k → j ≡ k
 latest-same who count w j k a b = go (decLt j k) (decLt k j)
@@ -93,24 +91,12 @@ no-item = refl
 
 -- the answer to a push or force_push, closed, and open with room
 closed-to : (k : Kind) (x : ℕ) (q : Queue) → q .closed ≡ true → answerOf q (pushing k x) ≡ plain.Closed x
-closed-to Push x q e = rw e
-closed-to Force x q e = rw e
+closed-to Push x q e = push-closed q x e
+closed-to Force x q e = force-closed q x e
 
 room-for : (k : Kind) (x : ℕ) (q : Queue) → q .closed ≡ false → fullOf q ≡ false → answerOf q (pushing k x) ≡ plain.Pushed
-room-for Push x q e f = rw (e, f)
-room-for Force x q e f = rw (e, f)
-
-full-to : (x : ℕ) (q : Queue) → q .closed ≡ false → fullOf q ≡ true → answerOf q (call.Push x) ≡ plain.Full x
-full-to x q e f = rw (e, f)
-
-displaced-to : (x v : ℕ) (others : List ℕ) (q : Queue) → q .closed ≡ false → fullOf q ≡ true → q .items ≡ v ∷ others → answerOf q (call.ForcePush x) ≡ plain.Displaced v
-displaced-to x v others q e f i = rw (e, f) (ap (frontOf plain.Displaced plain.Pushed) i)
-
-popped-to : (v : ℕ) (others : List ℕ) (q : Queue) → q .items ≡ v ∷ others → answerOf q call.Pop ≡ plain.Popped v
-popped-to v others q i = ap (frontOf plain.Popped (cond (q .closed) plain.EmptyAndClosed plain.Empty)) i
-
-none-to : (q : Queue) → q .items ≡ [] → answerOf q call.Pop ≡ cond (q .closed) plain.EmptyAndClosed plain.Empty
-none-to q i = ap (frontOf plain.Popped (cond (q .closed) plain.EmptyAndClosed plain.Empty)) i
+room-for Push x q e f = push-room q x e f
+room-for Force x q e f = force-room q x e f
 
 not-close : (k : Kind) (x : ℕ) → pushing k x ≡ call.Close → ⊥
 not-close Push x e = let z : _≡_ {A = ℕ} 0 1 = cc in omega arith
@@ -192,30 +178,17 @@ module _ (bits : Width) (c n ed : ℕ) (g : Ground bits c (markOf c) n) (st : St
   -- ---- the worker's own part, one act on
   module _ (p q : Place) where
     own : known c ed (now p q) .each w ≡ doingWith (changeOf ed (act p q)) (known c ed st .queue) (known c ed st .each w)
-    own = each-own c ed st (act p q)
+    own = each-own actor (changeOf ed) c st (act p q)
 
     longer : length (now p q) ≡ length st + 1
     longer = length-append st (Does (act p q) ∷ []) ∙ omega arith
 
     work-on : (cl : Call) (put took : List ℕ) → Work c n ed st w cl put took
         → Work c n ed (now p q) w cl (put ++ cond (claimsTail (movedOf q)) (itemsOf (cl ∷ [])) []) (took ++ cond (claimsHead (movedOf q)) (take 1 (known c ed st .queue .items)) [])
-    work-on cl put took o =
-        record {
-          its = ap (λ (z : Doing). z .calls) own ∙ o .its;
-          begun = omega (arith, ap (λ (z : Doing). z .begun) own, o .begun, longer);
-          puts = ap (λ (z : Doing). z .puts) own ∙ rw (o .its, o .puts);
-          takes = ap (λ (z : Doing). z .takes) own ∙ rw (o .takes);
-        }
+    work-on = calls.work-on actor (changeOf ed) c st (act p q)
 
     work-still : movedOf q ≡ Neither → (cl : Call) (put took : List ℕ) → Work c n ed st w cl put took → Work c n ed (now p q) w cl put took
-    work-still e cl put took o =
-        let r = work-on cl put took o in
-        record {
-          its = r .its;
-          begun = r .begun;
-          puts = r .puts ∙ rw e (append-nil put);
-          takes = r .takes ∙ rw e (append-nil took);
-        }
+    work-still e = calls.work-still actor (changeOf ed) c st (act p q) (ap claimsTail e) (ap claimsHead e)
 
     past : (k : ℕ) → k ≤ length st → queueAt c ed k (now p q) ≡ queueAt c ed k st
     past k h = queue-past actor (changeOf ed) c k st (Does (act p q)) h
@@ -276,7 +249,7 @@ module _ (bits : Width) (c n ed : ℕ) (g : Ground bits c (markOf c) n) (st : St
         took = r .takes ∙ e .takes;
         back = λ x h. ap itemsOf (o .its) ∙ e .back x h;
         closed =
-            λ h. ap (λ (z : Queue). z .closed) (queue-act c ed st (act p (Idle a)))
+            λ h. ap (λ (z : Queue). z .closed) (queue-act actor (changeOf ed) c st (act p (Idle a)))
             ∙ ap (λ (z : Bool). cond (changeOf ed (act p (Idle a)) .closes) true (cond (changeOf ed (act p (Idle a)) .opens) false z)) (shelf .flag)
             ∙ e .shut (let z : cl ∷ [] ≡ call.Close ∷ [] = sym (o .its) ∙ h in cc);
       }
@@ -491,7 +464,7 @@ module _ (bits : Width) (c n ed : ℕ) (g : Ground bits c (markOf c) n) (st : St
       (ended-then (P6 t x) (call.Push x) [] [] (Full x) refl (o .work)
       (record { still = refl; puts = refl; takes = refl; back = λ y e. pushed-item Push x ∙ e; shut = λ e. absurd (not-close Push x e) })
       (o .set)
-      (ap (λ (r : Reply). r ∷ []) (full-to x (then c n ed (o .set)) (o .while-open) (eq-eqb _ _ (full-then h ∙ sym (o .set .point .room)))))))
+      (ap (λ (r : Reply). r ∷ []) (push-full (then c n ed (o .set)) x (o .while-open) (eq-eqb _ _ (full-then h ∙ sym (o .set .point .room)))))))
       (λ h. leads z (P6 t x) (P1 Push x) (quietly refl refl refl refl) (not-idle (P1 Push x) refl) (λ u mv. work-still (P6 t x) (P1 Push x) refl _ _ _ (o .work)))
     where
       full-then : lapBehind bits f (E .head) t ≡ true → length (then c n ed (o .set) .items) ≡ c
@@ -660,7 +633,7 @@ module _ (bits : Width) (c n ed : ℕ) (g : Ground bits c (markOf c) n) (st : St
         shut = λ e. absurd (not-close Force x e);
       })
       (fr .set)
-      (ap (λ (r : Reply). r ∷ []) (displaced-to x (o .v) (fr .others) (then c n ed (fr .set)) (o .while-open) full (fr .items) ∙ ap plain.Displaced out)))
+      (ap (λ (r : Reply). r ∷ []) (force-full (then c n ed (fr .set)) x (o .v) (fr .others) (o .while-open) full (fr .items) ∙ ap plain.Displaced out)))
 
   -- ---- pop
 
@@ -740,7 +713,7 @@ module _ (bits : Width) (c n ed : ℕ) (g : Ground bits c (markOf c) n) (st : St
         shut = λ e. absurd (let q : _≡_ {A = ℕ} 0 1 = cc in omega arith);
       })
       (fr .set)
-      (ap (λ (r : Reply). r ∷ []) (popped-to (o .v) (fr .others) (then c n ed (fr .set)) (fr .items) ∙ ap plain.Popped out)))
+      (ap (λ (r : Reply). r ∷ []) (pop-front (then c n ed (fr .set)) (o .v) (fr .others) (fr .items) ∙ ap plain.Popped out)))
 
   -- nothing waits where tail and head agree
   none-now : s .tail ≡ s .head → known c ed st .queue .items ≡ []
@@ -751,9 +724,9 @@ module _ (bits : Width) (c n ed : ℕ) (g : Ground bits c (markOf c) n) (st : St
       either (Row (O6 h)) (same (unmarkedOf f (E .tail)) h) _ (stay E z O1)
       (λ d. either (Row (O6 h)) (markedOf f (E .tail)) (stay E z (Idle PopClosed)) (stay E z (Idle Empty))
       (λ y. ends z (O6 h) PopClosed (quietly refl refl refl refl)
-      (ended-now (O6 h) call.Pop [] [] PopClosed refl o speaks-closed (ap (λ (r : Reply). r ∷ []) (none-to (known c ed st .queue) (none-now (even d)) ∙ rw (shelf .flag ∙ sym marked-now ∙ y)))))
+      (ended-now (O6 h) call.Pop [] [] PopClosed refl o speaks-closed (ap (λ (r : Reply). r ∷ []) (pop-none (known c ed st .queue) (none-now (even d)) ∙ rw (shelf .flag ∙ sym marked-now ∙ y)))))
       (λ y. ends z (O6 h) Empty (quietly refl refl refl refl)
-      (ended-now (O6 h) call.Pop [] [] Empty refl o speaks-empty (ap (λ (r : Reply). r ∷ []) (none-to (known c ed st .queue) (none-now (even d)) ∙ rw (shelf .flag ∙ sym marked-now ∙ y))))))
+      (ended-now (O6 h) call.Pop [] [] Empty refl o speaks-empty (ap (λ (r : Reply). r ∷ []) (pop-none (known c ed st .queue) (none-now (even d)) ∙ rw (shelf .flag ∙ sym marked-now ∙ y))))))
       (λ d. pops z (O6 h) O1 (quietly refl refl refl refl) (not-idle O1 refl) refl o)
     where
       even : same (unmarkedOf f (E .tail)) h ≡ true → s .tail ≡ s .head

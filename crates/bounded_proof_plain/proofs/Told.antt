@@ -19,7 +19,8 @@ use Rattle.queue_entries.specs.declared.Entry.the-variants.{Unreadable, Asks}
 use Rattle.queue_entries.specs.Entries.{entryOf}
 use Rattle.queue_plain.specs.Plain.{Queue}
 use Rattle.queue_plain.specs.Story.{Begun, Does, Doing, itemsOf, begunIn, actsIn, changedBy, knownFrom}
-use Rattle.queue_plain.proofs.Stories.{acts-end, acts-story, queue-now, known-count}
+use Rattle.queue_plain.proofs.Stories.{acts-end, acts-story, queue-now, known-count, each-else, queue-act, each-unbegun, queue-begun}
+use Rattle.queue_plain.proofs.Calls.{work-begun}
 use Rattle.bounded_words.specs.declared.Stamp.{Stamp}
 use Rattle.bounded_words.specs.declared.Fixed.{Fixed}
 use Rattle.bounded_words.specs.declared.Width.{Width}
@@ -55,7 +56,7 @@ use Rattle.bounded_proof_demand2.proofs.Lists.{Last, Earlier, split-end}
 use Rattle.bounded_proof_demand2.proofs.Logged.{itemsBy, movedBy, shows}
 use Rattle.bounded_proof_demand2.proofs.Pictured.{Base, Pictured, begun-pictured, acted-pictured, stepped, coursed, effect, spot, next, result, acted-stood, new-age}
 use Rattle.bounded_proof_demand2.proofs.Reached.{Reached, grown, entered, begun-after, did-after, recent-in}
-use Rattle.bounded_proof_plain.proofs.Shelf.{known-act, each-own, each-else, queue-act, moment-else, each-begun, each-unbegun, queue-begun, moment-begun, Waits, Shelved, Moves, items-on, point-now}
+use Rattle.bounded_proof_plain.proofs.Shelf.{moment-else, moment-begun, Waits, Shelved, Moves, items-on, point-now}
 use Rattle.bounded_proof_plain.proofs.Work.{Task, Starts, task, Work, Set, then, SeenSome, NoneYet, SeenRoom, FullYet, Due, due-else}
 use Rattle.bounded_proof_plain.proofs.Rows.{Outcome, Row, row}
 
@@ -93,7 +94,7 @@ module _ (c n ed : ℕ) (st : Story) (e : Event) (s u : Shared) (i w : ℕ) (far
       record {
         moment = length st′;
         named = named ∙ ap At (ap (λ (k : ℕ). k + 1) (known-count actor (changeOf ed) c st) ∙ sym longer);
-        begun = omega (arith, ap (λ (z : Doing). z .begun) (each-else c ed st e w far), longer);
+        begun = omega (arith, ap (λ (z : Doing). z .begun) (each-else actor (changeOf ed) c st e w far), longer);
         inside = omega arith;
         point = rw (queue-now actor (changeOf ed) c st′) (point-now c u b (known c ed st′ .queue) (mv .inv) shelf);
       }
@@ -238,7 +239,7 @@ module _ (bits : Width) (c n workers : ℕ) (base : Base bits c n workers) (ed :
       shelf-on =
           let stp = stepped bits c n workers base s m pic w l lose busy young in
           let items = items-on c s u w i (moves .course) (movedOf (a .place)) (moves .inv) (moves .tails) (moves .heads) (known c ed st .queue .items) (itemsOf (known c ed st .each w .calls)) new-item (o .shelf .long, o .shelf .at) in
-          rw (queue-act c ed st act)
+          rw (queue-act actor (changeOf ed) c st act)
           (record {
             long = items .0;
             at = items .1;
@@ -250,7 +251,7 @@ module _ (bits : Width) (c n workers : ℕ) (base : Base bits c n workers) (ed :
 
       due-other : (j : ℕ) → j ≢ w → Due c n ed told-on u (pic .ages j) j (task (stood m j))
       due-other j far =
-          due-else c n ed st (Does act) s u w i j (moves .course) (pic .inv) far (each-else c ed st act j far)
+          due-else c n ed st (Does act) s u w i j (moves .course) (pic .inv) far (each-else actor (changeOf ed) c st act j far)
           (λ k e. moment-else c ed st act j far ∙ ap (heard (changeOf ed act) (known c ed st .count + 1)) e) (pic .ages j)
           (some-else c n ed st act s u i j far moves _ shelf-on (pic .ages j)) (room-else c n ed st act s u i j far moves _ shelf-on (pic .ages j)) (task (stood m j)) (o .dues j)
 
@@ -325,17 +326,6 @@ module _ (bits : Width) (c n workers : ℕ) (base : Base bits c n workers) (ed :
       unfolding begun
       begun-edition = refl
 
-      -- it starts with nothing put in or taken out
-      starts : Work c n ed begun-on w cl [] []
-      starts =
-          let each = each-begun c ed st w cl in
-          record {
-            its = ap (λ (z : Doing). z .calls) each;
-            begun = omega (arith, ap (λ (z : Doing). z .begun) each, known-count actor (changeOf ed) c st, longer-begun);
-            puts = ap (λ (z : Doing). z .puts) each;
-            takes = ap (λ (z : Doing). z .takes) each;
-          }
-
       begun-task : (b : Call) → task (beginOf b) ≡ Starts b
       begun-task (call.Push x) = refl
       begun-task (call.ForcePush x) = refl
@@ -353,10 +343,10 @@ module _ (bits : Width) (c n workers : ℕ) (base : Base bits c n workers) (ed :
           go : Dec (j ≡ w) → Due c n ed begun-on s (pic .ages j) j (task (placeOf (set (m .workers) w (beginner (beginOf cl))) j))
           go (yes e) =
               rw e (subst (λ (z : Worker). Due c n ed begun-on s (pic .ages w) w (task (z .place)))
-              (sym (getD-set-same (m .workers) w (beginner (beginOf cl)) idler (omega (arith, pic .workers-long, few-workers m (pic .unbroken))))) (rw (begun-task cl) starts))
+              (sym (getD-set-same (m .workers) w (beginner (beginOf cl)) idler (omega (arith, pic .workers-long, few-workers m (pic .unbroken))))) (rw (begun-task cl) (work-begun actor (changeOf ed) c st w cl)))
           go (no far) =
               subst (λ (z : Worker). Due c n ed begun-on s (pic .ages j) j (task (z .place))) (sym (getD-set-other (m .workers) w j (beginner (beginOf cl)) idler far))
-              (due-else c n ed st (Begun w cl) s s w 0 j (same refl) (pic .inv) far (each-unbegun c ed st w cl j far) (λ k e. moment-begun c ed st w cl j ∙ e) (pic .ages j)
+              (due-else c n ed st (Begun w cl) s s w 0 j (same refl) (pic .inv) far (each-unbegun actor (changeOf ed) c st w cl j far) (λ k e. moment-begun c ed st w cl j ∙ e) (pic .ages j)
               (λ work p. inr (record { pending = moment-begun c ed st w cl j ∙ p .pending; tail = p .tail; head = p .head }))
               (λ work p. inr (record { pending = moment-begun c ed st w cl j ∙ p .pending; tail = p .tail; head = p .head })) (task (stood m j)) (o .dues j))
 
@@ -365,7 +355,7 @@ module _ (bits : Width) (c n workers : ℕ) (base : Base bits c n workers) (ed :
           let now = begun m w (beginOf cl) in
           let both =
           begun-after bits c n workers base m (o .h) r w l cl idle
-          (λ (z : Shared) (b : Bool) (ages : ℕ → Age). Shelved c z b (known c ed begun-on .queue) × ((j : ℕ) → Due c n ed begun-on z (ages j) j (task (stood now j)))) (rw (queue-begun c ed st w cl) (o .shelf), due-begun) in
+          (λ (z : Shared) (b : Bool) (ages : ℕ → Age). Shelved c z b (known c ed begun-on .queue) × ((j : ℕ) → Due c n ed begun-on z (ages j) j (task (stood now j)))) (rw (queue-begun actor (changeOf ed) c st w cl) (o .shelf), due-begun) in
           record {
             h = o .h ++ [];
             acts = acts-end st (Begun w cl) ∙ ap (λ (z : List Event). z ++ []) (o .acts);

@@ -2,10 +2,16 @@
 use Prim.Native.Nat.{ℕ}
 use mathlib.Core.Bool.{true, false, cond}
 use mathlib.Core.List.{List, [], _∷_}
-use mathlib.Core.Path.{_≡_, ap}
+use mathlib.Core.Path.{_≡_, refl, ap}
+use native.Mathlib.Omega.{arith}
+use lib.ListN.{length}
 use Rattle.queue_entries.specs.declared.Call.the-variants as call
 use Rattle.queue_plain.specs.Plain.{Queue, answerOf, fullOf, frontOf}
 use Rattle.queue_plain.specs.Plain as plain
+
+pub none-of : (l : List ℕ) → length l ≡ 0 → l ≡ []
+none-of [] h = refl
+none-of (x ∷ l) h = absurd (omega arith)
 
 module _ (q : Queue) (x : ℕ) where
   pub push-closed : q .closed ≡ true → answerOf q (call.Push x) ≡ plain.Closed x

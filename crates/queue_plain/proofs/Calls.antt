@@ -3,12 +3,12 @@ use Prim.Native.Nat.{ℕ, _+_, _<_}
 use native.Mathlib.Omega.{arith}
 use mathlib.Core.Bool.{Bool, true, false, cond}
 use mathlib.Core.List.{List, [], _∷_, _++_, append-nil}
-use mathlib.Core.Path.{_≡_, refl, sym, ap, _∙_}
+use mathlib.Core.Path.{_≡_, ap, _∙_}
 use lib.Dec.{eqb}
 use lib.ListN.{length, take, length-append}
 use Rattle.queue_entries.specs.declared.Call.{Call}
 use Rattle.queue_entries.specs.declared.Call.the-variants as call
-use Rattle.queue_plain.specs.Plain.{Reply, Queue, answerOf, fullOf, frontOf, yesIf, givenBack}
+use Rattle.queue_plain.specs.Plain.{Queue, answerOf, fullOf, frontOf, yesIf, givenBack}
 use Rattle.queue_plain.specs.Plain as plain
 use Rattle.queue_plain.specs.Story.{Element, Begun, Does, Story, Change, Doing, itemsOf, known}
 use Rattle.queue_plain.proofs.Stories.{known-count, each-own, each-begun}

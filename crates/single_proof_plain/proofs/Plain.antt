@@ -10,6 +10,7 @@ use Rattle.queue_schedules.proofs.Histories.{entries-lead}
 use Rattle.queue_schedules.proofs.Splits.{cons-rest, no-cons, no-split}
 use Rattle.queue_plain.specs.Story.{Does, elementsBy, actsIn, knownFrom, followedFrom}
 use Rattle.queue_plain.proofs.Stories.{acts-story, in-order}
+use Rattle.queue_plain.proofs.Answers.{none-of}
 use Rattle.single_words.specs.Words.{lockedIn, pushedIn}
 use Rattle.single_places.specs.declared.Answer.{Answer}
 use Rattle.single_places.specs.declared.Place.{Place}
@@ -22,8 +23,8 @@ use Rattle.single_machine.specs.Machine.{freshOf}
 use Rattle.single_machine.specs.Turn.{turnOf, turnOfBy}
 use Rattle.single_machine.specs.History.{eventsOf}
 use Rattle.single_machine.proofs.Turns.{single-queue}
-use Rattle.single_demands.specs.Notions.{source, Allowed, machineAfter, actsOf, InHand, Popping, poppingC2, poppingC3, waitingFrom, closedBy}
-use Rattle.single_demands.specs.Stories.{Story, storyOf, known, changeOf, actor, roomTaken, momentOf}
+use Rattle.single_demands.specs.Notions.{source, Allowed, machineAfter, InHand, Popping, poppingC2, poppingC3, waitingFrom, closedBy}
+use Rattle.single_demands.specs.Stories.{Story, storyOf, known, changeOf, actor, momentOf}
 use Rattle.single_demands.specs.Demands.{RoomOfPop, PlainThroughout, AnswersPlain}
 use Rattle.single_proof_demand2.proofs.Words.{locked-of, pushed-of}
 use Rattle.single_proof_demand2.proofs.Effects.{handOf, fills, holding}
@@ -31,7 +32,6 @@ use Rattle.single_proof_demand2.proofs.Turns.{turned, stood}
 use Rattle.single_proof_demand2.proofs.Reached.{fresh-stood, fresh-reached}
 use Rattle.single_proof_demand2.proofs.Hands.{contents-wait, pop-in-progress}
 use Rattle.single_proof_plain.proofs.Work.{Due}
-use Rattle.single_proof_plain.proofs.Rows.{none-of}
 use Rattle.single_proof_plain.proofs.Slot.{item-of}
 use Rattle.single_proof_plain.proofs.Told.{Told, Bits, bits, told-kept}
 
@@ -98,7 +98,7 @@ module _ (workers : ℕ) where
               let z = room-some (at .l) (at .b) (subst (λ (n : ℕ). 0 < n) (sc .room) h) in
               let is = sc .is in (
                 pop-in-progress workers m (actsIn st) (o .reached) (locked-of (m .single .state) (at .l) (at .b) (o .reached .closed) is ∙ z .0)
-                (pushed-of (m .single .state) (at .l) (at .b) (o .reached .closed) is ∙ z .1),
+                    (pushed-of (m .single .state) (at .l) (at .b) (o .reached .closed) is ∙ z .1),
                 none-of (known st .queue .items) (sc .long ∙ ap (λ (y : Bool). cond y 1 0) (z .1)),
               );
           held =

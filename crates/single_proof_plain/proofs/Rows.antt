@@ -10,13 +10,13 @@ use borrow.Author.Tests.{eq-eqb, ne-eqb}
 use Rattle.queue_entries.specs.declared.Call.{Call}
 use Rattle.queue_entries.specs.declared.Call.the-variants as call
 use Rattle.queue_schedules.proofs.Schedules.{either}
-use Rattle.queue_schedules.proofs.Splits.{cons-first, no-cons}
-use Rattle.queue_plain.specs.Plain.{Reply, Queue, queue, answerOf, fullOf, yesIf}
+use Rattle.queue_schedules.proofs.Splits.{no-cons}
+use Rattle.queue_plain.specs.Plain.{Reply, Queue, queue, answerOf, yesIf}
 use Rattle.queue_plain.specs.Plain as plain
 use Rattle.queue_plain.specs.Story.{Does, Doing, itemsOf}
 use Rattle.queue_plain.proofs.Stories.{capacity-is, each-own}
 use Rattle.queue_plain.proofs.Calls.{work-on, work-still}
-use Rattle.queue_plain.proofs.Answers.{push-closed, push-room, push-full, force-closed, force-room, force-full, pop-front, pop-none}
+use Rattle.queue_plain.proofs.Answers.{none-of, push-closed, push-room, push-full, force-closed, force-room, force-full, pop-front, pop-none}
 use Rattle.single_words.specs.declared.State.{State}
 use Rattle.single_words.specs.Words.{state, same, pushedIn, closedIn, filled, unlocked, takenOf}
 use Rattle.single_places.specs.declared.Single.{Single}
@@ -41,10 +41,6 @@ pub record Scene (st : Story) (s : Single) (l b c : Bool) : Type 0 where
   pub long : length (known st .queue .items) ≡ cond b 1 0
   pub rests : l ≡ false → b ≡ true → known st .queue .items ≡ s .value ∷ []
   pub room : roomTaken st ≡ cond l (cond b 0 1) 0
-
-pub none-of : (l : List ℕ) → length l ≡ 0 → l ≡ []
-none-of [] h = refl
-none-of (x ∷ l) h = absurd (omega arith)
 
 same-zero : same (state 0) (state 0) ≡ true
 unfolding same

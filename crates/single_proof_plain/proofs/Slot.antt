@@ -1,49 +1,29 @@
 -- What an act does to the slot, as far as the plain queue goes: by its kind of effect. And what is read off a place.
-use Prim.Native.Nat.{ℕ, _+_, _-_, _≤_, _<_}
+use Prim.Native.Nat.{ℕ, _+_, _-_}
 use native.Mathlib.Omega.{arith}
-use native.Mathlib.Decide.{ℕ-discrete}
-use mathlib.Core.Path.{_≡_, refl, sym, ap, _∙_, subst}
-use mathlib.Core.Logic.{_≢_, _⊎_, inl, inr}
+use mathlib.Core.Path.{_≡_, refl, sym, ap, _∙_}
+use mathlib.Core.Logic.{_⊎_, inl, inr}
 use mathlib.Core.Bool.{Bool, true, false, cond, not, true≢false}
-use mathlib.Core.List.{List, [], _∷_, _++_, map, append-nil}
-use lib.Dec.{eqb}
-use lib.ListN.{length, drop}
-use Rattle.queue_entries.specs.Limits.{meterMost}
+use mathlib.Core.List.{[], _∷_, _++_}
 use Rattle.queue_entries.specs.declared.Call.{Call}
 use Rattle.queue_entries.specs.declared.Call.the-variants as call
-use Rattle.queue_entries.specs.declared.Entry.{Entry}
-use Rattle.queue_schedules.proofs.Splits.{Order, earlier, same, later, one-more, cons-first, no-cons, no-split}
-use Rattle.queue_plain.specs.Plain.{Reply, Queue, answerOf}
-use Rattle.queue_plain.specs.Plain as plain
-use Rattle.queue_plain.specs.Story.{Begun, Does, Doing, itemsOf, begunIn, actsIn, changedBy}
-use Rattle.queue_plain.proofs.Stories.{acts-end, each-own, each-else, queue-act, each-unbegun, queue-begun, capacity-is}
-use Rattle.queue_plain.proofs.Calls.{work-begun, back-came}
+use Rattle.queue_schedules.proofs.Splits.{cons-first, no-cons}
+use Rattle.queue_plain.specs.Story.{Does, itemsOf}
 use Rattle.single_words.specs.declared.State.{State}
 use Rattle.single_words.specs.Words.{lockedIn, pushedIn}
 use Rattle.single_places.specs.declared.Single.{Single}
-use Rattle.single_places.specs.declared.Answer.{Answer}
-use Rattle.single_places.specs.declared.Answer.the-variants.{Nothing, Pushed, Full, Closed, Displaced, Popped, Empty, PopClosed, Len, Yes, No}
+use Rattle.single_places.specs.declared.Answer.the-variants.{Len}
 use Rattle.single_places.specs.declared.Place.{Place}
 use Rattle.single_places.specs.declared.Place.the-variants.{Idle, A1, A2, A3, B1, B2, B3, B4, B5, C1, C2, C3, Len1, Empty1, Full1, Close1, IsClosed1}
-use Rattle.single_places.specs.Places.{viewOf, beginOf}
+use Rattle.single_places.specs.Places.{viewOf}
 use Rattle.single_acts.specs.declared.Acted.{Acted}
-use Rattle.single_acts.specs.Acts.{stay, stateTo, valueTo, actOf}
-use Rattle.single_machine.specs.declared.Machine.{Machine}
-use Rattle.single_machine.specs.declared.Event.{Event}
-use Rattle.single_machine.specs.Turn.{begun, acted}
+use Rattle.single_acts.specs.Acts.{stay, stateTo, valueTo}
 use Rattle.single_machine.specs.History.{event}
-use Rattle.single_demands.specs.Notions.{Access, none, writes, swaps, reads, accessOf, itemOf, isRead, waitsAfter, waiting, isClose, closedBy}
-use Rattle.single_demands.specs.Stories.{Story, known, changeOf, actor, replyOf, itemAt, popping, roomTaken, momentOf}
-use Rattle.single_demands.specs.Demands.{Answered, Meant, Changes}
-use Rattle.single_proof_demand2.proofs.Log.{waiting-more, closed-more}
+use Rattle.single_demands.specs.Notions.{none, accessOf, itemOf, isClose}
+use Rattle.single_demands.specs.Stories.{Story, known, itemAt, popping, roomTaken}
 use Rattle.single_proof_demand2.proofs.Words.{word, locked-of, pushed-of}
-use Rattle.single_proof_demand2.proofs.Effects.{Hand, free, putting, put, swapping, swapped, taking, took, handOf, fills, holding, accessBy, access-is, Opens, opens-put, opens-swap, opens-take, LetsOff, off-put, off-swapped, off-took, Effect, rests, shuts, locks, puts, swaps-in, gets, unlocks, effect}
-use Rattle.single_proof_demand2.proofs.Grip.{Grip, loose, held, Does as Holds, Rests}
-use Rattle.single_proof_demand2.proofs.Turns.{Turned, began, did, stood}
-use Rattle.single_proof_demand2.proofs.Reached.{Reached, hands, in-row, begun-stood, begun-else, begun-reached, acted-stood, acted-else, acted-single, acted-reached}
-use Rattle.single_proof_demand2.proofs.Hands.{pushed, closed-holds}
-use Rattle.single_proof_plain.proofs.Work.{moment-else, room-act, moment-begun, room-begun, longer, asked-past, Work, Decided, Spoken, Due, due-else}
-use Rattle.single_proof_plain.proofs.Rows.{Scene, Outcome, row}
+use Rattle.single_proof_demand2.proofs.Effects.{Hand, free, putting, put, swapping, swapped, taking, took, handOf, fills, holding, accessBy, access-is, Opens, LetsOff, off-put, off-swapped, off-took, Effect, rests, shuts, locks, puts, swaps-in, gets, unlocks}
+use Rattle.single_proof_plain.proofs.Work.{room-act, Due}
 
 -- ---- what is read off a place
 
@@ -66,6 +46,16 @@ popping-is Empty1 = refl
 popping-is Full1 = refl
 popping-is Close1 = refl
 popping-is IsClosed1 = refl
+
+abbrev closesBy : Call → Bool
+closesBy (call.Push x) = false
+closesBy (call.ForcePush x) = false
+closesBy call.Pop = false
+closesBy call.Len = false
+closesBy call.IsEmpty = false
+closesBy call.IsFull = false
+closesBy call.Close = true
+closesBy call.IsClosed = false
 
 -- ---- the item of a call under way
 module _ (st : Story) (v w : ℕ) where
@@ -96,27 +86,27 @@ module _ (st : Story) (v w : ℕ) where
   item-of IsClosed1 o x e = no-item x e
 
   -- only a close's act is at Close1
-  other-call : {P : Type 0} (c : Call) → known st .each w .calls ≡ c ∷ [] → known st .each w .calls ≡ call.Close ∷ [] → (c ≡ call.Close → P) → P
-  other-call c its e f = f (cons-first (sym its ∙ e))
+  other-call : {P : Type 0} (c : Call) → closesBy c ≡ false → known st .each w .calls ≡ c ∷ [] → known st .each w .calls ≡ call.Close ∷ [] → P
+  other-call c not-close its e = absurd (true≢false (ap closesBy (sym (cons-first (sym its ∙ e))) ∙ not-close))
 
   pub closing : (p : Place) → viewOf p .busy ≡ true → Due st v w p → known st .each w .calls ≡ call.Close ∷ [] → isClose p ≡ true
   closing (Idle a) busy o e = absurd (true≢false (sym busy))
-  closing (A1 y) busy o e = other-call (call.Push y) (o .its) e (λ z. absurd (let q : _≡_ {A = ℕ} 0 1 = cc in omega arith))
-  closing (A2 y) busy o e = other-call (call.Push y) (o .work .its) e (λ z. absurd (let q : _≡_ {A = ℕ} 0 1 = cc in omega arith))
-  closing A3 busy o e = other-call (call.Push (o .0)) (o .1 .work .its) e (λ z. absurd (let q : _≡_ {A = ℕ} 0 1 = cc in omega arith))
-  closing (B1 s y) busy o e = other-call (call.ForcePush y) (o .its) e (λ z. absurd (let q : _≡_ {A = ℕ} 0 1 = cc in omega arith))
-  closing (B2 y) busy o e = other-call (call.ForcePush y) (o .work .its) e (λ z. absurd (let q : _≡_ {A = ℕ} 0 1 = cc in omega arith))
-  closing B3 busy o e = other-call (call.ForcePush (o .0)) (o .1 .work .its) e (λ z. absurd (let q : _≡_ {A = ℕ} 0 1 = cc in omega arith))
-  closing (B4 y) busy o e = other-call (call.ForcePush y) (o .work .its) e (λ z. absurd (let q : _≡_ {A = ℕ} 0 1 = cc in omega arith))
-  closing (B5 old) busy o e = other-call (call.ForcePush (o .0)) (o .1 .work .its) e (λ z. absurd (let q : _≡_ {A = ℕ} 0 1 = cc in omega arith))
-  closing (C1 s) busy o e = other-call call.Pop (o .its) e (λ z. absurd (let q : _≡_ {A = ℕ} 0 1 = cc in omega arith))
-  closing C2 busy o e = other-call call.Pop (o .work .its) e (λ z. absurd (let q : _≡_ {A = ℕ} 0 1 = cc in omega arith))
-  closing (C3 u) busy o e = other-call call.Pop (o .work .its) e (λ z. absurd (let q : _≡_ {A = ℕ} 0 1 = cc in omega arith))
-  closing Len1 busy o e = other-call call.Len (o .its) e (λ z. absurd (let q : _≡_ {A = ℕ} 0 1 = cc in omega arith))
-  closing Empty1 busy o e = other-call call.IsEmpty (o .its) e (λ z. absurd (let q : _≡_ {A = ℕ} 0 1 = cc in omega arith))
-  closing Full1 busy o e = other-call call.IsFull (o .its) e (λ z. absurd (let q : _≡_ {A = ℕ} 0 1 = cc in omega arith))
+  closing (A1 y) busy o e = other-call (call.Push y) refl (o .its) e
+  closing (A2 y) busy o e = other-call (call.Push y) refl (o .work .its) e
+  closing A3 busy o e = other-call (call.Push (o .0)) refl (o .1 .work .its) e
+  closing (B1 s y) busy o e = other-call (call.ForcePush y) refl (o .its) e
+  closing (B2 y) busy o e = other-call (call.ForcePush y) refl (o .work .its) e
+  closing B3 busy o e = other-call (call.ForcePush (o .0)) refl (o .1 .work .its) e
+  closing (B4 y) busy o e = other-call (call.ForcePush y) refl (o .work .its) e
+  closing (B5 old) busy o e = other-call (call.ForcePush (o .0)) refl (o .1 .work .its) e
+  closing (C1 s) busy o e = other-call call.Pop refl (o .its) e
+  closing C2 busy o e = other-call call.Pop refl (o .work .its) e
+  closing (C3 u) busy o e = other-call call.Pop refl (o .work .its) e
+  closing Len1 busy o e = other-call call.Len refl (o .its) e
+  closing Empty1 busy o e = other-call call.IsEmpty refl (o .its) e
+  closing Full1 busy o e = other-call call.IsFull refl (o .its) e
   closing Close1 busy o e = refl
-  closing IsClosed1 busy o e = other-call call.IsClosed (o .its) e (λ z. absurd (let q : _≡_ {A = ℕ} 0 1 = cc in omega arith))
+  closing IsClosed1 busy o e = other-call call.IsClosed refl (o .its) e
 
 -- what an exchange is to write is the item in the record
 pub item-written : (q : Place) (x : ℕ) → itemOf (accessOf q) ≡ x ∷ [] → itemAt q ≡ x ∷ []

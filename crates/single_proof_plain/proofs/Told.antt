@@ -29,11 +29,11 @@ use Rattle.single_machine.specs.declared.Event.{Event}
 use Rattle.single_machine.specs.Turn.{begun, acted}
 use Rattle.single_machine.specs.History.{event}
 use Rattle.single_demands.specs.Notions.{Access, none, writes, swaps, reads, accessOf, itemOf, isRead, waitsAfter, waiting, isClose, closedBy}
-use Rattle.single_demands.specs.Stories.{Element, Story, known, changeOf, actor, replyOf, putBy, takenBy, givenBack, roomTaken, askedAt, momentOf}
+use Rattle.single_demands.specs.Stories.{Element, Story, known, changeOf, actor, putBy, takenBy, givenBack, roomTaken, askedAt, momentOf}
 use Rattle.single_demands.specs.Demands.{Answered, Meant, Changes}
 use Rattle.single_proof_demand2.proofs.Log.{waiting-more, closed-more}
 use Rattle.single_proof_demand2.proofs.Words.{word, pushed-of}
-use Rattle.single_proof_demand2.proofs.Effects.{Hand, free, handOf, fills, holding, accessBy, Opens, opens-put, opens-swap, opens-take, Effect, effect}
+use Rattle.single_proof_demand2.proofs.Effects.{Hand, free, fills, holding, accessBy, Opens, opens-put, opens-swap, opens-take, Effect, effect}
 use Rattle.single_proof_demand2.proofs.Grip.{Grip, loose, held, Rests}
 use Rattle.single_proof_demand2.proofs.Turns.{Turned, began, did, stood}
 use Rattle.single_proof_demand2.proofs.Reached.{Reached, hands, in-row, begun-stood, begun-else, begun-reached, acted-stood, acted-else, acted-single, acted-reached}

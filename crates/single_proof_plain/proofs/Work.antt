@@ -3,22 +3,22 @@ use Prim.Native.Nat.{ℕ, _+_, _-_, _≤_, _<_}
 use native.Mathlib.Omega.{arith}
 use mathlib.Core.Path.{_≡_, refl, sym, ap, _∙_, subst}
 use mathlib.Core.Logic.{_≢_}
-use mathlib.Core.Bool.{Bool, true, false, cond}
+use mathlib.Core.Bool.{Bool, true, cond}
 use mathlib.Core.List.{List, [], _∷_, _++_}
-use lib.ListN.{length, take, length-append}
+use lib.ListN.{length, length-append}
 use borrow.Author.Tests.{eq-eqb, ne-eqb}
 use Rattle.queue_entries.specs.declared.Call.{Call}
 use Rattle.queue_entries.specs.declared.Call.the-variants as call
 use Rattle.queue_plain.specs.Plain.{Reply, Queue, answerOf}
 use Rattle.queue_plain.specs.Plain as plain
 use Rattle.queue_plain.specs.Story.{Begun, Does, Doing, itemsOf, fresh}
-use Rattle.queue_plain.proofs.Stories.{followed-end, take-more, take-whole, known-count, each-own, each-else}
+use Rattle.queue_plain.proofs.Stories.{followed-end, take-more, take-whole, known-count, each-own}
 use Rattle.queue_plain.proofs.Calls as calls
 use Rattle.single_places.specs.declared.Answer.{Answer}
 use Rattle.single_places.specs.declared.Place.{Place}
 use Rattle.single_places.specs.declared.Place.the-variants.{Idle, A1, A2, A3, B1, B2, B3, B4, B5, C1, C2, C3, Len1, Empty1, Full1, Close1, IsClosed1}
 use Rattle.single_machine.specs.declared.Event.{Event}
-use Rattle.single_demands.specs.Stories.{Element, Story, known, changeOf, actor, replyOf, popping, roomWith, roomTaken, askedOf, askedAt, Timing, Now, Stays, timingOf, timed, momentWith, momentOf}
+use Rattle.single_demands.specs.Stories.{Element, Story, known, changeOf, actor, replyOf, popping, roomWith, roomTaken, askedOf, askedAt, Timing, Now, timingOf, timed, momentWith, momentOf}
 use Rattle.single_proof_demand2.proofs.Effects.{handOf, holding}
 
 -- ---- moments and the room taken, one element more

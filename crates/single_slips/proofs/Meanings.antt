@@ -1,8 +1,8 @@
 -- What an answer means, refuted of each slip: its schedule's story is computed, and the plain queue along it.
 use Prim.Native.Nat.{ℕ}
 use native.Mathlib.Omega.{arith}
-use mathlib.Core.List.{List, [], _∷_, _++_}
-use mathlib.Core.Path.{_≡_, refl, sym, ap, _∙_, subst}
+use mathlib.Core.List.{[], _∷_, _++_}
+use mathlib.Core.Path.{_≡_, refl, sym, _∙_, subst}
 use mathlib.Core.Logic.{inr}
 use Rattle.queue_entries.specs.declared.Call.{Call}
 use Rattle.queue_entries.specs.declared.Call.the-variants as call
@@ -10,10 +10,10 @@ use Rattle.queue_entries.specs.Schedules.{runBy, historyBy}
 use Rattle.queue_entries.specs.Entries.{strayOf, orderOf, entryOf}
 use Rattle.queue_schedules.specs.Alone.{acts}
 use Rattle.queue_schedules.proofs.Splits.{cons-first, no-cons}
-use Rattle.queue_plain.specs.Plain.{Reply, answerOf}
+use Rattle.queue_plain.specs.Plain.{answerOf}
 use Rattle.queue_plain.specs.Plain as plain
 use Rattle.queue_plain.specs.Story.{Begun, Does, itemsOf, knownFrom, followedFrom}
-use Rattle.single_words.specs.Words.{state, same, lockedIn, pushedIn, closedIn, unlocked, takenOf, closedOf}
+use Rattle.single_words.specs.Words.{state, same, lockedIn, pushedIn, closedIn, unlocked, takenOf}
 use Rattle.single_places.specs.declared.Answer.{Answer}
 use Rattle.single_places.specs.declared.Answer.the-variants.{Pushed, Full, Displaced, Popped, Empty, Len, Yes}
 use Rattle.single_places.specs.declared.Place.the-variants.{Idle, A1, A2, A3, B1, B4, B5, C1, C2, C3, Len1, Close1}
@@ -26,7 +26,7 @@ use Rattle.single_machine.specs.History.{event}
 use Rattle.single_demands.specs.Stories.{Story, known, replyOf, askedAt, momentOf}
 use Rattle.single_demands.specs.Demands.{Answered, Meant, Changes}
 use Rattle.single_slips.specs.Slips.{alwaysFull, pushDrops, pushesAnother, popsAnother}
-use Rattle.single_slips.specs.Refuted.{told, PlainIn, pushActs, pushPop, pushPeek, forceDisplaces, forcePastPop, popWhilePush, pushWhilePop, closeTwice, lenWhilePush}
+use Rattle.single_slips.specs.Refuted.{PlainIn, pushActs, pushPop, pushPeek, forceDisplaces, forcePastPop, popWhilePush, pushWhilePop, closeTwice, lenWhilePush}
 
 -- ---- the stories, up to the act that is wrong
 
