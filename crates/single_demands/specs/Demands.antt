@@ -9,12 +9,12 @@ use mathlib.Core.Logic.{_↔_, _≢_, _⊎_}
 use lib.ListN.{length, take}
 use Rattle.queue_entries.specs.Limits.{meterMost}
 use Rattle.queue_entries.specs.declared.Call.{Call}
-use Rattle.queue_entries.specs.declared.Call.the-variants.{Close}
+use Rattle.queue_entries.specs.declared.Call.the-variants.{Push, Close}
 use Rattle.queue_entries.specs.declared.Told.{Told}
 use Rattle.queue_entries.specs.Told.{told}
 use Rattle.queue_entries.specs.declared.Entry.the-variants.{Unreadable}
 use Rattle.queue_entries.specs.Entries.{entryOf}
-use Rattle.queue_plain.specs.Plain.{answerOf}
+use Rattle.queue_plain.specs.Plain.{answerOf, Pushed}
 use Rattle.queue_plain.specs.Story.{Does, actsIn, fresh, cameFrom, wentFrom}
 use Rattle.queue_plain.specs.Story.{itemsOf as itemsBegun}
 use Rattle.queue_schedules.specs.Reading.{Readable}
@@ -114,6 +114,12 @@ pub record PlainThroughout (m : Machine) (h : List Event) (s : Story) : Type 0 w
 abbrev pub AnswersPlain : Definition → Type 0
 AnswersPlain d =
     (workers : ℕ) → Allowed workers → (s : List ℕ) → PlainThroughout (machineAfter d workers s) (actsOf d workers s) (storyOf d workers s)
+
+-- The room is needed: worker 0 pushes 5, and its pop has won its exchange; a push of worker 1 answers Full there, where the plain queue as it is would answer Pushed.
+abbrev pub RoomNeeded : Definition → Type 0
+RoomNeeded d =
+    (earlier : Story) × (act : Event) × (storyOf d 2 (0 ∷ 5 ∷ acts 0 3 ++ 2 ∷ 0 ∷ acts 0 1 ++ 16 ∷ 6 ∷ acts 1 1) ≡ earlier ++ Does act ∷ []) × (act .after ≡ Idle (Full 6))
+    × (answerOf (known earlier .queue) (Push 6) ≡ Pushed)
 
 -- ==== 1. Any machine, entry or schedule handed in gets an answer or a numbered refusal; a refused step changes nothing.
 -- That each gets an answer is what the functions of crate single promise: none has a `requires`, and each answer is equal to a

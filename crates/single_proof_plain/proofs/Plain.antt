@@ -5,27 +5,32 @@ use mathlib.Core.Path.{_≡_, refl, sym, ap, _∙_, subst}
 use mathlib.Core.Bool.{Bool, true, false, cond, true≢false}
 use mathlib.Core.List.{List, [], _∷_, _++_, append-assoc}
 use lib.ListN.{length}
-use Rattle.queue_entries.specs.Entries.{entryOf}
+use Rattle.queue_entries.specs.declared.Call.the-variants as call
+use Rattle.queue_entries.specs.Schedules.{historyBy}
+use Rattle.queue_entries.specs.Entries.{strayOf, orderOf, entryOf}
+use Rattle.queue_schedules.specs.Alone.{acts}
 use Rattle.queue_schedules.proofs.Histories.{entries-lead}
 use Rattle.queue_schedules.proofs.Splits.{cons-rest, no-cons, no-split}
-use Rattle.queue_plain.specs.Story.{Does, elementsBy, actsIn, knownFrom, followedFrom}
+use Rattle.queue_plain.specs.Story.{Begun, Does, elementsBy, actsIn, itemsOf, knownFrom, followedFrom}
 use Rattle.queue_plain.proofs.Stories.{acts-story, in-order}
 use Rattle.queue_plain.proofs.Answers.{none-of}
-use Rattle.single_words.specs.Words.{lockedIn, pushedIn}
+use Rattle.single_words.specs.Words.{state, same, lockedIn, pushedIn, closedIn, unlocked, takenOf}
 use Rattle.single_places.specs.declared.Answer.{Answer}
+use Rattle.single_places.specs.declared.Answer.the-variants.{Pushed, Full}
 use Rattle.single_places.specs.declared.Place.{Place}
 use Rattle.single_places.specs.declared.Place.the-variants.{Idle, A1, A2, A3, B1, B2, B3, B4, B5, C1, C2, C3, Len1, Empty1, Full1, Close1, IsClosed1}
 use Rattle.single_places.specs.Places.{viewOf}
+use Rattle.single_acts.specs.Acts.{stay, stateTo, valueTo, exchanged, unlockedIn}
 use Rattle.single_machine.specs.declared.Machine.{Machine}
 use Rattle.single_machine.specs.declared.Did.{Did}
 use Rattle.single_machine.specs.declared.Event.{Event}
-use Rattle.single_machine.specs.Machine.{freshOf}
-use Rattle.single_machine.specs.Turn.{turnOf, turnOfBy}
-use Rattle.single_machine.specs.History.{eventsOf}
+use Rattle.single_machine.specs.Machine.{idlers, freshOf, refused, accepted}
+use Rattle.single_machine.specs.Turn.{begun, stored, actedBy, turnOf, turnOfBy}
+use Rattle.single_machine.specs.History.{event, eventsOf}
 use Rattle.single_machine.proofs.Turns.{single-queue}
 use Rattle.single_demands.specs.Notions.{source, Allowed, machineAfter, InHand, Popping, poppingC2, poppingC3, waitingFrom, closedBy}
 use Rattle.single_demands.specs.Stories.{Story, storyOf, known, changeOf, actor, momentOf}
-use Rattle.single_demands.specs.Demands.{RoomOfPop, PlainThroughout, AnswersPlain}
+use Rattle.single_demands.specs.Demands.{RoomOfPop, PlainThroughout, AnswersPlain, RoomNeeded}
 use Rattle.single_proof_demand2.proofs.Words.{locked-of, pushed-of}
 use Rattle.single_proof_demand2.proofs.Effects.{handOf, fills, holding}
 use Rattle.single_proof_demand2.proofs.Turns.{turned, stood}
@@ -160,3 +165,13 @@ pub answers-plain : AnswersPlain source
 answers-plain workers a s =
     subst (λ (h : List Event). PlainThroughout (machineAfter source workers s) h (storyOf source workers s))
     (acts-story (λ (d : Did). d .refusal) (λ (d : Did). d .machine) turnOf eventsOf s (freshOf workers)) (plain-of workers _ _ (told-after workers a s))
+
+-- by computing
+before-full : Story
+before-full =
+    Begun 0 (call.Push 5) ∷ Does (event 0 (A1 5) (A2 5)) ∷ Does (event 0 (A2 5) A3) ∷ Does (event 0 A3 (Idle Pushed)) ∷ Begun 0 call.Pop ∷ Does (event 0 (C1 (state 2)) C2)
+    ∷ Begun 1 (call.Push 6) ∷ []
+
+pub room-needed : RoomNeeded source
+unfolding same pushedIn closedIn unlocked takenOf strayOf orderOf entryOf stay stateTo valueTo exchanged unlockedIn idlers freshOf refused accepted begun stored actedBy turnOfBy historyBy acts itemsOf knownFrom before-full
+room-needed = (before-full, event 1 (A1 6) (Idle (Full 6)), refl, refl, refl)
