@@ -1,3 +1,4 @@
 pub mod Ways
 pub mod Refuted
 pub mod Faithful
+pub mod RefutedPlain

@@ -11,11 +11,11 @@ use Rattle.queue_entries.specs.declared.Entry.the-variants.{Unreadable, Asks}
 use Rattle.queue_entries.specs.Entries.{entryOf}
 use Rattle.bounded_words.specs.declared.Fixed.{Fixed}
 use Rattle.bounded_words.specs.declared.Width.the-variants.{SixtyFour}
-use Rattle.bounded_words.specs.Words.{plus, minus, nextOf, same, markedOf, unmarkedOf, lapBehind}
+use Rattle.bounded_words.specs.Words.{plus, minus, nextOf, same, markedOf, unmarkedOf, withMark, lapBehind}
 use Rattle.bounded_places.specs.declared.Slot.{Slot}
 use Rattle.bounded_places.specs.declared.Ends.{Ends}
 use Rattle.bounded_places.specs.declared.Kind.the-variants.{Force}
-use Rattle.bounded_places.specs.declared.Answer.the-variants.{Pushed, Full, Closed, Displaced, Popped, Empty, PopClosed, Len}
+use Rattle.bounded_places.specs.declared.Answer.the-variants.{Pushed, Full, Closed, Displaced, Popped, Empty, PopClosed, Len, Yes, No}
 use Rattle.bounded_places.specs.declared.Loss.{Loss}
 use Rattle.bounded_places.specs.declared.Loss.the-variants.{ByWords, BySchedule}
 use Rattle.bounded_places.specs.declared.Place.{Place}
@@ -34,7 +34,7 @@ use Rattle.bounded_machine.specs.Turn.{beginner, turnOf}
 use Rattle.bounded_machine.specs.Run.{ran, runWith, runFrom}
 use Rattle.bounded_machine.specs.History.{lossAt, historyWith, historyOf, movedOf, readsAt, untakenOf}
 use Rattle.bounded_demands.specs.Notions.{Definition, byTable, document01, itemIn, tally, stock}
-use Rattle.bounded_demands.specs.Demands.{UnderEverySchedule, NothingWraps, ActByAct, WholeSchedules, LenTrue, ScheduledAlone, StockUnderEverySchedule, LossesUnderEverySchedule, CountsAside, CloseHolds, ClosedIsLast}
+use Rattle.bounded_demands.specs.Demands.{UnderEverySchedule, NothingWraps, ActByAct, WholeSchedules, LenTrue, ScheduledAlone, StockUnderEverySchedule, LossesUnderEverySchedule, CountsAside, CloseHolds, ClosedIsLast, AnswersPlain}
 
 -- ---- the slips
 
@@ -165,6 +165,54 @@ forceUncounted = 30
 abbrev pub wonCounted : ℕ
 wonCounted = 31
 
+-- a won P3 goes on with another item
+abbrev pub anotherItem : ℕ
+anotherItem = 32
+
+-- a won F6 goes on with another item
+abbrev pub anotherForced : ℕ
+anotherForced = 33
+
+-- a P3 that lost by the words answers Pushed
+abbrev pub lostSaysPushed : ℕ
+lostSaysPushed = 34
+
+-- is_empty answers no, whatever it loaded
+abbrev pub emptySaysNo : ℕ
+emptySaysNo = 35
+
+-- is_full answers no, whatever it loaded
+abbrev pub fullSaysNo : ℕ
+fullSaysNo = 36
+
+-- close answers yes, also where the mark was set
+abbrev pub closeSaysYes : ℕ
+closeSaysYes = 37
+
+-- is_closed answers no, whatever tail is
+abbrev pub closedSaysNo : ℕ
+closedSaysNo = 38
+
+-- a lost P3 goes on with the word found, its mark dropped
+abbrev pub lostDropsTheMark : ℕ
+lostDropsTheMark = 39
+
+-- F7 keeps the mark, also in edition 1
+abbrev pub forceKeeps : ℕ
+forceKeeps = 40
+
+-- P2 goes to P3 whatever the stamp is
+abbrev pub pushStampUntested : ℕ
+pushStampUntested = 41
+
+-- F6 wins whatever head is
+abbrev pub forceUncompared : ℕ
+forceUncompared = 42
+
+-- O6 answers Empty, also where tail is marked
+abbrev pub emptyOfClosed : ℕ
+emptyOfClosed = 43
+
 -- The row of document 01, but for this slip.
 abbrev but : ℕ → ℕ → Acted → Acted → Acted
 but n slip wrong right = cond (eqb n slip) wrong right
@@ -177,14 +225,17 @@ onWin found lose wrong right = cond found (cond lose right wrong) right
 abbrev pub actWith : ℕ → Fixed → Ends → Slot → Place → Bool → Acted
 actWith n f e s (Idle a) lose = actOf SixtyFour f e s (Idle a) lose
 actWith n f e s (P1 k x) lose = actOf SixtyFour f e s (P1 k x) lose
-actWith n f e s (P2 k t x) lose = actOf SixtyFour f e s (P2 k t x) lose
+actWith n f e s (P2 k t x) lose = but n pushStampUntested (stay e s (P3 k t x)) (actOf SixtyFour f e s (P2 k t x) lose)
 actWith n f e s (P3 k t x) lose =
     but n lostPushGoesOn (stay (tailTo e (nextOf SixtyFour f t)) s (P4 t x))
     (but n closedUnseen (cond (same (e .tail) t) (actOf SixtyFour f e s (P3 k t x) lose) (stay e s (Idle (Closed x))))
     (but n unwrapped (onWin (same (e .tail) t) lose (stay (tailTo e (plus SixtyFour t 1)) s (P4 t x)) (actOf SixtyFour f e s (P3 k t x) lose))
     (but n tailUnmoved (onWin (same (e .tail) t) lose (stay e s (P4 t x)) (actOf SixtyFour f e s (P3 k t x) lose))
     (but n bothBySchedule (cond (same (e .tail) t) (actOf SixtyFour f e s (P3 k t x) lose) (cond lose (losing e s (afterTail f k (e .tail) x) BySchedule) (actOf SixtyFour f e s (P3 k t x) lose)))
-    (actOf SixtyFour f e s (P3 k t x) lose)))))
+    (but n anotherItem (onWin (same (e .tail) t) lose (stay (tailTo e (nextOf SixtyFour f t)) s (P4 t (x + 1))) (actOf SixtyFour f e s (P3 k t x) lose))
+    (but n lostSaysPushed (cond (same (e .tail) t) (actOf SixtyFour f e s (P3 k t x) lose) (stay e s (Idle Pushed)))
+    (but n lostDropsTheMark (cond (same (e .tail) t) (actOf SixtyFour f e s (P3 k t x) lose) (stay e s (P2 k (unmarkedOf f (e .tail)) x)))
+    (actOf SixtyFour f e s (P3 k t x) lose))))))))
 actWith n f e s (P4 t x) lose =
     but n unwritten (stay e s (P5 t)) (but n pushWritesLate (stay e (stampTo s (plus SixtyFour t 1)) (F9 t x)) (actOf SixtyFour f e s (P4 t x) lose))
 actWith n f e s (P5 t) lose = but n unstamped (stay e s (Idle Pushed)) (actOf SixtyFour f e s (P5 t) lose)
@@ -194,12 +245,15 @@ actWith n f e s (F6 t x) lose =
     (but n lostForceKeepsItsWord (cond (same (e .head) (minus SixtyFour t (f .lap))) (actOf SixtyFour f e s (F6 t x) lose) (stay e s (P2 Force t x)))
     (but n lostForceTakesTheHead (cond (same (e .head) (minus SixtyFour t (f .lap))) (actOf SixtyFour f e s (F6 t x) lose) (stay e s (P2 Force (e .head) x)))
     (but n forceUncounted (onWin (same (e .head) (minus SixtyFour t (f .lap))) lose (actOf SixtyFour f e s (F6 t x) lose) (stay e s (P1 Force x)))
-    (actOf SixtyFour f e s (F6 t x) lose))))
+    (but n anotherForced (onWin (same (e .head) (minus SixtyFour t (f .lap))) lose (stay (headTo e (minus SixtyFour (nextOf SixtyFour f t) (f .lap))) s (F7 t (x + 1))) (actOf SixtyFour f e s (F6 t x) lose))
+    (but n forceUncompared (stay (headTo e (minus SixtyFour (nextOf SixtyFour f t) (f .lap))) s (F7 t x))
+    (actOf SixtyFour f e s (F6 t x) lose))))))
 actWith n f e s (F7 t x) lose =
     but n forceForgets (stay (tailTo e (nextOf SixtyFour f t)) s (F8 t x))
+    (but n forceKeeps (stay (tailTo e (cond (markedOf f (e .tail)) (withMark SixtyFour f (nextOf SixtyFour f t)) (nextOf SixtyFour f t))) s (F8 t x))
     (but n tailBeforeHead
     (cond (same (e .head) (minus SixtyFour t (f .lap))) (stay (headTo e (minus SixtyFour (nextOf SixtyFour f t) (f .lap))) s (F8 t x)) (stay e s (P1 Force x)))
-    (actOf SixtyFour f e s (F7 t x) lose))
+    (actOf SixtyFour f e s (F7 t x) lose)))
 actWith n f e s (F8 t x) lose = but n stampBeforeValue (stay e (stampTo s (plus SixtyFour t 1)) (F9 t x)) (actOf SixtyFour f e s (F8 t x) lose)
 actWith n f e s (F9 t x) lose = but n stampBeforeValue (stay e (valueTo s x) (Idle (Displaced (s .value))))
     (but n pushWritesLate (stay e (valueTo s x) (Idle Pushed)) (actOf SixtyFour f e s (F9 t x) lose))
@@ -217,18 +271,19 @@ actWith n f e s (O6 h) lose =
     (but n handsOutAgain (cond (same (unmarkedOf f (e .tail)) h) (stay e s (Idle (Popped (s .value)))) (actOf SixtyFour f e s (O6 h) lose))
     (but n popKeepsItsWord (cond (same (unmarkedOf f (e .tail)) h) (actOf SixtyFour f e s (O6 h) lose) (stay e s (O2 h)))
     (but n closedTooSoon (cond (markedOf f (e .tail)) (stay e s (Idle PopClosed)) (actOf SixtyFour f e s (O6 h) lose))
-    (actOf SixtyFour f e s (O6 h) lose))))
+    (but n emptyOfClosed (cond (same (unmarkedOf f (e .tail)) h) (stay e s (Idle Empty)) (actOf SixtyFour f e s (O6 h) lose))
+    (actOf SixtyFour f e s (O6 h) lose)))))
 actWith n f e s Len1 lose = actOf SixtyFour f e s Len1 lose
 actWith n f e s (Len2 t) lose = actOf SixtyFour f e s (Len2 t) lose
 actWith n f e s (Len3 t h) lose = but n lenLooksOnce (stay e s (Idle (Len (countOf f t h)))) (actOf SixtyFour f e s (Len3 t h) lose)
 actWith n f e s Empty1 lose = but n emptyTailFirst (stay e s (Empty2 (e .tail))) (actOf SixtyFour f e s Empty1 lose)
 actWith n f e s (Empty2 t) lose =
-    but n emptyTailFirst (stay e s (Idle (yesNo (same (unmarkedOf f t) (e .head))))) (actOf SixtyFour f e s (Empty2 t) lose)
+    but n emptyTailFirst (stay e s (Idle (yesNo (same (unmarkedOf f t) (e .head))))) (but n emptySaysNo (stay e s (Idle No)) (actOf SixtyFour f e s (Empty2 t) lose))
 actWith n f e s Full1 lose = but n fullHeadFirst (stay e s (Full2 (e .head))) (actOf SixtyFour f e s Full1 lose)
 actWith n f e s (Full2 h) lose =
-    but n fullHeadFirst (stay e s (Idle (yesNo (lapBehind SixtyFour f h (unmarkedOf f (e .tail)))))) (actOf SixtyFour f e s (Full2 h) lose)
-actWith n f e s Close1 lose = actOf SixtyFour f e s Close1 lose
-actWith n f e s IsClosed1 lose = actOf SixtyFour f e s IsClosed1 lose
+    but n fullHeadFirst (stay e s (Idle (yesNo (lapBehind SixtyFour f h (unmarkedOf f (e .tail)))))) (but n fullSaysNo (stay e s (Idle No)) (actOf SixtyFour f e s (Full2 h) lose))
+actWith n f e s Close1 lose = but n closeSaysYes (stay (tailTo e (withMark SixtyFour f (e .tail))) s (Idle Yes)) (actOf SixtyFour f e s Close1 lose)
+actWith n f e s IsClosed1 lose = but n closedSaysNo (stay e s (Idle No)) (actOf SixtyFour f e s IsClosed1 lose)
 
 -- ---- the machine with a slip
 
@@ -334,4 +389,4 @@ Faithful = (given ≡ document01) × (givenStock ≡ stock)
 abbrev pub Stands : Type 0
 Stands =
     UnderEverySchedule given × NothingWraps given × ActByAct given × WholeSchedules given × LenTrue given × ScheduledAlone given × StockUnderEverySchedule given givenStock
-    × LossesUnderEverySchedule given × CountsAside given × CloseHolds given × ClosedIsLast given
+    × LossesUnderEverySchedule given × CountsAside given × CloseHolds given × ClosedIsLast given × AnswersPlain given
