@@ -20,7 +20,7 @@ use Rattle.queue_plain.specs.Story.{itemsOf as itemsBegun}
 use Rattle.queue_schedules.specs.Reading.{Readable}
 use Rattle.queue_schedules.specs.Alone.{acts}
 use Rattle.single_words.specs.declared.State.{State}
-use Rattle.single_words.specs.Words.{lockedIn, pushedIn, closedIn}
+use Rattle.single_words.specs.Words.{state, lockedIn, pushedIn, closedIn}
 use Rattle.single_places.specs.declared.Answer.{Answer}
 use Rattle.single_places.specs.declared.Answer.the-variants.{Full, Closed, Empty, PopClosed}
 use Rattle.single_places.specs.declared.Place.{Place}
@@ -66,13 +66,15 @@ pub record Meant (earlier : Story) (act : Event) (a : Answer) : Type 0 where
   pub closed : known earlier .each (act .worker) .calls ≡ Close ∷ [] → known (earlier ++ Does act ∷ []) .queue .closed ≡ true
 
 -- The plain queue just before an act that changes it: something waits where the front goes out; nothing waits where an item comes in, but where in the same step the front goes out (a force_push
--- that displaces) it is full; it is open where an item comes in; and no pop under way takes the room where anything comes in or goes out.
+-- that displaces) it is full; it is open where an item comes in; and no pop under way takes the room where anything comes in or goes out: a force_push that finds it taken, and the queue open, goes
+-- back to B1.
 pub record Changes (earlier : Story) (act : Event) : Type 0 where
   pub takes : changeOf act .takes ≡ true → 0 < length (known earlier .queue .items)
   pub puts : changeOf act .puts ≡ true → changeOf act .takes ≡ false → length (known earlier .queue .items) < known earlier .queue .capacity
   pub full : changeOf act .puts ≡ true → changeOf act .takes ≡ true → length (known earlier .queue .items) ≡ known earlier .queue .capacity
   pub while-open : changeOf act .puts ≡ true → known earlier .queue .closed ≡ false
   pub let-go : (changeOf act .takes ≡ true) ⊎ (changeOf act .puts ≡ true) → roomTaken earlier ≡ 0
+  pub goes-back : (e : State) (x : ℕ) → act .before ≡ B1 e x → 0 < roomTaken earlier → known earlier .queue .closed ≡ false → act .after ≡ B1 (state 0) x
 
 -- The room that is taken is that of a pop under way: 1 exactly while some worker's pop stands between its won exchange and its unlock, and then nothing waits; else 0.
 pub record RoomOfPop (m : Machine) (s : Story) : Type 0 where

@@ -133,7 +133,7 @@ roomWith k was (Does e) = was + cond (popping (e .after)) 1 0 - cond (popping (e
 abbrev pub roomTaken : Story → ℕ
 roomTaken s = followedFrom actor changeOf roomWith (fresh 1) 0 s
 
--- The plain queue that a call is asked of: for a push it has the less capacity by that room. (A force_push that finds the room taken answers nothing then: it goes back to B1.)
+-- The plain queue that a call is asked of: for a push it has the less capacity by that room.
 abbrev pub askedOf : ℕ → Queue → Call → Queue
 askedOf room q (call.Push x) = queue (q .items) (q .closed) (q .capacity - room)
 askedOf room q (call.ForcePush x) = q

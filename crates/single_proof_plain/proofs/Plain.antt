@@ -37,7 +37,7 @@ use Rattle.single_proof_demand2.proofs.Turns.{turned, stood}
 use Rattle.single_proof_demand2.proofs.Reached.{fresh-stood, fresh-reached}
 use Rattle.single_proof_demand2.proofs.Hands.{contents-wait, pop-in-progress}
 use Rattle.single_proof_plain.proofs.Work.{Due}
-use Rattle.single_proof_plain.proofs.Slot.{item-of}
+use Rattle.single_proof_plain.proofs.Slot.{item-of, room-some}
 use Rattle.single_proof_plain.proofs.Told.{Told, Bits, bits, told-kept}
 
 -- ---- what a call under way has taken out
@@ -81,11 +81,6 @@ room-most : (l b : Bool) → cond l (cond b 0 1) 0 ≤ 1
 room-most true true = omega arith
 room-most true false = omega arith
 room-most false b = omega arith
-
-room-some : (l b : Bool) → 0 < cond l (cond b 0 1) 0 → (l ≡ true) × (b ≡ false)
-room-some true true h = absurd (omega arith)
-room-some true false h = (refl, refl)
-room-some false b h = absurd (omega arith)
 
 module _ (workers : ℕ) where
   -- ---- from what is told to the statement

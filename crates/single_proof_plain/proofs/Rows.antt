@@ -30,7 +30,7 @@ use Rattle.single_machine.specs.declared.Event.{Event}
 use Rattle.single_machine.specs.History.{event}
 use Rattle.single_demands.specs.Notions.{Access, none, accessOf, itemOf, isRead}
 use Rattle.single_demands.specs.Stories.{Story, known, changeOf, actor, replyOf, roomTaken, askedOf, Timing, Now, Stays, timingOf, timed, momentOf}
-use Rattle.single_proof_demand2.proofs.Words.{word, pushed-of, closed-of, same-locked, same-pushed, same-closed, same-is}
+use Rattle.single_proof_demand2.proofs.Words.{word, pushed-of, closed-of, same-locked, same-pushed, same-closed, same-is, unlocked-word}
 use Rattle.single_proof_demand2.proofs.Effects.{Expects}
 use Rattle.single_proof_plain.proofs.Work.{moment-own, Work, Decided, carried, decided-now, Spoken, Swapping, Taking, Due}
 
@@ -195,6 +195,17 @@ module _ (st : Story) (s : Single) (l b c : Bool) (sc : Scene st s l b c) (w : �
             said = λ a f. absurd (not-idle (B2 x) refl a f);
             while-open = λ z g. open-now d;
           }
+
+  -- while a pop keeps the room of an open queue, it goes back
+  pub goes-back : (e : State) (x : ℕ) → Expects (B1 e x) → l ≡ true → b ≡ false → c ≡ false → actOf s (B1 e x) .place ≡ B1 (state 0) x
+  unfolding stay
+  goes-back e x k el eb ec =
+      let is : s .state ≡ word true false false = sc .is ∙ rw (el, eb, ec) in
+      rw (closed-of (s .state) true false false is, other (same (s .state) e) refl) (ap (λ (z : State). B1 z x) (ap unlocked is ∙ unlocked-word true false false))
+    where
+      other : (t : Bool) → same (s .state) e ≡ t → t ≡ false
+      other true t = absurd (true≢false (sym el ∙ same-locked (s .state) l b c (sc .is) false (k .0) false (same-is (s .state) e t ∙ k .1)))
+      other false t = refl
 
   -- ---- pop
   c1 : (e : State) (v : ℕ) → v ≡ s .value → Expects (C1 e) → Work st w call.Pop [] []

@@ -1,5 +1,5 @@
 -- What an act does to the slot, as far as the plain queue goes: by its kind of effect. And what is read off a place.
-use Prim.Native.Nat.{ℕ, _+_, _-_}
+use Prim.Native.Nat.{ℕ, _+_, _-_, _<_}
 use native.Mathlib.Omega.{arith}
 use mathlib.Core.Path.{_≡_, refl, sym, ap, _∙_}
 use mathlib.Core.Logic.{_⊎_, inl, inr}
@@ -166,6 +166,11 @@ module _ (s : Single) (l b c : Bool) (p : Place) where
 -- the room that a pop takes, of a word
 abbrev pub roomIn : State → ℕ
 roomIn x = cond (lockedIn x) (cond (pushedIn x) 0 1) 0
+
+pub room-some : (l b : Bool) → 0 < cond l (cond b 0 1) 0 → (l ≡ true) × (b ≡ false)
+room-some true true h = absurd (omega arith)
+room-some true false h = (refl, refl)
+room-some false b h = absurd (omega arith)
 
 pub room-word : (x : State) (l b c : Bool) → x ≡ word l b c → roomIn x ≡ cond l (cond b 0 1) 0
 room-word x l b c e = rw (locked-of x l b c e, pushed-of x l b c e)

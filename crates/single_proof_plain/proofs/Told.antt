@@ -17,10 +17,12 @@ use Rattle.queue_plain.specs.Plain as plain
 use Rattle.queue_plain.specs.Story.{Begun, Does, Doing, itemsOf, begunIn, actsIn}
 use Rattle.queue_plain.proofs.Stories.{acts-end, each-own, each-else, queue-act, each-unbegun, queue-begun, capacity-is}
 use Rattle.queue_plain.proofs.Calls.{work-begun, back-came}
+use Rattle.single_words.specs.declared.State.{State}
+use Rattle.single_words.specs.Words.{state}
 use Rattle.single_places.specs.declared.Single.{Single}
 use Rattle.single_places.specs.declared.Answer.{Answer}
 use Rattle.single_places.specs.declared.Place.{Place}
-use Rattle.single_places.specs.declared.Place.the-variants.{Idle}
+use Rattle.single_places.specs.declared.Place.the-variants.{Idle, B1}
 use Rattle.single_places.specs.Places.{viewOf, beginOf}
 use Rattle.single_acts.specs.declared.Acted.{Acted}
 use Rattle.single_acts.specs.Acts.{actOf}
@@ -33,14 +35,14 @@ use Rattle.single_demands.specs.Stories.{Element, Story, known, changeOf, actor
 use Rattle.single_demands.specs.Demands.{Answered, Meant, Changes}
 use Rattle.single_proof_demand2.proofs.Log.{waiting-more, closed-more}
 use Rattle.single_proof_demand2.proofs.Words.{word, pushed-of}
-use Rattle.single_proof_demand2.proofs.Effects.{Hand, free, fills, holding, accessBy, Opens, opens-put, opens-swap, opens-take, Effect, effect}
+use Rattle.single_proof_demand2.proofs.Effects.{Hand, free, fills, holding, accessBy, Opens, opens-put, opens-swap, opens-take, Expects, Effect, effect}
 use Rattle.single_proof_demand2.proofs.Grip.{Grip, loose, held, Rests}
 use Rattle.single_proof_demand2.proofs.Turns.{Turned, began, did, stood}
 use Rattle.single_proof_demand2.proofs.Reached.{Reached, hands, in-row, begun-stood, begun-else, begun-reached, acted-stood, acted-else, acted-single, acted-reached}
 use Rattle.single_proof_demand2.proofs.Hands.{pushed}
 use Rattle.single_proof_plain.proofs.Work.{moment-else, moment-begun, room-begun, longer, asked-past, Work, Spoken, Due, due-else}
-use Rattle.single_proof_plain.proofs.Rows.{Scene, Outcome, row}
-use Rattle.single_proof_plain.proofs.Slot.{item-of, closing, item-written, Takes, kind-of, value-kept, roomIn, room-word, room-on}
+use Rattle.single_proof_plain.proofs.Rows.{Scene, Outcome, row, goes-back}
+use Rattle.single_proof_plain.proofs.Slot.{item-of, closing, item-written, Takes, kind-of, value-kept, roomIn, room-some, room-word, room-on}
 
 -- ---- an exchange that takes the slot: what it makes of the items, and where it may
 
@@ -256,6 +258,12 @@ module _ (workers : ℕ) where
             size : (y : Bool) → bits .b ≡ y → length (known st .queue .items) ≡ cond y 1 0
             size y e = bits .scene .long ∙ ap (λ (z : Bool). cond z 1 0) e
 
+            back : (e : State) (x : ℕ) → p ≡ B1 e x → 0 < roomTaken st → known st .queue .closed ≡ false → a .place ≡ B1 (state 0) x
+            back e x at taken open-now =
+                let z = room-some (bits .l) (bits .b) (subst (λ (n : ℕ). 0 < n) (bits .scene .room) taken) in
+                ap (λ (y : Place). actOf s y .place) at
+                ∙ goes-back st s (bits .l) (bits .b) c (bits .scene) w e x (subst Expects at (r .expects w)) (z .0) (z .1) (sym (bits .scene .flag) ∙ open-now)
+
             go : (accessOf (a .place) ≡ none) ⊎ Takes s (bits .l) (bits .b) c p (a .place) → Changes st act
             go (inl e) =
                 record {
@@ -264,6 +272,7 @@ module _ (workers : ℕ) where
                   full = λ y z. absurd (no-put y);
                   while-open = λ y. absurd (no-put y);
                   let-go = λ y. absurd (neither y);
+                  goes-back = back;
                 }
               where
                 no-take : changeOf act .takes ≡ true → ⊥
@@ -284,6 +293,7 @@ module _ (workers : ℕ) where
                       λ y z. size true (takes-some (bits .b) (t .hand) (t .opens) (sym (ap isRead (t .is)) ∙ z)) ∙ sym (capacity-is actor changeOf 1 st);
                   while-open = λ y. let x = written-by (accessOf (a .place)) y in bits .scene .flag ∙ out .while-open (x .0) (x .1);
                   let-go = λ y. bits .scene .room ∙ ap (λ (z : Bool). cond z (cond (bits .b) 0 1) 0) (t .unlocked-then);
+                  goes-back = back;
                 }
 
         -- ---- one act more

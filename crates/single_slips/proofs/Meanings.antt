@@ -1,18 +1,20 @@
 -- What an answer means, refuted of each slip: its schedule's story is computed, and the plain queue along it.
-use Prim.Native.Nat.{ℕ}
+use Prim.Native.Nat.{ℕ, _≤_, _<_}
 use native.Mathlib.Omega.{arith}
 use mathlib.Core.List.{[], _∷_, _++_}
-use mathlib.Core.Path.{_≡_, refl, sym, _∙_, subst}
+use mathlib.Core.Path.{_≡_, refl, sym, ap, _∙_, subst}
 use mathlib.Core.Logic.{inr}
 use Rattle.queue_entries.specs.declared.Call.{Call}
 use Rattle.queue_entries.specs.declared.Call.the-variants as call
 use Rattle.queue_entries.specs.Schedules.{runBy, historyBy}
 use Rattle.queue_entries.specs.Entries.{strayOf, orderOf, entryOf}
+use Rattle.queue_entries.specs.Limits.{all, inLimits}
 use Rattle.queue_schedules.specs.Alone.{acts}
 use Rattle.queue_schedules.proofs.Splits.{cons-first, no-cons}
 use Rattle.queue_plain.specs.Plain.{answerOf}
 use Rattle.queue_plain.specs.Plain as plain
 use Rattle.queue_plain.specs.Story.{Begun, Does, itemsOf, knownFrom, followedFrom}
+use Rattle.single_words.specs.declared.State.{State}
 use Rattle.single_words.specs.Words.{state, same, lockedIn, pushedIn, closedIn, unlocked, takenOf}
 use Rattle.single_places.specs.declared.Answer.{Answer}
 use Rattle.single_places.specs.declared.Answer.the-variants.{Pushed, Full, Displaced, Popped, Empty, Len, Yes}
@@ -20,13 +22,15 @@ use Rattle.single_places.specs.declared.Place.the-variants.{Idle, A1, A2, A3, B
 use Rattle.single_acts.specs.Acts.{stay, stateTo, valueTo, exchanged, unlockedIn}
 use Rattle.single_machine.specs.declared.Event.{Event}
 use Rattle.single_machine.specs.Machine.{idlers, freshOf, refused, accepted}
+use Rattle.single_machine.specs.Broken.{recordFits, idleFrom}
+use Rattle.single_machine.specs.Contents.{contentsOf}
 use Rattle.single_machine.specs.Turn.{begun, stored, actedBy, turnOfBy}
 use Rattle.single_machine.specs.Run.{ran}
 use Rattle.single_machine.specs.History.{event}
-use Rattle.single_demands.specs.Stories.{Story, known, replyOf, askedAt, momentOf}
+use Rattle.single_demands.specs.Stories.{Story, known, replyOf, roomTaken, askedAt, momentOf}
 use Rattle.single_demands.specs.Demands.{Answered, Meant, Changes}
-use Rattle.single_slips.specs.Slips.{alwaysFull, pushDrops, pushesAnother, popsAnother}
-use Rattle.single_slips.specs.Refuted.{PlainIn, pushActs, pushPop, pushPeek, forceDisplaces, forcePastPop, popWhilePush, pushWhilePop, closeTwice, lenWhilePush}
+use Rattle.single_slips.specs.Slips.{alwaysFull, unlockClearsPushed, pushDrops, pushesAnother, popsAnother}
+use Rattle.single_slips.specs.Refuted.{told, PlainIn, onePush, pushActs, pushPop, pushPeek, forceDisplaces, forcePastPop, popWhilePush, pushWhilePop, popWhilePop, forceWhilePop, closeTwice, lenWhilePush}
 
 -- ---- the stories, up to the act that is wrong
 
@@ -174,3 +178,36 @@ put-beside-pop o = let q : _≡_ {A = ℕ} 1 0 = o .let-go (inr refl) in omega a
 pub plain-room : PlainIn pushWhilePop → ⊥
 unfolding same lockedIn pushedIn closedIn unlocked takenOf strayOf orderOf entryOf stay stateTo valueTo exchanged unlockedIn idlers freshOf refused accepted begun stored actedBy turnOfBy historyBy acts
 plain-room p = put-beside-pop (p .changes push-besides [] (event 1 (A1 6) (A2 6)) refl)
+
+second-pop : Story
+second-pop = pop-takes ++ Begun 1 call.Pop ∷ Does (event 1 (C1 (state 2)) C2) ∷ []
+
+two-rooms : roomTaken second-pop ≤ 1 → ⊥
+unfolding followedFrom second-pop
+two-rooms o = omega arith
+
+pub plain-two-pops : PlainIn popWhilePop → ⊥
+unfolding same lockedIn pushedIn closedIn unlocked takenOf strayOf orderOf entryOf stay stateTo valueTo exchanged unlockedIn idlers freshOf refused accepted begun stored actedBy turnOfBy historyBy acts second-pop
+plain-two-pops p = let is : told popWhilePop ≡ second-pop = refl in two-rooms (subst (λ (z : Story). roomTaken z ≤ 1) is (p .room .most))
+
+-- ---- a force_push that keeps LOCKED in the word that it expects
+
+abbrev force-besides : Story
+force-besides = pop-takes ++ Begun 1 (call.ForcePush 6) ∷ []
+
+kept-locked : Changes force-besides (event 1 (B1 (state 0) 6) (B1 (state 1) 6)) → ⊥
+unfolding followedFrom knownFrom
+kept-locked o =
+    let e : B1 (state 1) 6 ≡ B1 (state 0) 6 = o .goes-back (state 0) 6 refl (let q : 0 < 1 = omega arith in q) refl in
+    let words : state 1 ≡ state 0 = cc in
+    let q : _≡_ {A = ℕ} 1 0 = ap (λ (z : State). z .0) words in omega arith
+
+pub plain-goes-back : PlainIn forceWhilePop → ⊥
+unfolding same lockedIn pushedIn closedIn unlocked takenOf strayOf orderOf entryOf stay stateTo valueTo exchanged unlockedIn idlers freshOf refused accepted begun stored actedBy turnOfBy historyBy acts
+plain-goes-back p = kept-locked (p .changes force-besides [] (event 1 (B1 (state 0) 6) (B1 (state 1) 6)) refl)
+
+-- ---- an item that waits, and is not in the contents
+
+pub plain-lost : PlainIn (onePush unlockClearsPushed) → ⊥
+unfolding same lockedIn pushedIn closedIn unlocked takenOf strayOf orderOf entryOf stay stateTo valueTo exchanged unlockedIn idlers freshOf refused accepted all inLimits recordFits idleFrom contentsOf begun stored actedBy turnOfBy ran runBy historyBy acts itemsOf knownFrom
+plain-lost p = no-cons (p .nothing-lost .contents refl)

@@ -40,7 +40,7 @@ does w code item n = (16 * w + code) ∷ item ∷ acts w n
 
 -- ---- what an answer means
 
--- one act of a push; the first push of a queue that another pops
+-- one act of a push
 abbrev pub pushActs : ℕ → Trial
 pushActs n = trial n (does 0 0 5 1)
 
@@ -54,6 +54,13 @@ popWhilePush = trial emptyIsLocked (does 0 0 5 1 ++ does 1 2 0 1)
 
 abbrev pub pushWhilePop : Trial
 pushWhilePop = trial pushTakesAny (does 0 0 5 3 ++ does 0 2 0 1 ++ does 1 0 6 1)
+
+-- a pop has it, and another pop comes, or a force_push
+abbrev pub popWhilePop : Trial
+popWhilePop = trial popTakesAny (does 0 0 5 3 ++ does 0 2 0 1 ++ does 1 2 0 1)
+
+abbrev pub forceWhilePop : Trial
+forceWhilePop = trial forceKeepsLocked (does 0 0 5 3 ++ does 0 2 0 1 ++ does 1 1 6 1)
 
 -- two closes, and a len beside a push
 abbrev pub closeTwice : Trial
@@ -179,8 +186,12 @@ pub record Refuted : Type 0 where
   pub plain-empty : PlainIn popWhilePush → ⊥
   pub plain-close : PlainIn closeTwice → ⊥
   pub plain-len : PlainIn lenWhilePush → ⊥
-  -- an item put in while a pop has not let go
+  -- an item put in while a pop has not let go, a second pop, a force_push that does not go back as it should
   pub plain-room : PlainIn pushWhilePop → ⊥
+  pub plain-two-pops : PlainIn popWhilePop → ⊥
+  pub plain-goes-back : PlainIn forceWhilePop → ⊥
+  -- an item that waits, and is not in the contents
+  pub plain-lost : PlainIn (onePush unlockClearsPushed) → ⊥
   -- each act is the one action
   pub act-by-act : ActByAct deaf → ⊥
   pub whole-schedules : WholeSchedules deaf → ⊥
