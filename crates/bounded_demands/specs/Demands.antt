@@ -15,7 +15,8 @@ use Rattle.queue_entries.specs.declared.Order.the-variants.{Act}
 use Rattle.queue_entries.specs.declared.Entry.the-variants.{Unreadable, Asks}
 use Rattle.queue_entries.specs.Entries.{entryOf}
 use Rattle.queue_schedules.specs.Reading.{Readable}
-use Rattle.queue_plain.specs.Plain.{Queue, answerOf}
+use Rattle.queue_plain.specs.Plain.{Queue, queue, answerOf}
+use Rattle.queue_plain.specs.OneStep.{Step, Follows}
 use Rattle.queue_plain.specs.Story.{Does, actsIn, fresh, cameFrom, wentFrom}
 use Rattle.queue_plain.specs.Story.{itemsOf as itemsBegun}
 use Rattle.bounded_words.specs.declared.Stamp.{Stamp}
@@ -64,7 +65,7 @@ use Rattle.bounded.specs.Bounded.{makeOf, stepOf}
 use Rattle.bounded_parts.specs.declared.Metered.{Metered}
 use Rattle.bounded_parts.specs.Parts.{meteredOf, Filled, filled}
 use Rattle.bounded_lent.specs.Lent.{Lent, Gone}
-use Rattle.bounded_demands.specs.Stories.{Story, storyOf, known, queueAt, changeOf, actor, replyOf, putBy, takenBy, givenBack, itemAt, At, momentOf}
+use Rattle.bounded_demands.specs.Stories.{Story, storyOf, oneStep, OnlySuch, twoCloses, known, queueAt, changeOf, actor, replyOf, putBy, takenBy, givenBack, itemAt, At, momentOf}
 use Rattle.bounded_demands.specs.Lending.{Lending, Promise, holding, holds-did, holds-ran, steps, heldIn, actsLent}
 use Rattle.bounded_demands.specs.Foretold.{foretold, Telling, toldIn, tellings, asForetold}
 use Rattle.bounded_demands.specs.Eight.{closedF, caseF}
@@ -144,6 +145,39 @@ abbrev pub AnswersPlainInWindow : Definition → Type 0
 AnswersPlainInWindow d =
     (capacity workers edition : ℕ) → AllowedWith (d .records) capacity workers edition → (s : List ℕ) → KeepsWindow d (freshWith (d .records) capacity workers edition) [] s
     → PlainThroughout capacity edition (machineAfter d capacity workers edition s) (actsOf d capacity workers edition s) (storyOf d capacity workers edition s)
+
+-- ---- force_push as one step: linearizable in the classical sense
+
+-- One run of the plain queue, every call one step: the steps taken just before each element of the story (at most one), and the queue there. Every call that answered took one step inside
+-- it, with that answer; a step is of a call under way, and no call takes two.
+pub record OneByOne (capacity edition : ℕ) (s : Story) : Type 0 where
+  pub steps : ℕ → List Step
+  pub queues : ℕ → Queue
+  pub first : queues 0 ≡ queue [] false capacity
+  pub follows : (i : ℕ) → i < length s → Follows (queues i) (steps i) (queues (suc i))
+  pub single : (i : ℕ) → length (steps i) ≤ 1
+  pub answered : (earlier later : Story) (act : Event) (a : Answer) → s ≡ earlier ++ Does act ∷ later → act .after ≡ Idle a
+      → (i : ℕ) × (x : Step) × (steps i ≡ x ∷ []) × (known capacity edition earlier .each (act .worker) .begun < i) × (i ≤ length earlier)
+      × (x .worker ≡ act .worker) × (known capacity edition earlier .each (act .worker) .calls ≡ x .call ∷ []) × (x .reply ∷ [] ≡ replyOf a)
+  pub own : (i : ℕ) (x : Step) → steps i ≡ x ∷ []
+      → (i < length s) × (known capacity edition (take i s) .each (x .worker) .calls ≡ x .call ∷ []) × (known capacity edition (take i s) .each (x .worker) .begun < i)
+  pub once : (i j : ℕ) (x y : Step) → i < j → steps i ≡ x ∷ [] → steps j ≡ y ∷ [] → x .worker ≡ y .worker → i < known capacity edition (take j s) .each (y .worker) .begun
+
+-- So it is in edition 2 with push, force_push, pop, close and is_closed, and in edition 1 with push, force_push and pop; a force_push that displaces takes its step at the act that gave it
+-- its word. (With len, is_empty or is_full it is not: case G.)
+abbrev pub OneStep : Definition → Type 0
+OneStep d =
+    (capacity workers edition : ℕ) → AllowedWith (d .records) capacity workers edition → (s : List ℕ) → OnlySuch (oneStep edition) (storyOf d capacity workers edition s)
+    → OneByOne capacity edition (storyOf d capacity workers edition s)
+
+abbrev pub OneStepInWindow : Definition → Type 0
+OneStepInWindow d =
+    (capacity workers edition : ℕ) → AllowedWith (d .records) capacity workers edition → (s : List ℕ) → KeepsWindow d (freshWith (d .records) capacity workers edition) [] s
+    → OnlySuch (oneStep edition) (storyOf d capacity workers edition s) → OneByOne capacity edition (storyOf d capacity workers edition s)
+
+-- In edition 1 close is not: two closes, one after the other, both answer yes.
+abbrev pub ClosesNotOneStep : Definition → Type 0
+ClosesNotOneStep d = OneByOne 1 1 (storyOf d 1 2 1 twoCloses) → ⊥
 
 -- ==== 1. Any machine, entry or schedule handed in gets an answer or a numbered refusal; a refused step changes nothing.
 -- That each gets an answer is what the functions of crates bounded and bounded_narrow promise: none has a `requires`, and each answer is equal to a

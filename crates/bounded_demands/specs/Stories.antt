@@ -1,10 +1,13 @@
 -- The ring's story, with a plain queue along it: what each act does to that queue, and at which moment an answer is that queue's.
 use Prim.Native.Nat.{ℕ, _+_}
 use mathlib.Core.Bool.{Bool, true, false, cond}
-use mathlib.Core.List.{List, [], _∷_}
+use mathlib.Core.List.{List, [], _∷_, _++_}
+use mathlib.Core.Path.{_≡_}
 use lib.Dec.{eqb}
 use lib.ListN.{length}
 use Rattle.queue_entries.specs.Schedules.{historyBy}
+use Rattle.queue_entries.specs.declared.Call.{Call}
+use Rattle.queue_entries.specs.declared.Call.the-variants as call
 use Rattle.queue_plain.specs.Plain.{Queue, fullOf}
 use Rattle.queue_plain.specs.Plain as plain
 use Rattle.queue_plain.specs.Story as stories
@@ -19,7 +22,7 @@ use Rattle.bounded_machine.specs.declared.Event.{Event}
 use Rattle.bounded_machine.specs.Machine.{freshWith}
 use Rattle.bounded_machine.specs.History.{eventsOf, movedOf}
 use Rattle.bounded_causes.specs.Causes.{standOf, claimsTail, claimsHead}
-use Rattle.bounded_demands.specs.Notions.{Definition}
+use Rattle.bounded_demands.specs.Notions.{Definition, acts}
 
 abbrev pub Element : Type 0
 Element = stories.Element Event
@@ -189,3 +192,26 @@ momentFrom edition w k was (x ∷ s) = momentFrom edition w (knownWith actor (ch
 -- Of worker w's call, under way or its last.
 abbrev pub momentOf : ℕ → ℕ → ℕ → Story → Moment
 momentOf capacity edition w s = momentFrom edition w (fresh capacity) (At 0) s
+
+-- ---- one step a call
+
+-- The calls of which each is one step in this edition: push, force_push and pop; in edition 2 close and is_closed too.
+abbrev pub oneStep : ℕ → Call → Bool
+oneStep edition (call.Push x) = true
+oneStep edition (call.ForcePush x) = true
+oneStep edition call.Pop = true
+oneStep edition call.Len = false
+oneStep edition call.IsEmpty = false
+oneStep edition call.IsFull = false
+oneStep edition call.Close = eqb edition 2
+oneStep edition call.IsClosed = eqb edition 2
+
+-- No other call is begun.
+abbrev pub OnlySuch : (Call → Bool) → Story → Type 0
+OnlySuch such [] = Unit {0}
+OnlySuch such (Begun w c ∷ s) = (such c ≡ true) × OnlySuch such s
+OnlySuch such (Does e ∷ s) = OnlySuch such s
+
+-- Capacity 1, with one item in: worker 0's force_push up to F7; worker 1 closes; F7, which clears the mark in edition 1; worker 1 closes again.
+unfoldable pub twoCloses : List ℕ
+twoCloses = 0 ∷ 1 ∷ acts 0 5 ++ 1 ∷ 2 ∷ acts 0 3 ++ 22 ∷ 0 ∷ acts 1 1 ++ acts 0 1 ++ 22 ∷ 0 ∷ acts 1 1

@@ -3,7 +3,8 @@
 use Rattle.queue_entries.specs.Limits.{workersMost}
 use Rattle.bounded_words.specs.declared.Width.the-variants.{Sixteen, SixtyFour}
 use Rattle.bounded_machine.specs.History.{lossAt}
-use Rattle.bounded_demands.specs.Notions.{sixtyFour, sixteen, ofWidth, document01, stock}
+use Rattle.bounded_demands.specs.Notions.{sixtyFour, sixteen, withRecords, ofWidth, document01, stock}
+use Rattle.bounded_parts.specs.Parts.{recordsMost}
 use Rattle.bounded_demands.specs.Demands.{Demand1, OnlyOneCount, UnderEverySchedule, NothingWraps, ActByAct, WholeSchedules, LenTrue, ScheduledAlone, Attained, AsForetold, StockUnderEverySchedule, MostStock, EndsTold, LossesUnderEverySchedule, CountsAside, CloseHolds, ClosedIsLast, CaseF, WithinTheWindow, AloneKeeps, RoundsClaim, NotIdle, WindowLengths, SameNumbers, AsHeld, OnlyTheActing, LentUnbroken, OnlyOneLent, LentThroughout, SixtyFourRecords}
 use Rattle.bounded_demands.specs.Eight.{EightRuns}
 use Rattle.bounded_demands.specs.Lending.{item11, promised}
@@ -39,6 +40,19 @@ use Rattle.bounded_walkers.specs.Walkers.{walkOf}
 use Rattle.bounded_demands.specs.Demands.{WalksAll, WalkTold, WalksCounted}
 use Rattle.bounded_demands.proofs.Walkings.{walks-counted}
 use Rattle.bounded_proof_walks.proofs.Walks.{walks-all, walk-told}
+use Rattle.bounded_demands.specs.Demands.{AnswersPlain, AnswersPlainInWindow, OneStep, OneStepInWindow, ClosesNotOneStep}
+use Rattle.bounded_proof_plain.proofs.Plain.{answers-plain, plain-in-window}
+use Rattle.bounded_proof_plain.proofs.Linearizable.{one-step, one-step-in-window}
+use Rattle.bounded_proof_plain.proofs.TwoCloses.{closes-not-one-step}
+
+-- What an answer means: every run is a run of a plain queue, each answer its at a moment inside the call, nothing lost and nothing another's; of 64 bits, and of sixteen within the window. One step a
+-- call: linearizable in the classical sense, with push, force_push and pop, and in edition 2 with close and is_closed; in edition 1 two closes are not.
+pub answers-mean : AnswersPlain document01 × AnswersPlainInWindow (ofWidth Sixteen) × OneStep document01 × OneStepInWindow (ofWidth Sixteen) × ClosesNotOneStep document01
+answers-mean = (answers-plain workersMost, plain-in-window Sixteen workersMost, one-step workersMost, one-step-in-window Sixteen workersMost, closes-not-one-step)
+
+-- The same with as many records as are lent, up to 64.
+pub lent-answers-mean : AnswersPlain (withRecords recordsMost SixtyFour) × OneStep (withRecords recordsMost SixtyFour)
+lent-answers-mean = (answers-plain recordsMost, one-step recordsMost)
 
 -- 1. Any machine, entry or schedule handed in gets an answer or a numbered refusal (the functions of crates bounded and bounded_narrow have no
 -- `requires`); a refused step changes nothing; only one answer meets a promise.

@@ -3,3 +3,11 @@ pub mod Work
 pub mod Rows
 pub mod Told
 pub mod Plain
+pub mod Leads
+pub mod Line
+pub mod Lined
+pub mod Replies
+pub mod OneStep
+pub mod Linear
+pub mod Linearizable
+pub mod TwoCloses

@@ -6,9 +6,7 @@ use Prim.Native.Nat.{ℕ, suc, _+_, _-_, _<_}
 use native.Mathlib.Omega.{arith}
 use lib.ListN.{length, getD, length-drop}
 use lib.Seq.{getD-drop, ext-getD}
-use Rattle.queue_entries.specs.Schedules.{runBy, historyBy}
 use Rattle.queue_entries.specs.Entries.{entryOf}
-use Rattle.queue_entries.specs.declared.Call.{Call}
 use Rattle.queue_plain.specs.Story.{Does, elementsBy, actsIn, knownFrom}
 use Rattle.queue_plain.specs.Story.{itemsOf as itemsBegun}
 use Rattle.queue_plain.proofs.Stories.{acts-story, in-order}
@@ -28,14 +26,12 @@ use Rattle.bounded_machine.specs.declared.Machine.{Machine}
 use Rattle.bounded_machine.specs.declared.Did.{Did}
 use Rattle.bounded_machine.specs.declared.Event.{Event}
 use Rattle.bounded_machine.specs.Machine.{starts, freshWith}
-use Rattle.bounded_machine.specs.Broken.{allIdle}
-use Rattle.bounded_machine.specs.Contents.{contentsOf}
 use Rattle.bounded_machine.specs.Turn.{turnAt, turnOfBy}
 use Rattle.bounded_machine.specs.Run.{runAt}
-use Rattle.bounded_machine.specs.History.{eventsOf, historyAt}
-use Rattle.bounded_demands.specs.Notions.{withRecords, AllowedWith, machineAfter, actsOf, itemsOf, takersOf, tally, waiting, InHand, handP4, handP5, handF7, handF8, handF9, handO4, handO5, InWindow, KeepsWindow}
+use Rattle.bounded_machine.specs.History.{eventsOf}
+use Rattle.bounded_demands.specs.Notions.{withRecords, AllowedWith, machineAfter, itemsOf, takersOf, tally, waiting, InHand, handF7, handF8, handF9, handO4, handO5, InWindow, KeepsWindow}
 use Rattle.bounded_demands.specs.Stories.{Story, storyOf, known, changeOf, actor, itemAt, At, momentOf}
-use Rattle.bounded_demands.specs.Demands.{Answered, Meant, PlainThroughout, AnswersPlain, AnswersPlainInWindow}
+use Rattle.bounded_demands.specs.Demands.{PlainThroughout, AnswersPlain, AnswersPlainInWindow}
 use Rattle.bounded_demands.proofs.Refusals.{ring-queue}
 use Rattle.bounded_proof_invariant.proofs.Ring.{Shared}
 use Rattle.bounded_proof_each_act.proofs.Sight.{Age}
@@ -45,7 +41,7 @@ use Rattle.bounded_proof_demand2.proofs.Reached.{Reached, lapsOf, base-of, fres
 use Rattle.bounded_proof_demand2.proofs.Contents.{contents-are}
 use Rattle.bounded_proof_demand2.proofs.Always.{always}
 use Rattle.bounded_proof_demand2.proofs.Demand2.{fresh-reached}
-use Rattle.bounded_proof_plain.proofs.Work.{task, Work, Due}
+use Rattle.bounded_proof_plain.proofs.Work.{task, Due}
 use Rattle.bounded_proof_plain.proofs.Rows.{pushed-item}
 use Rattle.bounded_proof_plain.proofs.Told.{Told, told-kept}
 
@@ -130,10 +126,10 @@ at-one : (i j : ℕ) → At i ≡ At j → i ≡ j
 at-one i j e = cc
 
 module _ (bits : Width) (records c workers ed : ℕ) (a : AllowedWith records c workers ed) where
-  abbrev n : ℕ
+  abbrev pub n : ℕ
   n = lapsOf bits c
 
-  abbrev Tells : Machine → Story → Type 0
+  abbrev pub Tells : Machine → Story → Type 0
   Tells = Told bits c n workers (base-of bits records c workers ed a) ed
 
   -- ---- from what is told to the statement
@@ -192,7 +188,7 @@ module _ (bits : Width) (records c workers ed : ℕ) (a : AllowedWith records c 
   clear false k e = refl
   clear true k e = absurd (omega (arith, base-of bits records c workers ed a .ground .laws .room))
 
-  told-first : Tells (freshWith records c workers ed) []
+  pub told-first : Tells (freshWith records c workers ed) []
   unfolding knownFrom actsIn itemsOf takersOf
   told-first =
       let z = fresh-reached bits records c workers ed a in

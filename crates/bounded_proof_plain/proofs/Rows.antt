@@ -3,7 +3,7 @@ use mathlib.Core.Path.{_≡_, refl, sym, ap, _∙_, subst}
 use mathlib.Core.Logic.{_≢_, _⊎_, inl, inr}
 use mathlib.Core.Bool.{Bool, true, false, cond, true≢false}
 use mathlib.Core.List.{List, [], _∷_, _++_}
-use Prim.Native.Nat.{ℕ, suc, _+_, _*_, _-_, _≤_, _<_}
+use Prim.Native.Nat.{ℕ, _+_, _*_, _-_, _≤_, _<_}
 use native.Mathlib.Omega.{arith}
 use native.Mathlib.Decide.{decLt}
 use lib.Dec.{eqb}
@@ -14,7 +14,7 @@ use Rattle.queue_entries.specs.declared.Call.the-variants as call
 use Rattle.queue_plain.specs.Plain.{Queue, Reply, answerOf, fullOf}
 use Rattle.queue_plain.specs.Plain as plain
 use Rattle.queue_plain.specs.Story.{Does, Doing, doingWith, itemsOf}
-use Rattle.queue_plain.proofs.Stories.{queue-past, queue-now, known-count, each-own, queue-act}
+use Rattle.queue_plain.proofs.Stories.{queue-past, queue-now, known-count}
 use Rattle.queue_plain.proofs.Calls as calls
 use Rattle.queue_plain.proofs.Answers.{none-of, push-closed, push-room, push-full, force-closed, force-room, force-full, pop-front, pop-none}
 use Rattle.bounded_words.specs.declared.Stamp.{Stamp}
@@ -36,13 +36,12 @@ use Rattle.bounded_places.specs.Places.{viewOf}
 use Rattle.bounded_acts.specs.declared.Acted.{Acted}
 use Rattle.bounded_acts.specs.Acts.{stay, losing, afterTail, endP3, endF6, endO3, tailTo, headTo, valueTo, fullAt, forcedTail, countOf, yesNo, actOf}
 use Rattle.bounded_machine.specs.declared.Event.{Event}
-use Rattle.bounded_machine.specs.declared.Moved.{Moved}
-use Rattle.bounded_machine.specs.declared.Moved.the-variants.{Neither, Tail, Head}
+use Rattle.bounded_machine.specs.declared.Moved.the-variants.{Neither, Tail}
 use Rattle.bounded_machine.specs.History.{event, movedOf}
 use Rattle.bounded_machine.proofs.Kept.{either, exchanged}
-use Rattle.bounded_causes.specs.Causes.{standOf, claimsTail, claimsHead}
-use Rattle.bounded_demands.specs.Notions.{itemIn, tailBy, headBy, holdingAt}
-use Rattle.bounded_demands.specs.Stories.{Element, Story, known, queueAt, changeOf, actor, replyOf, putBy, takenBy, givenBack, Moment, At, AfterNextTail, AfterNextHead, Timing, Now, Stays, timingOf, timed, momentOf}
+use Rattle.bounded_causes.specs.Causes.{claimsTail, claimsHead}
+use Rattle.bounded_demands.specs.Notions.{itemIn, headBy, holdingAt}
+use Rattle.bounded_demands.specs.Stories.{Story, known, queueAt, changeOf, actor, replyOf, putBy, takenBy, givenBack, At, Now, Stays, timingOf, momentOf}
 use Rattle.bounded_demands.specs.Demands.{Answered, Meant, Changes}
 use Rattle.bounded_proof_invariant.proofs.Width.{Near, turn-long, word-one}
 use Rattle.bounded_proof_invariant.proofs.Ring.{Shared, Latest, Inv}
@@ -50,8 +49,8 @@ use Rattle.bounded_proof_each_act.proofs.Stamps
 use Rattle.bounded_proof_each_act.proofs.Stamps.{Ground, fixed, W, tailWord}
 use Rattle.bounded_proof_each_act.proofs.Sight.{Age, aged, look, endsOf, Stands, Young, Recent}
 use Rattle.bounded_proof_demand2.proofs.Counts.{count-is}
-use Rattle.bounded_proof_plain.proofs.Shelf.{moment-own, Shelved, Moves, Point, point-now, point-on, item-course, latest-new, latest-kept}
-use Rattle.bounded_proof_plain.proofs.Work.{Task, task, pushing, Work, Set, then, GivenBy, EnteredBy, Front, SwapsBy, TakesBy, CountsBy, SeenSome, NoneYet, SeenRoom, FullYet, Due}
+use Rattle.bounded_proof_plain.proofs.Shelf.{each-own, moment-own, queue-act, Shelved, Moves, point-now, point-on, item-course, latest-new, latest-kept}
+use Rattle.bounded_proof_plain.proofs.Work.{task, pushing, Work, Set, then, GivenBy, EnteredBy, Front, SwapsBy, TakesBy, CountsBy, SeenSome, NoneYet, SeenRoom, FullYet, Due}
 
 -- ---- small laws
 
@@ -63,11 +62,11 @@ never : (b : Bool) → cond b false false ≡ false
 never true = refl
 never false = refl
 
-front-of : (l : List ℕ) → 0 < length l → l ≡ getD l 0 0 ∷ drop 1 l
+pub front-of : (l : List ℕ) → 0 < length l → l ≡ getD l 0 0 ∷ drop 1 l
 front-of [] h = absurd (omega arith)
 front-of (x ∷ l) h = refl
 
-first-of : (l : List ℕ) → 0 < length l → take 1 l ≡ getD l 0 0 ∷ []
+pub first-of : (l : List ℕ) → 0 < length l → take 1 l ≡ getD l 0 0 ∷ []
 first-of [] h = absurd (omega arith)
 first-of (x ∷ l) h = refl
 
@@ -94,9 +93,18 @@ closed-to : (k : Kind) (x : ℕ) (q : Queue) → q .closed ≡ true → answerOf
 closed-to Push x q e = push-closed q x e
 closed-to Force x q e = force-closed q x e
 
-room-for : (k : Kind) (x : ℕ) (q : Queue) → q .closed ≡ false → fullOf q ≡ false → answerOf q (pushing k x) ≡ plain.Pushed
+pub room-for : (k : Kind) (x : ℕ) (q : Queue) → q .closed ≡ false → fullOf q ≡ false → answerOf q (pushing k x) ≡ plain.Pushed
 room-for Push x q e f = push-room q x e f
 room-for Force x q e f = force-room q x e f
+
+pub full-to : (x : ℕ) (q : Queue) → q .closed ≡ false → fullOf q ≡ true → answerOf q (call.Push x) ≡ plain.Full x
+full-to x q = push-full q x
+
+pub displaced-to : (x v : ℕ) (others : List ℕ) (q : Queue) → q .closed ≡ false → fullOf q ≡ true → q .items ≡ v ∷ others → answerOf q (call.ForcePush x) ≡ plain.Displaced v
+displaced-to x v others q = force-full q x v others
+
+pub popped-to : (v : ℕ) (others : List ℕ) (q : Queue) → q .items ≡ v ∷ others → answerOf q call.Pop ≡ plain.Popped v
+popped-to v others q = pop-front q v others
 
 not-close : (k : Kind) (x : ℕ) → pushing k x ≡ call.Close → ⊥
 not-close Push x e = let z : _≡_ {A = ℕ} 0 1 = cc in omega arith
@@ -178,7 +186,7 @@ module _ (bits : Width) (c n ed : ℕ) (g : Ground bits c (markOf c) n) (st : St
   -- ---- the worker's own part, one act on
   module _ (p q : Place) where
     own : known c ed (now p q) .each w ≡ doingWith (changeOf ed (act p q)) (known c ed st .queue) (known c ed st .each w)
-    own = each-own actor (changeOf ed) c st (act p q)
+    own = each-own c ed st (act p q)
 
     longer : length (now p q) ≡ length st + 1
     longer = length-append st (Does (act p q) ∷ []) ∙ omega arith
@@ -249,7 +257,7 @@ module _ (bits : Width) (c n ed : ℕ) (g : Ground bits c (markOf c) n) (st : St
         took = r .takes ∙ e .takes;
         back = λ x h. ap itemsOf (o .its) ∙ e .back x h;
         closed =
-            λ h. ap (λ (z : Queue). z .closed) (queue-act actor (changeOf ed) c st (act p (Idle a)))
+            λ h. ap (λ (z : Queue). z .closed) (queue-act c ed st (act p (Idle a)))
             ∙ ap (λ (z : Bool). cond (changeOf ed (act p (Idle a)) .closes) true (cond (changeOf ed (act p (Idle a)) .opens) false z)) (shelf .flag)
             ∙ e .shut (let z : cl ∷ [] ≡ call.Close ∷ [] = sym (o .its) ∙ h in cc);
       }
@@ -457,6 +465,12 @@ module _ (bits : Width) (c n ed : ℕ) (g : Ground bits c (markOf c) n) (st : St
       (o .set)
       (ap (λ (r : Reply). r ∷ []) (room-for kd x (then c n ed (o .set)) (o .while-open) (ne-eqb (length (then c n ed (o .set) .items)) (then c n ed (o .set) .capacity) (λ e. omega (arith, o .room, o .set .point .room))))))
 
+  -- P6 finds the ring full at the word that it was given
+  pub lap-tests : (cl : Call) (t : Stamp) → GivenBy c n ed st s age w cl t → Young c mark n s age → lapBehind bits f (E .head) t ≡ true → s .head + c ≡ age .tail
+  lap-tests cl t o young h =
+      let r : Near (n * c) (s .head + c) (age .tail) = omega (arith, turn, inv .low, inv .high, young, o .set .point .tails-up) in
+      eqb-true _ _ (sym (Stamps.behind-is bits c mark n g ed (s .head) (age .tail) r) ∙ ap (lapBehind bits f (E .head)) (sym (o .word)) ∙ h)
+
   p6 : (z : Slot) (t : Stamp) (x : ℕ) (lose : Bool) → GivenBy c n ed st s age w (call.Push x) t → Young c mark n s age → Row (P6 t x) (actOf bits f E z (P6 t x) lose)
   p6 z t x lose o young =
       either (Row (P6 t x)) (lapBehind bits f (E .head) t) (stay E z (Idle (Full x))) (stay E z (P1 Push x))
@@ -464,23 +478,32 @@ module _ (bits : Width) (c n ed : ℕ) (g : Ground bits c (markOf c) n) (st : St
       (ended-then (P6 t x) (call.Push x) [] [] (Full x) refl (o .work)
       (record { still = refl; puts = refl; takes = refl; back = λ y e. pushed-item Push x ∙ e; shut = λ e. absurd (not-close Push x e) })
       (o .set)
-      (ap (λ (r : Reply). r ∷ []) (push-full (then c n ed (o .set)) x (o .while-open) (eq-eqb _ _ (full-then h ∙ sym (o .set .point .room)))))))
+      (ap (λ (r : Reply). r ∷ []) (full-to x (then c n ed (o .set)) (o .while-open) (eq-eqb _ _ (full-then h ∙ sym (o .set .point .room)))))))
       (λ h. leads z (P6 t x) (P1 Push x) (quietly refl refl refl refl) (not-idle (P1 Push x) refl) (λ u mv. work-still (P6 t x) (P1 Push x) refl _ _ _ (o .work)))
     where
       full-then : lapBehind bits f (E .head) t ≡ true → length (then c n ed (o .set) .items) ≡ c
       full-then h =
           let p = o .set .point in
-          let r : Near (n * c) (s .head + c) (age .tail) = omega (arith, turn, inv .low, inv .high, young, p .tails-up) in
-          let q : s .head + c ≡ age .tail = eqb-true _ _ (sym (Stamps.behind-is bits c mark n g ed (s .head) (age .tail) r) ∙ ap (lapBehind bits f (E .head)) (sym (o .word)) ∙ h) in
+          let q : s .head + c ≡ age .tail = lap-tests (call.Push x) t o young h in
           omega (arith, p .long, p .most, p .heads-up, p .tails-up, inv .high)
 
   -- force_push's head claim: the ring is full, and nothing has moved since its word was given
-  record Grips (t : Stamp) : Type 0 where
-    k : ℕ
-    word : t ≡ Word (k + c)
-    low : k ≤ s .head
-    high : k + c ≤ s .tail
-    late : age .tail ≤ k + c
+  pub record Grips (t : Stamp) : Type 0 where
+    pub k : ℕ
+    pub word : t ≡ Word (k + c)
+    pub low : k ≤ s .head
+    pub high : k + c ≤ s .tail
+    pub late : age .tail ≤ k + c
+
+  -- and F6
+  pub head-tests : (cl : Call) (t : Stamp) → GivenBy c n ed st s age w cl t → Grips t → Young c mark n s age → same (E .head) (minus bits t (f .lap)) ≡ true → s .head + c ≡ age .tail
+  head-tests cl t o grip young h =
+      let same-words : Word (grip .k + c) ≡ Word (age .tail) = sym (grip .word) ∙ o .word in
+      let near : Near (n * c) (grip .k + c) (age .tail) = omega (arith, turn, young, grip .high, grip .late) in
+      let one : grip .k + c ≡ age .tail = word-one c mark n (g .laws) (grip .k + c) (age .tail) near (ap (λ (z : Stamp). z .0) same-words) in
+      let r : Near (n * c) (s .head) (grip .k) = omega (arith, turn, inv .low, grip .low, young, grip .late) in
+      let q : s .head ≡ grip .k = eqb-true _ _ (sym (Stamps.before-is bits c mark n g (s .head) (grip .k) r) ∙ ap (λ (y : Stamp). same (E .head) (minus bits y (f .lap))) (sym (grip .word)) ∙ h) in
+      omega arith
 
   won-head : (z : Slot) (t : Stamp) (x : ℕ) (h : Stamp) → GivenBy c n ed st s age w (call.ForcePush x) t → s .head + c ≡ age .tail → Row (F6 t x) (stay (headTo E h) z (F7 t x))
   unfolding stay headTo
@@ -536,17 +559,8 @@ module _ (bits : Width) (c n ed : ℕ) (g : Ground bits c (markOf c) n) (st : St
   f6 z t x lose o grip young =
       exchanged (λ (y : Exchange). Row (F6 t x) (endF6 bits f E z t x y)) (E .head) (minus bits t (f .lap)) lose
       (λ h d. goes z loss.BySchedule (F6 t x) (P1 Force x) (quietly refl refl refl refl) (not-idle (P1 Force x) refl) (λ u mv. work-still (F6 t x) (P1 Force x) refl _ _ _ (o .work)))
-      (λ h d. won-head z t x _ o (full h))
+      (λ h d. won-head z t x _ o (head-tests (call.ForcePush x) t o grip young h))
       (λ h. goes z loss.ByWords (F6 t x) (P1 Force x) (quietly refl refl refl refl) (not-idle (P1 Force x) refl) (λ u mv. work-still (F6 t x) (P1 Force x) refl _ _ _ (o .work)))
-    where
-      full : same (E .head) (minus bits t (f .lap)) ≡ true → s .head + c ≡ age .tail
-      full h =
-          let same-words : Word (grip .k + c) ≡ Word (age .tail) = sym (grip .word) ∙ o .word in
-          let near : Near (n * c) (grip .k + c) (age .tail) = omega (arith, turn, young, grip .high, grip .late) in
-          let one : grip .k + c ≡ age .tail = word-one c mark n (g .laws) (grip .k + c) (age .tail) near (ap (λ (z : Stamp). z .0) same-words) in
-          let r : Near (n * c) (s .head) (grip .k) = omega (arith, turn, inv .low, grip .low, young, grip .late) in
-          let q : s .head ≡ grip .k = eqb-true _ _ (sym (Stamps.before-is bits c mark n g (s .head) (grip .k) r) ∙ ap (λ (y : Stamp). same (E .head) (minus bits y (f .lap))) (sym (grip .word)) ∙ h) in
-          omega arith
 
   -- what stays of a displacing force_push, and of a pop
   front-kept : (p q : Place) → (movedOf q ≡ Tail) ⊎ (movedOf q ≡ Neither) → timingOf p q ≡ Stays → (v : ℕ) (o : Front c n ed st s w v) (u : Shared) → Moves c s u w i q → Front c n ed (now p q) u w v
@@ -633,7 +647,7 @@ module _ (bits : Width) (c n ed : ℕ) (g : Ground bits c (markOf c) n) (st : St
         shut = λ e. absurd (not-close Force x e);
       })
       (fr .set)
-      (ap (λ (r : Reply). r ∷ []) (force-full (then c n ed (fr .set)) x (o .v) (fr .others) (o .while-open) full (fr .items) ∙ ap plain.Displaced out)))
+      (ap (λ (r : Reply). r ∷ []) (displaced-to x (o .v) (fr .others) (then c n ed (fr .set)) (o .while-open) full (fr .items) ∙ ap plain.Displaced out)))
 
   -- ---- pop
 
@@ -713,11 +727,18 @@ module _ (bits : Width) (c n ed : ℕ) (g : Ground bits c (markOf c) n) (st : St
         shut = λ e. absurd (let q : _≡_ {A = ℕ} 0 1 = cc in omega arith);
       })
       (fr .set)
-      (ap (λ (r : Reply). r ∷ []) (pop-front (then c n ed (fr .set)) (o .v) (fr .others) (fr .items) ∙ ap plain.Popped out)))
+      (ap (λ (r : Reply). r ∷ []) (popped-to (o .v) (fr .others) (then c n ed (fr .set)) (fr .items) ∙ ap plain.Popped out)))
 
   -- nothing waits where tail and head agree
   none-now : s .tail ≡ s .head → known c ed st .queue .items ≡ []
   none-now e = none-of (known c ed st .queue .items) (omega (arith, shelf .long))
+
+  -- O6 finds tail at the word that it was given
+  pub tail-tests : (h : Stamp) (k : ℕ) → h ≡ Word k → k ≤ s .head → age .head ≤ k → Young c mark n s age → same (unmarkedOf f (E .tail)) h ≡ true → s .tail ≡ k
+  tail-tests h k word low late young d =
+      let r : Near (n * c) (s .tail) k = omega (arith, turn, inv .low, inv .high, young) in
+      eqb-true _ _ (sym (Stamps.same-is bits c mark n g (s .tail) k r)
+      ∙ ap (λ (y : Stamp). same y (Word k)) (sym (Stamps.unmarked-tail bits c mark n g ed (s .tail) b)) ∙ ap (same (unmarkedOf f (E .tail))) (sym word) ∙ d)
 
   o6 : (z : Slot) (h : Stamp) (lose : Bool) (k : ℕ) → h ≡ Word k → k ≤ s .head → age .head ≤ k → Young c mark n s age → Work c n ed st w call.Pop [] [] → Row (O6 h) (actOf bits f E z (O6 h) lose)
   o6 z h lose k word low late young o =
@@ -730,12 +751,7 @@ module _ (bits : Width) (c n ed : ℕ) (g : Ground bits c (markOf c) n) (st : St
       (λ d. pops z (O6 h) O1 (quietly refl refl refl refl) (not-idle O1 refl) refl o)
     where
       even : same (unmarkedOf f (E .tail)) h ≡ true → s .tail ≡ s .head
-      even d =
-          let r : Near (n * c) (s .tail) k = omega (arith, turn, inv .low, inv .high, young) in
-          let q : s .tail ≡ k =
-          eqb-true _ _ (sym (Stamps.same-is bits c mark n g (s .tail) k r)
-          ∙ ap (λ (y : Stamp). same y (Word k)) (sym (Stamps.unmarked-tail bits c mark n g ed (s .tail) b)) ∙ ap (same (unmarkedOf f (E .tail))) (sym word) ∙ d) in
-          omega (arith, inv .low)
+      even d = let q : s .tail ≡ k = tail-tests h k word low late young d in omega (arith, inv .low)
 
       speaks-closed : Speaks (O6 h) call.Pop [] [] PopClosed
       speaks-closed =

@@ -1,9 +1,9 @@
 -- The plain queue along a story is the ring's claims that wait; and what was so of it at a moment that has been.
-use mathlib.Core.Path.{_≡_, refl, sym, ap, _∙_}
+use mathlib.Core.Path.{_≡_, refl, sym, ap, _∙_, subst}
 use mathlib.Core.Logic.{_≢_}
 use mathlib.Core.Bool.{Bool, true, false, cond}
 use mathlib.Core.List.{List, [], _∷_, _++_, append-nil}
-use Prim.Native.Nat.{ℕ, zero, suc, _+_, _≤_, _<_}
+use Prim.Native.Nat.{ℕ, suc, _+_, _≤_, _<_}
 use native.Mathlib.Omega.{arith}
 use native.Mathlib.Decide.{decLt}
 use lib.Dec.{eqb}
@@ -11,9 +11,10 @@ use lib.ListN.{length, getD, drop, length-append, List·getD-append}
 use lib.Seq.{getD-append-seam}
 use borrow.Author.Tests.{eq-eqb, ne-eqb}
 use Rattle.queue_entries.specs.declared.Call.{Call}
-use Rattle.queue_plain.specs.Plain.{Queue}
-use Rattle.queue_plain.specs.Story.{Begun, Does, Change, Known, Doing, fresh, knownWith, knownFrom}
-use Rattle.queue_plain.proofs.Stories.{queue-past}
+use Rattle.queue_plain.specs.Plain.{Queue, queue, fullOf}
+use Rattle.queue_plain.specs.Story.{Begun, Does, Change, Known, beginning, doingWith, changedBy, itemsOf, fresh, knownWith, knownFrom}
+use Rattle.queue_plain.proofs.Stories.{known-count}
+use Rattle.queue_plain.proofs.Stories as laws
 use Rattle.bounded_places.specs.declared.Place.{Place}
 use Rattle.bounded_machine.specs.declared.Event.{Event}
 use Rattle.bounded_machine.specs.declared.Moved.{Moved}
@@ -21,8 +22,8 @@ use Rattle.bounded_machine.specs.declared.Moved.the-variants.{Neither, Tail, He
 use Rattle.bounded_machine.specs.History.{movedOf}
 use Rattle.bounded_causes.specs.Causes.{claimsTail, claimsHead}
 use Rattle.bounded_demands.specs.Notions.{itemIn, tailBy, headBy}
-use Rattle.bounded_demands.specs.Stories.{Element, Story, known, queueAt, changeOf, actor, Moment, At, timingOf, timed, heard, momentWith, momentFrom, momentOf}
-use Rattle.bounded_proof_invariant.proofs.Ring.{Shared, Latest, Inv, Change as RingChange, taken-else}
+use Rattle.bounded_demands.specs.Stories.{Element, Story, known, changeOf, actor, Moment, At, AfterNextTail, AfterNextHead, Timing, Now, Stays, IfSome, IfRoom, timingOf, timed, heard, momentWith, momentFrom, momentOf}
+use Rattle.bounded_proof_invariant.proofs.Ring.{Shared, Latest, Inv, taken-else}
 use Rattle.bounded_proof_invariant.proofs.Effects.{Course, same, moved, tail-course}
 
 -- ---- one element more
@@ -33,8 +34,77 @@ unfolding momentFrom knownFrom
 moment-end edition w k was [] x = refl
 moment-end edition w k was (y ∷ s) x = moment-end edition w (knownWith actor (changeOf edition) k y) (momentWith edition w k was y) s x
 
+-- a moment is no later than now
+abbrev NoLater : ℕ → Moment → Type 0
+NoLater n (At k) = k ≤ n
+NoLater n AfterNextTail = Unit {0}
+NoLater n AfterNextHead = Unit {0}
+
+later : (n : ℕ) (m : Moment) → NoLater n m → NoLater (n + 1) m
+later n (At k) h = omega arith
+later n AfterNextTail h = tt
+later n AfterNextHead h = tt
+
+timed-now : (t : Timing) (k : Known) (m : Moment) → NoLater (k .count) m → NoLater (k .count + 1) (timed t k m)
+timed-now Now k m h = omega arith
+timed-now Stays k m h = later (k .count) m h
+timed-now IfSome k m h = go (eqb (length (k .queue .items)) 0)
+  where
+    go : (b : Bool) → NoLater (k .count + 1) (cond b AfterNextTail (At (k .count)))
+    go true = tt
+    go false = omega arith
+timed-now IfRoom k m h = go (fullOf (k .queue))
+  where
+    go : (b : Bool) → NoLater (k .count + 1) (cond b AfterNextHead (At (k .count)))
+    go true = tt
+    go false = omega arith
+
+heard-now : (d : Change) (n : ℕ) (m : Moment) → NoLater n m → NoLater (n + 1) (heard d (n + 1) m)
+heard-now d n (At k) h = omega arith
+heard-now d n AfterNextTail h = go (d .puts)
+  where
+    go : (b : Bool) → NoLater (n + 1) (cond b (At (n + 1)) AfterNextTail)
+    go true = omega arith
+    go false = tt
+heard-now d n AfterNextHead h = go (d .takes)
+  where
+    go : (b : Bool) → NoLater (n + 1) (cond b (At (n + 1)) AfterNextHead)
+    go true = omega arith
+    go false = tt
+
+moment-with : (edition w : ℕ) (k : Known) (m : Moment) (x : Element) → NoLater (k .count) m → NoLater (k .count + 1) (momentWith edition w k m x)
+moment-with edition w k m (Begun v cl) h = later (k .count) m h
+moment-with edition w k m (Does e) h = go (eqb w (e .worker))
+  where
+    go : (b : Bool) → NoLater (k .count + 1) (cond b (timed (timingOf (e .before) (e .after)) k m) (heard (changeOf edition e) (k .count + 1) m))
+    go true = timed-now (timingOf (e .before) (e .after)) k m h
+    go false = heard-now (changeOf edition e) (k .count) m h
+
+moment-from : (edition w : ℕ) (s : Story) (k : Known) (m : Moment) → NoLater (k .count) m → NoLater (knownFrom actor (changeOf edition) k s .count) (momentFrom edition w k m s)
+unfolding momentFrom knownFrom
+moment-from edition w [] k m h = h
+moment-from edition w (Begun v cl ∷ s) k m h = moment-from edition w s (knownWith actor (changeOf edition) k (Begun v cl)) (momentWith edition w k m (Begun v cl)) (moment-with edition w k m (Begun v cl) h)
+moment-from edition w (Does e ∷ s) k m h = moment-from edition w s (knownWith actor (changeOf edition) k (Does e)) (momentWith edition w k m (Does e)) (moment-with edition w k m (Does e) h)
+
+pub moment-past : (c ed w : ℕ) (st : Story) (k : ℕ) → momentOf c ed w st ≡ At k → k ≤ length st
+moment-past c ed w st k h =
+    let z : NoLater (known c ed st .count) (At k) = subst (NoLater (known c ed st .count)) h (moment-from ed w st (fresh c) (At 0) (omega arith)) in
+    omega (arith, z, known-count actor (changeOf ed) c st)
+
 module _ (c ed : ℕ) (st : Story) where
   module _ (e : Event) where
+    pub known-act : known c ed (st ++ Does e ∷ []) ≡ knownWith actor (changeOf ed) (known c ed st) (Does e)
+    known-act = laws.known-act actor (changeOf ed) c st e
+
+    pub each-own : known c ed (st ++ Does e ∷ []) .each (e .worker) ≡ doingWith (changeOf ed e) (known c ed st .queue) (known c ed st .each (e .worker))
+    each-own = laws.each-own actor (changeOf ed) c st e
+
+    pub each-else : (j : ℕ) → j ≢ e .worker → known c ed (st ++ Does e ∷ []) .each j ≡ known c ed st .each j
+    each-else = laws.each-else actor (changeOf ed) c st e
+
+    pub queue-act : known c ed (st ++ Does e ∷ []) .queue ≡ changedBy (changeOf ed e) (itemsOf (known c ed st .each (e .worker) .calls)) (known c ed st .queue)
+    queue-act = laws.queue-act actor (changeOf ed) c st e
+
     moment-act : (j : ℕ) → momentOf c ed j (st ++ Does e ∷ []) ≡ momentWith ed j (known c ed st) (momentOf c ed j st) (Does e)
     moment-act j = moment-end ed j (fresh c) (At 0) st (Does e)
 
@@ -51,6 +121,15 @@ module _ (c ed : ℕ) (st : Story) where
         (ne-eqb j (e .worker) ne)
 
   module _ (w : ℕ) (cl : Call) where
+    pub each-begun : known c ed (st ++ Begun w cl ∷ []) .each w ≡ beginning cl (known c ed st .count)
+    each-begun = laws.each-begun actor (changeOf ed) c st w cl
+
+    pub each-unbegun : (j : ℕ) → j ≢ w → known c ed (st ++ Begun w cl ∷ []) .each j ≡ known c ed st .each j
+    each-unbegun = laws.each-unbegun actor (changeOf ed) c st w cl
+
+    pub queue-begun : known c ed (st ++ Begun w cl ∷ []) .queue ≡ known c ed st .queue
+    queue-begun = laws.queue-begun actor (changeOf ed) c st w cl
+
     pub moment-begun : (j : ℕ) → momentOf c ed j (st ++ Begun w cl ∷ []) ≡ momentOf c ed j st
     moment-begun j = moment-end ed j (fresh c) (At 0) st (Begun w cl)
 

@@ -1,34 +1,28 @@
 -- Along every schedule that keeps the window: the plain queue is the ring's, and every answer so far was that queue's.
 use mathlib.Core.Path.{_≡_, refl, sym, ap, _∙_, subst}
 use mathlib.Core.Logic.{_≢_, _⊎_, inl, inr}
-use mathlib.Core.Bool.{Bool, true, false, cond, true≢false}
-use mathlib.Core.List.{List, [], _∷_, _++_, map, append-nil}
-use Prim.Native.Nat.{ℕ, suc, _+_, _*_, _-_, _≤_, _<_}
+use mathlib.Core.Bool.{Bool, true, false, cond}
+use mathlib.Core.List.{List, [], _∷_, _++_, map}
+use Prim.Native.Nat.{ℕ, _+_, _-_, _<_}
 use native.Mathlib.Omega.{arith}
 use native.Mathlib.Decide.{ℕ-discrete}
-use lib.Dec.{eqb}
 use lib.ListN.{length, getD, set, length-append}
 use lib.Seq.{getD-set-same, getD-set-other}
 use Rattle.queue_entries.specs.Limits.{meterMost}
-use Rattle.queue_entries.specs.Schedules.{runBy, historyBy}
 use Rattle.queue_entries.specs.declared.Call.{Call}
 use Rattle.queue_entries.specs.declared.Call.the-variants as call
 use Rattle.queue_entries.specs.declared.Order.the-variants.{Begin, Act}
 use Rattle.queue_entries.specs.declared.Entry.{Entry}
-use Rattle.queue_entries.specs.declared.Entry.the-variants.{Unreadable, Asks}
-use Rattle.queue_entries.specs.Entries.{entryOf}
+use Rattle.queue_entries.specs.declared.Entry.the-variants.{Asks}
 use Rattle.queue_plain.specs.Plain.{Queue}
-use Rattle.queue_plain.specs.Story.{Begun, Does, Doing, itemsOf, begunIn, actsIn, changedBy, knownFrom}
-use Rattle.queue_plain.proofs.Stories.{acts-end, acts-story, queue-now, known-count, each-else, queue-act, each-unbegun, queue-begun}
+use Rattle.queue_plain.specs.Story.{Begun, Does, Doing, itemsOf, begunIn, actsIn}
+use Rattle.queue_plain.proofs.Stories.{acts-end, queue-now, known-count}
 use Rattle.queue_plain.proofs.Calls.{work-begun}
-use Rattle.bounded_words.specs.declared.Stamp.{Stamp}
 use Rattle.bounded_words.specs.declared.Fixed.{Fixed}
 use Rattle.bounded_words.specs.declared.Width.{Width}
 use Rattle.bounded_words.specs.Words.{markOf, markedOf}
-use Rattle.bounded_places.specs.declared.Slot.{Slot}
 use Rattle.bounded_places.specs.declared.Ends.{Ends}
 use Rattle.bounded_places.specs.declared.Answer.{Answer}
-use Rattle.bounded_places.specs.declared.Loss.{Loss}
 use Rattle.bounded_places.specs.declared.Place.{Place}
 use Rattle.bounded_places.specs.declared.Place.the-variants.{Idle}
 use Rattle.bounded_places.specs.declared.Worker.{Worker}
@@ -39,25 +33,25 @@ use Rattle.bounded_machine.specs.declared.Machine.{Machine}
 use Rattle.bounded_machine.specs.declared.Event.{Event}
 use Rattle.bounded_machine.specs.declared.Moved.{Moved}
 use Rattle.bounded_machine.specs.declared.Moved.the-variants.{Neither, Tail, Head}
-use Rattle.bounded_machine.specs.Machine.{slot, idler, placeOf, freshWith}
+use Rattle.bounded_machine.specs.Machine.{slot, idler, placeOf}
 use Rattle.bounded_machine.proofs.Kept.{few-workers}
-use Rattle.bounded_machine.specs.Turn.{turnAt, turnOfBy, beginner, begun, acted, actedBy, stored}
-use Rattle.bounded_machine.specs.History.{event, lossAt, eventsOf, movedOf}
-use Rattle.bounded_demands.specs.Notions.{itemIn, tailBy, headBy, InWindow}
-use Rattle.bounded_demands.specs.Stories.{Element, Story, known, queueAt, changeOf, actor, Moment, At, AfterNextTail, AfterNextHead, heard, momentOf}
+use Rattle.bounded_machine.specs.Turn.{beginner, begun, acted, actedBy, stored}
+use Rattle.bounded_machine.specs.History.{event, lossAt, movedOf}
+use Rattle.bounded_demands.specs.Notions.{itemIn, InWindow}
+use Rattle.bounded_demands.specs.Stories.{Story, known, changeOf, actor, At, heard, momentOf}
 use Rattle.bounded_demands.specs.Demands.{Answered, Meant, Changes}
 use Rattle.bounded_proof_invariant.proofs.Upd.{upd, upd-same, upd-else}
-use Rattle.bounded_proof_invariant.proofs.Ring.{Shared, Inv}
-use Rattle.bounded_proof_invariant.proofs.Effects.{Effect, Still, Tailed, Taken, Grabbed, Forced, Fills, Swaps, Frees, Gives, after, Course, same}
+use Rattle.bounded_proof_invariant.proofs.Ring.{Shared}
+use Rattle.bounded_proof_invariant.proofs.Effects.{Effect, Still, Tailed, Taken, Grabbed, Forced, Fills, Swaps, Frees, Gives, after, same}
 use Rattle.bounded_proof_each_act.proofs.Stamps.{fixed, marked-tail}
-use Rattle.bounded_proof_each_act.proofs.Sight.{Age, aged, look, Tale, Quiet, Heading, Tailing, Giving, tale, told, endsOf, Recent}
-use Rattle.bounded_proof_demand2.proofs.Turns.{Turned, began, did, turned, stood, eventOf}
+use Rattle.bounded_proof_each_act.proofs.Sight.{Age, look, Tale, Quiet, Heading, Tailing, Giving, tale, told, endsOf, Recent}
+use Rattle.bounded_proof_demand2.proofs.Turns.{Turned, began, did, stood, eventOf}
 use Rattle.bounded_proof_demand2.proofs.Lists.{Last, Earlier, split-end}
 use Rattle.bounded_proof_demand2.proofs.Logged.{itemsBy, movedBy, shows}
-use Rattle.bounded_proof_demand2.proofs.Pictured.{Base, Pictured, begun-pictured, acted-pictured, stepped, coursed, effect, spot, next, result, acted-stood, new-age}
+use Rattle.bounded_proof_demand2.proofs.Pictured.{Base, Pictured, acted-pictured, stepped, coursed, effect, spot, next, result, acted-stood, new-age}
 use Rattle.bounded_proof_demand2.proofs.Reached.{Reached, grown, entered, begun-after, did-after, recent-in}
-use Rattle.bounded_proof_plain.proofs.Shelf.{moment-else, moment-begun, Waits, Shelved, Moves, items-on, point-now}
-use Rattle.bounded_proof_plain.proofs.Work.{Task, Starts, task, Work, Set, then, SeenSome, NoneYet, SeenRoom, FullYet, Due, due-else}
+use Rattle.bounded_proof_plain.proofs.Shelf.{each-else, queue-act, moment-else, each-unbegun, queue-begun, moment-begun, Shelved, Moves, items-on, point-now}
+use Rattle.bounded_proof_plain.proofs.Work.{Starts, task, Work, Set, then, SeenSome, NoneYet, SeenRoom, FullYet, Due, due-else}
 use Rattle.bounded_proof_plain.proofs.Rows.{Outcome, Row, row}
 
 -- ---- what an effect puts at tail
@@ -94,7 +88,7 @@ module _ (c n ed : ℕ) (st : Story) (e : Event) (s u : Shared) (i w : ℕ) (far
       record {
         moment = length st′;
         named = named ∙ ap At (ap (λ (k : ℕ). k + 1) (known-count actor (changeOf ed) c st) ∙ sym longer);
-        begun = omega (arith, ap (λ (z : Doing). z .begun) (each-else actor (changeOf ed) c st e w far), longer);
+        begun = omega (arith, ap (λ (z : Doing). z .begun) (each-else c ed st e w far), longer);
         inside = omega arith;
         point = rw (queue-now actor (changeOf ed) c st′) (point-now c u b (known c ed st′ .queue) (mv .inv) shelf);
       }
@@ -193,22 +187,22 @@ module _ (bits : Width) (c n workers : ℕ) (base : Base bits c n workers) (ed :
     -- ---- an act
 
     module _ (lose : Bool) (busy : viewOf (stood m w) .busy ≡ true) (young : Recent c mark n s (pic .ages w) (look c (stood m w))) (early : m .meter < meterMost) where
-      abbrev i : ℕ
+      abbrev pub i : ℕ
       i = spot bits c n workers base s m pic w l lose busy
 
-      abbrev a : Acted
+      abbrev pub a : Acted
       a = result bits c n workers base s m pic w l lose busy
 
-      abbrev u : Shared
+      abbrev pub u : Shared
       u = next bits c n workers base s m pic w l lose busy young
 
-      abbrev act : Event
+      abbrev pub act : Event
       act = event w (stood m w) (a .place) (lossAt bits m w lose)
 
-      abbrev told-on : Story
+      abbrev pub told-on : Story
       told-on = st ++ Does act ∷ []
 
-      moves : Moves c s u w i (a .place)
+      pub moves : Moves c s u w i (a .place)
       moves =
           let stp = stepped bits c n workers base s m pic w l lose busy young in
           let up = grown bits c n workers base m (o .h) r w l lose busy young in
@@ -220,7 +214,7 @@ module _ (bits : Width) (c n workers : ℕ) (base : Base bits c n workers) (ed :
             inv = acted-pictured bits c n workers base s m pic w l lose busy young early .inv;
           }
 
-      outcome : Outcome bits c n ed (base .ground) st s (pic .inv) (pic .shut) (o .shelf) w i (pic .ages w) (lossAt bits m w lose) u (stood m w) a
+      pub outcome : Outcome bits c n ed (base .ground) st s (pic .inv) (pic .shut) (o .shelf) w i (pic .ages w) (lossAt bits m w lose) u (stood m w) a
       outcome =
           let z = getD (m .ring .slots) i (slot 0 0) in
           let same-act : a ≡ actOf bits (fixed c mark ed) (endsOf c mark n s (pic .shut)) (getD (m .ring .slots) i (slot 0 0)) (stood m w) lose =
@@ -229,7 +223,7 @@ module _ (bits : Width) (c n workers : ℕ) (base : Base bits c n workers) (ed :
           subst (Row bits c n ed (base .ground) st s (pic .inv) (pic .shut) (o .shelf) w i (pic .ages w) (lossAt bits m w lose) (stood m w)) (sym same-act)
           (row bits c n ed (base .ground) st s (pic .inv) (pic .shut) (o .shelf) w i (pic .ages w) (lossAt bits m w lose) z (stood m w) lose busy (pic .stands w) young (o .dues w)) u moves
 
-      new-item : movedOf (a .place) ≡ Tail → itemsOf (known c ed st .each w .calls) ≡ u .item (s .tail) ∷ []
+      pub new-item : movedOf (a .place) ≡ Tail → itemsOf (known c ed st .each w .calls) ≡ u .item (s .tail) ∷ []
       new-item e =
           let x = claims-item (tale (look c (a .place))) (sym (shows c (a .place) .1) ∙ e) in
           let is : itemIn (a .place) ≡ x .0 ∷ [] = shows c (a .place) .0 ∙ x .1 in
@@ -239,7 +233,7 @@ module _ (bits : Width) (c n workers : ℕ) (base : Base bits c n workers) (ed :
       shelf-on =
           let stp = stepped bits c n workers base s m pic w l lose busy young in
           let items = items-on c s u w i (moves .course) (movedOf (a .place)) (moves .inv) (moves .tails) (moves .heads) (known c ed st .queue .items) (itemsOf (known c ed st .each w .calls)) new-item (o .shelf .long, o .shelf .at) in
-          rw (queue-act actor (changeOf ed) c st act)
+          rw (queue-act c ed st act)
           (record {
             long = items .0;
             at = items .1;
@@ -251,17 +245,17 @@ module _ (bits : Width) (c n workers : ℕ) (base : Base bits c n workers) (ed :
 
       due-other : (j : ℕ) → j ≢ w → Due c n ed told-on u (pic .ages j) j (task (stood m j))
       due-other j far =
-          due-else c n ed st (Does act) s u w i j (moves .course) (pic .inv) far (each-else actor (changeOf ed) c st act j far)
+          due-else c n ed st (Does act) s u w i j (moves .course) (pic .inv) far (each-else c ed st act j far)
           (λ k e. moment-else c ed st act j far ∙ ap (heard (changeOf ed act) (known c ed st .count + 1)) e) (pic .ages j)
           (some-else c n ed st act s u i j far moves _ shelf-on (pic .ages j)) (room-else c n ed st act s u i j far moves _ shelf-on (pic .ages j)) (task (stood m j)) (o .dues j)
 
-      went : stood (acted bits m w (stood m w) lose) w ≡ a .place
+      pub went : stood (acted bits m w (stood m w) lose) w ≡ a .place
       went = acted-stood bits c n workers base s m pic w l lose busy
 
-      same-event : eventOf bits m w lose (acted bits m w (stood m w) lose) ≡ act
+      pub same-event : eventOf bits m w lose (acted bits m w (stood m w) lose) ≡ act
       same-event = ap (λ (q : Place). event w (stood m w) q (lossAt bits m w lose)) went
 
-      stood-else : (j : ℕ) → j ≢ w → stood (acted bits m w (stood m w) lose) j ≡ stood m j
+      pub stood-else : (j : ℕ) → j ≢ w → stood (acted bits m w (stood m w) lose) j ≡ stood m j
       unfolding actedBy stored
       stood-else j far = ap (λ (z : Worker). z .place) (getD-set-other (m .workers) w j _ idler far)
 
@@ -313,6 +307,11 @@ module _ (bits : Width) (c n workers : ℕ) (base : Base bits c n workers) (ed :
             changes = changes-on;
           }
 
+      -- ring and ages behind it
+      pub act-behind : (Q : Shared → (ℕ → Age) → Type 0) → Q u (upd (pic .ages) w (new-age bits c n workers base s m pic w l lose busy)) → Q (told-act .reached .ring) (told-act .reached .pictured .ages)
+      unfolding told-act
+      act-behind Q o = did-after bits c n workers base m _ r w l lose busy young early (λ (z : Shared) (b : Bool) (ages : ℕ → Age). Q z ages) o
+
     -- ---- a call begun
 
     module _ (cl : Call) (idle : viewOf (stood m w) .busy ≡ false) where
@@ -325,6 +324,10 @@ module _ (bits : Width) (c n workers : ℕ) (base : Base bits c n workers) (ed :
       begun-edition : begun m w (beginOf cl) .ring .fixed .edition ≡ m .ring .fixed .edition
       unfolding begun
       begun-edition = refl
+
+      -- it starts with nothing put in or taken out
+      starts : Work c n ed begun-on w cl [] []
+      starts = work-begun actor (changeOf ed) c st w cl
 
       begun-task : (b : Call) → task (beginOf b) ≡ Starts b
       begun-task (call.Push x) = refl
@@ -343,10 +346,10 @@ module _ (bits : Width) (c n workers : ℕ) (base : Base bits c n workers) (ed :
           go : Dec (j ≡ w) → Due c n ed begun-on s (pic .ages j) j (task (placeOf (set (m .workers) w (beginner (beginOf cl))) j))
           go (yes e) =
               rw e (subst (λ (z : Worker). Due c n ed begun-on s (pic .ages w) w (task (z .place)))
-              (sym (getD-set-same (m .workers) w (beginner (beginOf cl)) idler (omega (arith, pic .workers-long, few-workers m (pic .unbroken))))) (rw (begun-task cl) (work-begun actor (changeOf ed) c st w cl)))
+              (sym (getD-set-same (m .workers) w (beginner (beginOf cl)) idler (omega (arith, pic .workers-long, few-workers m (pic .unbroken))))) (rw (begun-task cl) starts))
           go (no far) =
               subst (λ (z : Worker). Due c n ed begun-on s (pic .ages j) j (task (z .place))) (sym (getD-set-other (m .workers) w j (beginner (beginOf cl)) idler far))
-              (due-else c n ed st (Begun w cl) s s w 0 j (same refl) (pic .inv) far (each-unbegun actor (changeOf ed) c st w cl j far) (λ k e. moment-begun c ed st w cl j ∙ e) (pic .ages j)
+              (due-else c n ed st (Begun w cl) s s w 0 j (same refl) (pic .inv) far (each-unbegun c ed st w cl j far) (λ k e. moment-begun c ed st w cl j ∙ e) (pic .ages j)
               (λ work p. inr (record { pending = moment-begun c ed st w cl j ∙ p .pending; tail = p .tail; head = p .head }))
               (λ work p. inr (record { pending = moment-begun c ed st w cl j ∙ p .pending; tail = p .tail; head = p .head })) (task (stood m j)) (o .dues j))
 
@@ -355,7 +358,7 @@ module _ (bits : Width) (c n workers : ℕ) (base : Base bits c n workers) (ed :
           let now = begun m w (beginOf cl) in
           let both =
           begun-after bits c n workers base m (o .h) r w l cl idle
-          (λ (z : Shared) (b : Bool) (ages : ℕ → Age). Shelved c z b (known c ed begun-on .queue) × ((j : ℕ) → Due c n ed begun-on z (ages j) j (task (stood now j)))) (rw (queue-begun actor (changeOf ed) c st w cl) (o .shelf), due-begun) in
+          (λ (z : Shared) (b : Bool) (ages : ℕ → Age). Shelved c z b (known c ed begun-on .queue) × ((j : ℕ) → Due c n ed begun-on z (ages j) j (task (stood now j)))) (rw (queue-begun c ed st w cl) (o .shelf), due-begun) in
           record {
             h = o .h ++ [];
             acts = acts-end st (Begun w cl) ∙ ap (λ (z : List Event). z ++ []) (o .acts);
@@ -375,6 +378,10 @@ module _ (bits : Width) (c n workers : ℕ) (base : Base bits c n workers) (ed :
           go-change : (earlier later : Story) (e : Event) → Last st (Begun w cl) earlier (Does e) later ⊎ Earlier st (Begun w cl) earlier (Does e) later → Changes ed (known c ed earlier .queue) e
           go-change earlier later e (inr p) = o .changes earlier (p .left) e (p .was)
           go-change earlier later e (inl p) = absurd (let y = p .one in let q : _≡_ {A = ℕ} 0 1 = cc in omega arith)
+
+      pub begun-behind : (Q : Shared → (ℕ → Age) → Type 0) → Q s (pic .ages) → Q (told-begun .reached .ring) (told-begun .reached .pictured .ages)
+      unfolding told-begun
+      begun-behind Q o = begun-after bits c n workers base m _ r w l cl idle (λ (z : Shared) (b : Bool) (ages : ℕ → Age). Q z ages) o
 
   -- every accepted entry leads on
   pub told-kept : (m : Machine) (st : Story) (en : Entry) (after-it : Machine) (acts : List Event) → Told m st → InWindow bits m (actsIn st) → Turned bits m en after-it acts → Told after-it (st ++ (begunIn en ++ map Does acts))

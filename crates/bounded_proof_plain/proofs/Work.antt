@@ -1,7 +1,7 @@
 -- What a worker's call has behind it at each place: its item, what it put in and took out, and the moment of the answer that it may give. Others' acts and begins leave it so.
-use mathlib.Core.Path.{_≡_, refl, sym, ap, _∙_, subst}
+use mathlib.Core.Path.{_≡_, sym, ap, _∙_}
 use mathlib.Core.Logic.{_≢_, _⊎_, inl, inr}
-use mathlib.Core.Bool.{Bool, true, false, cond, true≢false}
+use mathlib.Core.Bool.{Bool, false}
 use mathlib.Core.List.{List, [], _∷_, _++_}
 use Prim.Native.Nat.{ℕ, _+_, _≤_, _<_}
 use native.Mathlib.Omega.{arith}
@@ -9,8 +9,8 @@ use lib.ListN.{length, length-append}
 use Rattle.queue_entries.specs.declared.Call.{Call}
 use Rattle.queue_entries.specs.declared.Call.the-variants as call
 use Rattle.queue_plain.specs.Plain.{Queue}
-use Rattle.queue_plain.specs.Story.{Begun, Does, Change, Doing, Known}
-use Rattle.queue_plain.proofs.Stories.{queue-past, queue-now, known-count}
+use Rattle.queue_plain.specs.Story.{Doing}
+use Rattle.queue_plain.proofs.Stories.{queue-past}
 use Rattle.queue_plain.proofs.Calls as calls
 use Rattle.bounded_words.specs.declared.Stamp.{Stamp}
 use Rattle.bounded_words.specs.Words.{markOf}
@@ -18,18 +18,12 @@ use Rattle.bounded_places.specs.declared.Kind.{Kind}
 use Rattle.bounded_places.specs.declared.Kind.the-variants.{Push, Force}
 use Rattle.bounded_places.specs.declared.Place.{Place}
 use Rattle.bounded_places.specs.declared.Place.the-variants.{Idle, P1, P2, P3, P4, P5, P6, F6, F7, F8, F9, O1, O2, O3, O4, O5, O6, Len1, Len2, Len3, Empty1, Empty2, Full1, Full2, Close1, IsClosed1}
-use Rattle.bounded_machine.specs.declared.Event.{Event}
-use Rattle.bounded_machine.specs.declared.Moved.{Moved}
-use Rattle.bounded_machine.specs.declared.Moved.the-variants.{Neither, Tail, Head}
-use Rattle.bounded_machine.specs.History.{movedOf}
-use Rattle.bounded_causes.specs.Causes.{claimsTail, claimsHead}
-use Rattle.bounded_demands.specs.Notions.{tailBy, headBy}
-use Rattle.bounded_demands.specs.Stories.{Element, Story, known, queueAt, changeOf, actor, Moment, At, AfterNextTail, AfterNextHead, heard, momentOf}
+use Rattle.bounded_demands.specs.Stories.{Element, Story, known, queueAt, changeOf, actor, At, AfterNextTail, AfterNextHead, momentOf}
 use Rattle.bounded_proof_invariant.proofs.Ring.{Shared, Latest, Inv}
 use Rattle.bounded_proof_invariant.proofs.Effects.{Course}
 use Rattle.bounded_proof_each_act.proofs.Stamps.{W, tailWord}
 use Rattle.bounded_proof_each_act.proofs.Sight.{Age}
-use Rattle.bounded_proof_plain.proofs.Shelf.{moment-else, moment-begun, Shelved, Moves, Point, point-now, point-on, item-course, latest-course}
+use Rattle.bounded_proof_plain.proofs.Shelf.{Point, point-on, item-course, latest-course}
 
 -- Where a call is, as far as the plain queue goes.
 pub data Task : Type 0 where

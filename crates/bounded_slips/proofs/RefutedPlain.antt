@@ -1,9 +1,9 @@
 -- Each table that is no plain queue's, refuted by computing its schedule.
-use Prim.Native.Nat.{ℕ, suc, _<_, _≤_}
+use Prim.Native.Nat.{ℕ, _<_}
 use native.Mathlib.Omega.{arith}
 use mathlib.Core.Bool.{Bool, true, false, cond, true≢false}
 use mathlib.Core.List.{List, [], _∷_, _++_, append-assoc}
-use mathlib.Core.Path.{_≡_, refl, sym, ap, _∙_, subst}
+use mathlib.Core.Path.{_≡_, refl, sym, ap, _∙_}
 use lib.Dec.{eqb, ltb}
 use lib.ListN.{length, getD}
 use borrow.Author.Tests.{eq-eqb, lt-ltb}
@@ -15,7 +15,7 @@ use Rattle.queue_plain.specs.Plain.{Reply, Queue, answerOf}
 use Rattle.queue_plain.specs.Plain as plain
 use Rattle.queue_plain.specs.Story.{Begun, Does, Doing, knownFrom}
 use Rattle.queue_plain.specs.Story.{itemsOf as itemsBegun}
-use Rattle.bounded_words.specs.Words.{doubled, markOf, markedOf, unmarkedOf, plus, minus, withMark, nextOf, same, onePast, lapBehind, lapBehindOnePast, stamp}
+use Rattle.bounded_words.specs.Words.{doubled, markOf, markedOf, unmarkedOf, plus, minus, withMark, nextOf, same, onePast, lapBehind, lapBehindOnePast}
 use Rattle.bounded_places.specs.declared.Answer.{Answer}
 use Rattle.bounded_places.specs.declared.Place.{Place}
 use Rattle.bounded_places.specs.declared.Place.the-variants.{Idle}
@@ -26,12 +26,12 @@ use Rattle.bounded_machine.specs.Machine.{emptySlots, stamped, freshSlots, idle
 use Rattle.bounded_machine.specs.Turn.{recordAfter, begun, stored, actedBy, turnOfBy}
 use Rattle.bounded_machine.specs.Run.{ran}
 use Rattle.bounded_demands.specs.Notions.{acts, AllowedWith}
-use Rattle.bounded_demands.specs.Stories.{Element, Story, storyOf, known, queueAt, changeOf, replyOf, putBy, Moment, At, AfterNextTail, AfterNextHead, momentFrom, momentOf}
-use Rattle.bounded_demands.specs.Demands.{Answered, Meant, Changes, AnswersPlain}
+use Rattle.bounded_demands.specs.Stories.{Story, storyOf, known, queueAt, changeOf, replyOf, putBy, Moment, At, AfterNextTail, AfterNextHead, momentFrom, momentOf}
+use Rattle.bounded_demands.specs.Demands.{Answered, Meant, Changes}
 use Rattle.bounded_proof_each_act.proofs.Sight.{look, answerIn}
 use Rattle.bounded_proof_demand2.proofs.Pictured.{idle-is}
 use Rattle.bounded_slips.specs.Slips.{slipped}
-use Rattle.bounded_slips.specs.Refuted.{Trial, does}
+use Rattle.bounded_slips.specs.Refuted.{Trial}
 use Rattle.bounded_slips.specs.RefutedPlain.{Unplain, RefutedPlain, pushChanges, forceChanges, pushDrops, pushUnmarks, pushCloses, pushOverwrites, pushBesidePop, pushOfNothing, popTooEarly, popOfDisplaced, forceOfNothing, closeForgotten, closeKept, popBesidePush, popOfClosed, popOfShut, popAgain, lenBeside, neverEmpty, neverFull, emptyDenied, fullDenied, closedTwice, closedDenied}
 
 -- a reply as two numbers: which it is, and what it holds

@@ -107,7 +107,7 @@ module _ {E : Type 0} (worker : E → ℕ) (change : E → Change) where
       abbrev after-act : Known
       after-act = known worker change capacity (s ++ Does e ∷ [])
 
-      known-act : after-act ≡ knownWith worker change before (Does e)
+      pub known-act : after-act ≡ knownWith worker change before (Does e)
       known-act = known-end (fresh capacity) s (Does e)
 
       pub each-own : after-act .each (worker e) ≡ doingWith (change e) (before .queue) (before .each (worker e))
