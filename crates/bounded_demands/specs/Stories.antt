@@ -81,43 +81,13 @@ queueAt capacity edition n s = stories.queueAt actor (changeOf edition) capacity
 
 -- What a call that came with these items and answered so has put in, what it has taken out, and what it gives back.
 abbrev pub putBy : Answer → List ℕ → List ℕ
-putBy Nothing x = []
-putBy Pushed x = x
-putBy (Full y) x = []
-putBy (Closed y) x = []
-putBy (Displaced v) x = x
-putBy (Popped v) x = []
-putBy Empty x = []
-putBy PopClosed x = []
-putBy (Len n) x = []
-putBy Yes x = []
-putBy No x = []
+putBy a x = plain.meaningOf (plain.putBy x) (replyOf a)
 
 abbrev pub takenBy : Answer → List ℕ
-takenBy Nothing = []
-takenBy Pushed = []
-takenBy (Full x) = []
-takenBy (Closed x) = []
-takenBy (Displaced v) = v ∷ []
-takenBy (Popped v) = v ∷ []
-takenBy Empty = []
-takenBy PopClosed = []
-takenBy (Len n) = []
-takenBy Yes = []
-takenBy No = []
+takenBy a = plain.meaningOf plain.takenBy (replyOf a)
 
 abbrev pub givenBack : Answer → List ℕ
-givenBack Nothing = []
-givenBack Pushed = []
-givenBack (Full x) = x ∷ []
-givenBack (Closed x) = x ∷ []
-givenBack (Displaced v) = []
-givenBack (Popped v) = []
-givenBack Empty = []
-givenBack PopClosed = []
-givenBack (Len n) = []
-givenBack Yes = []
-givenBack No = []
+givenBack a = plain.meaningOf plain.givenBack (replyOf a)
 
 -- The item that a push or force_push under way has in its record, up to the write.
 abbrev pub itemAt : Place → List ℕ

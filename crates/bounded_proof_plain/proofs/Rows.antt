@@ -2,7 +2,7 @@
 use mathlib.Core.Path.{_≡_, refl, sym, ap, _∙_, subst}
 use mathlib.Core.Logic.{_≢_, _⊎_, inl, inr}
 use mathlib.Core.Bool.{Bool, true, false, cond, true≢false}
-use mathlib.Core.List.{List, [], _∷_, _++_, append-nil}
+use mathlib.Core.List.{List, [], _∷_, _++_}
 use Prim.Native.Nat.{ℕ, _+_, _*_, _-_, _≤_, _<_}
 use native.Mathlib.Omega.{arith}
 use native.Mathlib.Decide.{decLt}
@@ -11,10 +11,12 @@ use lib.ListN.{length, getD, take, drop, length-append}
 use borrow.Author.Tests.{eqb-true, eqb-false, eq-eqb, ne-eqb}
 use Rattle.queue_entries.specs.declared.Call.{Call}
 use Rattle.queue_entries.specs.declared.Call.the-variants as call
-use Rattle.queue_plain.specs.Plain.{Queue, Reply, answerOf, fullOf, frontOf}
+use Rattle.queue_plain.specs.Plain.{Queue, Reply, answerOf, fullOf}
 use Rattle.queue_plain.specs.Plain as plain
 use Rattle.queue_plain.specs.Story.{Does, Doing, doingWith, itemsOf}
 use Rattle.queue_plain.proofs.Stories.{queue-past, queue-now, known-count}
+use Rattle.queue_plain.proofs.Calls as calls
+use Rattle.queue_plain.proofs.Answers.{none-of, push-closed, push-room, push-full, force-closed, force-room, force-full, pop-front, pop-none}
 use Rattle.bounded_words.specs.declared.Stamp.{Stamp}
 use Rattle.bounded_words.specs.declared.Fixed.{Fixed}
 use Rattle.bounded_words.specs.declared.Width.{Width}
@@ -70,10 +72,6 @@ pub first-of : (l : List ℕ) → 0 < length l → take 1 l ≡ getD l 0 0 ∷ [
 first-of [] h = absurd (omega arith)
 first-of (x ∷ l) h = refl
 
-none-of : (l : List ℕ) → length l ≡ 0 → l ≡ []
-none-of [] h = refl
-none-of (x ∷ l) h = absurd (omega arith)
-
 latest-same : (who : ℕ → ℕ) (count w j k : ℕ) → Latest who count w j → Latest who count w k → j ≡ k
 latest-same who count w j k a b = go (decLt j k) (decLt k j)
   where
@@ -94,24 +92,21 @@ no-item = refl
 
 -- the answer to a push or force_push, closed, and open with room
 closed-to : (k : Kind) (x : ℕ) (q : Queue) → q .closed ≡ true → answerOf q (pushing k x) ≡ plain.Closed x
-closed-to Push x q e = rw e
-closed-to Force x q e = rw e
+closed-to Push x q e = push-closed q x e
+closed-to Force x q e = force-closed q x e
 
 pub room-for : (k : Kind) (x : ℕ) (q : Queue) → q .closed ≡ false → fullOf q ≡ false → answerOf q (pushing k x) ≡ plain.Pushed
-room-for Push x q e f = rw (e, f)
-room-for Force x q e f = rw (e, f)
+room-for Push x q e f = push-room q x e f
+room-for Force x q e f = force-room q x e f
 
 pub full-to : (x : ℕ) (q : Queue) → q .closed ≡ false → fullOf q ≡ true → answerOf q (call.Push x) ≡ plain.Full x
-full-to x q e f = rw (e, f)
+full-to x q = push-full q x
 
 pub displaced-to : (x v : ℕ) (others : List ℕ) (q : Queue) → q .closed ≡ false → fullOf q ≡ true → q .items ≡ v ∷ others → answerOf q (call.ForcePush x) ≡ plain.Displaced v
-displaced-to x v others q e f i = rw (e, f) (ap (frontOf plain.Displaced plain.Pushed) i)
+displaced-to x v others q = force-full q x v others
 
 pub popped-to : (v : ℕ) (others : List ℕ) (q : Queue) → q .items ≡ v ∷ others → answerOf q call.Pop ≡ plain.Popped v
-popped-to v others q i = ap (frontOf plain.Popped (cond (q .closed) plain.EmptyAndClosed plain.Empty)) i
-
-none-to : (q : Queue) → q .items ≡ [] → answerOf q call.Pop ≡ cond (q .closed) plain.EmptyAndClosed plain.Empty
-none-to q i = ap (frontOf plain.Popped (cond (q .closed) plain.EmptyAndClosed plain.Empty)) i
+popped-to v others q = pop-front q v others
 
 not-close : (k : Kind) (x : ℕ) → pushing k x ≡ call.Close → ⊥
 not-close Push x e = let z : _≡_ {A = ℕ} 0 1 = cc in omega arith
@@ -200,23 +195,10 @@ module _ (bits : Width) (c n ed : ℕ) (g : Ground bits c (markOf c) n) (st : St
 
     work-on : (cl : Call) (put took : List ℕ) → Work c n ed st w cl put took
         → Work c n ed (now p q) w cl (put ++ cond (claimsTail (movedOf q)) (itemsOf (cl ∷ [])) []) (took ++ cond (claimsHead (movedOf q)) (take 1 (known c ed st .queue .items)) [])
-    work-on cl put took o =
-        record {
-          its = ap (λ (z : Doing). z .calls) own ∙ o .its;
-          begun = omega (arith, ap (λ (z : Doing). z .begun) own, o .begun, longer);
-          puts = ap (λ (z : Doing). z .puts) own ∙ rw (o .its, o .puts);
-          takes = ap (λ (z : Doing). z .takes) own ∙ rw (o .takes);
-        }
+    work-on = calls.work-on actor (changeOf ed) c st (act p q)
 
     work-still : movedOf q ≡ Neither → (cl : Call) (put took : List ℕ) → Work c n ed st w cl put took → Work c n ed (now p q) w cl put took
-    work-still e cl put took o =
-        let r = work-on cl put took o in
-        record {
-          its = r .its;
-          begun = r .begun;
-          puts = r .puts ∙ rw e (append-nil put);
-          takes = r .takes ∙ rw e (append-nil took);
-        }
+    work-still e = calls.work-still actor (changeOf ed) c st (act p q) (ap claimsTail e) (ap claimsHead e)
 
     past : (k : ℕ) → k ≤ length st → queueAt c ed k (now p q) ≡ queueAt c ed k st
     past k h = queue-past actor (changeOf ed) c k st (Does (act p q)) h
@@ -765,9 +747,9 @@ module _ (bits : Width) (c n ed : ℕ) (g : Ground bits c (markOf c) n) (st : St
       either (Row (O6 h)) (same (unmarkedOf f (E .tail)) h) _ (stay E z O1)
       (λ d. either (Row (O6 h)) (markedOf f (E .tail)) (stay E z (Idle PopClosed)) (stay E z (Idle Empty))
       (λ y. ends z (O6 h) PopClosed (quietly refl refl refl refl)
-      (ended-now (O6 h) call.Pop [] [] PopClosed refl o speaks-closed (ap (λ (r : Reply). r ∷ []) (none-to (known c ed st .queue) (none-now (even d)) ∙ rw (shelf .flag ∙ sym marked-now ∙ y)))))
+      (ended-now (O6 h) call.Pop [] [] PopClosed refl o speaks-closed (ap (λ (r : Reply). r ∷ []) (pop-none (known c ed st .queue) (none-now (even d)) ∙ rw (shelf .flag ∙ sym marked-now ∙ y)))))
       (λ y. ends z (O6 h) Empty (quietly refl refl refl refl)
-      (ended-now (O6 h) call.Pop [] [] Empty refl o speaks-empty (ap (λ (r : Reply). r ∷ []) (none-to (known c ed st .queue) (none-now (even d)) ∙ rw (shelf .flag ∙ sym marked-now ∙ y))))))
+      (ended-now (O6 h) call.Pop [] [] Empty refl o speaks-empty (ap (λ (r : Reply). r ∷ []) (pop-none (known c ed st .queue) (none-now (even d)) ∙ rw (shelf .flag ∙ sym marked-now ∙ y))))))
       (λ d. pops z (O6 h) O1 (quietly refl refl refl refl) (not-idle O1 refl) refl o)
     where
       even : same (unmarkedOf f (E .tail)) h ≡ true → s .tail ≡ s .head

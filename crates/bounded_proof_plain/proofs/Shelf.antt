@@ -13,7 +13,8 @@ use borrow.Author.Tests.{eq-eqb, ne-eqb}
 use Rattle.queue_entries.specs.declared.Call.{Call}
 use Rattle.queue_plain.specs.Plain.{Queue, queue, fullOf}
 use Rattle.queue_plain.specs.Story.{Begun, Does, Change, Known, beginning, doingWith, changedBy, itemsOf, fresh, knownWith, knownFrom}
-use Rattle.queue_plain.proofs.Stories.{known-end, known-count}
+use Rattle.queue_plain.proofs.Stories.{known-count}
+use Rattle.queue_plain.proofs.Stories as laws
 use Rattle.bounded_places.specs.declared.Place.{Place}
 use Rattle.bounded_machine.specs.declared.Event.{Event}
 use Rattle.bounded_machine.specs.declared.Moved.{Moved}
@@ -96,20 +97,16 @@ moment-past c ed w st k h =
 module _ (c ed : ℕ) (st : Story) where
   module _ (e : Event) where
     pub known-act : known c ed (st ++ Does e ∷ []) ≡ knownWith actor (changeOf ed) (known c ed st) (Does e)
-    known-act = known-end actor (changeOf ed) (fresh c) st (Does e)
+    known-act = laws.known-act actor (changeOf ed) c st e
 
     pub each-own : known c ed (st ++ Does e ∷ []) .each (e .worker) ≡ doingWith (changeOf ed e) (known c ed st .queue) (known c ed st .each (e .worker))
-    each-own =
-        ap (λ (k : Known). k .each (e .worker)) known-act
-        ∙ ap (λ (b : Bool). cond b (doingWith (changeOf ed e) (known c ed st .queue) (known c ed st .each (e .worker))) (known c ed st .each (e .worker))) (eq-eqb (e .worker) (e .worker) refl)
+    each-own = laws.each-own actor (changeOf ed) c st e
 
     pub each-else : (j : ℕ) → j ≢ e .worker → known c ed (st ++ Does e ∷ []) .each j ≡ known c ed st .each j
-    each-else j ne =
-        ap (λ (k : Known). k .each j) known-act
-        ∙ ap (λ (b : Bool). cond b (doingWith (changeOf ed e) (known c ed st .queue) (known c ed st .each j)) (known c ed st .each j)) (ne-eqb j (e .worker) ne)
+    each-else = laws.each-else actor (changeOf ed) c st e
 
     pub queue-act : known c ed (st ++ Does e ∷ []) .queue ≡ changedBy (changeOf ed e) (itemsOf (known c ed st .each (e .worker) .calls)) (known c ed st .queue)
-    queue-act = ap (λ (k : Known). k .queue) known-act
+    queue-act = laws.queue-act actor (changeOf ed) c st e
 
     moment-act : (j : ℕ) → momentOf c ed j (st ++ Does e ∷ []) ≡ momentWith ed j (known c ed st) (momentOf c ed j st) (Does e)
     moment-act j = moment-end ed j (fresh c) (At 0) st (Does e)
@@ -127,21 +124,14 @@ module _ (c ed : ℕ) (st : Story) where
         (ne-eqb j (e .worker) ne)
 
   module _ (w : ℕ) (cl : Call) where
-    known-begun : known c ed (st ++ Begun w cl ∷ []) ≡ knownWith actor (changeOf ed) (known c ed st) (Begun w cl)
-    known-begun = known-end actor (changeOf ed) (fresh c) st (Begun w cl)
-
     pub each-begun : known c ed (st ++ Begun w cl ∷ []) .each w ≡ beginning cl (known c ed st .count)
-    each-begun =
-        ap (λ (k : Known). k .each w) known-begun
-        ∙ ap (λ (b : Bool). cond b (beginning cl (known c ed st .count)) (known c ed st .each w)) (eq-eqb w w refl)
+    each-begun = laws.each-begun actor (changeOf ed) c st w cl
 
     pub each-unbegun : (j : ℕ) → j ≢ w → known c ed (st ++ Begun w cl ∷ []) .each j ≡ known c ed st .each j
-    each-unbegun j ne =
-        ap (λ (k : Known). k .each j) known-begun
-        ∙ ap (λ (b : Bool). cond b (beginning cl (known c ed st .count)) (known c ed st .each j)) (ne-eqb j w ne)
+    each-unbegun = laws.each-unbegun actor (changeOf ed) c st w cl
 
     pub queue-begun : known c ed (st ++ Begun w cl ∷ []) .queue ≡ known c ed st .queue
-    queue-begun = ap (λ (k : Known). k .queue) known-begun
+    queue-begun = laws.queue-begun actor (changeOf ed) c st w cl
 
     pub moment-begun : (j : ℕ) → momentOf c ed j (st ++ Begun w cl ∷ []) ≡ momentOf c ed j st
     moment-begun j = moment-end ed j (fresh c) (At 0) st (Begun w cl)

@@ -17,6 +17,7 @@ use Rattle.queue_entries.specs.declared.Entry.the-variants.{Asks}
 use Rattle.queue_plain.specs.Plain.{Queue}
 use Rattle.queue_plain.specs.Story.{Begun, Does, Doing, itemsOf, begunIn, actsIn}
 use Rattle.queue_plain.proofs.Stories.{acts-end, queue-now, known-count}
+use Rattle.queue_plain.proofs.Calls.{work-begun}
 use Rattle.bounded_words.specs.declared.Fixed.{Fixed}
 use Rattle.bounded_words.specs.declared.Width.{Width}
 use Rattle.bounded_words.specs.Words.{markOf, markedOf}
@@ -49,7 +50,7 @@ use Rattle.bounded_proof_demand2.proofs.Lists.{Last, Earlier, split-end}
 use Rattle.bounded_proof_demand2.proofs.Logged.{itemsBy, movedBy, shows}
 use Rattle.bounded_proof_demand2.proofs.Pictured.{Base, Pictured, acted-pictured, stepped, coursed, effect, spot, next, result, acted-stood, new-age}
 use Rattle.bounded_proof_demand2.proofs.Reached.{Reached, grown, entered, begun-after, did-after, recent-in}
-use Rattle.bounded_proof_plain.proofs.Shelf.{each-else, queue-act, moment-else, each-begun, each-unbegun, queue-begun, moment-begun, Shelved, Moves, items-on, point-now}
+use Rattle.bounded_proof_plain.proofs.Shelf.{each-else, queue-act, moment-else, each-unbegun, queue-begun, moment-begun, Shelved, Moves, items-on, point-now}
 use Rattle.bounded_proof_plain.proofs.Work.{Starts, task, Work, Set, then, SeenSome, NoneYet, SeenRoom, FullYet, Due, due-else}
 use Rattle.bounded_proof_plain.proofs.Rows.{Outcome, Row, row}
 
@@ -326,14 +327,7 @@ module _ (bits : Width) (c n workers : ℕ) (base : Base bits c n workers) (ed :
 
       -- it starts with nothing put in or taken out
       starts : Work c n ed begun-on w cl [] []
-      starts =
-          let each = each-begun c ed st w cl in
-          record {
-            its = ap (λ (z : Doing). z .calls) each;
-            begun = omega (arith, ap (λ (z : Doing). z .begun) each, known-count actor (changeOf ed) c st, longer-begun);
-            puts = ap (λ (z : Doing). z .puts) each;
-            takes = ap (λ (z : Doing). z .takes) each;
-          }
+      starts = work-begun actor (changeOf ed) c st w cl
 
       begun-task : (b : Call) → task (beginOf b) ≡ Starts b
       begun-task (call.Push x) = refl

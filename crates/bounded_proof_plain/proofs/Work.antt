@@ -11,6 +11,7 @@ use Rattle.queue_entries.specs.declared.Call.the-variants as call
 use Rattle.queue_plain.specs.Plain.{Queue}
 use Rattle.queue_plain.specs.Story.{Doing}
 use Rattle.queue_plain.proofs.Stories.{queue-past}
+use Rattle.queue_plain.proofs.Calls as calls
 use Rattle.bounded_words.specs.declared.Stamp.{Stamp}
 use Rattle.bounded_words.specs.Words.{markOf}
 use Rattle.bounded_places.specs.declared.Kind.{Kind}
@@ -77,12 +78,8 @@ task Close1 = Starts call.Close
 task IsClosed1 = Starts call.IsClosed
 
 module _ (c n ed : ℕ) where
-  -- the call that w is in, with what it has put in and taken out
-  pub record Work (st : Story) (w : ℕ) (cl : Call) (put took : List ℕ) : Type 0 where
-    pub its : known c ed st .each w .calls ≡ cl ∷ []
-    pub begun : known c ed st .each w .begun < length st
-    pub puts : known c ed st .each w .puts ≡ put
-    pub takes : known c ed st .each w .takes ≡ took
+  abbrev pub Work : Story → ℕ → Call → List ℕ → List ℕ → Type 0
+  Work = calls.Work actor (changeOf ed) c
 
   -- its moment, with the claims made by then
   pub record Set (st : Story) (s : Shared) (w tails heads : ℕ) : Type 0 where
@@ -191,13 +188,7 @@ module _ (c n ed : ℕ) where
     longer = length-append st (x ∷ []) ∙ omega arith
 
     work-else : (cl : Call) (put took : List ℕ) → Work st w cl put took → Work st′ w cl put took
-    work-else cl put took o =
-        record {
-          its = ap (λ (z : Doing). z .calls) each ∙ o .its;
-          begun = omega (arith, ap (λ (z : Doing). z .begun) each, o .begun, longer);
-          puts = ap (λ (z : Doing). z .puts) each ∙ o .puts;
-          takes = ap (λ (z : Doing). z .takes) each ∙ o .takes;
-        }
+    work-else = calls.work-else actor (changeOf ed) c st x w each
 
     past : (k : ℕ) → k ≤ length st → queueAt c ed k st′ ≡ queueAt c ed k st
     past k l = queue-past actor (changeOf ed) c k st x l

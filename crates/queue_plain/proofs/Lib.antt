@@ -1,1 +1,3 @@
 pub mod Stories
+pub mod Calls
+pub mod Answers

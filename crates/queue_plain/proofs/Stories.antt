@@ -5,14 +5,17 @@ use mathlib.Core.Bool.{Bool, true, false, cond}
 use mathlib.Core.List.{List, [], _∷_, _++_, map, append-assoc, append-nil}
 use mathlib.Core.Path.{_≡_, refl, sym, ap, _∙_}
 use lib.Dec.{eqb}
+use mathlib.Core.Logic.{_≢_}
 use lib.ListN.{length, take, drop, length-append}
+use borrow.Author.Tests.{eq-eqb, ne-eqb}
+use Rattle.queue_entries.specs.declared.Call.{Call}
 use Rattle.queue_entries.specs.declared.Order.the-variants.{Begin, Act}
 use Rattle.queue_entries.specs.declared.Entry.{Entry}
 use Rattle.queue_entries.specs.declared.Entry.the-variants.{Unreadable, Asks}
 use Rattle.queue_entries.specs.Entries.{entryOf}
 use Rattle.queue_entries.specs.Schedules.{historyBy}
 use Rattle.queue_plain.specs.Plain.{Queue, queue}
-use Rattle.queue_plain.specs.Story.{Element, Begun, Does, Story, begunIn, elementsBy, Change, Known, fresh, changedBy, itemsOf, actIn, actsIn, knownWith, knownFrom, known, queueAt, cameFrom, wentFrom}
+use Rattle.queue_plain.specs.Story.{Element, Begun, Does, Story, begunIn, elementsBy, Change, beginning, doingWith, Known, fresh, changedBy, itemsOf, actIn, actsIn, knownWith, knownFrom, known, queueAt, cameFrom, wentFrom, followedFrom}
 
 pub acts-end : {E : Type 0} (s : Story E) (x : Element E) → actsIn (s ++ x ∷ []) ≡ actsIn s ++ actIn x
 unfolding actsIn
@@ -77,6 +80,64 @@ module _ {E : Type 0} (worker : E → ℕ) (change : E → Change) where
 
   pub queue-now : (capacity : ℕ) (s : Story E) → queueAt worker change capacity (length s) s ≡ known worker change capacity s .queue
   queue-now capacity s = ap (λ (z : Story E). known worker change capacity z .queue) (take-whole s)
+
+  -- the room stays as it was made
+  capacity-from : (k : Known) (s : Story E) → knownFrom worker change k s .queue .capacity ≡ k .queue .capacity
+  unfolding knownFrom
+  capacity-from k [] = refl
+  capacity-from k (Begun w c ∷ s) = capacity-from (knownWith worker change k (Begun w c)) s
+  capacity-from k (Does e ∷ s) = capacity-from (knownWith worker change k (Does e)) s
+
+  pub capacity-is : (capacity : ℕ) (s : Story E) → known worker change capacity s .queue .capacity ≡ capacity
+  capacity-is capacity s = capacity-from (fresh capacity) s
+
+  -- what is followed along it, one element more
+  pub followed-end : {T : Type 0} (next : Known → T → Element E → T) (k : Known) (was : T) (s : Story E) (x : Element E)
+      → followedFrom worker change next k was (s ++ x ∷ []) ≡ next (knownFrom worker change k s) (followedFrom worker change next k was s) x
+  unfolding followedFrom knownFrom
+  followed-end next k was [] x = refl
+  followed-end next k was (y ∷ s) x = followed-end next (knownWith worker change k y) (next k was y) s x
+
+  -- ---- what is known after one element more
+  module _ (capacity : ℕ) (s : Story E) where
+    abbrev before : Known
+    before = known worker change capacity s
+
+    module _ (e : E) where
+      abbrev after-act : Known
+      after-act = known worker change capacity (s ++ Does e ∷ [])
+
+      pub known-act : after-act ≡ knownWith worker change before (Does e)
+      known-act = known-end (fresh capacity) s (Does e)
+
+      pub each-own : after-act .each (worker e) ≡ doingWith (change e) (before .queue) (before .each (worker e))
+      each-own =
+          ap (λ (k : Known). k .each (worker e)) known-act
+          ∙ ap (λ (b : Bool). cond b (doingWith (change e) (before .queue) (before .each (worker e))) (before .each (worker e))) (eq-eqb (worker e) (worker e) refl)
+
+      pub each-else : (j : ℕ) → j ≢ worker e → after-act .each j ≡ before .each j
+      each-else j ne =
+          ap (λ (k : Known). k .each j) known-act
+          ∙ ap (λ (b : Bool). cond b (doingWith (change e) (before .queue) (before .each j)) (before .each j)) (ne-eqb j (worker e) ne)
+
+      pub queue-act : after-act .queue ≡ changedBy (change e) (itemsOf (before .each (worker e) .calls)) (before .queue)
+      queue-act = ap (λ (k : Known). k .queue) known-act
+
+    module _ (w : ℕ) (c : Call) where
+      abbrev after-begin : Known
+      after-begin = known worker change capacity (s ++ Begun w c ∷ [])
+
+      known-begun : after-begin ≡ knownWith worker change before (Begun w c)
+      known-begun = known-end (fresh capacity) s (Begun w c)
+
+      pub each-begun : after-begin .each w ≡ beginning c (before .count)
+      each-begun = ap (λ (k : Known). k .each w) known-begun ∙ ap (λ (b : Bool). cond b (beginning c (before .count)) (before .each w)) (eq-eqb w w refl)
+
+      pub each-unbegun : (j : ℕ) → j ≢ w → after-begin .each j ≡ before .each j
+      each-unbegun j ne = ap (λ (k : Known). k .each j) known-begun ∙ ap (λ (b : Bool). cond b (beginning c (before .count)) (before .each j)) (ne-eqb j w ne)
+
+      pub queue-begun : after-begin .queue ≡ before .queue
+      queue-begun = ap (λ (k : Known). k .queue) known-begun
 
   -- what came in, in order, is what went out, in order, and then what waits
   front : (b : Bool) (l rest : List ℕ) → l ++ rest ≡ cond b (take 1 l) [] ++ (cond b (drop 1 l) l ++ rest)

@@ -55,3 +55,46 @@ leftBy q IsEmpty = q
 leftBy q IsFull = q
 leftBy q Close = queue (q .items) true (q .capacity)
 leftBy q IsClosed = q
+
+-- ---- what a reply means: what its call has put in of the items that it came with, what it has taken out, and what it gives back
+
+abbrev pub putBy : List ℕ → Reply → List ℕ
+putBy x Pushed = x
+putBy x Empty = []
+putBy x EmptyAndClosed = []
+putBy x Yes = []
+putBy x No = []
+putBy x (Full y) = []
+putBy x (Closed y) = []
+putBy x (Displaced v) = x
+putBy x (Popped v) = []
+putBy x (Count n) = []
+
+abbrev pub takenBy : Reply → List ℕ
+takenBy Pushed = []
+takenBy Empty = []
+takenBy EmptyAndClosed = []
+takenBy Yes = []
+takenBy No = []
+takenBy (Full x) = []
+takenBy (Closed x) = []
+takenBy (Displaced v) = v ∷ []
+takenBy (Popped v) = v ∷ []
+takenBy (Count n) = []
+
+abbrev pub givenBack : Reply → List ℕ
+givenBack Pushed = []
+givenBack Empty = []
+givenBack EmptyAndClosed = []
+givenBack Yes = []
+givenBack No = []
+givenBack (Full x) = x ∷ []
+givenBack (Closed x) = x ∷ []
+givenBack (Displaced v) = []
+givenBack (Popped v) = []
+givenBack (Count n) = []
+
+-- Of one reply, or of none yet.
+abbrev pub meaningOf : (Reply → List ℕ) → List Reply → List ℕ
+meaningOf says [] = []
+meaningOf says (r ∷ others) = says r

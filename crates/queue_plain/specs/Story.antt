@@ -131,3 +131,8 @@ module _ {E : Type 0} (worker : E → ℕ) (change : E → Change) where
   wentFrom k [] = []
   wentFrom k (Begun w c ∷ s) = wentFrom (knownWith k (Begun w c)) s
   wentFrom k (Does e ∷ s) = cond (change e .takes) (take 1 (k .queue .items)) [] ++ wentFrom (knownWith k (Does e)) s
+
+  -- Anything else that is followed along it, by what each element makes of it where so much is known.
+  unfoldable pub followedFrom : {T : Type 0} → (Known → T → Element E → T) → Known → T → Story E → T
+  followedFrom next k was [] = was
+  followedFrom next k was (x ∷ s) = followedFrom next (knownWith k x) (next k was x) s

@@ -5,18 +5,22 @@ use Prim.Native.Nat.{ℕ, suc, _+_, _*_, _%_, _≤_, _<_}
 use mathlib.Core.Bool.{Bool, true, false}
 use mathlib.Core.List.{List, [], _∷_, _++_, map}
 use mathlib.Core.Path.{_≡_}
-use mathlib.Core.Logic.{_↔_, _≢_}
+use mathlib.Core.Logic.{_↔_, _≢_, _⊎_}
 use lib.ListN.{length, take}
 use Rattle.queue_entries.specs.Limits.{meterMost}
 use Rattle.queue_entries.specs.declared.Call.{Call}
+use Rattle.queue_entries.specs.declared.Call.the-variants.{Push, Close}
 use Rattle.queue_entries.specs.declared.Told.{Told}
 use Rattle.queue_entries.specs.Told.{told}
 use Rattle.queue_entries.specs.declared.Entry.the-variants.{Unreadable}
 use Rattle.queue_entries.specs.Entries.{entryOf}
+use Rattle.queue_plain.specs.Plain.{answerOf, Pushed}
+use Rattle.queue_plain.specs.Story.{Does, actsIn, fresh, cameFrom, wentFrom}
+use Rattle.queue_plain.specs.Story.{itemsOf as itemsBegun}
 use Rattle.queue_schedules.specs.Reading.{Readable}
 use Rattle.queue_schedules.specs.Alone.{acts}
 use Rattle.single_words.specs.declared.State.{State}
-use Rattle.single_words.specs.Words.{lockedIn, pushedIn, closedIn}
+use Rattle.single_words.specs.Words.{state, lockedIn, pushedIn, closedIn}
 use Rattle.single_places.specs.declared.Answer.{Answer}
 use Rattle.single_places.specs.declared.Answer.the-variants.{Full, Closed, Empty, PopClosed}
 use Rattle.single_places.specs.declared.Place.{Place}
@@ -34,8 +38,90 @@ use Rattle.single_machine.specs.Run.{ran, runFrom, runOf}
 use Rattle.single_machine.specs.History.{eventsOf}
 use Rattle.single.specs.Single.{makeOf, stepOf, beginOf, actOf}
 use Rattle.single_demands.specs.Notions.{Definition, Allowed, machineAfter, actsOf, Acts, AtEach, InHand, OtherHand, Popping, accessOf, isRead, Holds, HandsOut, Stands, Came, waiting, OneSlot, Took, closedBy, queueAnswer, Looks, FullWord, EmptyWord, PopClosedWord, Truth, mostOf, passed, ownActs, LetsGo}
+use Rattle.single_demands.specs.Stories.{Story, storyOf, changeOf, actor, known, replyOf, putBy, takenBy, givenBack, itemAt, roomTaken, askedAt, momentOf}
 use Rattle.single_demands.specs.Foretold.{foretold}
 use Rattle.single_demands.specs.Attained.{Case, seenIn, attained, exactly}
+
+-- ==== What an answer means: every run of the one-slot queue is a run of a plain queue of capacity 1 (crates/queue_plain), but that a push is asked of the one whose capacity is less by the room
+-- that a pop under way still takes. The story of a schedule is its accepted entries, begins too; the plain queue along it, what each call has put in and taken out, and that room are `known` and
+-- `roomTaken` of Stories.antt.
+
+-- After the story `earlier` an act of its worker answers a. Inside the call that it is in, after its begin and not after this act, there is a moment at which the plain queue, asked that
+-- call, gives that answer; `momentOf` names it.
+pub record Answered (earlier : Story) (act : Event) (a : Answer) : Type 0 where
+  pub call : Call
+  pub its : known earlier .each (act .worker) .calls ≡ call ∷ []
+  pub moment : ℕ
+  pub named : momentOf (act .worker) (earlier ++ Does act ∷ []) ≡ moment
+  pub begun : known earlier .each (act .worker) .begun < moment
+  pub inside : moment ≤ length earlier
+  pub plain : answerOf (askedAt moment earlier call) call ∷ [] ≡ replyOf a
+
+-- A call that answered Pushed put its item in once and took none out; Displaced one of each; Popped took out the one that it hands out and put in none; any other answer neither. Full and
+-- Closed give the item back that the call came with. After a close, whatever it answered, the queue is closed.
+pub record Meant (earlier : Story) (act : Event) (a : Answer) : Type 0 where
+  pub put : known (earlier ++ Does act ∷ []) .each (act .worker) .puts ≡ putBy a (itemsBegun (known earlier .each (act .worker) .calls))
+  pub took : known (earlier ++ Does act ∷ []) .each (act .worker) .takes ≡ takenBy a
+  pub back : (x : ℕ) → givenBack a ≡ x ∷ [] → itemsBegun (known earlier .each (act .worker) .calls) ≡ x ∷ []
+  pub closed : known earlier .each (act .worker) .calls ≡ Close ∷ [] → known (earlier ++ Does act ∷ []) .queue .closed ≡ true
+
+-- The plain queue just before an act that changes it: something waits where the front goes out; nothing waits where an item comes in, but where in the same step the front goes out (a force_push
+-- that displaces) it is full; it is open where an item comes in; and no pop under way takes the room where anything comes in or goes out: a force_push that finds it taken, and the queue open, goes
+-- back to B1.
+pub record Changes (earlier : Story) (act : Event) : Type 0 where
+  pub takes : changeOf act .takes ≡ true → 0 < length (known earlier .queue .items)
+  pub puts : changeOf act .puts ≡ true → changeOf act .takes ≡ false → length (known earlier .queue .items) < known earlier .queue .capacity
+  pub full : changeOf act .puts ≡ true → changeOf act .takes ≡ true → length (known earlier .queue .items) ≡ known earlier .queue .capacity
+  pub while-open : changeOf act .puts ≡ true → known earlier .queue .closed ≡ false
+  pub let-go : (changeOf act .takes ≡ true) ⊎ (changeOf act .puts ≡ true) → roomTaken earlier ≡ 0
+  pub goes-back : (e : State) (x : ℕ) → act .before ≡ B1 e x → 0 < roomTaken earlier → known earlier .queue .closed ≡ false → act .after ≡ B1 (state 0) x
+
+-- The room that is taken is that of a pop under way: 1 exactly while some worker's pop stands between its won exchange and its unlock, and then nothing waits; else 0.
+pub record RoomOfPop (m : Machine) (s : Story) : Type 0 where
+  pub most : roomTaken s ≤ 1
+  pub taken : 0 < roomTaken s → ((w : ℕ) × Popping (placeOf (m .workers) w)) × (known s .queue .items ≡ [])
+  pub held : (w : ℕ) → Popping (placeOf (m .workers) w) → roomTaken s ≡ 1
+
+-- While a push or force_push is under way, the item in its record is the one of its begin.
+abbrev pub ItemKept : Machine → Story → Type 0
+ItemKept m s = (w x : ℕ) → itemAt (placeOf (m .workers) w) ≡ x ∷ [] → itemsBegun (known s .each w .calls) ≡ x ∷ []
+
+pub record NothingLost (m : Machine) (s : Story) : Type 0 where
+  -- what came in, in order, is what went out, in order, and then what waits
+  pub in-order : cameFrom actor changeOf (fresh 1) s ≡ wentFrom actor changeOf (fresh 1) s ++ known s .queue .items
+  -- with all workers idle these are the contents
+  pub contents : idleFrom 0 (m .workers) ≡ true → contentsOf m ≡ known s .queue .items
+  -- what a call under way has taken out is one item at most, and then the slot is in its worker's hand (it lets go: demand 3); what a call has taken out that has ended, it handed out (`Meant`)
+  pub hands : (w v : ℕ) (more : List ℕ) → places.viewOf (placeOf (m .workers) w) .busy ≡ true → known s .each w .takes ≡ v ∷ more
+      → (more ≡ []) × InHand (placeOf (m .workers) w)
+
+-- A call that ended before another began comes before it in the plain queue's run.
+abbrev pub InCallOrder : Story → Type 0
+InCallOrder s =
+    (earlier between later : Story) (first second : Event) (a b : Answer) → s ≡ earlier ++ Does first ∷ between ++ Does second ∷ later
+    → first .after ≡ Idle a → second .after ≡ Idle b → length earlier < known (earlier ++ Does first ∷ between) .each (second .worker) .begun
+    → momentOf (first .worker) (earlier ++ Does first ∷ []) < momentOf (second .worker) (earlier ++ Does first ∷ between ++ Does second ∷ [])
+
+pub record PlainThroughout (m : Machine) (h : List Event) (s : Story) : Type 0 where
+  -- it is the story of the same acts
+  pub acts : actsIn s ≡ h
+  pub answers : (earlier later : Story) (act : Event) (a : Answer) → s ≡ earlier ++ Does act ∷ later → act .after ≡ Idle a → Answered earlier act a × Meant earlier act a
+  pub changes : (earlier later : Story) (act : Event) → s ≡ earlier ++ Does act ∷ later → Changes earlier act
+  pub room : RoomOfPop m s
+  pub item-kept : ItemKept m s
+  pub nothing-lost : NothingLost m s
+  pub call-order : InCallOrder s
+
+-- Every number of workers, every schedule.
+abbrev pub AnswersPlain : Definition → Type 0
+AnswersPlain d =
+    (workers : ℕ) → Allowed workers → (s : List ℕ) → PlainThroughout (machineAfter d workers s) (actsOf d workers s) (storyOf d workers s)
+
+-- The room is needed: worker 0 pushes 5, and its pop has won its exchange; a push of worker 1 answers Full there, where the plain queue as it is would answer Pushed.
+abbrev pub RoomNeeded : Definition → Type 0
+RoomNeeded d =
+    (earlier : Story) × (act : Event) × (storyOf d 2 (0 ∷ 5 ∷ acts 0 3 ++ 2 ∷ 0 ∷ acts 0 1 ++ 16 ∷ 6 ∷ acts 1 1) ≡ earlier ++ Does act ∷ []) × (act .after ≡ Idle (Full 6))
+    × (answerOf (known earlier .queue) (Push 6) ≡ Pushed)
 
 -- ==== 1. Any machine, entry or schedule handed in gets an answer or a numbered refusal; a refused step changes nothing.
 -- That each gets an answer is what the functions of crate single promise: none has a `requires`, and each answer is equal to a

@@ -1,4 +1,5 @@
 pub mod Notions
+pub mod Stories
 pub mod Foretold
 pub mod Attained
 pub mod Runs

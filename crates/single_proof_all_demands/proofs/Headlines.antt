@@ -1,13 +1,19 @@
 -- The demands on the one-slot queue, proved. What they say, in the words of request 1 and of document 01, is
 -- crates/single_demands/specs/Demands.antt; the table of runs is Runs.antt beside it.
 use Rattle.single_demands.specs.Notions.{source}
-use Rattle.single_demands.specs.Demands.{RefusedUnchanged, Numbered, ListFirst, StaysUnbroken, OnlyOne, UnderEverySchedule, ActByAct, WholeSchedules, ScheduledAlone, AtMost, Attained}
+use Rattle.single_demands.specs.Demands.{AnswersPlain, RoomNeeded, RefusedUnchanged, Numbered, ListFirst, StaysUnbroken, OnlyOne, UnderEverySchedule, ActByAct, WholeSchedules, ScheduledAlone, AtMost, Attained}
 use Rattle.single_demands.specs.Runs.{RunsHold}
 use Rattle.single_demands.proofs.Refusals.{refused-unchanged, numbered, list-first, stays-unbroken, only-one}
 use Rattle.single_demands.proofs.Attained.{at-most, numbers-attained}
 use Rattle.single_demands.proofs.Runs.{runs-hold}
 use Rattle.single_proof_demand2.proofs.Demand2.{demand2, act-by-act, whole-schedules}
 use Rattle.single_proof_demand3.proofs.Demand3.{demand3}
+use Rattle.single_proof_plain.proofs.Plain.{answers-plain, room-needed}
+
+-- What an answer means: every run is one of a plain queue of capacity 1. Each answer is that queue's at a moment inside its call; but a push's is that of the queue whose capacity is less by the
+-- room that a pop under way still takes, and it needs to be.
+pub what-an-answer-means : AnswersPlain source × RoomNeeded source
+what-an-answer-means = (answers-plain, room-needed)
 
 -- 1. Any machine, entry or schedule handed in gets an answer or a numbered refusal (the functions of crate single have no
 -- `requires`); a refused step changes nothing; only one answer meets a promise.

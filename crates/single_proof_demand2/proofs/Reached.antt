@@ -270,7 +270,7 @@ idle-at w = go (decLt w workersMost)
         let past : length idlers ≤ w = omega (arith, length-replicate workersMost idler) in
         List·getD-eq-default idlers idler past
 
-fresh-stood : (workers w : ℕ) → stood (freshOf workers) w ≡ Idle Nothing
+pub fresh-stood : (workers w : ℕ) → stood (freshOf workers) w ≡ Idle Nothing
 unfolding freshOf
 fresh-stood workers w = ap (λ (x : Worker). x .place) (idle-at w)
 

@@ -5,9 +5,10 @@ use Rattle.single_places.specs.declared.Place.{Place}
 use Rattle.single_places.specs.declared.Place.the-variants.{Idle, A1, A2, A3, B1, B2, B3, B4, B5, C1, C2, C3, Len1, Empty1, Full1, Close1, IsClosed1}
 use Rattle.single_acts.specs.Acts.{actOf}
 use Rattle.single_demands.specs.Notions.{byTable}
-use Rattle.single_demands.specs.Demands.{UnderEverySchedule, ActByAct, WholeSchedules, ScheduledAlone}
+use Rattle.single_demands.specs.Demands.{AnswersPlain, UnderEverySchedule, ActByAct, WholeSchedules, ScheduledAlone}
 use Rattle.single_proof_demand2.proofs.Demand2.{demand2, act-by-act, whole-schedules}
 use Rattle.single_proof_demand3.proofs.Demand3.{demand3}
+use Rattle.single_proof_plain.proofs.Plain.{answers-plain}
 use Rattle.single_slips.specs.Slips.{planted, actWith, Faithful, Stands}
 
 -- every row
@@ -35,6 +36,7 @@ faithful = ap byTable (λ i s p. same-act s p i)
 
 pub stands : Stands
 stands = (
+  subst AnswersPlain (sym faithful) answers-plain,
   subst UnderEverySchedule (sym faithful) demand2,
   subst ActByAct (sym faithful) act-by-act,
   subst WholeSchedules (sym faithful) whole-schedules,

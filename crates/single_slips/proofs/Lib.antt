@@ -1,3 +1,4 @@
 pub mod Ways
+pub mod Meanings
 pub mod Refuted
 pub mod Faithful

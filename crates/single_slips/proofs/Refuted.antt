@@ -31,6 +31,7 @@ use Rattle.single_demands.specs.Notions.{Allowed, actsOf, InHand, Popping, popp
 use Rattle.queue_schedules.proofs.Splits.{no-cons}
 use Rattle.single_slips.specs.Slips.{slipped, unwritten, readsAfterUnlock, displacesItsOwn, alwaysFull, emptyUnclosed, popWaits, pushWaits, lenUnlocked, emptyIsZero, forceKeepsItsWord, popKeepsItsWord, staysLocked, neverLetsGo}
 use Rattle.single_slips.specs.Refuted.{Trial, reached, past, does, Refuted, onePush, pushPop, pushPeek, twoPops, forceDisplaces, popReadsLate, popOfNothing, forceOfNothing, popAfterClose, popBesidePop, pushBesidePop, pushBegun, lenBesidePush, emptyAfterClose, pushOnFull, forceOnFull, popOfClosed, popAfterPush, popInHand}
+use Rattle.single_slips.proofs.Meanings.{plain-push-drops, plain-force-drops, plain-another-in, plain-another-out, plain-own-out, plain-peeks, plain-full, plain-empty, plain-close, plain-len, plain-room, plain-two-pops, plain-goes-back, plain-lost}
 use Rattle.single_slips.proofs.Ways.{busyAt, anyIn, heldBy, holds-got, standing, runsFrom, never-written, not-latest, never-got, never-took, nothing-stands, plain-runs, acting, quiet, popping-busy, nobody, no-hand, always, late, at-once, busyAlong, holds-on}
 
 two : Allowed 2
@@ -150,6 +151,20 @@ pub refuted : Refuted
 unfolding same lockedIn pushedIn closedIn unlocked takenOf closedOf strayOf orderOf entryOf stay stateTo valueTo exchanged unlockedIn idlers freshOf refused accepted all inLimits recordFits idleFrom brokenOf contentsOf begun stored actedBy turnOfBy ran runBy searchBy scheduleBy historyBy acts passedBy ownActsBy waitingFrom closedBy anyIn heldBy standing runsFrom always busyAlong
 refuted =
     record {
+      plain-push-drops = plain-push-drops;
+      plain-force-drops = plain-force-drops;
+      plain-another-in = plain-another-in;
+      plain-another-out = plain-another-out;
+      plain-own-out = plain-own-out;
+      plain-peeks = plain-peeks;
+      plain-full = plain-full;
+      plain-empty = plain-empty;
+      plain-close = plain-close;
+      plain-len = plain-len;
+      plain-room = plain-room;
+      plain-two-pops = plain-two-pops;
+      plain-goes-back = plain-goes-back;
+      plain-lost = plain-lost;
       act-by-act = λ a. true≢false (sym (ap (λ (m : Machine). busyAt m 0) (a (freshOf 2) [] 0 5 refl refl refl .0)));
       whole-schedules = λ w. true≢false (ap (λ (r : Ran). busyAt (r .machine) 0) (w 2 two (0 ∷ 5 ∷ []) .0 refl (readable, tt)));
       unbroken = true≢false;

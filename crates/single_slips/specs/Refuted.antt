@@ -9,8 +9,9 @@ use Rattle.single_machine.specs.declared.Machine.{Machine}
 use Rattle.single_machine.specs.declared.Event.{Event}
 use Rattle.single_machine.specs.Broken.{brokenOf}
 use Rattle.single_demands.specs.Notions.{machineAfter, actsOf}
-use Rattle.single_demands.specs.Demands.{GoesOut, OnceOut, ReadsLatest, ReadsWritten, OneHand, LockedInHand, PushedWaits, ClosedHolds, PlainQueue, TakesOut, ContentsWait, AnswersTrue, Decides, Means, LookersTrue, ActByAct, WholeSchedules, NeverRefused, AloneEnds, InTheWay, HandLetsGo, PassedAsRun}
-use Rattle.single_slips.specs.Slips.{none, pushTakesAny, pushWaits, alwaysFull, unwritten, unlocksFirst, unlockClearsPushed, staysLocked, forceKeepsLocked, forceKeepsItsWord, forceUnclosed, forceNeverDisplaces, forceAlwaysDisplaces, displacesItsOwn, popKeepsLocked, popWaits, popLeavesPushed, emptyUnclosed, popKeepsItsWord, popTakesAny, popPeeks, readsAfterUnlock, neverLetsGo, lenUnlocked, emptyIsZero, closeByStore, closeAdds, slipped, deaf, refusing}
+use Rattle.single_demands.specs.Stories.{Story, storyOf}
+use Rattle.single_demands.specs.Demands.{PlainThroughout, GoesOut, OnceOut, ReadsLatest, ReadsWritten, OneHand, LockedInHand, PushedWaits, ClosedHolds, PlainQueue, TakesOut, ContentsWait, AnswersTrue, Decides, Means, LookersTrue, ActByAct, WholeSchedules, NeverRefused, AloneEnds, InTheWay, HandLetsGo, PassedAsRun}
+use Rattle.single_slips.specs.Slips.{none, pushTakesAny, pushWaits, alwaysFull, unwritten, unlocksFirst, unlockClearsPushed, staysLocked, forceKeepsLocked, forceKeepsItsWord, forceUnclosed, forceNeverDisplaces, forceAlwaysDisplaces, displacesItsOwn, popKeepsLocked, popWaits, popLeavesPushed, emptyUnclosed, popKeepsItsWord, popTakesAny, popPeeks, readsAfterUnlock, neverLetsGo, lenUnlocked, emptyIsZero, closeByStore, closeAdds, pushDrops, pushesAnother, forceDrops, emptyIsLocked, popsAnother, closeIdle, slipped, deaf, refusing}
 
 -- A schedule for a machine with two workers, with this slip.
 pub record Trial : Type 0 where
@@ -26,9 +27,47 @@ reached t = machineAfter (slipped (t .slip)) 2 (t .schedule)
 abbrev pub past : Trial → List Event
 past t = actsOf (slipped (t .slip)) 2 (t .schedule)
 
+abbrev pub told : Trial → Story
+told t = storyOf (slipped (t .slip)) 2 (t .schedule)
+
+-- Every answer is a plain queue's, of what this trial reaches.
+abbrev pub PlainIn : Trial → Type 0
+PlainIn t = PlainThroughout (reached t) (past t) (told t)
+
 -- Worker w begins the call of this code and item, and does so many acts of it.
 abbrev pub does : ℕ → ℕ → ℕ → ℕ → List ℕ
 does w code item n = (16 * w + code) ∷ item ∷ acts w n
+
+-- ---- what an answer means
+
+-- one act of a push
+abbrev pub pushActs : ℕ → Trial
+pushActs n = trial n (does 0 0 5 1)
+
+-- a force_push has found an item; a pop takes it out, and lets go
+abbrev pub forcePastPop : Trial
+forcePastPop = trial forceDrops (does 0 0 5 3 ++ does 1 1 6 1 ++ does 0 2 0 3 ++ acts 1 1)
+
+-- a push has the slot, and a pop comes; a pop has it, and a push comes
+abbrev pub popWhilePush : Trial
+popWhilePush = trial emptyIsLocked (does 0 0 5 1 ++ does 1 2 0 1)
+
+abbrev pub pushWhilePop : Trial
+pushWhilePop = trial pushTakesAny (does 0 0 5 3 ++ does 0 2 0 1 ++ does 1 0 6 1)
+
+-- a pop has it, and another pop comes, or a force_push
+abbrev pub popWhilePop : Trial
+popWhilePop = trial popTakesAny (does 0 0 5 3 ++ does 0 2 0 1 ++ does 1 2 0 1)
+
+abbrev pub forceWhilePop : Trial
+forceWhilePop = trial forceKeepsLocked (does 0 0 5 3 ++ does 0 2 0 1 ++ does 1 1 6 1)
+
+-- two closes, and a len beside a push
+abbrev pub closeTwice : Trial
+closeTwice = trial closeIdle (does 0 6 0 1 ++ does 0 6 0 1)
+
+abbrev pub lenWhilePush : Trial
+lenWhilePush = trial lenUnlocked (does 0 0 5 1 ++ does 1 3 0 1)
 
 -- ---- demand 2
 
@@ -134,6 +173,25 @@ popInHand = trial neverLetsGo (does 0 0 5 3 ++ does 0 2 0 1)
 -- ---- what is false
 
 pub record Refuted : Type 0 where
+  -- what an answer means: Pushed, and the item not put in
+  pub plain-push-drops : PlainIn (pushActs pushDrops) → ⊥
+  pub plain-force-drops : PlainIn forcePastPop → ⊥
+  -- another item put in, another handed out, or none taken out
+  pub plain-another-in : PlainIn (pushActs pushesAnother) → ⊥
+  pub plain-another-out : PlainIn (pushPop popsAnother) → ⊥
+  pub plain-own-out : PlainIn forceDisplaces → ⊥
+  pub plain-peeks : PlainIn pushPeek → ⊥
+  -- Full of a queue with room, Empty of one where an item waits, a second close that says yes, len 0 where one waits
+  pub plain-full : PlainIn (pushActs alwaysFull) → ⊥
+  pub plain-empty : PlainIn popWhilePush → ⊥
+  pub plain-close : PlainIn closeTwice → ⊥
+  pub plain-len : PlainIn lenWhilePush → ⊥
+  -- an item put in while a pop has not let go, a second pop, a force_push that does not go back as it should
+  pub plain-room : PlainIn pushWhilePop → ⊥
+  pub plain-two-pops : PlainIn popWhilePop → ⊥
+  pub plain-goes-back : PlainIn forceWhilePop → ⊥
+  -- an item that waits, and is not in the contents
+  pub plain-lost : PlainIn (onePush unlockClearsPushed) → ⊥
   -- each act is the one action
   pub act-by-act : ActByAct deaf → ⊥
   pub whole-schedules : WholeSchedules deaf → ⊥

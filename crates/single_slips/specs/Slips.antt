@@ -15,7 +15,7 @@ use Rattle.single_machine.specs.Turn.{turnOf}
 use Rattle.single_machine.specs.Run.{ran, runFrom}
 use Rattle.single_machine.specs.History.{historyOf}
 use Rattle.single_demands.specs.Notions.{Definition, byTable, source}
-use Rattle.single_demands.specs.Demands.{UnderEverySchedule, ActByAct, WholeSchedules, ScheduledAlone}
+use Rattle.single_demands.specs.Demands.{AnswersPlain, UnderEverySchedule, ActByAct, WholeSchedules, ScheduledAlone}
 
 -- ---- the slips
 
@@ -126,6 +126,30 @@ closeByStore = 25
 abbrev pub closeAdds : ℕ
 closeAdds = 26
 
+-- a won A1 answers Pushed at once: the item is gone
+abbrev pub pushDrops : ℕ
+pushDrops = 27
+
+-- a won A1 goes on with another item than the call's
+abbrev pub pushesAnother : ℕ
+pushesAnother = 28
+
+-- a B1 that expected PUSHED and finds 0 answers Pushed: the item is gone
+abbrev pub forceDrops : ℕ
+forceDrops = 29
+
+-- a C1 that finds the word locked answers Empty, also where an item waits
+abbrev pub emptyIsLocked : ℕ
+emptyIsLocked = 30
+
+-- C2 goes on with another value than the one in the slot
+abbrev pub popsAnother : ℕ
+popsAnother = 31
+
+-- close does nothing, and says yes
+abbrev pub closeIdle : ℕ
+closeIdle = 32
+
 -- The row of the source, but for this slip.
 abbrev but : ℕ → ℕ → Acted → Acted → Acted
 but n slip wrong right = cond (eqb n slip) wrong right
@@ -136,7 +160,9 @@ actWith n s (Idle a) = actOf s (Idle a)
 actWith n s (A1 x) =
     but n pushTakesAny (stay (stateTo s filled) (A2 x))
     (but n pushWaits (cond (same (s .state) (state 0)) (actOf s (A1 x)) (cond (closedIn (s .state)) (actOf s (A1 x)) (stay s (A1 x))))
-    (but n alwaysFull (stay s (Idle (Full x))) (actOf s (A1 x))))
+    (but n alwaysFull (stay s (Idle (Full x)))
+    (but n pushDrops (cond (same (s .state) (state 0)) (stay s (Idle Pushed)) (actOf s (A1 x)))
+    (but n pushesAnother (cond (same (s .state) (state 0)) (stay (stateTo s filled) (A2 (x + 1))) (actOf s (A1 x))) (actOf s (A1 x))))))
 actWith n s (A2 x) = but n unwritten (stay s A3) (but n unlocksFirst (stay (unlockedIn s) (B2 x)) (actOf s (A2 x)))
 actWith n s A3 =
     but n unlockClearsPushed (stay (stateTo s (state (s .state .0 / 4 * 4))) (Idle Pushed)) (but n staysLocked (stay s (Idle Pushed)) (actOf s A3))
@@ -145,7 +171,8 @@ actWith n s (B1 e x) =
     (but n forceKeepsItsWord (cond (closedIn (s .state)) (actOf s (B1 e x)) (cond (same (s .state) e) (actOf s (B1 e x)) (stay s (B1 e x))))
     (but n forceUnclosed (stay (exchanged s e filled) (cond (same (s .state) e) (cond (pushedIn (s .state)) (B4 x) (B2 x)) (B1 (unlocked (s .state)) x)))
     (but n forceNeverDisplaces (cond (same (s .state) e) (stay (exchanged s e filled) (B2 x)) (actOf s (B1 e x)))
-    (but n forceAlwaysDisplaces (cond (same (s .state) e) (stay (exchanged s e filled) (B4 x)) (actOf s (B1 e x))) (actOf s (B1 e x))))))
+    (but n forceAlwaysDisplaces (cond (same (s .state) e) (stay (exchanged s e filled) (B4 x)) (actOf s (B1 e x)))
+    (but n forceDrops (cond (same (s .state) (state 0)) (cond (same e (state 2)) (stay s (Idle Pushed)) (actOf s (B1 e x))) (actOf s (B1 e x))) (actOf s (B1 e x)))))))
 actWith n s (B2 x) = actOf s (B2 x)
 actWith n s B3 = actOf s B3
 actWith n s (B4 x) = but n displacesItsOwn (stay (valueTo s x) (B5 x)) (actOf s (B4 x))
@@ -157,15 +184,17 @@ actWith n s (C1 e) =
     (but n emptyUnclosed (cond (pushedIn (s .state)) (actOf s (C1 e)) (stay s (Idle Empty)))
     (but n popKeepsItsWord (cond (same (s .state) e) (actOf s (C1 e)) (cond (pushedIn (s .state)) (stay s (C1 e)) (actOf s (C1 e))))
     (but n popTakesAny (stay (stateTo s (takenOf (s .state))) C2)
-    (but n popPeeks (cond (same (s .state) e) (stay s (Idle (Popped (s .value)))) (actOf s (C1 e))) (actOf s (C1 e))))))))
-actWith n s C2 = but n readsAfterUnlock (stay (unlockedIn s) (C3 0)) (actOf s C2)
+    (but n popPeeks (cond (same (s .state) e) (stay s (Idle (Popped (s .value)))) (actOf s (C1 e)))
+    (but n emptyIsLocked (cond (lockedIn (s .state)) (stay s (Idle Empty)) (actOf s (C1 e))) (actOf s (C1 e)))))))))
+actWith n s C2 = but n readsAfterUnlock (stay (unlockedIn s) (C3 0)) (but n popsAnother (stay s (C3 (s .value + 1))) (actOf s C2))
 actWith n s (C3 v) = but n readsAfterUnlock (stay s (Idle (Popped (s .value)))) (but n neverLetsGo (stay s C2) (actOf s (C3 v)))
 actWith n s Len1 = but n lenUnlocked (cond (lockedIn (s .state)) (stay s (Idle (Len 0))) (actOf s Len1)) (actOf s Len1)
 actWith n s Empty1 = but n emptyIsZero (stay s (Idle (cond (same (s .state) (state 0)) Yes No))) (actOf s Empty1)
 actWith n s Full1 = but n emptyIsZero (stay s (Idle (cond (same (s .state) (state 0)) No Yes))) (actOf s Full1)
 actWith n s Close1 =
     but n closeByStore (stay (stateTo s (state 4)) (Idle (cond (closedIn (s .state)) No Yes)))
-    (but n closeAdds (stay (stateTo s (state (s .state .0 + 4))) (Idle (cond (closedIn (s .state)) No Yes))) (actOf s Close1))
+    (but n closeAdds (stay (stateTo s (state (s .state .0 + 4))) (Idle (cond (closedIn (s .state)) No Yes)))
+    (but n closeIdle (stay s (Idle Yes)) (actOf s Close1)))
 actWith n s IsClosed1 = actOf s IsClosed1
 
 -- ---- the machine with a slip
@@ -194,4 +223,4 @@ abbrev pub Faithful : Type 0
 Faithful = given ≡ source
 
 abbrev pub Stands : Type 0
-Stands = UnderEverySchedule given × ActByAct given × WholeSchedules given × ScheduledAlone given
+Stands = AnswersPlain given × UnderEverySchedule given × ActByAct given × WholeSchedules given × ScheduledAlone given

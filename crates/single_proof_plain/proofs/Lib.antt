@@ -1,0 +1,5 @@
+pub mod Work
+pub mod Rows
+pub mod Slot
+pub mod Told
+pub mod Plain
