@@ -1,0 +1,91 @@
+"""How tests start the compiled programs.
+
+REPLAY, TAPE and WALK name starters; where one is not set, target/bin/NAME is run as tools/start runs it, without asking first whether it is built
+and new, which takes longer than most runs here. So the programs are built and proved before, by .ci/run or by a first use of the starter.
+"""
+
+import os
+import shlex
+import subprocess
+import sys
+from functools import cache
+from pathlib import Path
+from typing import NamedTuple
+
+HOME = Path(__file__).resolve().parent.parent
+
+# A program tells its status on descriptor 3, as tools/start hears it.
+TOLD = 'exec 4>&1; told=$("$@" 3>&1 >&4 4>&-); ended=$?; [ "$ended" = 0 ] || exit "$ended"; exit "${told:-2}"'
+
+
+@cache
+def tools():
+    kit = Path(subprocess.run(['rt', 'doc'], capture_output=True, text=True, check=True).stdout.strip()).resolve().parent.parent
+    return kit / 'on' / os.uname().machine / 'toolchain'
+
+
+def loaded(file):
+    """The words that run a program's file, on this processor or by the kit's emulator. Its status is not told."""
+    loader = [str(tools() / 'lib/ld-linux-x86-64.so.2'), '--library-path', str(tools() / 'lib'), str(file)]
+    emulator = tools() / 'bin/qemu-x86_64'
+    return [str(emulator), '-cpu', 'max,-erms', *loader] if emulator.exists() else loader
+
+
+def write_starter(path, file):
+    """A starter at this path, of a program's file that may have been compiled in a hurry, with all of its buffers on the stack."""
+    path.write_text(f'#!/bin/sh\nulimit -s 65536\nset -- {shlex.join(loaded(file))} --tell-status "$@"\n{TOLD}\n')
+    path.chmod(0o755)
+
+
+@cache
+def starter_of(name):
+    """The words that start a program; its arguments follow."""
+    named = os.environ.get(name.upper())
+    return [named] if named else ['sh', '-c', TOLD, 'sh', *loaded(HOME / 'target/bin' / name), '--tell-status']
+
+
+class Ended(NamedTuple):
+    status: int
+    out: bytes
+    said: str
+
+
+def started(name, *words, given=b'', **more):
+    """A program run to its end on this standard input."""
+    done = subprocess.run([*starter_of(name), *map(str, words)], input=given, stderr=subprocess.PIPE, **{'stdout': subprocess.PIPE, **more})
+    return Ended(done.returncode, done.stdout, done.stderr.decode())
+
+
+class Checks:
+    """What a test has found wrong, told as it is found. Where ENOUGH is set, the first ends the test."""
+
+    def __init__(self):
+        self.wrong = 0
+
+    def check(self, what, is_so):
+        if not is_so:
+            self.wrong += 1
+            print('wrong:', what, flush=True)
+            if os.environ.get('ENOUGH'):
+                sys.exit(1)
+
+    def same(self, what, here, there):
+        """What the program says, and what it should."""
+        if here != there:
+            self.check(f'{what}:\n  {difference(here, there)}', False)
+
+    def end(self, name, said):
+        if self.wrong:
+            sys.exit(f'{name}: {self.wrong} wrong')
+        print(f'{name}: {said}')
+
+
+def difference(here, there):
+    """The first lines that differ, of texts; of anything else, both."""
+    if not isinstance(here, (str, bytes)):
+        return f'{here}\n  and not {there}'
+    lines = here.splitlines(), there.splitlines()
+    for number, (one, other) in enumerate(zip(*lines), 1):
+        if one != other:
+            return f'line {number}: {one}\n  and not {other}'
+    return f'{len(lines[0])} lines and not {len(lines[1])}: {here[-200:]}'
