@@ -4,7 +4,7 @@ refused. And the judge, which says what replay must print for them."""
 import subprocess
 
 from paper_entries import BEGIN_CODES, CODES_WITH_ITEM, busy
-from programs import HOME
+from programs import HOME, Ended
 
 JUDGE = HOME / 'oracle/target/release/judge'
 REFUSED = ((8, 0), (10, 0), (15, 3), (2, 1), (9, 0), (0, 5), (1024, 0), (8, 7))
@@ -38,3 +38,9 @@ def text_of(numbers):
 def judged(text, *options):
     """What replay must print, by the unmodified Rust."""
     return subprocess.run([JUDGE, 'expect', '-', *options], input=text, capture_output=True, text=True, check=True).stdout
+
+
+def judged_walk(text, *options):
+    """What walk must print, and say where it refuses."""
+    done = subprocess.run([JUDGE, 'walk', '-', *options], input=text.encode(), capture_output=True)
+    return Ended(done.returncode, done.stdout, done.stderr.decode())
