@@ -1,5 +1,5 @@
-// One act: the action of the source at a worker's place, with the local decisions up to the next.
-// One function for each place of document 01's tables that decides something; crate bounded_table has which is taken where.
+// One act: the action of the source at a worker's place, with the local decisions up to the next. Here are the definitions of all of them
+// (specs/Acts.antt) and what several places share; the acts themselves: bounded_pushes, bounded_forces, bounded_pops, bounded_lookers.
 ghost use mathlib.Core.Path.{_≡_};
 ghost use Rattle.bounded_words.specs.Words.{plus};
 ghost use Rattle.bounded_acts.specs.Acts.{stay, losing, exchangeOf, stampTo, valueTo};

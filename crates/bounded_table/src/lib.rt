@@ -1,5 +1,5 @@
 // The two tables of document 01 with the lookers: which action is taken at which place.
-// The actions themselves: crate bounded_acts.
+// The actions themselves: bounded_pushes, bounded_forces, bounded_pops, bounded_lookers; their definitions: bounded_acts.
 ghost use mathlib.Core.Path.{_≡_};
 ghost use Rattle.bounded_acts.specs.Acts.{actOf, Fits};
 use bounded_acts::Acted;

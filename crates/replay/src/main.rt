@@ -16,7 +16,7 @@ fn run_file(o: Options) -> u8 {
     }
     let fd = os::open_read(&path[..n]);
     if fd < 0 {
-        os::fail(&path[..n]);
+        replay_input::say::fail(b"replay", &path[..n]);
         return many::UNREADABLE;
     }
     let status = run_from(o, fd, &path[..n]);
@@ -25,7 +25,7 @@ fn run_file(o: Options) -> u8 {
 }
 
 fn run_from(o: Options, fd: i32, name: &[u8]) -> u8 {
-    let kept = replay_input::source::kept(fd, name);
+    let kept = replay_input::source::kept(b"replay", fd, name);
     if kept < 0 {
         return many::UNREADABLE;
     }
@@ -36,8 +36,7 @@ fn run_from(o: Options, fd: i32, name: &[u8]) -> u8 {
 
 fn run(o: Options) -> u8 {
     if o.help {
-        replay_options::help();
-        return many::RAN;
+        return many::status_of(many::RAN, replay_options::help());
     }
     if o.wrong != 0 {
         replay_options::complain(b"replay", o.wrong);
@@ -51,5 +50,6 @@ fn run(o: Options) -> u8 {
 
 fn main() {
     let o = replay_options::read();
-    replay_options::tell(o.tells, run(o));
+    let starter = replay_input::starter::asking(o.tells);
+    replay_input::starter::hears_status(starter, run(o));
 }

@@ -7,7 +7,17 @@ pub const RAN: u8 = 0;
 
 pub const REFUSED: u8 = 1;
 
+// or not all can be written
 pub const UNREADABLE: u8 = 2;
+
+// This one, unless not all was written, which is said.
+pub fn status_of(status: u8, whole: bool) -> u8 {
+    if replay_input::say::is_written(b"replay", whole) {
+        status
+    } else {
+        UNREADABLE
+    }
+}
 
 // Where the next schedule begins, where the text to be written goes on, and the status so far.
 struct Next {
@@ -38,12 +48,20 @@ fn stop(status: u8) -> Next {
     }
 }
 
+// A mark leads to the next schedule, unless the text is lost.
+fn goes_on(event: u64, at: usize) -> bool {
+    if at == text_output::LOST {
+        return false;
+    }
+    event == text_numbers::MARK
+}
+
 // After one schedule.
 fn after(s: Survey, at: usize, status: u8) -> Next {
     let r = s.reading;
     let scan = r.scan;
     Next {
-        more: r.event == text_numbers::MARK,
+        more: goes_on(r.event, at),
         offset: r.offset,
         line: scan.line,
         at: at,
@@ -135,6 +153,12 @@ fn look_in(o: Options, fd: i32, name: &[u8]) -> u8 {
     n.status
 }
 
+// The rest of the text; answers the status.
+fn written(n: Next, out: &[u8]) -> u8 {
+    let at = text_output::flush(out, n.at);
+    status_of(n.status, at != text_output::LOST)
+}
+
 fn run_in(o: Options, fd: i32, name: &[u8], out: &mut [u8]) -> u8 {
     let mut n = first();
     let mut turns = u64::MAX;
@@ -143,8 +167,7 @@ fn run_in(o: Options, fd: i32, name: &[u8], out: &mut [u8]) -> u8 {
         n = unless_at_end(fd, n);
         turns -= 1;
     }
-    text_output::flush(out, n.at);
-    n.status
+    written(n, out)
 }
 
 pub fn run_all(o: Options, fd: i32, name: &[u8]) -> u8 {

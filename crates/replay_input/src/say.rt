@@ -1,10 +1,33 @@
-// What goes wrong with the input, as one line on standard error.
+// What goes wrong with the input or the output, as one line on standard error that begins with the program's name.
 use crate::source::Reading;
 
 fn out(text: &[u8], n: usize) {
     if n <= text.len() {
         io::write_all(libc::STDERR_FILENO, &text[..n]);
     }
+}
+
+// PROGRAM: WHAT: and errno's text; just after the call that failed
+pub fn fail(program: &[u8], what: &[u8]) {
+    io::write_all(libc::STDERR_FILENO, program);
+    io::write_all(libc::STDERR_FILENO, b": ");
+    os::fail(what);
+}
+
+// Says that a write to this file has failed; nobody is left to be told of a pipe that was closed.
+pub fn unwritten(program: &[u8], what: &[u8]) {
+    if os::errno() != libc::EPIPE {
+        fail(program, what);
+    }
+}
+
+// Of what went to standard output, just after it: says so where not all of it did, and answers whether all did.
+pub fn is_written(program: &[u8], whole: bool) -> bool {
+    if whole {
+        return true;
+    }
+    unwritten(program, b"standard output");
+    false
 }
 
 // PROGRAM: NAME: line L, column C: WHAT
@@ -25,7 +48,7 @@ pub fn is_sound(program: &[u8], name: &[u8], r: Reading, numbers: u64) -> bool {
     let event = r.event;
     match event {
         crate::source::FAILED => {
-            os::fail(name);
+            fail(program, name);
             return false;
         }
         text_numbers::NO_NUMBER => {
@@ -75,8 +98,12 @@ pub fn is_sound(program: &[u8], name: &[u8], r: Reading, numbers: u64) -> bool {
 
 const STRIDE: u64 = 1000000;
 
-// Entries run before a piece and after it: told to a terminal, now and then.
-pub fn progress(before: u64, after: u64) {
+// Entries run before a piece and after it: told to a terminal, now and then. Where the text is lost nothing is asked of the system, so
+// that errno still says why at the end.
+pub fn progress(before: u64, after: u64, at: usize) {
+    if at == text_output::LOST {
+        return;
+    }
     if before / STRIDE != after / STRIDE {
         if libc::isatty(libc::STDERR_FILENO) == 1 {
             let mut text = [0u8; 64];

@@ -9,7 +9,7 @@ pub const BYTES: usize = tape_pieces::WINDOW;
 
 pub const NUMBERS: usize = tape_pieces::WORDS + 8;
 
-// Beside the events of `scan`: the input's end, a read that failed, and a tape that is refused.
+// Beside the events of `text_numbers`: the input's end, a read that failed, and a tape that is refused.
 pub const END: u64 = 5;
 
 pub const FAILED: u64 = 6;
@@ -219,6 +219,14 @@ pub fn goes_on(event: u64, refusal: u64) -> bool {
     false
 }
 
+// The same where text is written that goes on at this place: no further once it is lost.
+pub fn tells_on(event: u64, refusal: u64, at: usize) -> bool {
+    if at == text_output::LOST {
+        return false;
+    }
+    goes_on(event, refusal)
+}
+
 // How a copy goes on.
 const MORE: u8 = 0;
 
@@ -226,19 +234,11 @@ const WHOLE: u8 = 1;
 
 const BROKEN: u8 = 2;
 
-// Nobody is left to be told of a pipe that was closed.
-fn no_room(to_name: &[u8]) -> u8 {
-    if os::errno() != libc::EPIPE {
-        os::fail(to_name);
-    }
-    BROKEN
-}
-
-fn copy_some(from: i32, to: i32, name: &[u8], to_name: &[u8]) -> u8 {
+fn copy_some(program: &[u8], from: i32, to: i32, name: &[u8], to_name: &[u8]) -> u8 {
     let mut bytes = io::large_buffer();
     let got = libc::read(from, &mut bytes);
     if got < 0 {
-        os::fail(name);
+        crate::say::fail(program, name);
         return BROKEN;
     }
     if got == 0 {
@@ -248,39 +248,28 @@ fn copy_some(from: i32, to: i32, name: &[u8], to_name: &[u8]) -> u8 {
     if io::write_all(to, &bytes[..n]) {
         return MORE;
     }
-    no_room(to_name)
+    crate::say::unwritten(program, to_name);
+    BROKEN
 }
 
 // The rest of a file to another; says what failed, and answers whether nothing did.
-pub fn copy_all(from: i32, to: i32, name: &[u8], to_name: &[u8]) -> bool {
+pub fn copy_all(program: &[u8], from: i32, to: i32, name: &[u8], to_name: &[u8]) -> bool {
     let mut state = MORE;
     let mut turns = u64::MAX;
     while turns > 0 && state == MORE {
-        state = copy_some(from, to, name, to_name);
+        state = copy_some(program, from, to, name, to_name);
         turns -= 1;
     }
     state == WHOLE
 }
 
-// A file that has no name, or a negative number.
-pub fn nameless() -> i32 {
-    let mut path = *b"/tmp/fernmoldew-XXXXXX";
-    let fd = os::create_temp(&mut path);
-    if fd < 0 {
-        os::fail(b"/tmp");
-        return -1;
-    }
-    os::unlink(&path);
-    fd
-}
-
 // A nameless file with the rest of the input, or a negative number.
-fn copy_of(fd: i32, name: &[u8]) -> i32 {
-    let to = nameless();
+fn copy_of(program: &[u8], fd: i32, name: &[u8]) -> i32 {
+    let to = crate::spare::nameless(program);
     if to < 0 {
         return -1;
     }
-    if copy_all(fd, to, name, b"keeping the input") {
+    if copy_all(program, fd, to, name, b"keeping the input") {
         return to;
     }
     libc::close(to);
@@ -288,11 +277,11 @@ fn copy_of(fd: i32, name: &[u8]) -> i32 {
 }
 
 // A descriptor that can be read twice, or a negative number: of a file that stands at its start, the same.
-pub fn kept(fd: i32, name: &[u8]) -> i32 {
+pub fn kept(program: &[u8], fd: i32, name: &[u8]) -> i32 {
     if libc::lseek(fd, 0, libc::SEEK_CUR) == 0 {
         return fd;
     }
-    copy_of(fd, name)
+    copy_of(program, fd, name)
 }
 
 pub fn release(kept: i32, fd: i32) {

@@ -322,18 +322,8 @@ pub fn complain(program: &[u8], i: usize) {
     io::write_all(libc::STDERR_FILENO, b"\n");
 }
 
-// A program has no exit status of its own: its starter opens this descriptor and reads one digit.
-const STATUS_FILENO: i32 = 3;
-
-// 0: run to its end. 1: refused. 2: the input or the arguments cannot be read.
-pub fn tell(asked: bool, status: u8) {
-    if asked {
-        let digit = [b'0' + status % 3];
-        io::write_all(STATUS_FILENO, &digit);
-    }
-}
-
-pub fn help() {
+// Answers whether all of it was written.
+pub fn help() -> bool {
     io::write_all(
         libc::STDOUT_FILENO,
         b"replay [--queue NAME] [--edition N] [--bits N] [--lent] [--quiet] [--causes] [--losses] [--stock] [--summary] [--many] [--tape] [FILE]\n\
@@ -352,7 +342,7 @@ pub fn help() {
         \n\
         Refusals: 3 no such worker, 4 busy, 5 idle, 6 no sound machine, 7 meter full, 8 no weak exchange,\n\
         9 unreadable entry (then nothing is run), 11 odd number of words.\n\
-        Status: 0 run to its end, 1 refused, 2 the input or the arguments cannot be read.\n\
+        Status: 0 run to its end, 1 refused, 2 the input or the arguments cannot be read, or not all can be written.\n\
         \n\
         \x20 --queue single   the one-slot queue (bounded unless told): no capacity, the first number is that of the workers;\n\
         \x20             lines are PLACE R s=STATE m=M wN=S, and at the end: value V, contents\n\
@@ -372,5 +362,5 @@ pub fn help() {
         \x20 --summary   then counts of acts, answers, claims, refusals and retries; with --causes of each cause, with --losses of lost exchanges\n\
         \x20 --many      several schedules, separated by a line with a single %; a line % follows each output\n\
         \x20 --tape      FILE is a schedule tape (see tape --help); a tape that is refused is told in one line, and nothing is run\n",
-    );
+    )
 }

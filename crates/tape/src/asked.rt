@@ -9,7 +9,7 @@ pub const WRITE: u64 = 2;
 pub const READ: u64 = 3;
 
 pub struct Asked {
-    // the status is to be told on descriptor 3
+    // the starter asks for the status on a descriptor
     pub tell: bool,
     pub act: u64,
     pub little: bool,
@@ -137,7 +137,8 @@ pub fn usage() {
     );
 }
 
-pub fn help() {
+// Answers whether all of it was written.
+pub fn help() -> bool {
     io::write_all(
         libc::STDOUT_FILENO,
         b"tape write [--little] SCHEDULE TAPE\n\
@@ -156,6 +157,6 @@ pub fn help() {
         carry (code 10 to 15, an item where none may be, worker above 15), or a capacity or worker count above\n\
         65,535.\n\
         \n\
-        Status: 0 done, 1 refused, 2 the input or the arguments cannot be read, or nothing can be written.\n",
-    );
+        Status: 0 done, 1 refused, 2 the input or the arguments cannot be read, or not all can be written.\n",
+    )
 }

@@ -12,54 +12,53 @@ fn variant_of(a: Asked) -> Variant {
     }
 }
 
-fn write(a: Asked, fd: i32, name: &[u8]) -> u8 {
+fn write(starter: i32, a: Asked, fd: i32, name: &[u8]) -> u8 {
     let mut tape = io::buffer();
     let n = os::arg(a.to, &mut tape);
-    tape_writes::run(fd, name, variant_of(a), &tape[..n])
+    tape_writes::run(starter, fd, name, variant_of(a), &tape[..n])
 }
 
-fn run_from(a: Asked, fd: i32, name: &[u8]) -> u8 {
+fn run_from(starter: i32, a: Asked, fd: i32, name: &[u8]) -> u8 {
     if a.act == asked::WRITE {
-        write(a, fd, name)
+        write(starter, a, fd, name)
     } else {
         tape_reads::run(fd, name)
     }
 }
 
-fn run_file(a: Asked, name: &[u8]) -> u8 {
+fn run_file(starter: i32, a: Asked, name: &[u8]) -> u8 {
     if tape_files::files::is_standard(name) {
-        return run_from(a, libc::STDIN_FILENO, b"standard input");
+        return run_from(starter, a, libc::STDIN_FILENO, b"standard input");
     }
     let fd = os::open_read(name);
     if fd < 0 {
-        os::fail(name);
+        replay_input::say::fail(b"tape", name);
         return 2;
     }
-    let status = run_from(a, fd, name);
+    let status = run_from(starter, a, fd, name);
     libc::close(fd);
     status
 }
 
 // 0: done. 1: the tape or the schedule is refused. 2: anything else.
-fn status_of(a: Asked) -> u8 {
+fn status_of(starter: i32, a: Asked) -> u8 {
     if a.wrong {
         asked::usage();
         return 2;
     }
     if a.act == asked::HELP {
-        asked::help();
-        return 0;
+        if replay_input::say::is_written(b"tape", asked::help()) {
+            return 0;
+        }
+        return 2;
     }
     let mut name = io::buffer();
     let n = os::arg(a.from, &mut name);
-    run_file(a, &name[..n])
+    run_file(starter, a, &name[..n])
 }
 
-// A program here has no exit status: who started it hears the status on descriptor 3, if it asks.
 fn main() {
     let a = asked::read();
-    let status = status_of(a);
-    if a.tell {
-        io::print_decimal(3, status as u64);
-    }
+    let starter = replay_input::starter::asking(a.tell);
+    replay_input::starter::hears_status(starter, status_of(starter, a));
 }

@@ -58,17 +58,18 @@ pub fn beside(name: &[u8], path: &mut [u8]) -> usize {
 }
 
 // A descriptor to write to; negative: there is none, and that is said.
-pub fn sink(name: &[u8], path: &[u8]) -> i32 {
+pub fn sink(starter: i32, name: &[u8], path: &[u8]) -> i32 {
     if is_standard(name) {
-        return replay_input::source::nameless();
+        return replay_input::spare::nameless(b"tape");
     }
     if is_special(name) {
         crate::say::special(name);
         return -1;
     }
+    replay_input::starter::hears_file(starter, path);
     let fd = os::create(path);
     if fd < 0 {
-        os::fail(name);
+        replay_input::say::fail(b"tape", name);
     }
     fd
 }
@@ -77,14 +78,15 @@ pub fn put(fd: i32, bytes: &[u8]) -> bool {
     if io::write_all(fd, bytes) {
         return true;
     }
-    os::fail(b"keeping what is written");
+    replay_input::say::fail(b"tape", b"keeping what is written");
     false
 }
 
 // All of a nameless file to standard output.
-pub fn to_output(fd: i32) -> bool {
+fn to_output(fd: i32) -> bool {
     libc::lseek(fd, 0, libc::SEEK_SET);
     let good = replay_input::source::copy_all(
+        b"tape",
         fd,
         libc::STDOUT_FILENO,
         b"what is written",
@@ -94,25 +96,38 @@ pub fn to_output(fd: i32) -> bool {
     good
 }
 
-fn renamed(name: &[u8], path: &[u8], fd: i32) -> bool {
-    let lasts = libc::fsync(fd) == 0;
-    libc::close(fd);
-    if lasts {
-        if os::rename(path, name) == 0 {
-            return true;
-        }
+// A starter that was ended, even so that it could hand nothing on, has ended the program too.
+fn replaced(starter: i32, name: &[u8], path: &[u8]) -> bool {
+    if replay_input::starter::is_gone(starter) {
+        crate::say::abandoned(name);
+        return false;
     }
-    os::fail(name);
+    if os::rename(path, name) == 0 {
+        return true;
+    }
+    replay_input::say::fail(b"tape", name);
+    false
+}
+
+fn renamed(starter: i32, name: &[u8], path: &[u8], fd: i32) -> bool {
+    let lasts = libc::fsync(fd) == 0;
+    if lasts {} else {
+        replay_input::say::fail(b"tape", name);
+    }
+    libc::close(fd);
+    if lasts && replaced(starter, name, path) {
+        return true;
+    }
     os::unlink(path);
     false
 }
 
 // What was written becomes the file.
-fn commit(name: &[u8], path: &[u8], fd: i32) -> bool {
+fn commit(starter: i32, name: &[u8], path: &[u8], fd: i32) -> bool {
     if is_standard(name) {
         return to_output(fd);
     }
-    renamed(name, path, fd)
+    renamed(starter, name, path, fd)
 }
 
 fn discard(name: &[u8], path: &[u8], fd: i32) {
@@ -124,9 +139,9 @@ fn discard(name: &[u8], path: &[u8], fd: i32) {
 }
 
 // Where the status is 0, what was written becomes the file; otherwise it is gone. Answers the status, or 2.
-pub fn finish(status: u8, name: &[u8], path: &[u8], fd: i32) -> u8 {
+pub fn finish(starter: i32, status: u8, name: &[u8], path: &[u8], fd: i32) -> u8 {
     if status == 0 {
-        if commit(name, path, fd) {
+        if commit(starter, name, path, fd) {
             return 0;
         }
         return 2;

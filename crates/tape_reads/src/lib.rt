@@ -1,12 +1,18 @@
 // A tape piece by piece, as the text of its schedule that replay reads.
 use tape_pieces::Piece;
 
-// Beside the states of a piece: its text could not be kept, and that was said.
+// Beside the states of a piece: its text could not be written, and that was said.
 const STUCK: u64 = 5;
 
+// A tape that is only judged has its text put here.
+const NOWHERE: i32 = -1;
+
 fn put(to: i32, out: &[u8], n: usize) -> bool {
+    if to == NOWHERE {
+        return true;
+    }
     if n <= out.len() {
-        return tape_files::files::put(to, &out[..n]);
+        return replay_input::say::is_written(b"tape", io::write_all(to, &out[..n]));
     }
     false
 }
@@ -49,6 +55,9 @@ fn put_entries(to: i32, words: &[u64], out: &mut [u8]) -> bool {
 }
 
 fn put_some(to: i32, words: &[u64], n: usize, out: &mut [u8]) -> bool {
+    if to == NOWHERE {
+        return true;
+    }
     if n <= words.len() {
         return put_entries(to, &words[..n], out);
     }
@@ -59,6 +68,14 @@ fn put_some(to: i32, words: &[u64], n: usize, out: &mut [u8]) -> bool {
 fn put_head(to: i32, p: Piece, out: &mut [u8]) -> bool {
     let n = text_output::form(out, 0, b"# #\n", &[p.capacity, p.workers]);
     put(to, out, n)
+}
+
+// The first line, and those of the first piece.
+fn put_first(to: i32, p: Piece, words: &[u64], out: &mut [u8]) -> bool {
+    if put_head(to, p, out) {
+        return put_some(to, words, p.count, out);
+    }
+    false
 }
 
 // The next piece, and its lines.
@@ -79,10 +96,7 @@ fn turn(
 
 fn first_turn(from: i32, to: i32, window: &mut [u8], words: &mut [u64], out: &mut [u8]) -> Piece {
     let mut p = tape_pieces::next(from, tape_pieces::start(), window, words);
-    if put_head(to, p, out) {} else {
-        p.state = STUCK;
-    }
-    if put_some(to, words, p.count, out) {} else {
+    if put_first(to, p, words, out) {} else {
         p.state = STUCK;
     }
     p
@@ -102,6 +116,7 @@ fn read(from: i32, to: i32) -> Piece {
     let mut window = [0u8; tape_pieces::WINDOW];
     let mut words = [0u64; tape_pieces::WORDS];
     let mut out = io::large_buffer();
+    libc::lseek(from, 0, libc::SEEK_SET);
     all(from, to, &mut window, &mut words, &mut out)
 }
 
@@ -114,44 +129,29 @@ fn status_of(p: Piece, name: &[u8]) -> u8 {
             1
         }
         tape_pieces::FAILED => {
-            os::fail(name);
+            replay_input::say::fail(b"tape", name);
             2
         }
         _ => 2,
     }
 }
 
-// The status; where it is 0, a file without a name that has the text.
-struct Text {
-    status: u8,
-    fd: i32,
-}
-
-// The text of a tape; what is wrong with the tape is said.
-fn text_of(from: i32, name: &[u8]) -> Text {
-    let to = replay_input::source::nameless();
-    if to < 0 {
-        return Text { status: 2, fd: to };
-    }
-    let status = status_of(read(from, to), name);
+// Read once to judge it, and once more to write its text, so that nothing is written of a tape that is refused.
+fn judged_first(from: i32, name: &[u8]) -> u8 {
+    let status = status_of(read(from, NOWHERE), name);
     if status != 0 {
-        libc::close(to);
+        return status;
     }
-    Text {
-        status: status,
-        fd: to,
-    }
+    status_of(read(from, libc::STDOUT_FILENO), name)
 }
 
 // The text to standard output; answers the status.
 pub fn run(from: i32, name: &[u8]) -> u8 {
-    let text = text_of(from, name);
-    if text.status != 0 {
-        return text.status;
+    let kept = replay_input::source::kept(b"tape", from, name);
+    if kept < 0 {
+        return 2;
     }
-    if tape_files::files::to_output(text.fd) {
-        0
-    } else {
-        2
-    }
+    let status = judged_first(kept, name);
+    replay_input::source::release(kept, from);
+    status
 }

@@ -229,31 +229,39 @@ fn status_of(w: Work, name: &[u8]) -> u8 {
     0
 }
 
-fn write_to(from: i32, name: &[u8], v: Variant, tape: &[u8], path: &[u8]) -> u8 {
-    let to = tape_files::files::sink(tape, path);
+fn write_to(starter: i32, from: i32, name: &[u8], v: Variant, tape: &[u8], path: &[u8]) -> u8 {
+    let to = tape_files::files::sink(starter, tape, path);
     if to < 0 {
         return 2;
     }
     let w = worked(from, v, to);
-    tape_files::files::finish(status_of(w, name), tape, path, to)
+    tape_files::files::finish(starter, status_of(w, name), tape, path, to)
 }
 
-fn write_from(from: i32, name: &[u8], v: Variant, tape: &[u8], path: &[u8], n: usize) -> u8 {
+fn write_from(
+    starter: i32,
+    from: i32,
+    name: &[u8],
+    v: Variant,
+    tape: &[u8],
+    path: &[u8],
+    n: usize,
+) -> u8 {
     if n <= path.len() {
-        return write_to(from, name, v, tape, &path[..n]);
+        return write_to(starter, from, name, v, tape, &path[..n]);
     }
     2
 }
 
 // A schedule's text and the name of its tape; answers the status.
-pub fn run(from: i32, name: &[u8], v: Variant, tape: &[u8]) -> u8 {
-    let kept = replay_input::source::kept(from, name);
+pub fn run(starter: i32, from: i32, name: &[u8], v: Variant, tape: &[u8]) -> u8 {
+    let kept = replay_input::source::kept(b"tape", from, name);
     if kept < 0 {
         return 2;
     }
     let mut path = [0u8; 4608];
     let n = tape_files::files::beside(tape, &mut path);
-    let status = write_from(kept, name, v, tape, &path, n);
+    let status = write_from(starter, kept, name, v, tape, &path, n);
     replay_input::source::release(kept, from);
     status
 }

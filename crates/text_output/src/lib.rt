@@ -1,7 +1,10 @@
 // Text, put together in a buffer that the caller lends and written by one call: each function here puts its text at `at`
 // and answers the place after it. What finds no room is left out, so that no caller owes a bound; `flush` writes what is
-// there.
+// there. Once a write has failed the place is LOST, where nothing finds room: nothing is written behind a gap, and who asks
+// for the place at the end knows of it.
 use libc::STDOUT_FILENO;
+
+pub const LOST: usize = usize::MAX;
 
 // The text of the longest line of an entry is far below this; a caller that has this much room left loses nothing.
 pub const LINE: usize = 1024;
@@ -104,12 +107,14 @@ pub fn nth(out: &mut [u8], at: usize, list: &[u8], n: usize, numbers: &[u64]) ->
     at
 }
 
-// Writes the text so far to standard output, and answers the place to go on at.
+// Writes the text so far to standard output, and answers the place to go on at: 0, or LOST, and then errno says why.
 pub fn flush(out: &[u8], at: usize) -> usize {
     if at <= out.len() {
-        io::write_all(STDOUT_FILENO, &out[..at]);
+        if io::write_all(STDOUT_FILENO, &out[..at]) {
+            return 0;
+        }
     }
-    0
+    LOST
 }
 
 // Writes only where less than a line's room is left.

@@ -15,7 +15,7 @@ fn run_file(o: Options) -> u8 {
     }
     let fd = os::open_read(&path[..n]);
     if fd < 0 {
-        os::fail(&path[..n]);
+        replay_input::say::fail(b"walk", &path[..n]);
         return many::UNREADABLE;
     }
     let status = run_from(o, fd, &path[..n]);
@@ -24,7 +24,7 @@ fn run_file(o: Options) -> u8 {
 }
 
 fn run_from(o: Options, fd: i32, name: &[u8]) -> u8 {
-    let kept = replay_input::source::kept(fd, name);
+    let kept = replay_input::source::kept(b"walk", fd, name);
     if kept < 0 {
         return many::UNREADABLE;
     }
@@ -35,8 +35,7 @@ fn run_from(o: Options, fd: i32, name: &[u8]) -> u8 {
 
 fn run(o: Options) -> u8 {
     if o.help {
-        walk_options::help();
-        return many::WALKED;
+        return many::status_of(many::WALKED, walk_options::help());
     }
     if o.wrong != 0 {
         replay_options::complain(b"walk", o.wrong);
@@ -50,5 +49,6 @@ fn run(o: Options) -> u8 {
 
 fn main() {
     let o = walk_options::read();
-    replay_options::tell(o.tells, run(o));
+    let starter = replay_input::starter::asking(o.tells);
+    replay_input::starter::hears_status(starter, run(o));
 }

@@ -11,7 +11,17 @@ pub const WALKED: u8 = 0;
 
 pub const REFUSED: u8 = 1;
 
+// or not all can be written
 pub const UNREADABLE: u8 = 2;
+
+// This one, unless not all was written, which is said.
+pub fn status_of(status: u8, whole: bool) -> u8 {
+    if replay_input::say::is_written(b"walk", whole) {
+        status
+    } else {
+        UNREADABLE
+    }
+}
 
 // Where the next schedule begins, where the text to be written goes on, and the status so far.
 struct Next {
@@ -32,16 +42,18 @@ fn stands(more: bool, offset: u64, line: u64, at: usize, status: u8) -> Next {
     }
 }
 
+// A mark leads to the next schedule, unless the text is lost.
+fn goes_on(event: u64, at: usize) -> bool {
+    if at == text_output::LOST {
+        return false;
+    }
+    event == text_numbers::MARK
+}
+
 fn after(s: Survey, at: usize, status: u8) -> Next {
     let r = s.reading;
     let scan = r.scan;
-    stands(
-        r.event == text_numbers::MARK,
-        r.offset,
-        scan.line,
-        at,
-        status,
-    )
+    stands(goes_on(r.event, at), r.offset, scan.line, at, status)
 }
 
 fn surveyed(o: Options, fd: i32, from: Next) -> Survey {
@@ -133,6 +145,12 @@ fn look_in(o: Options, fd: i32, name: &[u8]) -> u8 {
     n.status
 }
 
+// The rest of the text; answers the status.
+fn written(n: Next, out: &[u8]) -> u8 {
+    let at = text_output::flush(out, n.at);
+    status_of(n.status, at != text_output::LOST)
+}
+
 fn run_in(o: Options, fd: i32, name: &[u8], out: &mut [u8]) -> u8 {
     let mut n = stands(true, 0, 1, 0, WALKED);
     let mut turns = u64::MAX;
@@ -141,8 +159,7 @@ fn run_in(o: Options, fd: i32, name: &[u8], out: &mut [u8]) -> u8 {
         n = unless_at_end(fd, n);
         turns -= 1;
     }
-    text_output::flush(out, n.at);
-    n.status
+    written(n, out)
 }
 
 pub fn run_all(o: Options, fd: i32, name: &[u8]) -> u8 {

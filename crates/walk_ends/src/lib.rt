@@ -86,18 +86,26 @@ fn begin(table: &mut [u64], row: usize, key: [u64; 6], length: u64, place: u64) 
     put(table, row, PLACE, place);
 }
 
-// One sequence more that ends so, of this length and at this place of the list. Answers how many rows there are now; more than ROWS are
-// counted and not kept.
+// How many rows are kept, of a count of rows.
+pub fn listed(rows: usize) -> usize {
+    if rows < ROWS { rows } else { ROWS }
+}
+
+// How many sequences end in a way that has no row.
+pub fn unlisted(rows: usize) -> usize {
+    if rows < ROWS { 0 } else { rows - ROWS }
+}
+
+// One sequence more that ends so, of this length and at this place of the list. Answers how many rows there are now; once there are ROWS,
+// with each sequence that ends in a way that has none.
 pub fn count(table: &mut [u64], rows: usize, key: [u64; 6], length: u64, place: u64) -> usize {
-    let row = find(table, rows, key);
-    if row < rows {
+    let kept = listed(rows);
+    let row = find(table, kept, key);
+    if row < kept {
         more(table, row);
         shorter(table, row, length, place);
         return rows;
     }
-    if rows < ROWS {
-        begin(table, rows, key, length, place);
-        return rows + 1;
-    }
-    rows
+    begin(table, rows, key, length, place);
+    std::num::wrapping_add_usize(rows, 1)
 }

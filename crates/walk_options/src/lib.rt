@@ -132,7 +132,8 @@ pub fn read() -> Options {
     o
 }
 
-pub fn help() {
+// Answers whether all of it was written.
+pub fn help() -> bool {
     io::write_all(
         libc::STDOUT_FILENO,
         b"walk [--edition N] [--depth D] [--list] [--many] [SCHEDULE]\n\
@@ -146,6 +147,7 @@ pub fn help() {
         \x20                                       the shortest, its acts as the entries of a schedule\n\
         \x20 ends w0=E ... sequences=S shortest A 0 ...\n\
         \x20                                       the same for all workers together\n\
+        \x20 unlisted sequences=S                  after 512 ways of one, or of all together: how many end in still others\n\
         \n\
         E is idle:ANSWER as replay has it, or busy where the call is still under way. Ways to end stand in the order in which they come:\n\
         lowest worker first, code 8 before code 9.\n\
@@ -153,12 +155,12 @@ pub fn help() {
         A refusal is one line on standard error, refused N: and what it means. Of the machine: 1 capacity, 2 workers, 18 edition; of the\n\
         schedule, with the entry's place: 3 to 9, 11; of the walk: 19 more than 3 workers or a depth above 12, 20 an idle worker, 21 fewer\n\
         acts left on the meter than the depth, 22 a list longer than the buffer, which has 4194304 bytes.\n\
-        Status: 0 walked, 1 refused, 2 the input or the arguments cannot be read.\n\
+        Status: 0 walked, 1 refused, 2 the input or the arguments cannot be read, or not all can be written.\n\
         \n\
         \x20 --edition 2   the ring whose force_push keeps a close (1 unless told)\n\
         \x20 --depth D     the most acts of a sequence, 0 to 12: 12 unless told\n\
         \x20 --list        nothing but the sequences, one a line, as the entries of a schedule; one of no act is an empty line\n\
         \x20 --many        several schedules, separated by a line with a single %; a line % follows each output, and what is refused is\n\
         \x20               told in its place\n",
-    );
+    )
 }

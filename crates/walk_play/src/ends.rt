@@ -162,14 +162,26 @@ fn rows(
     p
 }
 
+fn unlisted(out: &mut [u8], at: usize, n: usize) -> usize {
+    if n == 0 {
+        return at;
+    }
+    text_output::form(out, at, b"unlisted sequences=#\n", &[n as u64])
+}
+
 // The ways of worker k, or of all where there is no worker k.
 fn ways(out: &mut [u8], at: usize, m: Machine, list: &[u8], k: u64) -> usize {
     let mut table = [0u64; TABLE];
     let n = count(m, list, k, &mut table);
-    rows(out, at, m, list, k, &table, n)
+    let p = rows(out, at, m, list, k, &table, walk_ends::listed(n));
+    unlisted(out, p, walk_ends::unlisted(n))
 }
 
+// Nothing more is counted once the text is lost.
 fn ways_if(out: &mut [u8], at: usize, m: Machine, list: &[u8], k: u64) -> usize {
+    if at == text_output::LOST {
+        return at;
+    }
     if k <= m.count {
         return ways(out, at, m, list, k);
     }

@@ -10,7 +10,7 @@ use Rattle.replay.proofs.many.run_in.Lts as lts
 use Rattle.replay.proofs.many.first.Reads as first-reads
 use Rattle.replay.proofs.many.one.Reads as one-reads
 use Rattle.replay.proofs.many.unless_at_end.Reads as unless-at-end-reads
-use Rattle.text_output.proofs.flush.Reads as flush-reads
+use Rattle.replay.proofs.many.written.Reads as written-reads
 
 abbrev Inv-loop : tie.InvT-loop
 Inv-loop o fd name out₀ n₀ turns₀ out n turns = length out ≡ length out₀
@@ -47,8 +47,8 @@ loop-again : tie.Need-loop-again Inv-loop μ-loop
 loop-again c = search needs
 
 -- src/many.rt:220:5
-flush-requires : tie.Need-flush-requires Inv-loop μ-loop
-flush-requires c κs = search needs
+written-requires : tie.Need-written-requires Inv-loop μ-loop
+written-requires c κs = search needs
 
 -- src/many.rt:207:1
 same-length : tie.Need-same-length Inv-loop μ-loop
@@ -71,6 +71,6 @@ run-in-spec =
     sub-turns
     loop-less
     loop-again
-    flush-requires
+    written-requires
     same-length
     returns)

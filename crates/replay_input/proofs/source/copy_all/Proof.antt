@@ -6,10 +6,10 @@ use Rattle.replay_input.proofs.source.copy_all.Lts as lts
 use Rattle.replay_input.proofs.source.copy_some.Reads as copy-some-reads
 
 abbrev Inv-loop : tie.InvT-loop
-Inv-loop from to name to-name state₀ turns₀ state turns = Unit {0}
+Inv-loop program from to name to-name state₀ turns₀ state turns = Unit {0}
 
 abbrev μ-loop : tie.MeasureT-loop
-μ-loop from to name to-name state₀ turns₀ state turns = turns
+μ-loop program from to name to-name state₀ turns₀ state turns = turns
 
 -- src/source.rt:145:5
 loop-holds : tie.Need-loop-holds Inv-loop μ-loop
