@@ -14,8 +14,8 @@ from typing import NamedTuple
 
 HOME = Path(__file__).resolve().parent.parent
 
-# A program tells its status on descriptor 3, as tools/start hears it.
-TOLD = 'exec 4>&1; told=$("$@" 3>&1 >&4 4>&-); ended=$?; [ "$ended" = 0 ] || exit "$ended"; exit "${told:-2}"'
+# A program tells its status on descriptor 3, behind the names of files, as tools/start hears it.
+TOLD = 'exec 4>&1; told=$("$@" 3>&1 >&4 4>&-); ended=$?; [ "$ended" = 0 ] || exit "$ended"; told=${told#"${told%?}"}; exit "${told:-2}"'
 
 
 @cache
