@@ -56,6 +56,24 @@ def started(name, *words, given=b'', **more):
     return Ended(done.returncode, done.stdout, done.stderr.decode())
 
 
+@cache
+def may_trace():
+    """Whether strace may trace here; told once where it may not."""
+    may = subprocess.run(['strace', '-qq', '-e', 'trace=none', 'true'], capture_output=True).returncode == 0
+    if not may:
+        print('strace may trace nothing here: what it would show is not seen')
+    return may
+
+
+def failing(call, name, *words, file=None):
+    """A program run to its end with a system call that fails with EIO: CALL, or CALL:when=N for the N-th one; of all files, or of this one."""
+    call, _, when = call.partition(':')
+    path = ['-P', str(file)] if file else []
+    trace = ['strace', '-f', '-qq', '-o', '/dev/null', *path, '-e', f'trace={call}', '-e', f'inject={call}:error=EIO' + (f':{when}' if when else '')]
+    done = subprocess.run([*trace, *starter_of(name), *map(str, words)], capture_output=True, stdin=subprocess.DEVNULL)
+    return Ended(done.returncode, done.stdout, done.stderr.decode())
+
+
 class Checks:
     """What a test has found wrong, told as it is found. Where ENOUGH is set, the first ends the test."""
 
