@@ -5,7 +5,6 @@ and new, which takes longer than most runs here. So the programs are built and p
 """
 
 import os
-import shlex
 import subprocess
 import sys
 from functools import cache
@@ -29,12 +28,6 @@ def loaded(file):
     loader = [str(tools() / 'lib/ld-linux-x86-64.so.2'), '--library-path', str(tools() / 'lib'), str(file)]
     emulator = tools() / 'bin/qemu-x86_64'
     return [str(emulator), '-cpu', 'max,-erms', *loader] if emulator.exists() else loader
-
-
-def write_starter(path, file):
-    """A starter at this path, of a program's file that may have been compiled in a hurry, with all of its buffers on the stack."""
-    path.write_text(f'#!/bin/sh\nulimit -s 65536\nset -- {shlex.join(loaded(file))} --tell-status "$@"\n{TOLD}\n')
-    path.chmod(0o755)
 
 
 @cache
@@ -65,12 +58,12 @@ def may_trace():
     return may
 
 
-def failing(call, name, *words, file=None):
+def failing(call, name, *words, file=None, given=b''):
     """A program run to its end with a system call that fails with EIO: CALL, or CALL:when=N for the N-th one; of all files, or of this one."""
     call, _, when = call.partition(':')
     path = ['-P', str(file)] if file else []
     trace = ['strace', '-f', '-qq', '-o', '/dev/null', *path, '-e', f'trace={call}', '-e', f'inject={call}:error=EIO' + (f':{when}' if when else '')]
-    done = subprocess.run([*trace, *starter_of(name), *map(str, words)], capture_output=True, stdin=subprocess.DEVNULL)
+    done = subprocess.run([*trace, *starter_of(name), *map(str, words)], input=given, capture_output=True)
     return Ended(done.returncode, done.stdout, done.stderr.decode())
 
 
