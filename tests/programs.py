@@ -58,12 +58,12 @@ def may_trace():
     return may
 
 
-def failing(call, name, *words, file=None, given=b''):
+def failing(call, name, *words, file=None):
     """A program run to its end with a system call that fails with EIO: CALL, or CALL:when=N for the N-th one; of all files, or of this one."""
     call, _, when = call.partition(':')
     path = ['-P', str(file)] if file else []
     trace = ['strace', '-f', '-qq', '-o', '/dev/null', *path, '-e', f'trace={call}', '-e', f'inject={call}:error=EIO' + (f':{when}' if when else '')]
-    done = subprocess.run([*trace, *starter_of(name), *map(str, words)], input=given, capture_output=True)
+    done = subprocess.run([*trace, *starter_of(name), *map(str, words)], capture_output=True, stdin=subprocess.DEVNULL)
     return Ended(done.returncode, done.stdout, done.stderr.decode())
 
 
