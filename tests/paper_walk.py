@@ -35,6 +35,18 @@ def sequences(machine, depth, met=None):
     return met[now]
 
 
+def counted(machine, depth, met=None):
+    """How many sequences there are, and how many acts in all of them, without the sequences: for lists that are too long to be made here."""
+    met = {} if met is None else met
+    if depth == 0 or not any(map(busy, machine.workers)):
+        return 1, 0
+    now = depth, changing(machine)
+    if now not in met:
+        after = [counted(machine, depth - 1, met) for _, machine in accepted(machine)]
+        met[now] = sum(number for number, _ in after), sum(number + acts for number, acts in after)
+    return met[now]
+
+
 def refusal_of(machine, depth):
     """Of a walk without a buffer: 6, 19, 20, 21 or 0."""
     if paper.broken(machine):

@@ -72,7 +72,10 @@ fn with_word(before: Asked, i: usize, word: &[u8]) -> Asked {
     let mut a = before;
     if a.act == NOTHING {
         a.act = act_of(word);
-        a.wrong = a.act == NOTHING;
+        // what came before an act stays wrong
+        if a.act == NOTHING {
+            a.wrong = true;
+        }
         return a;
     }
     if check::same(word, b"--little") {
