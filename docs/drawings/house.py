@@ -12,11 +12,11 @@ sys.path.append(str(Path(__file__).resolve().parent.parent.parent / 'tests'))
 from family import kind_of, listed
 from svg import GREY, WHITE, Drawing
 
-COLUMNS = {'bounded': 150, 'single': 340, 'unbounded': 530, 'tapes': 720}
-TITLES = {'bounded': 'the ring', 'single': 'the one-slot queue', 'unbounded': 'the unbounded queue', 'tapes': 'schedule tapes'}
-WIDE, NARROW, HIGH = 176, 142, 54
-DROP = WIDE - 16  # where an arrow from the right comes down on a machine
-RIGHT, HALF = 940, 165
+COLUMNS = {'bounded': 116, 'single': 284, 'unbounded': 452, 'tapes': 620}
+TITLES = {'bounded': 'ring', 'single': 'one-slot queue', 'unbounded': 'unbounded queue', 'tapes': 'schedule tapes'}
+WIDE, NARROW, HIGH = 160, 136, 54
+DROP = WIDE - 12  # where an arrow from the right comes down on a machine
+RIGHT, HALF, GAP = 804, 124, 16
 PROGRAMS, PROOFS, STATEMENTS, TEXTS, MACHINES, SHARED = 100, 100, 200, 320, 430, 530
 LIBRARIES = STATEMENTS
 # The lines that several arrows share, below the libraries.
@@ -40,14 +40,14 @@ def box_of(name):
 BOXES = {
     ('shared',): (COLUMNS['bounded'], SHARED, COLUMNS['tapes'] + WIDE - COLUMNS['bounded'], WHITE, 'queue_..: what every queue shares'),
     ('programs',): (RIGHT, PROGRAMS, HALF, WHITE, 'replay, tape, walk'),
-    ('libraries',): (RIGHT, LIBRARIES, HALF, WHITE, 'replay_.. tape_.. walk_..'),
-    ('shows',): (RIGHT + HALF + 30, LIBRARIES, HALF, WHITE, '.._shows_..: for tests'),
-    ('texts',): (RIGHT, TEXTS, 2 * HALF + 30, WHITE, '.._text..: machines as text'),
-    ('text',): (RIGHT, MACHINES, 2 * HALF + 30, WHITE, 'text_..: text out, numbers in'),
-    ('bench',): (20, TEXTS, 100, WHITE, 'bench_..'),
+    ('libraries',): (RIGHT, LIBRARIES, HALF, WHITE, 'replay_.. tape_..\nwalk_..'),
+    ('shows',): (RIGHT + HALF + GAP, LIBRARIES, HALF, WHITE, '.._shows_..\nfor tests'),
+    ('texts',): (RIGHT, TEXTS, 2 * HALF + GAP, WHITE, '.._text..: machines as text'),
+    ('text',): (RIGHT, MACHINES, 2 * HALF + GAP, WHITE, 'text_..: text out, numbers in'),
+    ('bench',): (12, TEXTS, 80, WHITE, 'bench_..'),
 }
 for queue, x in COLUMNS.items():
-    BOXES['machine', queue] = (x, MACHINES, WIDE, WHITE, f'{queue}, {queue}_..')
+    BOXES['machine', queue] = (x, MACHINES, WIDE, WHITE, f'{queue}..')
     BOXES['statement', queue] = (x, STATEMENTS, NARROW, GREY, f'{queue}_demands')
     BOXES['proof', queue] = (x, PROOFS, NARROW, GREY, f'{queue}_proof_..')
 
@@ -59,10 +59,10 @@ def down(above, below, x):
 # The way of each arrow; a bend at each point.
 WAYS = {
     (('programs',), ('libraries',)): down(('programs',), ('libraries',), RIGHT + HALF / 2),
-    (('libraries',), ('texts',)): down(('libraries',), ('texts',), RIGHT + HALF - 30),
-    (('shows',), ('texts',)): down(('shows',), ('texts',), RIGHT + 2 * HALF),
-    (('texts',), ('text',)): down(('texts',), ('text',), RIGHT + HALF + 15),
-    (('bench',), ('machine', 'bounded')): [(120, TO_QUEUES), (COLUMNS['bounded'] + 24, TO_QUEUES), (COLUMNS['bounded'] + 24, MACHINES)],
+    (('libraries',), ('texts',)): down(('libraries',), ('texts',), RIGHT + HALF - 24),
+    (('shows',), ('texts',)): down(('shows',), ('texts',), RIGHT + 2 * HALF + GAP - 24),
+    (('texts',), ('text',)): down(('texts',), ('text',), RIGHT + HALF + GAP / 2),
+    (('bench',), ('machine', 'bounded')): [(92, TO_QUEUES), (COLUMNS['bounded'] + 24, TO_QUEUES), (COLUMNS['bounded'] + 24, MACHINES)],
 }
 for queue, x in COLUMNS.items():
     WAYS[('proof', queue), ('statement', queue)] = down(('proof', queue), ('statement', queue), x + NARROW / 2)
@@ -70,7 +70,7 @@ for queue, x in COLUMNS.items():
     WAYS[('machine', queue), ('shared',)] = down(('machine', queue), ('shared',), x + WIDE / 2)
     if queue != 'tapes':
         WAYS[('texts',), ('machine', queue)] = [(RIGHT, TO_QUEUES), (x + DROP, TO_QUEUES), (x + DROP, MACHINES)]
-for above, x in (('libraries', RIGHT + 30), ('shows', RIGHT + HALF + 60)):
+for above, x in (('libraries', RIGHT + 24), ('shows', RIGHT + HALF + GAP + 24)):
     to = COLUMNS['tapes'] + DROP
     WAYS[(above,), ('machine', 'tapes')] = [(x, LIBRARIES + HIGH), (x, TO_TAPES), (to, TO_TAPES), (to, MACHINES)]
 
@@ -106,23 +106,24 @@ for box in BOXES.keys() - counts.keys():
 for box, to in sorted(arrows ^ WAYS.keys()):
     sys.exit(f'house.py: {" ".join(box)} to {" ".join(to)}: ' + ('no way is drawn for this arrow' if (box, to) in arrows else 'a way, and no arrow'))
 
-d = Drawing(1320, 680, 'The house: families of crates')
-d.text(20, 28, 'The house: families of crates, and who uses whom', anchor='start', size=17, weight='bold')
-d.text(20, 50, f'{len(uses)} crates. An arrow says "uses"; what is used by way of another box has no arrow of its own.', anchor='start')
+d = Drawing(1080, 680, 'The house: families of crates')
+d.text(12, 28, 'The house: families of crates, and who uses whom', anchor='start', size=17, weight='bold')
+d.text(12, 50, f'{len(uses)} crates. An arrow says "uses"; what is used by way of another box has no arrow of its own. Lines that cross do not meet.', anchor='start')
 for queue, x in COLUMNS.items():
     d.text(x, 84, TITLES[queue], anchor='start', weight='bold')
 d.text(RIGHT, 84, 'programs and their libraries', anchor='start', weight='bold')
 for y, label in ((PROOFS, 'proofs'), (STATEMENTS, 'statements'), (MACHINES, 'machines'), (SHARED, 'shared')):
-    d.text(20, y + HIGH / 2 + 5, label, anchor='start', weight='bold')
+    d.text(12, y + HIGH / 2 + 5, label, anchor='start', weight='bold')
 
 for (box, to), way in sorted(WAYS.items()):
     for n, ((x1, y1), (x2, y2)) in enumerate(zip(way, way[1:])):
         d.line(x1, y1, x2, y2, tip=n == len(way) - 2)
 for box, (x, y, wide, fill, text) in BOXES.items():
     d.box(x, y, wide, HIGH, fill)
-    d.text(x + wide / 2, y + 23, text, size=12)
     slips = any(box_of(name) == box and name.endswith('_slips') for name in uses)
-    d.text(x + wide / 2, y + 42, ('1 crate' if counts[box] == 1 else f'{counts[box]} crates') + (' with slips' if slips else ''), size=12)
+    lines = [*text.split('\n'), ('1 crate' if counts[box] == 1 else f'{counts[box]} crates') + (' with slips' if slips else '')]
+    for n, line in enumerate(lines):
+        d.text(x + wide / 2, y + HIGH / 2 + 4 + 16 * (n - (len(lines) - 1) / 2), line, size=12)
 
-d.legend(20, 616, ((GREY, '', 'statements and proofs, no code'), (WHITE, '', 'code with its definitions; in queue_.. also laws alone')))
+d.legend(12, 616, ((GREY, '', 'statements and proofs, no code'), (WHITE, '', 'code with its definitions; in queue_.. also laws alone')))
 print(d)
