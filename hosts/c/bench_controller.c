@@ -1,6 +1,6 @@
 /* What a bench controller does with the queue: two readers put the speeds of pumps in, a judge takes them out, one
- * action at a time in the order that the controller chooses. Then an entry that is refused, and a ring that somebody
- * has broken. It writes what happened, a line each, and ends with status 1 where something is not as it should be. */
+ * action at a time in the order that the controller chooses. A schedule goes to a tape and comes back from it. Then an
+ * entry that is refused, and a ring that somebody has broken. It writes what happened, a line each, and ends with status 1 where something is not as it should be. */
 #include "fernmoldew.h"
 
 #include <inttypes.h>
@@ -92,6 +92,18 @@ int main(void) {
     struct fern_reply ran = fern_ring_run(LENT, schedule, sizeof schedule / sizeof *schedule);
     printf("a schedule of %" PRIu64 " entries: %s\n", ran.number, fern_refusal_says(ran.refusal));
     say("reader A", records[READER_A]);
+
+    /* The schedule as a tape, for the archive; and back. */
+    enum { WORDS = sizeof schedule / sizeof *schedule };
+    uint8_t tape[FERN_TAPE_BYTES(WORDS)];
+    struct fern_reply archived = fern_tape_write(FERN_TAPE_BIG, 2, WORKERS, schedule, WORDS, tape, sizeof tape);
+    printf("a tape of %" PRIu64 " bytes: %s\n", archived.number, fern_refusal_says(archived.refusal));
+    uint64_t about[FERN_TAPE_ABOUT], again[FERN_TAPE_WORDS(sizeof tape)];
+    struct fern_reply heard = fern_tape_read(tape, archived.number, about, FERN_TAPE_ABOUT, again, sizeof again / sizeof *again);
+    printf("its capacity %" PRIu64 ", workers %" PRIu64 ", words %" PRIu64 "\n", about[FERN_TAPE_CAPACITY], about[FERN_TAPE_WORKERS], heard.number);
+    expect(heard.refusal == FERN_ACCEPTED && heard.number == WORDS && memcmp(again, schedule, sizeof schedule) == 0, "a tape gives its schedule back");
+    heard = fern_tape_read(tape, archived.number - 1, about, FERN_TAPE_ABOUT, again, sizeof again / sizeof *again);
+    printf("without its last byte: refusal %" PRIu64 " at byte %" PRIu64 ", %s\n", heard.refusal, heard.number, fern_refusal_says(heard.refusal));
 
     /* What is refused changes no word. */
     uint64_t before[FERN_HEAD + WORKERS * FERN_RECORD], after[FERN_HEAD + WORKERS * FERN_RECORD];

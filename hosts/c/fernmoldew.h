@@ -1,4 +1,4 @@
-/* fernmoldew.h: the proved bounded queue, linked into a program of yours.
+/* fernmoldew.h: the proved bounded queue, and tapes of its schedules, linked into a program of yours.
  *
  * What no proof speaks of, and you must see to: the slices of a call must not overlap, each must be as long as is
  * said, two calls on the same words must not run at once, and nobody else may write the words between two calls.
@@ -17,7 +17,9 @@
  * action with each FERN_ACT; the worker's record says where it stands. README.md of this folder shows a whole call.
  *
  * Words that stand for no ring and records (a wrong length, a code that there is none of, a word that is not used
- * and not 0, another layout number) are refusal FERN_BROKEN, as are those of a broken ring. */
+ * and not 0, another layout number) are refusal FERN_BROKEN, as are those of a broken ring.
+ *
+ * A tape is a schedule as bytes, for an archive: fern_tape_write and fern_tape_read, which need no ring. */
 #ifndef FERNMOLDEW_H
 #define FERNMOLDEW_H
 
@@ -37,6 +39,24 @@ enum {
     FERN_CAPACITY = 1024, /* the most slots */
     FERN_LAYOUT = 1       /* the layout number, in the last word of the head */
 };
+
+/* A tape's variant: the byte with which it begins. */
+enum fern_tape_variant {
+    FERN_TAPE_BIG = 1,     /* lengths and numbers are big-endian */
+    FERN_TAPE_LITTLE = 129 /* little-endian, and every tag has 128 added */
+};
+
+/* What a tape is about: the words that fern_tape_read writes beside the schedule. */
+enum fern_tape_about {
+    FERN_TAPE_VARIANT,
+    FERN_TAPE_CAPACITY,
+    FERN_TAPE_WORKERS,
+    FERN_TAPE_ABOUT /* how many words they are */
+};
+
+/* The most bytes that the tape of a schedule has, and the most words that the schedule of a tape has. */
+#define FERN_TAPE_BYTES(schedule_words) (10 + 6 * (size_t)(schedule_words))
+#define FERN_TAPE_WORDS(tape_bytes) ((size_t)(tape_bytes) / 2)
 
 /* The words of the head. */
 enum fern_head {
@@ -73,8 +93,8 @@ enum fern_call {
     FERN_ACT_LOSE /* the same, and its weak exchange fails */
 };
 
-/* Refusals. A call of this library answers 0, or one of 1 to 11 or 18; the others are those of tapes, of walks and
- * of the unbounded queue, here so that every number has its name. */
+/* Refusals. A call of this library answers 0, or one of 1 to 18; the others are those of walks and of the unbounded
+ * queue, here so that every number has its name. */
 enum fern_refusal {
     FERN_ACCEPTED = 0,
     FERN_BAD_CAPACITY = 1,     /* capacity 0, or above FERN_CAPACITY */
@@ -82,7 +102,7 @@ enum fern_refusal {
     FERN_NO_SUCH_WORKER = 3,   /* the worker's number is not below the count */
     FERN_BUSY = 4,             /* a busy worker was to begin a call; contents while any is busy */
     FERN_IDLE = 5,             /* an act of an idle worker */
-    FERN_BROKEN = 6,           /* the words stand for no ring and records, or for broken ones */
+    FERN_BROKEN = 6,           /* the words stand for no ring and records, or for broken ones; a wrong length */
     FERN_METER_FULL = 7,       /* the meter is at 4,294,967,295 */
     FERN_NO_WEAK_EXCHANGE = 8, /* FERN_ACT_LOSE where no weak exchange comes next */
     FERN_UNREADABLE = 9,       /* an entry that cannot be read: a code above 9, an item where there is none */
@@ -150,7 +170,8 @@ enum fern_code {
     FERN_CODES
 };
 
-/* A refusal, 0 where there is none, and what was asked for: 0 where it was refused, but an entry's place from run. */
+/* A refusal, 0 where there is none, and what was asked for: 0 where it was refused, but an entry's place from run,
+ * and what is said below from the functions for tapes. */
 struct fern_reply {
     uint64_t refusal;
     uint64_t number;
@@ -185,6 +206,20 @@ struct fern_reply fern_ring_capacity(const uint64_t *head, size_t head_words, co
 /* FERN_BROKEN where every call would be refused for what is lent, else 0. */
 uint64_t fern_ring_broken(const uint64_t *head, size_t head_words, const uint64_t *slots, size_t slots_words,
                           const uint64_t *records, size_t records_words);
+
+/* A schedule as a tape at the buffer's start, with the capacity and the count of workers that it is meant for: how many
+ * bytes. Refusals, and their number, in this order: FERN_TAPE_FIELD for a variant that there is none of (0),
+ * FERN_ODD_SCHEDULE (0), FERN_TAPE_ENTRY (the entry's place from 0; 0 for a capacity or count above 65,535),
+ * FERN_TAPE_ROOM (how many bytes it would take). What is refused writes nothing. */
+struct fern_reply fern_tape_write(uint64_t variant, uint64_t capacity, uint64_t workers, const uint64_t *schedule,
+                                  size_t schedule_words, uint8_t *tape, size_t tape_bytes);
+
+/* A tape's schedule at the buffer's start: how many words; and what the tape is about, FERN_TAPE_ABOUT words. Refusals,
+ * and their number, in this order: FERN_BROKEN for another count of words about it (0); FERN_TAPE_CUT, _FIELD, _CODE or
+ * _MORE, the first fault from left to right (the byte at which the field at fault begins, or the first one too many);
+ * FERN_TAPE_ROOM (how many words it would take). What is refused writes nothing. */
+struct fern_reply fern_tape_read(const uint8_t *tape, size_t tape_bytes, uint64_t *about, size_t about_words,
+                                 uint64_t *schedule, size_t schedule_words);
 
 /* An entry's first word. */
 static inline uint64_t fern_entry(uint64_t worker, enum fern_call call) {

@@ -20,7 +20,9 @@ fn main() {
             root.join("target/native")
         }
     };
-    println!("cargo:rerun-if-changed={}", folder.join("libbounded_host.a").display());
     println!("cargo:rustc-link-search=native={}", folder.display());
-    println!("cargo:rustc-link-lib=static=bounded_host");
+    for library in ["bounded_host", "tapes_host"] {
+        println!("cargo:rerun-if-changed={}", folder.join(format!("lib{library}.a")).display());
+        println!("cargo:rustc-link-lib=static={library}");
+    }
 }

@@ -20,7 +20,9 @@
 //! # Ok::<(), fernmoldew::Refusal>(())
 //! ```
 //!
-//! The library behind it is compiled from proved Rattle (crates/bounded_host); its promises are of the words that a [`Ring`] and its [`Workers`] hold.
+//! A [`Tape`] is a schedule as bytes, for an archive.
+//!
+//! The library behind it is compiled from proved Rattle (crates/bounded_host, crates/tapes_host); its promises are of the words that a [`Ring`] and its [`Workers`] hold, and of a tape's bytes and words.
 //! They hold if a ring is lent the same workers throughout, as this crate's borrows leave to you: lend another ring's and refusal 6 alone judges them.
 
 use std::error::Error;
@@ -39,6 +41,8 @@ extern "C" {
     fn fern_ring_contents(head: *const u64, n: usize, slots: *const u64, m: usize, records: *const u64, k: usize, buffer: *mut u64, room: usize) -> Reply;
     fn fern_ring_capacity(head: *const u64, n: usize, slots: *const u64, m: usize, records: *const u64, k: usize) -> Reply;
     fn fern_ring_broken(head: *const u64, n: usize, slots: *const u64, m: usize, records: *const u64, k: usize) -> u64;
+    fn fern_tape_write(variant: u64, capacity: u64, workers: u64, schedule: *const u64, length: usize, tape: *mut u8, room: usize) -> Reply;
+    fn fern_tape_read(tape: *const u8, length: usize, about: *mut u64, n: usize, schedule: *mut u64, room: usize) -> Reply;
 }
 
 /// The words of a ring but for its slots, of its slots, and of a worker's record.
@@ -46,7 +50,7 @@ pub const HEAD_WORDS: usize = 8;
 pub const SLOT_WORDS: usize = 2048;
 pub const RECORD_WORDS: usize = 5;
 
-/// Why something was refused. This library answers 1 to 11 and 18; the others are those of tapes, of walks and of the unbounded queue.
+/// Why something was refused. This library answers 1 to 18; the others are those of walks and of the unbounded queue.
 #[derive(Clone, Copy, Debug, PartialEq, Eq, Hash, PartialOrd, Ord)]
 #[repr(u64)]
 pub enum Refusal {
@@ -460,5 +464,106 @@ impl Ring {
     /// How many acts were accepted since it was made.
     pub fn meter(&self) -> u64 {
         self.head[6]
+    }
+}
+
+/// How a tape has its numbers; its own number is the byte with which the tape begins.
+#[derive(Clone, Copy, Debug, PartialEq, Eq, Hash)]
+#[repr(u64)]
+pub enum Variant {
+    BigEndian = 1,
+    LittleEndian = 129,
+}
+
+/// What a tape tells beside its schedule: how it has its numbers, and the capacity and the count of workers that the schedule is meant for, neither above 65,535.
+#[derive(Clone, Copy, Debug, PartialEq, Eq, Hash)]
+pub struct About {
+    pub variant: Variant,
+    pub capacity: u64,
+    pub workers: u64,
+}
+
+/// A tape, or a schedule for one, that was refused. `number` is the byte at which the field at fault begins, or the first byte after the end; of 17 the entry's place, from 0; of 16 how many
+/// bytes or words it would take; of 11 it is 0.
+#[derive(Clone, Copy, Debug, PartialEq, Eq)]
+pub struct Spoiled {
+    pub refusal: Refusal,
+    pub number: u64,
+}
+
+impl fmt::Display for Spoiled {
+    fn fmt(&self, f: &mut fmt::Formatter<'_>) -> fmt::Result {
+        let Spoiled { refusal, number } = self;
+        match refusal {
+            Refusal::OddSchedule => write!(f, "{refusal}"),
+            Refusal::TapeRoom => write!(f, "{refusal}: it takes {number}"),
+            Refusal::TapeEntry => write!(f, "entry {number}: {refusal}"),
+            _ => write!(f, "byte {number}: {refusal}"),
+        }
+    }
+}
+
+impl Error for Spoiled {}
+
+fn taped(Reply { refusal, number }: Reply) -> Result<usize, Spoiled> {
+    judged(refusal).map(|()| number as usize).map_err(|refusal| Spoiled { refusal, number })
+}
+
+/// A schedule, two words an entry, and what its tape tells beside it.
+///
+/// ```
+/// use fernmoldew::{act_entry, About, Call, Refusal, Tape, Variant};
+///
+/// let about = About { variant: Variant::BigEndian, capacity: 2, workers: 1 };
+/// let tape = Tape { about, schedule: [Call::Push(5).entry(0), act_entry(0)].concat() };
+/// let bytes = tape.to_bytes()?;
+/// assert_eq!(bytes, *b"\x01\0\x04\0\x02\0\x01\x02\0\x09\0\0\0\0\0\0\0\0\x05\x03\0\x01\x80\x04\0\0");
+/// assert_eq!(Tape::from_bytes(&bytes)?, tape);
+///
+/// let cut = Tape::from_bytes(&bytes[..25]).unwrap_err();
+/// assert_eq!((cut.refusal, cut.number), (Refusal::TapeCut, 23));
+/// assert_eq!(cut.to_string(), "byte 23: refusal 12: the tape is cut short");
+/// # Ok::<(), fernmoldew::Spoiled>(())
+/// ```
+#[derive(Clone, Debug, PartialEq, Eq)]
+pub struct Tape {
+    pub about: About,
+    pub schedule: Vec<u64>,
+}
+
+impl Tape {
+    /// Refusals 11 and 17.
+    pub fn to_bytes(&self) -> Result<Vec<u8>, Spoiled> {
+        // the first and the last field have 10 bytes, and no entry has more than 12
+        let mut bytes = vec![0; 10 + 6 * self.schedule.len()];
+        let count = Tape::write_into(self.about, &self.schedule, &mut bytes)?;
+        bytes.truncate(count);
+        Ok(bytes)
+    }
+
+    /// Refusals 12 to 15: the first fault, from left to right.
+    pub fn from_bytes(bytes: &[u8]) -> Result<Tape, Spoiled> {
+        // no entry has less than 4 bytes
+        let mut schedule = vec![0; bytes.len() / 2];
+        let (about, count) = Tape::read_into(bytes, &mut schedule)?;
+        schedule.truncate(count);
+        Ok(Tape { about, schedule })
+    }
+
+    /// The tape of a schedule at a buffer's start, of which the rest is left as it was: how many bytes. Refusals 11, 17 and 16, which write nothing.
+    pub fn write_into(about: About, schedule: &[u64], tape: &mut [u8]) -> Result<usize, Spoiled> {
+        let About { variant, capacity, workers } = about;
+        // SAFETY: the schedule is read alone, and the buffer is borrowed apart from it; each is as long as is said.
+        taped(unsafe { fern_tape_write(variant as u64, capacity, workers, schedule.as_ptr(), schedule.len(), tape.as_mut_ptr(), tape.len()) })
+    }
+
+    /// A tape's schedule at a buffer's start, of which the rest is left as it was: how many words. Refusals 12 to 15, and then 16, which write nothing.
+    pub fn read_into(tape: &[u8], schedule: &mut [u64]) -> Result<(About, usize), Spoiled> {
+        let mut about = [0; 3];
+        // SAFETY: the tape is read alone, and the other two are borrowed apart from it and from each other; each is as long as is said.
+        let count = taped(unsafe { fern_tape_read(tape.as_ptr(), tape.len(), about.as_mut_ptr(), about.len(), schedule.as_mut_ptr(), schedule.len()) })?;
+        let [name, capacity, workers] = about;
+        let variant = if name == Variant::BigEndian as u64 { Variant::BigEndian } else { Variant::LittleEndian };
+        Ok((About { variant, capacity, workers }, count))
     }
 }
