@@ -11,7 +11,7 @@ from run import REFUSALS
 COL, STRIP, LABELS = 26, 36, 92
 CHAR, SMALL = 6.05, 5.45  # a letter's width, of 10 and of 9 pixels
 CELL, THIN, TEXT = 18, 8, 12  # heights: of an act, of the bar between two, of a row of text
-MOST_SLOTS, MOST_ROWS, ROW, CHART = 8, 16, 15, 260
+MOST_SLOTS, MOST_ROWS, FEW_ROWS, ROW, CHART = 8, 16, 8, 15, 260
 
 
 def number(x):
@@ -31,9 +31,9 @@ def line(x1, y1, x2, y2, kind):
     return f'<path d="M{number(x1)} {number(y1)}L{number(x2)} {number(y2)}" class="{kind}"/>'
 
 
-def fitted(room, *ways):
+def fitted(room, *ways, wide=CHAR):
     """The first way to say it that has room, else the last one, cut."""
-    most = int(room / CHAR)
+    most = int(room / wide)
     for way in ways:
         if len(way) <= most:
             return way
@@ -95,7 +95,7 @@ class Picture:
         self.base, self.rows = heads, max(tails - heads, 1)
         self.wraps = self.rows > max(MOST_ROWS, waiting)
         if self.wraps:
-            self.rows = max(waiting + 2, MOST_ROWS)
+            self.rows = max(waiting + 2, FEW_ROWS)
         self.row = ROW if self.rows <= MOST_ROWS + 2 else CHART / self.rows
         self.chart = y + 6
         self.floor = self.chart + 15 + self.rows * self.row
@@ -153,11 +153,11 @@ class Picture:
         return range((max(thing.begun, first) - first) // STRIP, (end - first) // STRIP + 1)
 
     def span(self, thing, at):
-        """From where to where a thing is drawn in the strip that begins at column AT: centres of columns, or the strip's edges."""
+        """From where to where a thing is drawn in the strip that begins at column AT: centres of columns, or just beyond the strip's edges."""
         left, right = self.edges
-        begin = max((thing.begun - self.run.first - at + .5) * COL, left) if thing.begun >= self.run.first else left
-        end = right if thing.ended is None or thing.ended > self.run.last else min((thing.ended - self.run.first - at + .5) * COL, right)
-        return begin, end
+        begin = (thing.begun - self.run.first - at + .5) * COL
+        end = right if thing.ended is None else (thing.ended - self.run.first - at + .5) * COL
+        return left - 2 if begin < left else begin, right + 2 if end >= right else end
 
     def strip(self, index):
         """The elements of a strip; its upper left corner is 0, 0."""
@@ -206,8 +206,9 @@ class Picture:
             said = ''
             if self.row >= 11:
                 taker = '' if life.taker is None or life.ended > self.run.last else f'w{life.taker}'
-                said = text(x1 + 4, y + self.row - 4, fitted(x2 - x1 - 6, f'{life.item} w{life.giver}→{taker}', life.item))
-            parts.append(f'<g class="item" data-item="{life.item}" data-claim="{life.claim}">')
+                said = text(max(x1, 0) + 4, y + self.row - 4, fitted(x2 - x1 - 6, f'{life.item} w{life.giver}→{taker}', life.item))
+            ended = '' if life.ended is None else f' data-taker="{life.taker}" data-to="{life.ended}"'
+            parts.append(f'<g class="item" data-item="{life.item}" data-claim="{life.claim}" data-giver="{life.giver}" data-from="{life.begun}"{ended}>')
             for who, when in ((life.giver, life.begun), (life.taker, life.ended)):
                 x = None if when is None else when - self.run.first - at
                 if x is not None and 0 <= x < len(levels):
@@ -240,10 +241,11 @@ class Picture:
         """A line of steps; tail's where it is marked is a second path."""
         left, right = self.edges
         name = end[:-1]
-        paths, now = [], [name, before.closed and name == 'tail', f'M{left} {number(self.level(getattr(before, end)))}']
-        y = self.level(getattr(before, end))
+        apart = -1.2 if name == 'tail' else 1.2  # both are seen where they are equal
+        y = self.level(getattr(before, end)) + apart
+        paths, now = [], [name, before.closed and name == 'tail', f'M{left} {number(y)}']
         for x, level in enumerate(levels):
-            there, marked = self.level(getattr(level, end)), level.closed and name == 'tail'
+            there, marked = self.level(getattr(level, end)) + apart, level.closed and name == 'tail'
             if there == y and marked == now[1]:
                 continue
             middle = number((x + .5) * COL)
@@ -287,11 +289,16 @@ class Picture:
         for worker, mine in calls.items():
             lane = self.lanes[worker]
             starts = [max((call.begun - self.run.first - at + .5) * COL - 10, left + 1) for call in mine]
+            free = left
             for call, start, stop in zip(mine, starts, [*starts[1:], right]):
                 ways = [f'{call.name} {call.item}'.strip(), f'{call.name.replace("force_push", "force")} {call.item}'.strip(), call.name]
                 if call.begun - self.run.first < at:
                     ways = [f'({way})' for way in ways]
-                parts.append(f'<g class="item" data-item="{call.item}">' + text(start, lane.top + 10, fitted(stop - start - 2, *ways)) + '</g>')
+                if stop == right:
+                    start = max(min(start, right - len(ways[0]) * SMALL - 4), min(free, start))
+                said = fitted(stop - start - 2, *ways, wide=SMALL)
+                free = start + len(said) * SMALL + 4
+                parts.append(f'<g class="item" data-item="{call.item}">' + text(start, lane.top + 10, said, 'small') + '</g>')
             cursor = left + 1
             for call in mine:
                 if call.ended is None or not at <= call.ended - self.run.first < at + STRIP:
@@ -318,9 +325,11 @@ class Picture:
             hand = '' if act.hand is None else f' data-hand="{slot_name(act.hand)}"'
             who = '' if lane is None else f' data-worker="{act.worker}"'
             place = 'refused' if refused else act.place or 'begin'
-            parts.append(f'<g class="entry" data-entry="{act.entry}" data-place="{place}"{who}{hand}{item}>')
+            why = f' data-because="{",".join(act.causes)}"' if act.causes else ''
+            answer = f' data-answer="{act.answer}"' if act.answer else ''
+            parts.append(f'<g class="entry" data-entry="{act.entry}" data-place="{place}"{who}{hand}{item}{why}{answer}>')
             if refused:
-                parts.append(line(middle, 16, middle, self.height, 'refused'))
+                parts.append(line(middle, 16, middle, self.height, 'stop'))
                 y = lane.bar if lane and lane.busy else lane.top if lane else 16
                 parts.append(rect(middle - 11, y, 22, CELL, 'refused') + text(middle, y + 13, f'✗{self.run.refusal[1]}', 'mid red'))
             elif act.place:
@@ -354,9 +363,9 @@ class Picture:
             for hand, row in self.hands[index]:
                 if hand.slot == lane.slot:
                     x1, x2 = self.span(hand, at)
-                    end = '' if hand.ended is None else hand.ended
+                    end = '' if hand.ended is None else f' data-to="{hand.ended}"'
                     y = lane.top + 13 * row
-                    parts.append(f'<g class="band" data-slot="{slot_name(hand.slot)}" data-worker="{hand.worker}" data-from="{hand.begun}" data-to="{end}">')
+                    parts.append(f'<g class="band" data-slot="{slot_name(hand.slot)}" data-worker="{hand.worker}" data-from="{hand.begun}"{end}>')
                     parts.append(rect(x1, y, x2 - x1, 12, 'held') + text((x1 + x2) / 2, y + 9.5, fitted(x2 - x1, f'w{hand.worker}'), 'mid on') + '</g>')
             for y, first, moved in zip((lane.stamp, lane.value), now.get(lane.slot, (0, 0)), changes[lane.slot]):
                 parts += self.row_of(y, first, moved, right)

@@ -3,7 +3,7 @@
 from html import escape
 from pathlib import Path
 
-from drawing import CELL, COL, LABELS, line, rect, refusal_of, slot_name, text
+from drawing import CELL, COL, LABELS, SMALL, line, rect, refusal_of, slot_name, text
 
 HERE = Path(__file__).resolve().parent
 
@@ -20,30 +20,26 @@ def said_of(run):
     return '; '.join([run.what, part, *([run.ending] if run.ending else [])])
 
 
-def legend():
-    """Samples of what is drawn, each with what it means; 0, 0 is the upper left corner, and the width comes with them."""
-    parts, x = [], 0
-
-    def sample(drawn, said):
-        nonlocal x
-        parts.append(f'<g transform="translate({x:.0f} 0)">{drawn}{text(30, 13, said, "small")}</g>')
-        x += 30 + len(said) * 5.45 + 14
-
-    sample(f'<circle cx="13" cy="9" r="5" class="bar"/>', 'a call begins')
-    sample(rect(2, 0, 22, CELL, 'bar') + text(13, 13, 'P2', 'mid'), 'an act, at its place')
-    sample(rect(2, 0, 22, CELL, 'held') + text(13, 13, 'P4', 'mid on'), 'slot in hand')
-    sample(rect(2, 0, 22, CELL, 'bar') + text(13, 11.5, 'O6', 'mid') + f'<path d="M7 {CELL}L13 {CELL - 5}L19 {CELL}z" class="notch"/>', 'goes back; why')
-    sample(rect(2, 0, 22, CELL, 'bar') + text(13, 13, 'P5', 'mid') + line(25, -1, 25, CELL + 1, 'edge'), 'answers')
-    sample(rect(2, 3, 24, 12, 'life'), 'item, from tail claim to head claim')
-    sample(line(2, 9, 26, 9, 'tail closed'), 'closed')
-    return ''.join(parts), x
+# Samples of what is drawn, each 28 by 20, and what they mean
+LEGEND = (
+    ('<circle cx="13" cy="10" r="5" class="bar"/>', 'a call begins'),
+    (rect(2, 1, 22, CELL, 'bar') + text(13, 14, 'P2', 'mid'), 'an act, at its place'),
+    (rect(2, 1, 22, CELL, 'held') + text(13, 14, 'P4', 'mid on'), 'a slot in hand'),
+    (rect(2, 1, 22, CELL, 'bar') + text(13, 12.5, 'O6', 'mid') + f'<path d="M7 {CELL + 1}L13 {CELL - 4}L19 {CELL + 1}z" class="notch"/>', 'goes back, and why'),
+    (rect(2, 1, 22, CELL, 'bar') + text(13, 14, 'P5', 'mid') + line(25, 0, 25, CELL + 2, 'edge'), 'answers'),
+    (rect(2, 4, 24, 12, 'life'), 'an item, from tail claim to head claim'),
+    (line(2, 10, 26, 10, 'tail closed'), 'closed'),
+)
 
 
 def svg_of(picture):
     run = picture.run
     wide = max([LABELS + (end - at) * COL for at, end in picture.strips] or [600]) + 8
-    samples, samples_wide = legend()
-    wide = max(wide, int(samples_wide) + 16)
+    samples, x = [], 8
+    for drawn, said in LEGEND:
+        samples.append(f'<g transform="translate({x:.0f} 0)">{drawn}{text(31, 14, said, "small")}</g>')
+        x += 31 + len(said) * SMALL + 14
+    wide = max(wide, int(x))
     top = 44 + (16 if run.refusal else 0)
     gap = 14
     high = top + len(picture.strips) * (picture.height + gap) + 30
@@ -63,7 +59,7 @@ def svg_of(picture):
         parts.append(f'<svg x="{LABELS}" y="{y}" width="{(end - at) * COL}" height="{picture.height}" class="strip">')
         parts += picture.strip(index)
         parts.append('</svg>')
-    parts.append(f'<g transform="translate(8 {high - 26})">{samples}</g>')
+    parts.append(f'<g transform="translate(0 {high - 27})">{"".join(samples)}</g>')
     parts.append('</svg>\n')
     return '\n'.join(parts)
 
@@ -79,7 +75,7 @@ def done_by(run, act):
 
 def html_of(picture):
     run = picture.run
-    samples, samples_wide = legend()
+    samples = ''.join(f'<li><svg viewBox="0 0 28 20" width="28" height="20" aria-hidden="true">{drawn}</svg> {said}</li>' for drawn, said in LEGEND)
     name = escape(run.name)
     strips = []
     for index, (at, end) in enumerate(picture.strips):
@@ -97,4 +93,4 @@ def html_of(picture):
     return kept('page.html').format(
         title=name, said=escape(said_of(run)), refusal=refusal, style=kept('style.css') + kept('page.css'), script=kept('page.js'),
         labels=''.join(picture.labels()), labels_wide=LABELS, high=picture.height, strips='\n'.join(strips), rows='\n'.join(rows),
-        legend=samples, legend_wide=int(samples_wide))
+        legend=samples)
