@@ -27,7 +27,7 @@ go on from there), and a table of all entries.
   -o NAME     writes this file, whole or not at all: .svg or .html; without it the SVG goes to standard output
   --from N    the first entry that is drawn (0 unless told)
   --to N      the last one (the run's last unless told); at most {MOST:,} entries are drawn
-  --queue NAME, --edition N, --bits N, --lent, --tape   for replay
+  --queue single, --queue unbounded, --edition 2, --bits 16, --lent, --tape   for replay, as its help says
 
 A refused schedule is drawn up to its refusal, which is shown.
 Status: 0 drawn, 1 drawn up to a refusal, or a tape that is refused, 2 input or arguments cannot be read, or not all can be written.
