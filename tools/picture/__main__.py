@@ -133,20 +133,27 @@ def main(starter, words):
         if replay.noted:
             print(replay.noted, file=sys.stderr)
     picture = Picture(run)
-    said = (html_of if name and name.endswith('.html') else svg_of)(picture).encode()
+    said = (html_of if name and name.endswith('.html') else svg_of)(picture).encode(errors='replace')
     written(name, said) if name else printed(said)
     return 1 if run.refusal and (run.refusal[0] is None or run.refusal[0] <= run.last or not run.acts) else 0
 
 
+class Ended(BaseException):
+    """By a signal: what is half written is removed on the way out."""
+
+
+def end(number, _):
+    signal.signal(number, signal.SIG_DFL)
+    raise Ended(number)
+
+
+for number in (signal.SIGHUP, signal.SIGINT, signal.SIGTERM):
+    if signal.getsignal(number) != signal.SIG_IGN:
+        signal.signal(number, end)
 try:
-    status = main(sys.argv[1].split('\0'), sys.argv[2:])
+    sys.exit(main([sys.argv[1]], sys.argv[2:]))
 except Told as told:
-    try:
-        print(f'picture: {told}', file=sys.stderr)
-    except OSError:
-        pass
-    status = told.status
-except KeyboardInterrupt:
-    signal.signal(signal.SIGINT, signal.SIG_DFL)
-    os.kill(os.getpid(), signal.SIGINT)
-os._exit(status) if sys.stderr.closed else sys.exit(status)
+    print(f'picture: {told}', file=sys.stderr)
+    sys.exit(told.status)
+except Ended as ended:
+    os.kill(os.getpid(), ended.args[0])

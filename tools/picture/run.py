@@ -159,7 +159,7 @@ def lines_to_show(replay, first, last):
 
 def run_of(replay, queue, options, first, last):
     """The run from entry FIRST to LAST, or to its end."""
-    name = replay.file or 'standard input'
+    name = ''.join(letter if letter.isprintable() else '?' for letter in replay.file or 'standard input')
     quiet, _ = replay.all('--quiet')
     words = quiet[1].split()
     ended, refused = int(words[0]), int(words[1])
@@ -170,7 +170,7 @@ def run_of(replay, queue, options, first, last):
         raise Told(f'{name}: nothing from entry {first}: ' + (f'its entries are 0 to {entries - 1}' if entries else 'no entry is run'))
     end = entries - 1 if last is None else min(last, entries - 1)
     if end - first >= MOST:
-        raise Told(f'{name}: {end - first + 1:,} entries, and a picture has {MOST:,} at the most: choose a part, as --from {first} --to {first + MOST - 1}')
+        raise Told(f'{name}: {end - first + 1:,} entries, and at most {MOST:,} are drawn: choose a part, as --from {first} --to {first + MOST - 1}')
     reading = READINGS[queue](quiet[2:], 16 if ('--bits', '16') in options else 64)
     what = {'bounded': f'ring of {len(reading.fresh)} slot{"s" * (len(reading.fresh) != 1)}', 'single': 'one-slot queue', 'unbounded': 'unbounded queue'}[queue]
     said = ''.join(f', {option[2:]} {value}'.rstrip() for option, value in options if option in ('--edition', '--bits', '--lent'))
