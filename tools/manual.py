@@ -155,7 +155,8 @@ def zsh(program, text):
         words.append(f"'{option}[{said}]{after}'")
     if commands_of(told):
         words.append(f"'1:command:({' '.join(commands_of(told))})'")
-    return f'#compdef {program}\n# Completion of {program} for zsh, made from {program} --help.\n_arguments \\\n    ' + ' \\\n    '.join([*words, "'*:file:_files'"]) + '\n'
+    head = f'#compdef {program}\n# Completion of {program} for zsh, made from {program} --help.\n_arguments'
+    return ' \\\n    '.join([head, *words, "'*:file:_files'"]) + '\n'
 
 
 if __name__ == '__main__':

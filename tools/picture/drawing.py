@@ -321,7 +321,7 @@ class Picture:
             middle = (x + .5) * COL
             lane = self.lanes[act.worker] if act.worker is not None else None
             refused = self.run.refusal and self.run.refusal[0] == act.entry
-            item = f' data-item="{act.call.item}"' if act.call and act.call.item else ''
+            item = f' data-item="{act.item}"' if act.item else ''
             hand = '' if act.hand is None else f' data-hand="{slot_name(act.hand)}"'
             who = '' if lane is None else f' data-worker="{act.worker}"'
             place = 'refused' if refused else act.place or 'begin'
@@ -334,8 +334,9 @@ class Picture:
                 parts.append(rect(middle - 11, y, 22, CELL, 'refused') + text(middle, y + 13, f'✗{self.run.refusal[1]}', 'mid red'))
             elif act.place:
                 held = act.hand is not None
-                digit = act.place[-1] if act.place[0].islower() else act.place
-                parts.append(rect(middle - 11, lane.bar, 22, CELL, 'held' if held else 'bar') + text(middle, lane.bar + (11.5 if act.causes else 13), digit, 'mid on' if held else 'mid'))
+                said = act.place[-1] if act.place[0].islower() else act.place
+                parts.append(rect(middle - 11, lane.bar, 22, CELL, 'held' if held else 'bar'))
+                parts.append(text(middle, lane.bar + (11.5 if act.causes else 13), said, 'mid on' if held else 'mid'))
                 if act.answer:
                     parts.append(line(middle + 12, lane.bar - 1, middle + 12, lane.bar + CELL + 1, 'edge'))
                 if act.causes:
@@ -366,7 +367,8 @@ class Picture:
                     end = '' if hand.ended is None else f' data-to="{hand.ended}"'
                     y = lane.top + 13 * row
                     parts.append(f'<g class="band" data-slot="{slot_name(hand.slot)}" data-worker="{hand.worker}" data-from="{hand.begun}"{end}>')
-                    parts.append(rect(x1, y, x2 - x1, 12, 'held') + text((x1 + x2) / 2, y + 9.5, fitted(x2 - x1, f'w{hand.worker}'), 'mid on') + '</g>')
+                    who = text((x1 + x2) / 2, y + 9.5, fitted(x2 - x1, f'w{hand.worker}'), 'mid on')
+                    parts.append(rect(x1, y, x2 - x1, 12, 'held') + who + '</g>')
             for y, first, moved in zip((lane.stamp, lane.value), now.get(lane.slot, (0, 0)), changes[lane.slot]):
                 parts += self.row_of(y, first, moved, right)
         return parts

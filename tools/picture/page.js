@@ -70,7 +70,7 @@ function search(next) {
   const claims = [...new Set(found.filter(thing => thing.dataset.claim).map(thing => thing.dataset.claim))];
   if (!found.length) { told.textContent = 'not in this picture'; return; }
   told.textContent = (claims.length ? 'claim ' + claims.slice(0, 5).join(', ') + (claims.length > 5 ? ' ..' : '') : 'never claimed') +
-    (acts.length ? '; acts of its call from entry ' + acts[0].dataset.entry : '');
+    (acts.length ? '; entries ' + acts[0].dataset.entry + ' to ' + acts[acts.length - 1].dataset.entry : '');
   turn = next ? (turn + 1) % Math.max(acts.length, 1) : 0;
   if (acts.length) { show(Number(acts[turn].dataset.entry)); bring(acts[turn]); }
 }

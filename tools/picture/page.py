@@ -87,8 +87,8 @@ def html_of(picture):
     for act in run.acts:
         worker = '' if act.worker is None else f'w{act.worker}'
         hand = '' if act.hand is None else slot_name(act.hand)
-        line_ = escape(run.lines.get(act.entry, ''), quote=False)
-        rows.append(f'<tr id="e{act.entry}"><th scope="row">{act.entry}</th><td>{worker}</td><td>{escape(done_by(run, act), quote=False)}</td><td>{hand}</td><td><code>{line_}</code></td></tr>')
+        cells = worker, escape(done_by(run, act), quote=False), hand, f'<code>{escape(run.lines.get(act.entry, ""), quote=False)}</code>'
+        rows.append(f'<tr id="e{act.entry}"><th scope="row">{act.entry}</th>' + ''.join(f'<td>{cell}</td>' for cell in cells) + '</tr>')
     refusal = f'<p class="refusal" role="alert">{escape(refusal_of(run))}</p>' if run.refusal else ''
     return kept('page.html').format(
         title=name, said=escape(said_of(run)), refusal=refusal, style=kept('style.css') + kept('page.css'), script=kept('page.js'),

@@ -36,7 +36,8 @@ class Call:
 
 
 class Act(NamedTuple):
-    """An entry of the drawn part: the place that it was done at, or '' of a begin; why it goes back, if it does; how its worker stands after it."""
+    """An entry of the drawn part: the place that it was done at, or '' of a begin; why it goes back, if it does; how its worker stands after it.
+    The item is its call's, of a pop the one that it has claimed."""
     entry: int
     worker: int
     call: Optional[Call]
@@ -44,6 +45,7 @@ class Act(NamedTuple):
     causes: tuple
     hand: object
     answer: str
+    item: str
 
 
 @dataclass
@@ -170,7 +172,7 @@ def run_of(replay, queue, options, first, last):
         raise Told(f'{name}: nothing from entry {first}: ' + (f'its entries are 0 to {entries - 1}' if entries else 'no entry is run'))
     end = entries - 1 if last is None else min(last, entries - 1)
     if end - first >= MOST:
-        raise Told(f'{name}: {end - first + 1:,} entries, and at most {MOST:,} are drawn: choose a part, as --from {first} --to {first + MOST - 1}')
+        raise Told(f'{name}: {end - first + 1:,} entries, at most {MOST:,} are drawn: choose a part, as --from {first} --to {first + MOST - 1}')
     reading = READINGS[queue](quiet[2:], 16 if ('--bits', '16') in options else 64)
     what = {'bounded': f'ring of {len(reading.fresh)} slot{"s" * (len(reading.fresh) != 1)}', 'single': 'one-slot queue', 'unbounded': 'unbounded queue'}[queue]
     said = ''.join(f', {option[2:]} {value}'.rstrip() for option, value in options if option in ('--edition', '--bits', '--lent'))
@@ -192,7 +194,7 @@ def run_of(replay, queue, options, first, last):
 
 def fold(run, reading, lines, back):
     """back: why an act goes back, where the lines name no cause."""
-    stands, calls, hands, lives = {}, {}, {}, deque()
+    stands, calls, hands, items, lives = {}, {}, {}, {}, deque()
     slots = dict(reading.fresh)
     tails = heads = 0
     level = Level(*reading.fresh_ends, 0, 0, False)
@@ -216,7 +218,7 @@ def fold(run, reading, lines, back):
         if text != '-':
             run.workers = max(run.workers, worker + 1)
         if words[1] != '0':
-            run.acts.append(Act(entry, worker if text != '-' else None, calls.get(worker), '', (), None, ''))
+            run.acts.append(Act(entry, worker if text != '-' else None, calls.get(worker), '', (), None, '', ''))
             run.levels.append(level)
             break
         before, after = stands.get(worker, IDLE), stand_of(text)
@@ -224,6 +226,7 @@ def fold(run, reading, lines, back):
         place, causes = '', ()
         if before.idle:
             calls[worker] = call = Call(worker, *reading.call_of(after), entry)
+            items[worker] = call.item
         else:
             place, call = before.place, calls[worker]
             for slot in reading.taken(before, after):
@@ -245,6 +248,7 @@ def fold(run, reading, lines, back):
                     heads += 1
                     life = lives.popleft()
                     life.taker, life.ended = worker, entry
+                    items[worker] = call.item or life.item
                     if drawn:
                         run.lives.append(life)
             for word in words[column + 1:]:
@@ -271,7 +275,7 @@ def fold(run, reading, lines, back):
         tail, head, closed = reading.ends(words)
         level = Level(tail, head, tails, heads, closed)
         if drawn:
-            run.acts.append(Act(entry, worker, call, place, causes, hand, answer))
+            run.acts.append(Act(entry, worker, call, place, causes, hand, answer, items[worker]))
             run.levels.append(level)
     run.calls += calls.values()
     run.hands += hands.values()
