@@ -159,6 +159,11 @@ class Picture:
         end = right if thing.ended is None else (thing.ended - self.run.first - at + .5) * COL
         return left - 2 if begin < left else begin, right + 2 if end >= right else end
 
+    def within(self, middle, said):
+        """The middle of a small text, moved so that the strip's edge does not cut it."""
+        half = len(said) * SMALL / 2 + 1
+        return min(max(middle, self.edges[0] + half), self.edges[1] - half)
+
     def strip(self, index):
         """The elements of a strip; its upper left corner is 0, 0."""
         at, end = self.strips[index]
@@ -172,7 +177,7 @@ class Picture:
         every = ceil((digits * SMALL + 5) / COL)
         for x, act in enumerate(acts):
             if act.entry % every == 0:
-                parts.append(text((x + .5) * COL, 11, str(act.entry), 'mid small dim'))
+                parts.append(text(self.within((x + .5) * COL, str(act.entry)), 11, str(act.entry), 'mid small dim'))
         parts += self.chart_of(index, at, levels, before)
         parts += self.lanes_of(index, at, acts)
         parts += self.slots_of(index, at)
@@ -299,23 +304,24 @@ class Picture:
                 said = fitted(stop - start - 2, *ways, wide=SMALL)
                 free = start + len(said) * SMALL + 4
                 parts.append(f'<g class="item" data-item="{call.item}">' + text(start, lane.top + 10, said, 'small') + '</g>')
-            cursor = left + 1
-            for call in mine:
-                if call.ended is None or not at <= call.ended - self.run.first < at + STRIP:
-                    continue
-                end = (call.ended - self.run.first - at + .5) * COL + 12
-                own = call.answer.split()[0] in ('full', 'closed')
-                ways = [call.answer, call.answer.split()[0]] if own else [call.answer]
-                said = fitted(max(end - cursor, min(right - cursor, 10 * CHAR) if cursor < COL else 0), *ways)
-                start = max(cursor, end - len(said) * CHAR)
-                item = '' if ' ' not in call.answer else call.answer.split()[1]
-                parts.append(f'<g class="item" data-item="{item}">' + text(start, lane.answer, said, 'bold') + '</g>')
-                cursor = start + len(said) * CHAR + 4
+            parts += self.answers_of(lane, [call for call in mine if call.ended is not None and at <= call.ended - self.run.first < at + STRIP], at)
+        return parts
+
+    def answers_of(self, lane, calls, at):
+        """Each below its call's end, or further right where the strip begins too near."""
+        parts, free = [], self.edges[0] + 1
+        ends = [(call.ended - self.run.first - at + .5) * COL + 12 for call in calls]
+        for call, end, onward in zip(calls, ends, [*zip(calls[1:], ends[1:]), None]):
+            room = self.edges[1] if onward is None else onward[1] - len(onward[0].answer) * CHAR - 4
+            said = fitted(max(end, room) - free, call.answer, call.answer.split()[0])
+            start = max(free, end - len(said) * CHAR)
+            item = ''.join(call.answer.split()[1:])
+            parts.append(f'<g class="item" data-item="{item}">' + text(start, lane.answer, said, 'bold') + '</g>')
+            free = start + len(said) * CHAR + 4
         return parts
 
     def acts_of(self, at, acts):
         """Last, so that a cursor finds them: a group an entry."""
-        left, right = self.edges
         parts = []
         for x, act in enumerate(acts):
             middle = (x + .5) * COL
@@ -343,9 +349,7 @@ class Picture:
                     y = lane.bar + CELL
                     parts.append(f'<path d="M{number(middle - 6)} {y}L{number(middle)} {y - 5}L{number(middle + 6)} {y}z" class="notch"/>')
                     for i, cause in enumerate(act.causes):
-                        half = len(cause) * SMALL / 2
-                        where = min(max(middle, left + half + 1), right - half - 1)
-                        parts.append(text(where, lane.cause + 10 * i, cause, 'mid small'))
+                        parts.append(text(self.within(middle, cause), lane.cause + 10 * i, cause, 'mid small'))
             title = escape(self.run.lines.get(act.entry, ''), quote=False)
             parts.append(f'<rect x="{x * COL}" width="{COL}" height="{self.height}" class="hit"><title>{title}</title></rect></g>')
         return parts
