@@ -117,7 +117,11 @@ class Replay:
     def all(self, *options):
         """What it prints, and its status. What it cannot do is told in its words."""
         started = self.started(*options)
-        out, said = started.communicate()
+        try:
+            out, said = started.communicate()
+        except BaseException:
+            started.terminate()
+            raise
         lines = []
         for line in said.splitlines():
             if line.startswith(UNPROVED):
@@ -149,13 +153,14 @@ def lines_to_show(replay, first, last):
     """The line that the cursor shows over an entry: of `replay --explain` where this replay has it; else there is none, and its plain line is shown."""
     if not re.search(r'(?m)^ *--explain\b', '\n'.join(replay.all('--help')[0])):
         return {}
-    found = {}
+    found, entry = {}, 0
     for line in replay.lines('--explain'):
-        number = re.match(r' *(\d+) ', line)
-        if number and int(number[1]) > last:
+        if entry > last:
             break
-        if number and int(number[1]) >= first:
-            found[int(number[1])] = line.strip()
+        if re.match(rf' *{entry} ', line):
+            if entry >= first:
+                found[entry] = line.strip()
+            entry += 1
     return found
 
 
