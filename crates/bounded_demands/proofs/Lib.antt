@@ -9,3 +9,4 @@ pub mod Retries
 pub mod Narrow
 pub mod Window
 pub mod Walkings
+pub mod Mixtures

@@ -68,10 +68,10 @@ use Rattle.bounded_walks.specs.Walks.{walkRefusal, walkTold, listed, sizeOf}
 use Rattle.bounded_demands.specs.Notions.{Tried, entriesOf, Face, Definition, ofWidth, Allowed, machineAfter, actsOf, Acts, acts, InHand, HandsOut, Reads, Truth, itemsOf, takersOf, LatestIn, ItemIn, WrittenIn, CallClaim, tally, waiting, stock, unreadBy, lesser, Exchanges, lostIn, struck, Fifo, Words, Plain, since, turnLength, windowLength, KeepsWindow, rounds, sleepingPush, sleepingPop, valueAt, queueAnswer, LenAnswers, mostOf, OtherHand, passed, ownActs, LetsGo, has, ClosesYes, NoClaims, ClaimsOn, withRecords, AllowedWith}
 use Rattle.bounded.specs.Bounded.{makeOf, stepOf}
 use Rattle.bounded_parts.specs.declared.Metered.{Metered}
-use Rattle.bounded_parts.specs.Parts.{meteredOf, Filled, filled}
-use Rattle.bounded_lent.specs.Lent.{Lent, Gone}
+use Rattle.bounded_parts.specs.Parts.{meteredOf, Filled, filled, report}
+use Rattle.bounded_lent.specs.Lent.{Lent, Gone, gone}
 use Rattle.bounded_demands.specs.Stories.{Story, storyOf, oneStep, OnlySuch, twoCloses, known, queueAt, changeOf, actor, replyOf, putBy, takenBy, givenBack, itemAt, At, momentOf, momentNamed, inStory}
-use Rattle.bounded_demands.specs.Lending.{Lending, Promise, holding, holds-did, holds-ran, steps, heldIn, actsLent}
+use Rattle.bounded_demands.specs.Lending.{Lending, Promise, promised, holding, holds-did, holds-ran, steps, heldIn, actsLent, refusalOf, stepByStep, Doing, leftLent, allTakenLent}
 use Rattle.bounded_demands.specs.Foretold.{foretold, Telling, toldIn, tellings, asForetold}
 use Rattle.bounded_demands.specs.Eight.{closedF, caseF}
 use Rattle.bounded_demands.specs.Attained.{Case, seenIn, attained, exactly}
@@ -758,3 +758,72 @@ pub record SixtyFourRecords (d : Lending) : Type 0 where
   pub one : (ys : List Worker) → length ys ≡ 1 → d .make ys 1 1 .answer ≡ 0
   pub most : (ys : List Worker) → length ys ≡ 64 → d .make ys 1 1 .answer ≡ 0
   pub more : (ys : List Worker) → length ys ≡ 65 → d .make ys 1 1 .answer ≡ 2
+
+-- Demand 1 of this face, of any number of records. A refused call changes nothing, in the ring, the records or a lent buffer.
+pub record LentRefused (d : Lending) : Type 0 where
+  -- refusals 1, 2 and 18 return the blank ring
+  pub make : (ys : List Worker) (capacity edition : ℕ) → (d .make ys capacity edition .answer ≡ 0 → ⊥)
+      → (d .make ys capacity edition .ring ≡ meteredOf blank) × (d .make ys capacity edition .records ≡ ys)
+  pub step : (l : Metered) (ys : List Worker) (first second : ℕ) → (d .step l ys first second .answer ≡ 0 → ⊥)
+      → (d .step l ys first second .ring ≡ l) × (d .step l ys first second .records ≡ ys)
+  -- a schedule that is refused at a place leaves what the entries before that place leave
+  pub run : (l : Metered) (ys : List Worker) (s : List ℕ) → (d .run l ys s .report .refusal ≡ 0 → ⊥) → (d .run l ys s .report .refusal ≡ 9 → ⊥)
+      → (d .run l ys s .ring ≡ d .run l ys (take (2 * d .run l ys s .report .place) s) .ring)
+      × (d .run l ys s .records ≡ d .run l ys (take (2 * d .run l ys s .report .place) s) .records)
+  -- but one with an entry that can't be read leaves all as it was
+  pub unread : (l : Metered) (ys : List Worker) (s : List ℕ) → d .run l ys s .report .refusal ≡ 9 → (d .run l ys s .ring ≡ l) × (d .run l ys s .records ≡ ys)
+  pub contents : (l : Metered) (ys : List Worker) (buffer : List ℕ) → (refusalOf (d .contents l ys buffer .answer) ≡ 0 → ⊥) → d .contents l ys buffer .buffer ≡ buffer
+
+-- The refusals that each function can give; 0 is none.
+pub record LentNumbered (d : Lending) : Type 0 where
+  pub make : (ys : List Worker) (capacity edition : ℕ) → has (0 ∷ 1 ∷ 2 ∷ 18 ∷ []) (d .make ys capacity edition .answer) ≡ true
+  pub step : (l : Metered) (ys : List Worker) (first second : ℕ) → has (0 ∷ 3 ∷ 4 ∷ 5 ∷ 6 ∷ 7 ∷ 8 ∷ 9 ∷ []) (d .step l ys first second .answer) ≡ true
+  pub run : (l : Metered) (ys : List Worker) (s : List ℕ) → has (0 ∷ 3 ∷ 4 ∷ 5 ∷ 6 ∷ 7 ∷ 8 ∷ 9 ∷ 11 ∷ []) (d .run l ys s .report .refusal) ≡ true
+  pub contents : (l : Metered) (ys : List Worker) (buffer : List ℕ) → has (0 ∷ 4 ∷ 6 ∷ 10 ∷ []) (refusalOf (d .contents l ys buffer .answer)) ≡ true
+  pub capacity : (l : Metered) (ys : List Worker) → has (0 ∷ 6 ∷ []) (refusalOf (d .capacity l ys)) ≡ true
+
+-- The list is checked first; one that can be read is run step by step.
+pub record LentListFirst (d : Lending) : Type 0 where
+  pub stops : (l : Metered) (ys : List Worker) (before : List ℕ) (k first second : ℕ) (rest : List ℕ) → d .broken l ys ≡ false → length (before ++ first ∷ second ∷ rest) % 2 ≡ 0
+      → length before ≡ 2 * k → Readable entryOf before → entryOf first second ≡ Unreadable → d .run l ys (before ++ first ∷ second ∷ rest) ≡ gone (report 9 k) l ys
+  pub runs : (l : Metered) (ys : List Worker) (s : List ℕ) → d .broken l ys ≡ false → length s % 2 ≡ 0 → Readable entryOf s → d .run l ys s ≡ stepByStep d l ys s
+
+-- Nothing that is done to what is not broken breaks it, and what is made is not.
+pub record LentStaysUnbroken (d : Lending) : Type 0 where
+  pub step : LentUnbroken d
+  pub run : (l : Metered) (ys : List Worker) (s : List ℕ) → d .broken l ys ≡ false → d .broken (d .run l ys s .ring) (d .run l ys s .records) ≡ false
+  pub made : (ys : List Worker) (capacity edition : ℕ) → d .make ys capacity edition .answer ≡ 0
+      → d .broken (d .make ys capacity edition .ring) (d .make ys capacity edition .records) ≡ false
+
+pub record LentDemand1 (d : Lending) : Type 0 where
+  pub refused-unchanged : LentRefused d
+  pub numbered : LentNumbered d
+  pub list-first : LentListFirst d
+  pub stays-unbroken : LentStaysUnbroken d
+  pub only-one : OnlyOneLent (promised d)
+
+-- ==== Calls in any mixture. Of the entries s, all that is said above of every schedule that keeps the window,
+pub record ThroughoutInWindow (d : Definition) (capacity workers edition : ℕ) (s : List ℕ) : Type 0 where
+  -- demands 2 and 3, stock, losses, a close that holds
+  pub within : Within d capacity workers edition s
+  -- what an answer means
+  pub plain : PlainThroughout capacity edition (machineAfter d capacity workers edition s) (actsOf d capacity workers edition s) (storyOf d capacity workers edition s)
+  pub one-step : OnlySuch (oneStep edition) (storyOf d capacity workers edition s) → OneByOne capacity edition (storyOf d capacity workers edition s)
+
+-- and of every schedule of 64 bits.
+pub record Throughout (d : Definition) (capacity workers edition : ℕ) (s : List ℕ) : Type 0 where
+  pub in-window : ThroughoutInWindow d capacity workers edition s
+  pub len : (w n : ℕ) → LenAnswers d capacity workers edition s w n → n ≡ untakenOf (tally (actsOf d capacity workers edition s))
+
+-- The machine m, whatever calls led to it, is where the entries s lead, each of them accepted.
+pub record AsOneSchedule (d : Definition) (capacity workers edition : ℕ) (m : Machine) (s : List ℕ) : Type 0 where
+  pub accepted : d .run (freshWith (d .records) capacity workers edition) 0 s .refusal ≡ 0
+  pub machine : machineAfter d capacity workers edition s ≡ m
+
+-- Lent ring and records: a making, and then steps and schedules in any mixture, each on what the last one left. They are one schedule, of the entries that were accepted (refused
+-- ones are passed over), and so all of this holds of them, for every number of records that making accepts.
+abbrev pub LentMixed : Lending → Type 0
+LentMixed d =
+    (ys : List Worker) (capacity edition : ℕ) → d .make ys capacity edition .answer ≡ 0 → (doings : List Doing)
+    → AsOneSchedule (withRecords (length ys) SixtyFour) capacity (length ys) edition (heldIn (leftLent d (d .make ys capacity edition) doings)) (allTakenLent d (d .make ys capacity edition) doings)
+    × Throughout (withRecords (length ys) SixtyFour) capacity (length ys) edition (allTakenLent d (d .make ys capacity edition) doings)

@@ -6,13 +6,15 @@ use mathlib.Core.List.{List, [], _∷_, _++_, map}
 use mathlib.Core.Path.{_≡_}
 use mathlib.Core.Logic.{_≢_}
 use lib.Dec.{eqb, leb}
-use lib.ListN.{length, getD, drop}
+use lib.ListN.{length, getD, drop, take}
 use Rattle.queue_entries.specs.Limits.{workersMost}
 use Rattle.queue_entries.specs.declared.Call.{Call}
 use Rattle.queue_entries.specs.declared.Call.the-variants as call
 use Rattle.queue_entries.specs.declared.Order.the-variants.{Begin, Act}
 use Rattle.queue_entries.specs.declared.Entry.{Entry}
 use Rattle.queue_entries.specs.declared.Entry.the-variants.{Unreadable, Asks}
+use Rattle.queue_entries.specs.declared.Finding.{Finding}
+use Rattle.queue_entries.specs.declared.Finding.the-variants.{AllRead, UnreadableAt}
 use Rattle.queue_entries.specs.Entries.{entryOf}
 use Rattle.queue_walks.specs.Meaning.{Goes}
 use Rattle.bounded_words.specs.declared.Stamp.{Stamp}
@@ -168,6 +170,15 @@ machineAfter d capacity workers edition s = d .run (freshWith (d .records) capac
 
 abbrev pub actsOf : Definition → ℕ → ℕ → ℕ → List ℕ → List Event
 actsOf d capacity workers edition s = d .history (freshWith (d .records) capacity workers edition) s
+
+-- The entries of a schedule that were run: those before the refused one; none where one can't be read.
+abbrev pub ranOf : Finding → ℕ → List ℕ → List ℕ
+ranOf AllRead place s = take (2 * place) s
+ranOf (UnreadableAt at) place s = []
+
+-- An entry, unless it was refused.
+abbrev pub entryUnless : ℕ → ℕ → ℕ → List ℕ
+entryUnless refusal first second = cond (eqb refusal 0) (first ∷ second ∷ []) []
 
 -- A number of this list.
 unfoldable pub has : List ℕ → ℕ → Bool

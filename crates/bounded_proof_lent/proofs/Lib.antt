@@ -1,3 +1,5 @@
 pub mod Padded
 pub mod Acting
 pub mod Throughout
+pub mod Refusals
+pub mod Mixed
