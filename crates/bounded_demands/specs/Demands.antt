@@ -65,7 +65,7 @@ use Rattle.bounded_walkers.specs.Walkers.{walkOf}
 use Rattle.bounded_walks.specs.declared.Sized.{Sized}
 use Rattle.bounded_walks.specs.declared.Sized.the-variants.{Sequences}
 use Rattle.bounded_walks.specs.Walks.{walkRefusal, walkTold, listed, sizeOf}
-use Rattle.bounded_demands.specs.Notions.{Tried, entriesOf, Face, Definition, ofWidth, Allowed, machineAfter, actsOf, Acts, acts, InHand, HandsOut, Reads, Truth, itemsOf, takersOf, LatestIn, ItemIn, WrittenIn, CallClaim, tally, waiting, stock, unreadBy, lesser, Exchanges, lostIn, struck, Fifo, Words, Plain, since, turnLength, windowLength, KeepsWindow, rounds, sleepingPush, sleepingPop, valueAt, queueAnswer, LenAnswers, mostOf, OtherHand, passed, ownActs, LetsGo, has, ClosesYes, NoClaims, ClaimsOn, withRecords, AllowedWith}
+use Rattle.bounded_demands.specs.Notions.{Tried, entriesOf, Face, Definition, ofWidth, Allowed, machineAfter, actsOf, Acts, acts, InHand, HandsOut, Reads, Truth, itemsOf, takersOf, LatestIn, ItemIn, WrittenIn, CallClaim, tally, waiting, stock, unreadBy, lesser, Exchanges, lostIn, struck, Fifo, Words, Plain, since, turnLength, windowLength, KeepsWindow, rounds, sleepingPush, sleepingPop, valueAt, queueAnswer, LenAnswers, mostOf, OtherHand, passed, ownActs, LetsGo, has, ClosesYes, NoClaims, ClaimsOn, withRecords, AllowedWith, Asking, leftByAll, takenByAll}
 use Rattle.bounded.specs.Bounded.{makeOf, stepOf}
 use Rattle.bounded_parts.specs.declared.Metered.{Metered}
 use Rattle.bounded_parts.specs.Parts.{meteredOf, Filled, filled, report}
@@ -827,3 +827,18 @@ LentMixed d =
     (ys : List Worker) (capacity edition : ℕ) → d .make ys capacity edition .answer ≡ 0 → (doings : List Doing)
     → AsOneSchedule (withRecords (length ys) SixtyFour) capacity (length ys) edition (heldIn (leftLent d (d .make ys capacity edition) doings)) (allTakenLent d (d .make ys capacity edition) doings)
     × Throughout (withRecords (length ys) SixtyFour) capacity (length ys) edition (allTakenLent d (d .make ys capacity edition) doings)
+
+-- The machine that holds its records: a making, and then step, begin, act and run of a face in any mixture; refused ones are passed over. Of 64 bits all of this holds of them; of
+-- sixteen, if the accepted entries keep the window.
+abbrev pub Mixed : {M D R : Type 0} → Face M D R → Definition → Type 0
+Mixed f d =
+    (capacity workers edition : ℕ) → f .refusal (f .make capacity workers edition) ≡ 0 → (askings : List Asking)
+    → AsOneSchedule d capacity workers edition (f .wide (leftByAll f (f .left (f .make capacity workers edition)) askings)) (takenByAll f (f .left (f .make capacity workers edition)) askings)
+    × Throughout d capacity workers edition (takenByAll f (f .left (f .make capacity workers edition)) askings)
+
+abbrev pub MixedInWindow : {M D R : Type 0} → Face M D R → Definition → Type 0
+MixedInWindow f d =
+    (capacity workers edition : ℕ) → f .refusal (f .make capacity workers edition) ≡ 0 → (askings : List Asking)
+    → AsOneSchedule d capacity workers edition (f .wide (leftByAll f (f .left (f .make capacity workers edition)) askings)) (takenByAll f (f .left (f .make capacity workers edition)) askings)
+    × (KeepsWindow d (freshWith (d .records) capacity workers edition) [] (takenByAll f (f .left (f .make capacity workers edition)) askings)
+    → ThroughoutInWindow d capacity workers edition (takenByAll f (f .left (f .make capacity workers edition)) askings))

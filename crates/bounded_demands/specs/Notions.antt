@@ -16,6 +16,7 @@ use Rattle.queue_entries.specs.declared.Entry.the-variants.{Unreadable, Asks}
 use Rattle.queue_entries.specs.declared.Finding.{Finding}
 use Rattle.queue_entries.specs.declared.Finding.the-variants.{AllRead, UnreadableAt}
 use Rattle.queue_entries.specs.Entries.{entryOf}
+use Rattle.queue_entries.specs.Schedules.{searchBy}
 use Rattle.queue_walks.specs.Meaning.{Goes}
 use Rattle.bounded_words.specs.declared.Stamp.{Stamp}
 use Rattle.bounded_words.specs.declared.Fixed.{Fixed}
@@ -179,6 +180,35 @@ ranOf (UnreadableAt at) place s = []
 -- An entry, unless it was refused.
 abbrev pub entryUnless : ℕ → ℕ → ℕ → List ℕ
 entryUnless refusal first second = cond (eqb refusal 0) (first ∷ second ∷ []) []
+
+-- What a host asks of a face: an entry, by one of the three functions that take one, or a schedule. What it leaves, and the entries of it that were accepted.
+pub data Asking : Type 0 where
+  by-step : ℕ → ℕ → Asking
+  by-begin : ℕ → ℕ → Asking
+  by-act : ℕ → ℕ → Asking
+  by-run : List ℕ → Asking
+
+module _ {M D R : Type 0} (f : Face M D R) where
+  abbrev pub leftBy : M → Asking → M
+  leftBy m (by-step first second) = f .left (f .step m first second)
+  leftBy m (by-begin first second) = f .left (f .begin m first second)
+  leftBy m (by-act first second) = f .left (f .act m first second)
+  leftBy m (by-run s) = f .leftIn (f .run m s)
+
+  abbrev pub takenBy : M → Asking → List ℕ
+  takenBy m (by-step first second) = entryUnless (f .refusal (f .step m first second)) first second
+  takenBy m (by-begin first second) = entryUnless (f .refusal (f .begin m first second)) first second
+  takenBy m (by-act first second) = entryUnless (f .refusal (f .act m first second)) first second
+  takenBy m (by-run s) = ranOf (searchBy entryOf 0 s) (f .placeIn (f .run m s)) s
+
+  -- One after another, each on what the last one left.
+  unfoldable pub leftByAll : M → List Asking → M
+  leftByAll m [] = m
+  leftByAll m (y ∷ rest) = leftByAll (leftBy m y) rest
+
+  unfoldable pub takenByAll : M → List Asking → List ℕ
+  takenByAll m [] = []
+  takenByAll m (y ∷ rest) = takenBy m y ++ takenByAll (leftBy m y) rest
 
 -- A number of this list.
 unfoldable pub has : List ℕ → ℕ → Bool

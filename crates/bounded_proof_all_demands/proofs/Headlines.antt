@@ -5,7 +5,7 @@ use Rattle.bounded_words.specs.declared.Width.the-variants.{Sixteen, SixtyFour}
 use Rattle.bounded_machine.specs.History.{lossAt}
 use Rattle.bounded_demands.specs.Notions.{sixtyFour, sixteen, withRecords, ofWidth, document01, stock}
 use Rattle.bounded_parts.specs.Parts.{recordsMost}
-use Rattle.bounded_demands.specs.Demands.{Demand1, OnlyOneCount, UnderEverySchedule, NothingWraps, ActByAct, WholeSchedules, LenTrue, ScheduledAlone, Attained, AsForetold, StockUnderEverySchedule, MostStock, EndsTold, LossesUnderEverySchedule, CountsAside, CloseHolds, ClosedIsLast, CaseF, WithinTheWindow, AloneKeeps, RoundsClaim, NotIdle, WindowLengths, SameNumbers, AsHeld, OnlyTheActing, LentUnbroken, OnlyOneLent, LentThroughout, SixtyFourRecords, LentDemand1, LentMixed}
+use Rattle.bounded_demands.specs.Demands.{Demand1, OnlyOneCount, UnderEverySchedule, NothingWraps, ActByAct, WholeSchedules, LenTrue, ScheduledAlone, Attained, AsForetold, StockUnderEverySchedule, MostStock, EndsTold, LossesUnderEverySchedule, CountsAside, CloseHolds, ClosedIsLast, CaseF, WithinTheWindow, AloneKeeps, RoundsClaim, NotIdle, WindowLengths, SameNumbers, AsHeld, OnlyTheActing, LentUnbroken, OnlyOneLent, LentThroughout, SixtyFourRecords, LentDemand1, LentMixed, Mixed, MixedInWindow}
 use Rattle.bounded_demands.specs.Eight.{EightRuns}
 use Rattle.bounded_demands.specs.Lending.{item11, promised}
 use Rattle.bounded_demands.proofs.Refusals.{demand1, only-one-count}
@@ -32,6 +32,7 @@ use Rattle.bounded_proof_lent.proofs.Acting.{only-the-acting, only-one-lent}
 use Rattle.bounded_proof_lent.proofs.Throughout.{lent-throughout, lent-unbroken-still}
 use Rattle.bounded_proof_lent.proofs.Refusals.{lent-demand1}
 use Rattle.bounded_proof_lent.proofs.Mixed.{lent-mixed}
+use Rattle.bounded_proof_all_demands.proofs.Mixed.{any-mixture, any-mixture-in-window}
 use Rattle.bounded_demands.specs.Notions.{causesIn}
 use Rattle.bounded_demands.specs.Demands.{EveryRetryHasACause, EightWaysBack, EachNeeded, AloneBackOnce, KeptAsSaid}
 use Rattle.bounded_demands.proofs.Retries.{each-needed}
@@ -113,3 +114,7 @@ records-lent-1 = lent-demand1
 
 pub lent-in-any-mixture : LentMixed item11
 lent-in-any-mixture = lent-mixed
+
+-- Step, begin, act and run of the machine that holds its records, in any mixture: of 64 bits, and of sixteen within the window.
+pub in-any-mixture : Mixed sixtyFour document01 × MixedInWindow sixteen (ofWidth Sixteen)
+in-any-mixture = (any-mixture, any-mixture-in-window)
