@@ -10,3 +10,4 @@ pub mod Narrow
 pub mod Window
 pub mod Walkings
 pub mod Mixtures
+pub mod EachNumber

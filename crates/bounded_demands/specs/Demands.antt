@@ -39,7 +39,7 @@ use Rattle.bounded_machine.specs.declared.Event.{Event}
 use Rattle.bounded_machine.specs.declared.Moved.{Moved}
 use Rattle.bounded_machine.specs.declared.Moved.the-variants.{Neither, Tail}
 use Rattle.bounded_machine.specs.declared.Tally.{Tally}
-use Rattle.bounded_machine.specs.Machine.{freshOf, recordOf, placeOf, blank, freshWith}
+use Rattle.bounded_machine.specs.Machine.{freshOf, recordOf, placeOf, blank, freshWith, idler}
 use Rattle.bounded_machine.specs.Broken.{brokenOf, allIdle, brokenWith}
 use Rattle.bounded_machine.specs.Contents.{countIn, contentsOf, contentsRefusal, written, capacityRefusal, capacityOf}
 use Rattle.bounded_machine.specs.Turn.{byWords, bySchedule}
@@ -65,13 +65,13 @@ use Rattle.bounded_walkers.specs.Walkers.{walkOf}
 use Rattle.bounded_walks.specs.declared.Sized.{Sized}
 use Rattle.bounded_walks.specs.declared.Sized.the-variants.{Sequences}
 use Rattle.bounded_walks.specs.Walks.{walkRefusal, walkTold, listed, sizeOf}
-use Rattle.bounded_demands.specs.Notions.{Tried, entriesOf, Face, Definition, ofWidth, Allowed, machineAfter, actsOf, Acts, acts, InHand, HandsOut, Reads, Truth, itemsOf, takersOf, LatestIn, ItemIn, WrittenIn, CallClaim, tally, waiting, stock, unreadBy, lesser, Exchanges, lostIn, struck, Fifo, Words, Plain, since, turnLength, windowLength, KeepsWindow, rounds, sleepingPush, sleepingPop, valueAt, queueAnswer, LenAnswers, mostOf, OtherHand, passed, ownActs, LetsGo, has, ClosesYes, NoClaims, ClaimsOn, withRecords, AllowedWith, Asking, leftByAll, takenByAll}
+use Rattle.bounded_demands.specs.Notions.{Tried, entriesOf, Face, Definition, ofWidth, Allowed, machineAfter, actsOf, Acts, acts, InHand, HandsOut, Reads, Truth, itemsOf, takersOf, LatestIn, ItemIn, WrittenIn, CallClaim, tally, waiting, stock, unreadBy, lesser, Exchanges, lostIn, struck, Fifo, Words, Plain, since, turnLength, windowLength, KeepsWindow, rounds, sleepingPush, sleepingPop, valueAt, queueAnswer, LenAnswers, mostOf, OtherHand, passed, ownActs, LetsGo, has, ClosesYes, NoClaims, ClaimsOn, withRecords, AllowedWith, Asking, leftByAll, takenByAll, Promises, freshIn, pushingIn, stockedIn}
 use Rattle.bounded.specs.Bounded.{makeOf, stepOf}
 use Rattle.bounded_parts.specs.declared.Metered.{Metered}
 use Rattle.bounded_parts.specs.Parts.{meteredOf, Filled, filled, report}
 use Rattle.bounded_lent.specs.Lent.{Lent, Gone, gone}
 use Rattle.bounded_demands.specs.Stories.{Story, storyOf, oneStep, OnlySuch, twoCloses, known, queueAt, changeOf, actor, replyOf, putBy, takenBy, givenBack, itemAt, At, momentOf, momentNamed, inStory}
-use Rattle.bounded_demands.specs.Lending.{Lending, Promise, promised, holding, holds-did, holds-ran, steps, heldIn, actsLent, refusalOf, stepByStep, Doing, leftLent, allTakenLent}
+use Rattle.bounded_demands.specs.Lending.{Lending, Promise, promised, holding, holds-did, holds-ran, steps, heldIn, actsLent, refusalOf, stepByStep, Doing, leftLent, allTakenLent, stepOn, runOn, freshLent, pushingLent, stockedLent, noneLent, spentLent}
 use Rattle.bounded_demands.specs.Foretold.{foretold, Telling, toldIn, tellings, asForetold}
 use Rattle.bounded_demands.specs.Eight.{closedF, caseF}
 use Rattle.bounded_demands.specs.Attained.{Case, seenIn, attained, exactly}
@@ -270,6 +270,38 @@ pub record OnlyOneCount : Type 0 where
   pub moments-kept : (capacity : ℕ) (x y : Moments) → x ≡ moments.start capacity → y ≡ moments.start capacity → x ≡ y
   pub moments-begun : (ms : Moments) (x y : Moments) → x ≡ moments.begunOf ms → y ≡ moments.begunOf ms → x ≡ y
   pub moment-named : (ms : Moments) (w : ℕ) (p q : Place) (x y : NamedMoment) → x ≡ moments.namedOf ms w p q → y ≡ moments.namedOf ms w p q → x ≡ y
+
+-- The same of any promises, so that it can be said of one with a slip.
+pub record OnlyOneMeets {M D R : Type 0} (p : Promises M D R) : Type 0 where
+  pub make : (capacity workers edition : ℕ) (x y : D) → p .make capacity workers edition x → p .make capacity workers edition y → x ≡ y
+  pub step : (m : M) (first second : ℕ) (x y : D) → p .step m first second x → p .step m first second y → x ≡ y
+  pub begin : (m : M) (first second : ℕ) (x y : D) → p .begin m first second x → p .begin m first second y → x ≡ y
+  pub act : (m : M) (first second : ℕ) (x y : D) → p .act m first second x → p .act m first second y → x ≡ y
+  pub run : (m : M) (s : List ℕ) (x y : R) → p .run m s x → p .run m s y → x ≡ y
+  pub contents : (m : M) (before : List ℕ) (x y : Told) (a b : List ℕ) → p .contents m before x a → p .contents m before y b → (x ≡ y) × (a ≡ b)
+  pub capacity : (m : M) (x y : Told) → p .capacity m x → p .capacity m y → x ≡ y
+  pub broken : (m : M) (x y : Bool) → p .broken m x → p .broken m y → x ≡ y
+
+-- Each number of `Numbered` is given, by the machines named here; `spent` has a push begun and its meter at the end.
+pub record EachNumber {M D R : Type 0} (f : Face M D R) (spent : M) : Type 0 where
+  pub make : map (f .refusal) (f .make 1 1 1 ∷ f .make 0 1 1 ∷ f .make 1 0 1 ∷ f .make 1 1 0 ∷ []) ≡ 0 ∷ 1 ∷ 2 ∷ 18 ∷ []
+  pub step :
+      map (f .refusal)
+      (f .step (freshIn f) 0 5 ∷ f .step (freshIn f) 16 5 ∷ f .step (pushingIn f) 0 5 ∷ f .step (freshIn f) 8 0 ∷ f .step (f .blank) 0 5 ∷ f .step spent 8 0 ∷ f .step (pushingIn f) 9 0
+      ∷ f .step (freshIn f) 10 0 ∷ [])
+      ≡ 0 ∷ 3 ∷ 4 ∷ 5 ∷ 6 ∷ 7 ∷ 8 ∷ 9 ∷ []
+  pub begin : map (f .refusal) (f .begin (freshIn f) 0 5 ∷ f .begin (freshIn f) 16 5 ∷ f .begin (pushingIn f) 0 5 ∷ f .begin (f .blank) 0 5 ∷ f .begin (freshIn f) 8 0 ∷ []) ≡ 0 ∷ 3 ∷ 4 ∷ 6 ∷ 9 ∷ []
+  pub act :
+      map (f .refusal)
+      (f .act (pushingIn f) 8 0 ∷ f .act (pushingIn f) 24 0 ∷ f .act (freshIn f) 8 0 ∷ f .act (f .blank) 8 0 ∷ f .act spent 8 0 ∷ f .act (pushingIn f) 9 0 ∷ f .act (freshIn f) 0 5 ∷ [])
+      ≡ 0 ∷ 3 ∷ 5 ∷ 6 ∷ 7 ∷ 8 ∷ 9 ∷ []
+  pub run :
+      map (f .refusalIn)
+      (f .run (freshIn f) [] ∷ f .run (freshIn f) (16 ∷ 5 ∷ []) ∷ f .run (pushingIn f) (0 ∷ 5 ∷ []) ∷ f .run (freshIn f) (8 ∷ 0 ∷ []) ∷ f .run (f .blank) [] ∷ f .run spent (8 ∷ 0 ∷ [])
+      ∷ f .run (pushingIn f) (9 ∷ 0 ∷ []) ∷ f .run (freshIn f) (10 ∷ 0 ∷ []) ∷ f .run (freshIn f) (0 ∷ []) ∷ [])
+      ≡ 0 ∷ 3 ∷ 4 ∷ 5 ∷ 6 ∷ 7 ∷ 8 ∷ 9 ∷ 11 ∷ []
+  pub contents : map (λ (m : M). contentsRefusal (f .wide m) 0) (freshIn f ∷ pushingIn f ∷ f .blank ∷ stockedIn f ∷ []) ≡ 0 ∷ 4 ∷ 6 ∷ 10 ∷ []
+  pub capacity : map (λ (m : M). capacityRefusal (f .wide m)) (freshIn f ∷ f .blank ∷ []) ≡ 0 ∷ 6 ∷ []
 
 -- Demand 1 of a face.
 pub record Demand1 {M D R : Type 0} (f : Face M D R) : Type 0 where
@@ -781,6 +813,23 @@ pub record LentNumbered (d : Lending) : Type 0 where
   pub run : (l : Metered) (ys : List Worker) (s : List ℕ) → has (0 ∷ 3 ∷ 4 ∷ 5 ∷ 6 ∷ 7 ∷ 8 ∷ 9 ∷ 11 ∷ []) (d .run l ys s .report .refusal) ≡ true
   pub contents : (l : Metered) (ys : List Worker) (buffer : List ℕ) → has (0 ∷ 4 ∷ 6 ∷ 10 ∷ []) (refusalOf (d .contents l ys buffer .answer)) ≡ true
   pub capacity : (l : Metered) (ys : List Worker) → has (0 ∷ 6 ∷ []) (refusalOf (d .capacity l ys)) ≡ true
+
+-- Each of them is given, by the rings and records named here.
+pub record LentEachNumber (d : Lending) : Type 0 where
+  pub make : map (λ (x : Lent). x .answer) (d .make (idler ∷ []) 1 1 ∷ d .make (idler ∷ []) 0 1 ∷ d .make [] 1 1 ∷ d .make (idler ∷ []) 1 0 ∷ []) ≡ 0 ∷ 1 ∷ 2 ∷ 18 ∷ []
+  pub step :
+      map (λ (x : Lent). x .answer)
+      (stepOn d (freshLent d) 0 5 ∷ stepOn d (freshLent d) 16 5 ∷ stepOn d (pushingLent d) 0 5 ∷ stepOn d (freshLent d) 8 0 ∷ stepOn d (noneLent d) 0 5 ∷ stepOn d (spentLent d) 8 0
+      ∷ stepOn d (pushingLent d) 9 0 ∷ stepOn d (freshLent d) 10 0 ∷ [])
+      ≡ 0 ∷ 3 ∷ 4 ∷ 5 ∷ 6 ∷ 7 ∷ 8 ∷ 9 ∷ []
+  pub run :
+      map (λ (g : Gone). g .report .refusal)
+      (runOn d (freshLent d) [] ∷ runOn d (freshLent d) (16 ∷ 5 ∷ []) ∷ runOn d (pushingLent d) (0 ∷ 5 ∷ []) ∷ runOn d (freshLent d) (8 ∷ 0 ∷ []) ∷ runOn d (noneLent d) []
+      ∷ runOn d (spentLent d) (8 ∷ 0 ∷ []) ∷ runOn d (pushingLent d) (9 ∷ 0 ∷ []) ∷ runOn d (freshLent d) (10 ∷ 0 ∷ []) ∷ runOn d (freshLent d) (0 ∷ []) ∷ [])
+      ≡ 0 ∷ 3 ∷ 4 ∷ 5 ∷ 6 ∷ 7 ∷ 8 ∷ 9 ∷ 11 ∷ []
+  pub contents :
+      map (λ (x : Lent). refusalOf (d .contents (x .ring) (x .records) [] .answer)) (freshLent d ∷ pushingLent d ∷ noneLent d ∷ stockedLent d ∷ []) ≡ 0 ∷ 4 ∷ 6 ∷ 10 ∷ []
+  pub capacity : map (λ (x : Lent). refusalOf (d .capacity (x .ring) (x .records))) (freshLent d ∷ noneLent d ∷ []) ≡ 0 ∷ 6 ∷ []
 
 -- The list is checked first; one that can be read is run step by step.
 pub record LentListFirst (d : Lending) : Type 0 where

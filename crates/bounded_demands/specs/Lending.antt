@@ -6,7 +6,7 @@ use mathlib.Core.Path.{_≡_}
 use mathlib.Core.List.{List, [], _∷_, _++_}
 use lib.Dec.{eqb}
 use lib.ListN.{length}
-use Rattle.queue_entries.specs.Limits.{workersMost}
+use Rattle.queue_entries.specs.Limits.{workersMost, meterMost}
 use Rattle.queue_entries.specs.Entries.{entryOf}
 use Rattle.queue_entries.specs.Schedules.{searchBy, runBy}
 use Rattle.queue_entries.specs.declared.Told.{Told}
@@ -17,12 +17,12 @@ use Rattle.bounded_machine.specs.declared.Machine.{Machine}
 use Rattle.bounded_machine.specs.declared.Did.{Did}
 use Rattle.bounded_machine.specs.declared.Ran.{Ran}
 use Rattle.bounded_machine.specs.declared.Event.{Event}
-use Rattle.bounded_machine.specs.Machine.{machineOf, idlers}
+use Rattle.bounded_machine.specs.Machine.{machineOf, idler, idlers}
 use Rattle.bounded_machine.specs.History.{eventsOf}
 use Rattle.bounded_parts.specs.declared.Metered.{Metered}
 use Rattle.bounded_parts.specs.Parts.{Filled, report}
 use Rattle.bounded_lent.specs.Lent.{held, brokenLent, Lent, lent, stepLent, Gone, gone, runLent, makeLent, capacityLent, contentsLent}
-use Rattle.bounded_demands.specs.Notions.{ranOf, entryUnless}
+use Rattle.bounded_demands.specs.Notions.{ranOf, entryUnless, acts}
 
 -- What each function of the lent face answers, with the ring, the records and the buffer as they are then.
 pub record Lending : Type 0 where
@@ -119,3 +119,25 @@ takenLent d x (running s) = ranOf (searchBy entryOf 0 s) (d .run (x .ring) (x .r
 unfoldable pub allTakenLent : Lending → Lent → List Doing → List ℕ
 allTakenLent d x [] = []
 allTakenLent d x (y ∷ rest) = takenLent d x y ++ allTakenLent d (doneLent d x y) rest
+
+-- ---- rings of one slot with one record: fresh, with a push begun, with that item in, without the record (which is broken), and with a push begun at the meter's end
+abbrev pub stepOn : Lending → Lent → ℕ → ℕ → Lent
+stepOn d x first second = d .step (x .ring) (x .records) first second
+
+abbrev pub runOn : Lending → Lent → List ℕ → Gone
+runOn d x s = d .run (x .ring) (x .records) s
+
+abbrev pub freshLent : Lending → Lent
+freshLent d = d .make (idler ∷ []) 1 1
+
+abbrev pub pushingLent : Lending → Lent
+pushingLent d = stepOn d (freshLent d) 0 5
+
+abbrev pub stockedLent : Lending → Lent
+stockedLent d = lent 0 (runOn d (freshLent d) (0 ∷ 5 ∷ acts 0 5) .ring) (runOn d (freshLent d) (0 ∷ 5 ∷ acts 0 5) .records)
+
+abbrev pub noneLent : Lending → Lent
+noneLent d = lent 0 (freshLent d .ring) []
+
+abbrev pub spentLent : Lending → Lent
+spentLent d = lent 0 (record { ring = pushingLent d .ring .ring; meter = meterMost }) (pushingLent d .records)

@@ -7,13 +7,15 @@ use mathlib.Core.Path.{_≡_}
 use mathlib.Core.Logic.{_≢_}
 use lib.Dec.{eqb, leb}
 use lib.ListN.{length, getD, drop, take}
-use Rattle.queue_entries.specs.Limits.{workersMost}
+use Rattle.queue_entries.specs.Limits.{workersMost, meterMost}
 use Rattle.queue_entries.specs.declared.Call.{Call}
 use Rattle.queue_entries.specs.declared.Call.the-variants as call
 use Rattle.queue_entries.specs.declared.Order.the-variants.{Begin, Act}
 use Rattle.queue_entries.specs.declared.Entry.{Entry}
 use Rattle.queue_entries.specs.declared.Entry.the-variants.{Unreadable, Asks}
 use Rattle.queue_entries.specs.declared.Finding.{Finding}
+use Rattle.queue_entries.specs.declared.Told.{Told}
+use Rattle.queue_entries.specs.Told.{told}
 use Rattle.queue_entries.specs.declared.Finding.the-variants.{AllRead, UnreadableAt}
 use Rattle.queue_entries.specs.Entries.{entryOf}
 use Rattle.queue_entries.specs.Schedules.{searchBy}
@@ -44,7 +46,8 @@ use Rattle.bounded_machine.specs.declared.Moved.{Moved}
 use Rattle.bounded_machine.specs.declared.Moved.the-variants.{Neither, Tail, Head}
 use Rattle.bounded_machine.specs.declared.Tally.{Tally}
 use Rattle.bounded_machine.specs.Machine.{slot, machineOf, freshOf, blank, placeOf, accepted, freshWith}
-use Rattle.bounded_machine.specs.Broken.{allIdle}
+use Rattle.bounded_machine.specs.Broken.{allIdle, brokenOf}
+use Rattle.bounded_machine.specs.Contents.{countIn, contentsRefusal, written, capacityOf}
 use Rattle.bounded_machine.specs.Turn.{Table, beginner, turnOfBy, turnOf}
 use Rattle.bounded_machine.specs.Run.{ran, runWith, runAt, runFrom, runOf}
 use Rattle.bounded_machine.specs.History.{historyWith, movedOf, untallied, tallyOf, stockOf}
@@ -120,6 +123,31 @@ sixteen =
       run = narrow.runOf;
       entries = λ m s. narrowedRan (runAt Sixteen (widened m) 0 s);
     }
+
+-- Which answers meet the promise of each function of a face.
+pub record Promises (M D R : Type 0) : Type 1 where
+  pub make : ℕ → ℕ → ℕ → D → Type 0
+  pub step : M → ℕ → ℕ → D → Type 0
+  pub begin : M → ℕ → ℕ → D → Type 0
+  pub act : M → ℕ → ℕ → D → Type 0
+  pub run : M → List ℕ → R → Type 0
+  -- the answer, and the buffer after it
+  pub contents : M → List ℕ → Told → List ℕ → Type 0
+  pub capacity : M → Told → Type 0
+  pub broken : M → Bool → Type 0
+
+-- Those that the functions of the face make.
+abbrev pub promisesOf : {M D R : Type 0} → Face M D R → Promises M D R
+promisesOf f = record {
+  make = λ capacity workers edition x. x ≡ f .make capacity workers edition;
+  step = λ m first second x. x ≡ f .step m first second;
+  begin = λ m first second x. x ≡ f .begin m first second;
+  act = λ m first second x. x ≡ f .act m first second;
+  run = λ m s x. x ≡ f .run m s;
+  contents = λ m before x a. (x ≡ told (contentsRefusal (f .wide m) (length before)) (countIn (f .wide m))) × (a ≡ written (f .wide m) before);
+  capacity = λ m x. x ≡ capacityOf (f .wide m);
+  broken = λ m x. x ≡ brokenOf (f .wide m);
+}
 
 -- ---- definitions and schedules
 
@@ -227,6 +255,21 @@ pub record Acts (d : Definition) (m : Machine) (w : ℕ) (next : Machine) : Type
 unfoldable pub acts : ℕ → ℕ → List ℕ
 acts worker zero = []
 acts worker (suc n) = (16 * worker + 8) ∷ 0 ∷ acts worker n
+
+-- Three machines of one slot and one worker: fresh, with a push begun, and with that item in.
+module _ {M D R : Type 0} (f : Face M D R) where
+  abbrev pub freshIn : M
+  freshIn = f .left (f .make 1 1 1)
+
+  abbrev pub pushingIn : M
+  pushingIn = f .left (f .step freshIn 0 5)
+
+  abbrev pub stockedIn : M
+  stockedIn = f .leftIn (f .run freshIn (0 ∷ 5 ∷ acts 0 5))
+
+-- The same machine at the meter's end.
+abbrev pub atTheEnd : Machine → Machine
+atTheEnd m = machineOf (m .ring .fixed) (m .ring .ends) (m .ring .slots) (m .workers) (m .count) meterMost
 
 -- ---- hands and places
 

@@ -3,13 +3,15 @@
 use Rattle.queue_entries.specs.Limits.{workersMost}
 use Rattle.bounded_words.specs.declared.Width.the-variants.{Sixteen, SixtyFour}
 use Rattle.bounded_machine.specs.History.{lossAt}
-use Rattle.bounded_demands.specs.Notions.{sixtyFour, sixteen, withRecords, ofWidth, document01, stock}
+use Rattle.bounded_widths.specs.Widths.{narrowed}
+use Rattle.bounded_demands.specs.Notions.{sixtyFour, sixteen, promisesOf, pushingIn, atTheEnd, withRecords, ofWidth, document01, stock}
 use Rattle.bounded_parts.specs.Parts.{recordsMost}
-use Rattle.bounded_demands.specs.Demands.{Demand1, OnlyOneCount, UnderEverySchedule, NothingWraps, ActByAct, WholeSchedules, LenTrue, ScheduledAlone, Attained, AsForetold, StockUnderEverySchedule, MostStock, EndsTold, LossesUnderEverySchedule, CountsAside, CloseHolds, ClosedIsLast, CaseF, WithinTheWindow, AloneKeeps, RoundsClaim, NotIdle, WindowLengths, SameNumbers, AsHeld, OnlyTheActing, LentUnbroken, OnlyOneLent, LentThroughout, SixtyFourRecords, LentDemand1, LentMixed, Mixed, MixedInWindow}
+use Rattle.bounded_demands.specs.Demands.{Demand1, OnlyOneCount, UnderEverySchedule, NothingWraps, ActByAct, WholeSchedules, LenTrue, ScheduledAlone, Attained, AsForetold, StockUnderEverySchedule, MostStock, EndsTold, LossesUnderEverySchedule, CountsAside, CloseHolds, ClosedIsLast, CaseF, WithinTheWindow, AloneKeeps, RoundsClaim, NotIdle, WindowLengths, SameNumbers, AsHeld, OnlyTheActing, LentUnbroken, OnlyOneLent, LentThroughout, SixtyFourRecords, LentDemand1, LentEachNumber, LentMixed, Mixed, MixedInWindow, OnlyOneMeets, EachNumber}
 use Rattle.bounded_demands.specs.Eight.{EightRuns}
 use Rattle.bounded_demands.specs.Lending.{item11, promised}
 use Rattle.bounded_demands.proofs.Refusals.{demand1, only-one-count}
 use Rattle.bounded_demands.proofs.Narrow.{narrow-demand1}
+use Rattle.bounded_demands.proofs.EachNumber.{only-one-meets, each-number, each-number-narrow}
 use Rattle.bounded_demands.proofs.Window.{window-lengths}
 use Rattle.bounded_demands.proofs.Attained.{numbers-attained}
 use Rattle.bounded_demands.proofs.Foretold.{as-foretold}
@@ -31,6 +33,7 @@ use Rattle.bounded_proof_lent.proofs.Padded.{as-held, sixty-four-records}
 use Rattle.bounded_proof_lent.proofs.Acting.{only-the-acting, only-one-lent}
 use Rattle.bounded_proof_lent.proofs.Throughout.{lent-throughout, lent-unbroken-still}
 use Rattle.bounded_proof_lent.proofs.Refusals.{lent-demand1}
+use Rattle.bounded_proof_lent.proofs.EachNumber.{lent-each-number}
 use Rattle.bounded_proof_lent.proofs.Mixed.{lent-mixed}
 use Rattle.bounded_proof_all_demands.proofs.Mixed.{any-mixture, any-mixture-in-window}
 use Rattle.bounded_demands.specs.Notions.{causesIn}
@@ -61,6 +64,12 @@ lent-answers-mean = (answers-plain recordsMost, one-step recordsMost)
 -- `requires`); a refused step changes nothing; only one answer meets a promise.
 pub demand-1 : Demand1 sixtyFour × Demand1 sixteen × OnlyOneCount
 demand-1 = (demand1, narrow-demand1, only-one-count)
+
+-- Each number of it is given; and only one answer meets the promises as they are made.
+pub demand-1-exact :
+    EachNumber sixtyFour (atTheEnd (pushingIn sixtyFour)) × EachNumber sixteen (narrowed (atTheEnd (pushingIn sixtyFour)))
+    × OnlyOneMeets (promisesOf sixtyFour) × OnlyOneMeets (promisesOf sixteen)
+demand-1-exact = (each-number, each-number-narrow, only-one-meets sixtyFour, only-one-meets sixteen)
 
 -- 2. Under every schedule from a fresh machine: each act is the one action of document 01; the claim rule; no slot in two hands;
 -- Empty, Full and Closed true at the act that decided them; claims not taken and contents.
@@ -108,9 +117,9 @@ every-sequence = (walks-all, walk-told, walks-counted)
 pub records-lent : AsHeld item11 × OnlyTheActing item11 × LentUnbroken item11 × OnlyOneLent (promised item11) × LentThroughout item11 × SixtyFourRecords item11
 records-lent = (as-held, only-the-acting, lent-unbroken-still, only-one-lent, lent-throughout, sixty-four-records)
 
--- The same face, of any number of records: demand 1; and steps and schedules in any mixture, with all that is said of one schedule.
-pub records-lent-1 : LentDemand1 item11
-records-lent-1 = lent-demand1
+-- The same face, of any number of records: demand 1, each number given; and steps and schedules in any mixture, with all that is said of one schedule.
+pub records-lent-1 : LentDemand1 item11 × LentEachNumber item11
+records-lent-1 = (lent-demand1, lent-each-number)
 
 pub lent-in-any-mixture : LentMixed item11
 lent-in-any-mixture = lent-mixed

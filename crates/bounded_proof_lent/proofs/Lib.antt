@@ -3,3 +3,4 @@ pub mod Acting
 pub mod Throughout
 pub mod Refusals
 pub mod Mixed
+pub mod EachNumber

@@ -27,7 +27,7 @@ use Rattle.bounded_steps.specs.Steps.{stepOfBy}
 use Rattle.bounded_parts.specs.declared.Metered.{Metered}
 use Rattle.bounded_parts.specs.Parts.{makeRefusal, meteredOf}
 use Rattle.bounded_lent.specs.Lent.{brokenLent, Lent, lent, stepLent, Gone, runLent, makeLent, contentsRefusalLent, contentsLent}
-use Rattle.bounded_demands.specs.Notions.{has}
+use Rattle.bounded_demands.specs.Notions.{has, acts}
 use Rattle.bounded_demands.specs.Lending.{steps, actsLent, stepping, running, leftLent, allTakenLent}
 use Rattle.bounded_proof_lent_slips.specs.Refuted.{Refuted}
 
@@ -55,7 +55,7 @@ unfolding strayOf orderOf entryOf
 readable e = let q : _≡_ {A = ℕ} 0 1 = cc in omega arith
 
 pub refuted : Refuted
-unfolding inside ring pushing stepOfBy busy first-busy doubled markOf markedOf unmarkedOf plus minus withMark nextOf same onePast lapBehind lapBehindOnePast strayOf orderOf entryOf stay losing exchangeOf afterTail tailTo emptySlots stamped freshSlots idlers freshWith blank refused accepted inLimits all byRule endsFit placeFits recordFits recordsFit brokenWith recordAfter begun stored actedBy turnOfBy makeRefusal brokenLent stepLent makeLent steps actsLent ran runBy searchBy scheduleBy runLent contentsRefusalLent contentsLent told has leftLent allTakenLent
+unfolding inside ring pushing stepOfBy busy first-busy doubled markOf markedOf unmarkedOf plus minus withMark nextOf same onePast lapBehind lapBehindOnePast strayOf orderOf entryOf stay losing exchangeOf afterTail tailTo emptySlots stamped freshSlots idlers freshWith blank refused accepted inLimits all byRule endsFit placeFits recordFits recordsFit brokenWith recordAfter begun stored actedBy turnOfBy makeRefusal brokenLent stepLent makeLent steps actsLent ran runBy searchBy scheduleBy runLent contentsRefusalLent contentsLent told has leftLent allTakenLent acts
 refuted =
     record {
       as-held = λ r. true≢false (ap (λ (d : Did). eqb (d .refusal) 0) (r .step ring (idler ∷ []) 16 5 (omega arith)));
@@ -71,6 +71,7 @@ refuted =
       refused-run = λ r. true≢false (sym (ap first-busy (r .run ring (idler ∷ []) (0 ∷ 5 ∷ 0 ∷ 5 ∷ []) (some-number _ refl) (λ e. omega (arith, e)) .1)));
       refused-contents = λ r. true≢false (ap (λ (buffer : List ℕ). eqb (getD buffer 0 0) 7) (r .contents ring [] (1 ∷ []) (some-number _ refl)));
       numbered = λ r. true≢false (sym (r .run ring (idler ∷ []) (0 ∷ [])));
+      each-number = λ r. let q : _≡_ {A = ℕ} 12 11 = ap (λ (l : List ℕ). getD l 8 0) (r .run) in omega arith;
       list-first = λ r. true≢false (ap (λ (g : Gone). first-busy (g .records)) (r .stops ring (idler ∷ []) (0 ∷ 5 ∷ []) 1 10 0 [] refl refl refl (readable, tt) refl));
       stays-unbroken = λ r. true≢false (r .run ring (pushing ∷ []) (9 ∷ 0 ∷ []) refl);
       mixed = λ r. true≢false (sym (ap (λ (m : Machine). eqb (m .meter) 0) (r (idler ∷ []) 1 1 refl (running (0 ∷ 5 ∷ 8 ∷ 0 ∷ []) ∷ []) .0 .machine)));

@@ -12,7 +12,7 @@ use Rattle.bounded_parts.specs.declared.Metered.{Metered}
 use Rattle.bounded_parts.specs.Parts.{report, Filled, filled}
 use Rattle.bounded_lent.specs.Lent.{brokenLent, Lent, lent, lentOf, stepLent, Gone, gone, runLent, makeLent, capacityLent, contentsLent}
 use Rattle.bounded_demands.specs.Lending.{Lending, item11, Promise, promised, refusalOf, stepByStep}
-use Rattle.bounded_demands.specs.Demands.{AsHeld, OnlyTheActing, LentUnbroken, OnlyOneLent, LentThroughout, SixtyFourRecords, LentDemand1, LentMixed}
+use Rattle.bounded_demands.specs.Demands.{AsHeld, OnlyTheActing, LentUnbroken, OnlyOneLent, LentThroughout, SixtyFourRecords, LentDemand1, LentEachNumber, LentMixed}
 
 abbrev pub none : ℕ
 none = 0
@@ -141,4 +141,4 @@ pub record Faithful : Type 1 where
   pub promise : givenPromise ≡ promised item11
 
 abbrev pub Stands : Type 0
-Stands = AsHeld given × OnlyTheActing given × LentUnbroken given × OnlyOneLent givenPromise × LentThroughout given × SixtyFourRecords given × LentDemand1 given × LentMixed given
+Stands = AsHeld given × OnlyTheActing given × LentUnbroken given × OnlyOneLent givenPromise × LentThroughout given × SixtyFourRecords given × LentDemand1 given × LentEachNumber given × LentMixed given
