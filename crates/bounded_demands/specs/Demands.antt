@@ -68,7 +68,7 @@ use Rattle.bounded_walks.specs.Walks.{walkRefusal, walkTold, listed, sizeOf}
 use Rattle.bounded_demands.specs.Notions.{Tried, entriesOf, Face, Definition, ofWidth, Allowed, machineAfter, actsOf, Acts, acts, InHand, HandsOut, Reads, Truth, itemsOf, takersOf, LatestIn, ItemIn, WrittenIn, CallClaim, tally, waiting, stock, unreadBy, lesser, Exchanges, lostIn, struck, Fifo, Words, Plain, since, turnLength, windowLength, KeepsWindow, rounds, sleepingPush, sleepingPop, valueAt, queueAnswer, LenAnswers, mostOf, OtherHand, passed, ownActs, LetsGo, has, ClosesYes, NoClaims, ClaimsOn, withRecords, AllowedWith, Asking, leftByAll, takenByAll, Promises, freshIn, pushingIn, stockedIn}
 use Rattle.bounded.specs.Bounded.{makeOf, stepOf}
 use Rattle.bounded_parts.specs.declared.Metered.{Metered}
-use Rattle.bounded_parts.specs.Parts.{meteredOf, Filled, filled, report}
+use Rattle.bounded_parts.specs.Parts.{recordsMost, meteredOf, Filled, filled, report}
 use Rattle.bounded_lent.specs.Lent.{Lent, Gone, gone}
 use Rattle.bounded_demands.specs.Stories.{Story, storyOf, oneStep, OnlySuch, twoCloses, known, queueAt, changeOf, actor, replyOf, putBy, takenBy, givenBack, itemAt, At, momentOf, momentNamed, inStory}
 use Rattle.bounded_demands.specs.Lending.{Lending, Promise, promised, holding, holds-did, holds-ran, steps, heldIn, actsLent, refusalOf, stepByStep, Doing, leftLent, allTakenLent, stepOn, runOn, freshLent, pushingLent, stockedLent, noneLent, spentLent}
@@ -658,6 +658,27 @@ pub record KeptAsSaid : Type 0 where
   pub more : (h : List Event) (e : Event) → watches (h ++ e ∷ []) ≡ namedOf (watches h) (e .worker) (e .before) (e .after) (e .loss) .watches
   pub so : (h : List Event) (w : ℕ) → w < workersMost → Kept h w
 
+-- The same of so many workers as are lent.
+abbrev pub KeptOf : ℕ → Type 0
+KeptOf many = (h : List Event) (w : ℕ) → w < many → Kept h w
+
+-- All that is said of retries, of one history;
+pub record Retried (name : List Event → Event → Causes) (h : List Event) : Type 0 where
+  pub caused : RetriesCaused name h
+  pub len : LenByOwnEnd name h
+  pub ways : WaysBack h
+  pub once : BackOnce h
+
+-- under every schedule of 64 bits, with any number of records (document 02, item 11) and up to 64 workers; and under every schedule that keeps the window.
+abbrev pub RetriesUnderEverySchedule : Definition → (List Event → Event → Causes) → Type 0
+RetriesUnderEverySchedule d name =
+    (capacity workers edition : ℕ) → AllowedWith (d .records) capacity workers edition → workers ≤ recordsMost → (s : List ℕ) → Retried name (actsOf d capacity workers edition s)
+
+abbrev pub RetriesInWindow : Definition → (List Event → Event → Causes) → Type 0
+RetriesInWindow d name =
+    (capacity workers edition : ℕ) → AllowedWith (d .records) capacity workers edition → workers ≤ recordsMost → (s : List ℕ)
+    → KeepsWindow d (freshWith (d .records) capacity workers edition) [] s → Retried name (actsOf d capacity workers edition s)
+
 -- ==== Words that wrap (document 02, item 14). Of a schedule that keeps the window, all that is said above of every schedule of 64 bits, but that nothing
 -- wraps.
 
@@ -858,6 +879,8 @@ pub record ThroughoutInWindow (d : Definition) (capacity workers edition : ℕ) 
   -- what an answer means
   pub plain : PlainThroughout capacity edition (machineAfter d capacity workers edition s) (actsOf d capacity workers edition s) (storyOf d capacity workers edition s)
   pub one-step : OnlySuch (oneStep edition) (storyOf d capacity workers edition s) → OneByOne capacity edition (storyOf d capacity workers edition s)
+  -- why calls go back
+  pub retries : workers ≤ recordsMost → Retried causesIn (actsOf d capacity workers edition s)
 
 -- and of every schedule of 64 bits.
 pub record Throughout (d : Definition) (capacity workers edition : ℕ) (s : List ℕ) : Type 0 where

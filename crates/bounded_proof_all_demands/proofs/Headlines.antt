@@ -37,11 +37,11 @@ use Rattle.bounded_proof_lent.proofs.EachNumber.{lent-each-number}
 use Rattle.bounded_proof_lent.proofs.Mixed.{lent-mixed}
 use Rattle.bounded_proof_all_demands.proofs.Mixed.{any-mixture, any-mixture-in-window}
 use Rattle.bounded_demands.specs.Notions.{causesIn}
-use Rattle.bounded_demands.specs.Demands.{EveryRetryHasACause, EightWaysBack, EachNeeded, AloneBackOnce, KeptAsSaid}
+use Rattle.bounded_demands.specs.Demands.{EveryRetryHasACause, EightWaysBack, EachNeeded, AloneBackOnce, KeptAsSaid, KeptOf, RetriesUnderEverySchedule, RetriesInWindow}
 use Rattle.bounded_demands.proofs.Retries.{each-needed}
 use Rattle.bounded_proof_causes.proofs.Causes.{every-retry, eight-ways}
-use Rattle.bounded_proof_causes.proofs.Alone.{alone-back-once}
-use Rattle.bounded_proof_causes.proofs.Said.{kept-as-said}
+use Rattle.bounded_proof_causes.proofs.Alone.{alone-back-once, retries-always, retries-in-window}
+use Rattle.bounded_proof_causes.proofs.Said.{kept-as-said, kept-of-records}
 use Rattle.bounded_walkers.specs.Walkers.{walkOf}
 use Rattle.bounded_demands.specs.Demands.{WalksAll, WalkTold, WalksCounted}
 use Rattle.bounded_demands.proofs.Walkings.{walks-counted}
@@ -100,6 +100,10 @@ close-that-holds = (close-holds workersMost, closed-is-last workersMost, case-f)
 -- Every retry has a cause, in both editions; each of the four is needed; alone a worker goes back at most once; and what is kept for naming them is what the history says.
 pub retries-caused : EveryRetryHasACause document01 causesIn × EightWaysBack document01 × EachNeeded causesIn 1 × EachNeeded causesIn 2 × AloneBackOnce document01 × KeptAsSaid
 retries-caused = (every-retry, eight-ways, each-needed .0, each-needed .1, alone-back-once, kept-as-said)
+
+-- The same with as many records as are lent, up to 64; and of sixteen bits within the window.
+pub retries-caused-anywhere : RetriesUnderEverySchedule (withRecords recordsMost SixtyFour) causesIn × RetriesInWindow (ofWidth Sixteen) causesIn × KeptOf recordsMost
+retries-caused-anywhere = (retries-always recordsMost, retries-in-window Sixteen workersMost, kept-of-records)
 
 -- Words that wrap: of sixteen bits, as long as the window is kept, all of demands 2 and 3 with stock, losses and closing; and what needs no window.
 pub sixteen-bits : WithinTheWindow (ofWidth Sixteen) × ActByAct (ofWidth Sixteen) × WholeSchedules (ofWidth Sixteen) × EndsTold Sixteen (lossAt Sixteen) × CountsAside (ofWidth Sixteen) × SameNumbers

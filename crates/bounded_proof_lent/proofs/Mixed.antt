@@ -25,6 +25,7 @@ use Rattle.bounded_proof_demand2.proofs.Lens.{len-true}
 use Rattle.bounded_proof_demand3.proofs.Demand3.{within-the-window}
 use Rattle.bounded_proof_plain.proofs.Plain.{plain-in-window}
 use Rattle.bounded_proof_plain.proofs.Linearizable.{one-step-in-window}
+use Rattle.bounded_proof_causes.proofs.Alone.{retries-in-window}
 use Rattle.bounded_proof_lent.proofs.Throughout.{next, next-is, held-next, sound-next, stays, allowed, held-fresh, sound-fresh}
 use Rattle.bounded_proof_lent.proofs.Refusals.{by-lender, ranLent, run-sound}
 
@@ -36,6 +37,7 @@ throughout-in-window bits records capacity workers edition a s keeps =
       within = within-the-window bits records capacity workers edition a s keeps;
       plain = plain-in-window bits records capacity workers edition a s keeps;
       one-step = one-step-in-window bits records capacity workers edition a s keeps;
+      retries = λ team. retries-in-window bits records capacity workers edition a team s keeps;
     }
 
 pub throughout : (records capacity workers edition : ℕ) → AllowedWith records capacity workers edition → (s : List ℕ) → Throughout (withRecords records SixtyFour) capacity workers edition s
