@@ -1,0 +1,9 @@
+pub mod Ends
+pub mod Work
+pub mod Scene
+pub mod Rows
+pub mod Lookers
+pub mod Table
+pub mod Gap
+pub mod Told
+pub mod Plain

@@ -1,0 +1,498 @@
+-- Along every schedule: the plain queue is the one that the words stand for, and every answer so far was that queue's.
+use Prim.Native.Nat.{ℕ, suc, _+_, _-_, _/_, _%_, _*_, _≤_, _<_}
+use native.Mathlib.Omega.{arith}
+use native.Mathlib.Decide.{ℕ-discrete, decLt}
+use mathlib.Core.Path.{_≡_, refl, sym, ap, _∙_, subst}
+use mathlib.Core.Logic.{_≢_, _⊎_, inl, inr}
+use mathlib.Core.Bool.{Bool, true, false, cond, true≢false}
+use mathlib.Core.List.{List, [], _∷_, _++_, map, append-nil, append-assoc}
+use lib.Dec.{eqb}
+use lib.ListN.{length, getD, set, drop, length-append, List·getD-append}
+use lib.Seq.{drop-cons, drop-append-le}
+use borrow.Author.Tests.{eqb-true}
+use Rattle.queue_entries.specs.Limits.{workersMost, meterMost}
+use Rattle.queue_entries.specs.declared.Call.{Call}
+use Rattle.queue_entries.specs.declared.Call.the-variants as call
+use Rattle.queue_entries.specs.declared.Entry.{Entry}
+use Rattle.queue_schedules.proofs.Splits.{Order, earlier, same, later, one-more, no-split}
+use Rattle.queue_plain.specs.Plain.{Queue}
+use Rattle.queue_plain.specs.Story.{Begun, Does, Doing, itemsOf, elementsBy, actsIn}
+use Rattle.queue_plain.proofs.Stories.{acts-end, known-count, each-else, queue-act, queue-now, each-unbegun, queue-begun}
+use Rattle.queue_plain.proofs.Calls.{work-begun}
+use Rattle.unbounded_words.specs.declared.Index.{Index}
+use Rattle.unbounded_words.specs.Words.{sizes, wide, markedOf, countOf}
+use Rattle.unbounded_places.specs.declared.Slot.{Slot}
+use Rattle.unbounded_places.specs.declared.Ends.{Ends}
+use Rattle.unbounded_places.specs.declared.Worker.{Worker}
+use Rattle.unbounded_places.specs.declared.Answer.{Answer}
+use Rattle.unbounded_places.specs.declared.Place.{Place}
+use Rattle.unbounded_places.specs.declared.Place.the-variants.{Idle}
+use Rattle.unbounded_places.specs.Places.{viewOf, beginOf}
+use Rattle.unbounded_acts.specs.declared.Acted.{Acted}
+use Rattle.unbounded_acts.specs.Acts.{actOf}
+use Rattle.unbounded_machine.specs.declared.Machine.{Machine}
+use Rattle.unbounded_machine.specs.declared.Event.{Event}
+use Rattle.unbounded_machine.specs.Machine.{blockAt, slotAt}
+use Rattle.unbounded_machine.specs.Turn.{lowestFree, cleared, blockUsed, slotUsed, begun, stored, actedAt}
+use Rattle.unbounded_machine.specs.History.{event, eventsOf}
+use Rattle.unbounded_demands.specs.Notions.{Sign, Plain, Exchange7, Exchange4, Pops, Pushes, HandsOut, signOf, itemBy, takesBy, itemOf, takes, takersOf, LatestIn, ItemIn, waiting, position, Truth}
+use Rattle.unbounded_demands.specs.Notions as notions
+use Rattle.unbounded_demands.specs.Claims.{CallClaim}
+use Rattle.unbounded_demands.specs.Stories.{Element, Story, taskOf, Rests, Starts, Tries, Given, Enters, Entered, Frees, Takes, LoadsHead, Counts, LooksAtTail, closes, changeOf, actor, known, queueAt, At, AfterNextTail, Moment, heard, momentOf, placeIn, Leaving}
+use Rattle.unbounded_demands.specs.Demands.{Answered, Changes}
+use Rattle.unbounded_proof_invariant.proofs.Queue.{Shared}
+use Rattle.unbounded_proof_words.proofs.Words.{word, half, bit, mark-word}
+use Rattle.unbounded_proof_words.proofs.Stands.{placeOf, endsOf}
+use Rattle.unbounded_proof_words.proofs.Frames.{get-same, get-other}
+use Rattle.unbounded_proof_each_act.proofs.Step.{counted, TellsTrue, taleOf, Logs, puts, neither, Step}
+use Rattle.unbounded_proof_each_act.proofs.Step as step
+use Rattle.unbounded_proof_each_act.proofs.Takings.{lowest-free}
+use Rattle.unbounded_proof_demand2.proofs.Turns.{stood, Busy, Turned, began, used, took}
+use Rattle.unbounded_proof_demand2.proofs.Logged.{items-more, takers-more, latest-other}
+use Rattle.unbounded_proof_demand2.proofs.Reached.{Reached, turned-reached, used-steps, took-steps}
+use Rattle.unbounded_proof_plain.proofs.Ends.{count-word}
+use Rattle.unbounded_proof_plain.proofs.Work.{moment-else, moment-begun, place-own, place-else, place-begun, place-unbegun, longer, past, then-at, Work, TriesBy, push, force, SeenSome, NoneYet, Due, due-else}
+use Rattle.unbounded_proof_plain.proofs.Scene.{claim-more, unput, Scene, Speaks, Hints, Outcome, how-many}
+use Rattle.unbounded_proof_plain.proofs.Table.{row}
+use Rattle.unbounded_proof_plain.proofs.Gap.{at-gap}
+
+-- ---- what an act makes of a machine
+module _ (m : Machine) (w : ℕ) (l : List Slot) (k i : ℕ) (a : Acted) where
+  stored-stood : w < length (m .workers) → stood (stored sizes m w l k i a) w ≡ a .place
+  unfolding stored
+  stored-stood n = ap (λ (x : Worker). x .place) (get-same (m .workers) w (record { place = a .place }) _ n)
+
+  stored-else : (v : ℕ) → v ≢ w → stood (stored sizes m w l k i a) v ≡ stood m v
+  unfolding stored
+  stored-else v ne = ap (λ (x : Worker). x .place) (get-other (m .workers) w v (record { place = a .place }) _ ne)
+
+  stored-ends : stored sizes m w l k i a .ends ≡ a .ends
+  unfolding stored
+  stored-ends = refl
+
+module _ (m : Machine) (w : ℕ) (q : Place) where
+  begun-stood : w < length (m .workers) → stood (begun m w q) w ≡ q
+  unfolding begun
+  begun-stood n = ap (λ (x : Worker). x .place) (get-same (m .workers) w (record { place = q }) _ n)
+
+  begun-else : (v : ℕ) → v ≢ w → stood (begun m w q) v ≡ stood m v
+  unfolding begun
+  begun-else v ne = ap (λ (x : Worker). x .place) (get-other (m .workers) w v (record { place = q }) _ ne)
+
+  begun-ends : begun m w q .ends ≡ m .ends
+  unfolding begun
+  begun-ends = refl
+
+-- ---- a call's first place
+begun-due : (st : Story) (t : Index) (w : ℕ) (c : Call) → Work st w c [] [] → Due st t w (taskOf (beginOf c))
+begun-due st t w (call.Push x) o = record { call = call.Push x; brings = push; work = o }
+begun-due st t w (call.ForcePush x) o = record { call = call.ForcePush x; brings = force; work = o }
+begun-due st t w call.Pop o = o
+begun-due st t w call.Len o = o
+begun-due st t w call.IsEmpty o = o
+begun-due st t w call.IsFull o = o
+begun-due st t w call.Close o = o
+begun-due st t w call.IsClosed o = o
+
+-- ---- signs
+one-change : (a b : Sign) → eqb (length (itemBy a b)) 1 ≡ true → takesBy a b ≡ false
+one-change Plain b z = refl
+one-change Exchange7 b z = refl
+one-change Exchange4 b z = absurd (true≢false (sym z))
+one-change Pops b z = refl
+one-change (Pushes x) b z = refl
+one-change (HandsOut v) b z = refl
+
+item-is : (l : List ℕ) → eqb (length l) 1 ≡ true → (x : ℕ) × (l ≡ x ∷ [])
+item-is [] z = absurd (true≢false (sym z))
+item-is (x ∷ []) z = (x, refl)
+item-is (x ∷ y ∷ l) z = absurd (let n = eqb-true (length (x ∷ y ∷ l)) 1 z in omega arith)
+
+takes-some : (s u : Shared) (w : ℕ) (p q : Place) → Logs s u w p q → takesBy (signOf p) (signOf q) ≡ true → counted (s .head) < counted (s .tail)
+takes-some s u w p q (puts x item no-taking slot et ei eh eg loose) z = absurd (true≢false (sym z ∙ no-taking))
+takes-some s u w p q (step.takes no-item taking slot some et ei eh eg) z = omega arith
+takes-some s u w p q (neither no-item no-taking ut ct ei uh ch eg more) z = absurd (true≢false (sym z ∙ no-taking))
+
+module _ (workers : ℕ) (team : workers ≤ workersMost) where
+  pub record Told (m : Machine) (st : Story) : Type 0 where
+    pub reached : Reached workers m (actsIn st)
+    pub items : known st .queue .items ≡ waiting (actsIn st)
+    pub flag : known st .queue .closed ≡ markedOf (m .ends .tail)
+    pub stands : (v : ℕ) → placeIn v st ≡ stood m v
+    pub dues : (w : ℕ) → Due st (m .ends .tail) w (taskOf (stood m w))
+    pub answers : (xs ys : Story) (act : Event) (a : Answer) → st ≡ xs ++ Does act ∷ ys → act .after ≡ Idle a → Speaks xs act a
+    pub changes : (xs ys : Story) (act : Event) → st ≡ xs ++ Does act ∷ ys → Changes xs act
+
+  module _ (m : Machine) (st : Story) (o : Told m st) where
+    abbrev r : Reached workers m (actsIn st)
+    r = o .reached
+
+    abbrev s : Shared
+    s = o .reached .queue
+
+    abbrev h : List Event
+    h = actsIn st
+
+    tail-at : position (m .ends .tail) ≡ s .tail
+    tail-at = ap (λ (e : Ends). e .tail .0 / 2) (r .sim .ends) ∙ half (s .tail) (s .closed)
+
+    head-at : position (m .ends .head) ≡ s .head
+    head-at = ap (λ (e : Ends). e .head .0 / 2) (r .sim .ends) ∙ half (s .head) (s .mark)
+
+    bit-small : (b : Bool) → bit b ≤ 1
+    bit-small true = omega arith
+    bit-small false = omega arith
+
+    scene : Scene st (m .ends)
+    scene =
+        record {
+          flag = o .flag;
+          items = o .items;
+          tails = r .logged .items-long ∙ ap counted (sym tail-at);
+          heads = r .logged .takers-long ∙ ap counted (sym head-at);
+          low = omega (arith, tail-at, head-at, r .sim .inv .ends .low);
+          count =
+              ap (λ (e : Ends). countOf sizes (e .tail) (e .head)) (r .sim .ends)
+              ∙ count-word (s .tail) (s .head) (s .closed) (s .mark) (r .sim .inv .ends .low) (omega (arith, r .sim .metered, r .in-time)) ∙ rw (tail-at, head-at) refl;
+          small = omega (arith, ap (λ (e : Ends). e .tail .0) (r .sim .ends), bit-small (s .closed), r .sim .metered, r .in-time);
+          gap =
+              λ z.
+              let g = at-gap (m .ends) (m .blocks) (m .slots) (m .workers) (m .meter) s (r .sim) (ap (λ (n : ℕ). n % 32) (sym head-at) ∙ z) in
+              (g .0, subst Leaving (sym (o .stands (g .0))) (g .1));
+        }
+
+    -- is_empty has found nothing
+    empty-now : (j : ℕ) (x : Index) → NoneYet st j x → known st .queue .items ≡ []
+    empty-now j x z =
+        ap (λ (c : Queue). c .items) (sym (queue-now actor changeOf 0 st))
+        ∙ z .nothing (length st) (omega (arith, ap length (z .is), length-append (z .before) (Does (z .load) ∷ z .since))) (omega arith)
+
+    module _ (w : ℕ) (mine : w < m .count) where
+      in-row : w < length (m .workers)
+      in-row = omega (arith, mine, r .team, r .sim .workers-long)
+
+      -- ---- an act, on the block k and its slot i, the slots being as l
+      module _ (lose : Bool) (busy : viewOf sizes (stood m w) .busy ≡ true) (k i : ℕ) (l : List Slot) where
+        abbrev p : Place
+        p = stood m w
+
+        abbrev a : Acted
+        a = actOf sizes (m .ends) k (blockAt (m .blocks) k) (slotAt sizes l k i) (stood m w) lose
+
+        abbrev next : Machine
+        next = stored sizes m w l k i (actOf sizes (m .ends) k (blockAt (m .blocks) k) (slotAt sizes l k i) (stood m w) lose)
+
+        abbrev q : Place
+        q = actOf sizes (m .ends) k (blockAt (m .blocks) k) (slotAt sizes l k i) (stood m w) lose .place
+
+        abbrev act : Event
+        act = event w (stood m w) (actOf sizes (m .ends) k (blockAt (m .blocks) k) (slotAt sizes l k i) (stood m w) lose .place)
+
+        abbrev st′ : Story
+        st′ = st ++ Does act ∷ []
+
+        module _ (d : Step (m .blocks) (m .slots) (m .workers) (m .meter) s w (stood m w) k i l a) (after : Reached workers next (actsIn st ++ act ∷ [])) where
+          hints : Hints st (m .ends) scene w p q
+          hints =
+              record {
+                true-then = λ x z. subst (λ (e : Ends). Truth e x) (sym (r .sim .ends)) (subst (λ (y : Place). TellsTrue (endsOf s) (taleOf y)) z (d .truth));
+                front = λ z. let n = takes-some s (d .after) w p q (d .logs) z in omega (arith, how-many st (m .ends) scene w, ap counted tail-at, ap counted head-at);
+                out = λ v z. after .logged .rule h [] act v refl z;
+              }
+
+          out : Outcome st (m .ends) scene w p q (a .ends .tail)
+          out =
+              let z = r .sim .places w in
+              row st (m .ends) scene w k (blockAt (m .blocks) k) (slotAt sizes l k i) lose p (z .at) busy (o .dues w) hints
+
+          -- ---- what it makes of the plain queue
+          taken-few : length (takersOf h) ≤ length (notions.itemsOf h)
+          taken-few = omega (arith, scene .tails, scene .heads, scene .low)
+
+          waiting-is : (items takers : List ℕ) → notions.itemsOf (h ++ act ∷ []) ≡ items → takersOf (h ++ act ∷ []) ≡ takers → waiting (h ++ act ∷ []) ≡ drop (length takers) items
+          waiting-is items takers x y = ap (λ (z : List ℕ). drop (length (takersOf (h ++ act ∷ []))) z) x ∙ ap (λ (z : List ℕ). drop (length z) items) y
+
+          abbrev items₀ : List ℕ
+          items₀ = known st .queue .items
+
+          becomes : cond (takes act) (drop 1 items₀) items₀ ++ cond (eqb (length (itemOf act)) 1) (itemsOf (known st .each w .calls)) [] ≡ waiting (h ++ act ∷ [])
+          becomes = go (d .logs)
+            where
+              took : (b : Bool) → takes act ≡ b → takersOf (h ++ act ∷ []) ≡ takersOf h ++ cond b (w ∷ []) []
+              took b z = takers-more h act ∙ ap (λ (y : Bool). takersOf h ++ cond y (w ∷ []) []) z
+
+              gave : (x : List ℕ) → itemOf act ≡ x → notions.itemsOf (h ++ act ∷ []) ≡ notions.itemsOf h ++ x
+              gave x z = items-more h act ∙ ap (λ (y : List ℕ). notions.itemsOf h ++ y) z
+
+              go : Logs s (d .after) w p q → cond (takes act) (drop 1 items₀) items₀ ++ cond (eqb (length (itemOf act)) 1) (itemsOf (known st .each w .calls)) [] ≡ waiting (h ++ act ∷ [])
+              go (puts x item no-taking slot et ei eh eg loose) =
+                  rw (no-taking, item, out .came x item .0, o .items)
+                  (sym (waiting-is (notions.itemsOf h ++ x ∷ []) (takersOf h) (gave (x ∷ []) item) (took false no-taking ∙ append-nil (takersOf h))
+                  ∙ drop-append-le (length (takersOf h)) (notions.itemsOf h) (x ∷ []) taken-few))
+              go (step.takes no-item taking slot some et ei eh eg) =
+                  let less : length (takersOf h) < length (notions.itemsOf h) = omega (arith, scene .tails, scene .heads, ap counted tail-at, ap counted head-at) in
+                  let front = o .items ∙ drop-cons (notions.itemsOf h) (length (takersOf h)) 0 less in
+                  let long : length (takersOf h ++ w ∷ []) ≡ suc (length (takersOf h)) = length-append (takersOf h) (w ∷ []) ∙ omega arith in
+                  rw (taking, no-item, front)
+                  (append-nil (drop (suc (length (takersOf h))) (notions.itemsOf h))
+                  ∙ sym (waiting-is (notions.itemsOf h) (takersOf h ++ w ∷ []) (gave [] no-item ∙ append-nil (notions.itemsOf h)) (took true taking) ∙ ap (λ (n : ℕ). drop n (notions.itemsOf h)) long))
+              go (neither no-item no-taking ut ct ei uh ch eg more) =
+                  rw (no-taking, no-item, o .items)
+                  (append-nil (waiting h) ∙ sym (waiting-is (notions.itemsOf h) (takersOf h) (gave [] no-item ∙ append-nil (notions.itemsOf h)) (took false no-taking ∙ append-nil (takersOf h))))
+
+          items-on : known st′ .queue .items ≡ waiting (actsIn st′)
+          items-on = ap (λ (z : Queue). z .items) (queue-act actor changeOf 0 st act) ∙ becomes ∙ ap waiting (sym (acts-end st (Does act)))
+
+          flag-on : known st′ .queue .closed ≡ markedOf (a .ends .tail)
+          flag-on =
+              ap (λ (z : Queue). z .closed) (queue-act actor changeOf 0 st act) ∙ ap (λ (z : Bool). cond (closes (taskOf p)) true z) (o .flag) ∙ sym (out .marks)
+
+          changed : Changes st act
+          changed =
+              record {
+                takes = λ z. hints .front z;
+                while-open = λ z. let x = item-is (itemOf act) z in out .came (x .0) (x .1) .1;
+                one = λ z. one-change (signOf p) (signOf q) z;
+              }
+
+          -- ---- another's call
+          module _ (j : ℕ) (ne : j ≢ w) where
+            each : known st′ .each j ≡ known st .each j
+            each = each-else actor changeOf 0 st act j ne
+
+            latest-on : (n : ℕ) → LatestIn (takersOf h) j n → LatestIn (takersOf (actsIn st′)) j n
+            latest-on n z = subst (λ (y : List ℕ). LatestIn y j n) (sym (ap takersOf (acts-end st (Does act)) ∙ takers-more h act)) (go (takes act))
+              where
+                go : (b : Bool) → LatestIn (takersOf h ++ cond b (w ∷ []) []) j n
+                go true = latest-other (takersOf h) j w n (λ y. ne (sym y)) z
+                go false = subst (λ (y : List ℕ). LatestIn y j n) (sym (append-nil (takersOf h))) z
+
+            item-on : (n v : ℕ) → ItemIn h n v → ItemIn (actsIn st′) n v
+            item-on n v z =
+                let more = ap notions.itemsOf (acts-end st (Does act)) ∙ items-more h act in
+                record {
+                  made = omega (arith, ap length more, length-append (notions.itemsOf h) (itemOf act), z .made);
+                  is = ap (λ (y : List ℕ). getD y n 0) more ∙ List·getD-append (notions.itemsOf h) (itemOf act) 0 n (z .made) ∙ z .is;
+                }
+
+            claim-on : (n : ℕ) → CallClaim h j n → CallClaim (actsIn st′) j n
+            claim-on n z = subst (λ (y : List Event). CallClaim y j n) (sym (acts-end st (Does act))) (claim-more h act j n (λ y b e. ne (sym y)) z)
+
+            taken-on : length (takersOf h) ≤ length (takersOf (actsIn st′))
+            taken-on = omega (arith, ap length (ap takersOf (acts-end st (Does act)) ∙ takers-more h act), length-append (takersOf h) (cond (takes act) (w ∷ []) []))
+
+            kept : (n : ℕ) → momentOf j st ≡ At n → momentOf j st′ ≡ At n
+            kept n z = moment-else st act j ne ∙ ap (heard (changeOf act) (known st .count + 1)) z
+
+            none-on : (x : Index) → Work st j call.IsEmpty [] [] → NoneYet st j x → SeenSome st′ j ⊎ NoneYet st′ j x
+            none-on x work z = go (eqb (length (itemOf act)) 1) refl
+              where
+                none-left : (b : Bool) → _≡_ {A = List ℕ} (cond b (drop {A = ℕ} 1 []) []) []
+                none-left true = refl
+                none-left false = refl
+
+                -- nothing is left of nothing, but what comes in
+                left : known st′ .queue .items ≡ cond (eqb (length (itemOf act)) 1) (itemsOf (known st .each w .calls)) []
+                left =
+                    ap (λ (c : Queue). c .items) (queue-act actor changeOf 0 st act)
+                    ∙ ap (λ (c : List ℕ). cond (takes act) (drop 1 c) c ++ cond (eqb (length (itemOf act)) 1) (itemsOf (known st .each w .calls)) []) (empty-now j x z)
+                    ∙ ap (λ (c : List ℕ). c ++ cond (eqb (length (itemOf act)) 1) (itemsOf (known st .each w .calls)) []) (none-left (takes act))
+
+                pending : (b : Bool) → eqb (length (itemOf act)) 1 ≡ b → momentOf j st′ ≡ cond b (At (known st .count + 1)) AfterNextTail
+                pending b y =
+                    moment-else st act j ne ∙ ap (heard (changeOf act) (known st .count + 1)) (z .pending) ∙ ap (λ (t : Bool). cond t (At (known st .count + 1)) AfterNextTail) y
+
+                begun-then : known st′ .each j .begun ≡ known st .each j .begun
+                begun-then = ap (λ (y : Doing). y .begun) each
+
+                go : (b : Bool) → eqb (length (itemOf act)) 1 ≡ b → SeenSome st′ j ⊎ NoneYet st′ j x
+                go true y =
+                    inl (record {
+                      moment = length st + 1;
+                      named = pending true y ∙ ap (λ (n : ℕ). At (n + 1)) (known-count actor changeOf 0 st);
+                      begun = omega (arith, begun-then, work .begun);
+                      inside = omega (arith, longer st (Does act));
+                      some = subst (λ (c : Queue). 0 < length (c .items)) (sym (then-at st (Does act))) (subst (λ (c : List ℕ). 0 < length c) (sym came) (omega arith));
+                    })
+                  where
+                    x₀ : (v : ℕ) × (itemOf act ≡ v ∷ [])
+                    x₀ = item-is (itemOf act) y
+
+                    came : known st′ .queue .items ≡ x₀ .0 ∷ []
+                    came = left ∙ ap (λ (b : Bool). cond b (itemsOf (known st .each w .calls)) []) y ∙ out .came (x₀ .0) (x₀ .1) .0
+                go false y =
+                    inr (record {
+                      pending = pending false y;
+                      before = z .before;
+                      load = z .load;
+                      since = z .since ++ Does act ∷ [];
+                      is = ap (λ (u : Story). u ++ Does act ∷ []) (z .is) ∙ append-assoc (z .before) (Does (z .load) ∷ z .since) (Does act ∷ []);
+                      own = z .own;
+                      loads = z .loads;
+                      begun = omega (arith, begun-then, z .begun);
+                      nothing = λ n low high. nothing n low high (decLt (length st) n);
+                      tails =
+                          ap length (ap notions.itemsOf (acts-end st (Does act)) ∙ items-more h act ∙ ap (λ (u : List ℕ). notions.itemsOf h ++ u) (unput (signOf p) (signOf q) y) ∙ append-nil (notions.itemsOf h))
+                          ∙ z .tails;
+                      leaving = z .leaving;
+                    })
+                  where
+                    nothing : (n : ℕ) → length (z .before) ≤ n → n ≤ length st′ → Dec (length st < n) → queueAt n st′ .items ≡ []
+                    nothing n low high (no u) = ap (λ (c : Queue). c .items) (past st (Does act) n (omega arith)) ∙ z .nothing n low (omega arith)
+                    nothing n low high (yes u) =
+                        let last : n ≡ length st + 1 = omega (arith, longer st (Does act)) in
+                        ap (λ (v : ℕ). queueAt v st′ .items) last ∙ ap (λ (c : Queue). c .items) (then-at st (Does act)) ∙ left
+                        ∙ ap (λ (b : Bool). cond b (itemsOf (known st .each w .calls)) []) y
+
+            due-other : Due st′ (a .ends .tail) j (taskOf (stood m j))
+            due-other =
+                due-else st (Does act) j (m .ends .tail) (a .ends .tail) (out .up) each kept latest-on item-on claim-on taken-on none-on (taskOf (stood m j)) (o .dues j)
+
+          -- ---- one act more
+          went : stood next w ≡ q
+          went = stored-stood m w l k i a in-row
+
+          due-each : (j : ℕ) → Due st′ (next .ends .tail) j (taskOf (stood next j))
+          due-each j = subst (λ (e : Ends). Due st′ (e .tail) j (taskOf (stood next j))) (sym (stored-ends m w l k i a)) (go (ℕ-discrete j w))
+            where
+              go : Dec (j ≡ w) → Due st′ (a .ends .tail) j (taskOf (stood next j))
+              go (yes e) = subst (λ (v : ℕ). Due st′ (a .ends .tail) v (taskOf (stood next v))) (sym e) (subst (λ (y : Place). Due st′ (a .ends .tail) w (taskOf y)) (sym went) (out .due))
+              go (no ne) = subst (λ (y : Place). Due st′ (a .ends .tail) j (taskOf y)) (sym (stored-else m w l k i a j ne)) (due-other j ne)
+
+          stands-on : (v : ℕ) → placeIn v st′ ≡ stood next v
+          stands-on v = go (ℕ-discrete v w)
+            where
+              go : Dec (v ≡ w) → placeIn v st′ ≡ stood next v
+              go (yes e) = ap (λ (j : ℕ). placeIn j st′) e ∙ place-own st act ∙ sym went ∙ ap (stood next) (sym e)
+              go (no ne) = place-else st act v ne ∙ o .stands v ∙ sym (stored-else m w l k i a v ne)
+
+          told-q : Told next st′
+          told-q =
+              record {
+                reached = subst (Reached workers next) (sym (acts-end st (Does act))) after;
+                items = items-on;
+                flag = flag-on ∙ ap (λ (e : Ends). markedOf (e .tail)) (sym (stored-ends m w l k i a));
+                stands = stands-on;
+                dues = due-each;
+                answers = λ xs ys e x z said. go-answer xs ys e x said (one-more st (Does act) xs ys (Does e) z);
+                changes = λ xs ys e z. go-change xs ys e (one-more st (Does act) xs ys (Does e) z);
+              }
+            where
+              go-answer : (xs ys : Story) (e : Event) (x : Answer) → e .after ≡ Idle x → Order xs (Does e) ys st (Does act) [] → Speaks xs e x
+              go-answer xs ys e x said (earlier zs was left) = o .answers xs zs e x was said
+              go-answer xs ys e x said (same whole one rest) =
+                  let is : e ≡ act = cc in
+                  let spoken = out .said x (ap (λ (y : Event). y .after) (sym is) ∙ said) in
+                  subst (λ (u : Story). Speaks u e x) (sym whole) (subst (λ (y : Event). Speaks st y x) (sym is) spoken)
+              go-answer xs ys e x said (later zs was left) = absurd (no-split zs (Does e) ys left)
+
+              go-change : (xs ys : Story) (e : Event) → Order xs (Does e) ys st (Does act) [] → Changes xs e
+              go-change xs ys e (earlier zs was left) = o .changes xs zs e was
+              go-change xs ys e (same whole one rest) =
+                  let is : e ≡ act = cc in
+                  subst (λ (u : Story). Changes u e) (sym whole) (subst (λ (y : Event). Changes st y) (sym is) changed)
+              go-change xs ys e (later zs was left) = absurd (no-split zs (Does e) ys left)
+
+        pub told-act : Step (m .blocks) (m .slots) (m .workers) (m .meter) s w (stood m w) k i l a → Reached workers next (actsIn st ++ event w (stood m w) (stood next w) ∷ [])
+            → Told next (st ++ Does (event w (stood m w) (stood next w)) ∷ [])
+        told-act d after =
+            let went-to = stored-stood m w l k i a in-row in
+            subst (λ (x : Place). Told next (st ++ Does (event w (stood m w) x) ∷ [])) (sym went-to)
+            (told-q d (subst (λ (x : Place). Reached workers next (actsIn st ++ event w (stood m w) x ∷ [])) went-to after))
+
+      -- ---- a call begun
+      module _ (c : Call) where
+        abbrev begun-on : Story
+        begun-on = st ++ Begun w c ∷ []
+
+        abbrev new : Machine
+        new = begun m w (beginOf c)
+
+        same-acts : actsIn begun-on ≡ actsIn st
+        same-acts = acts-end st (Begun w c) ∙ append-nil (actsIn st)
+
+        module _ (j : ℕ) (ne : j ≢ w) where
+          each-then : known begun-on .each j ≡ known st .each j
+          each-then = each-unbegun actor changeOf 0 st w c j ne
+
+          still-none : (x : Index) → Work st j call.IsEmpty [] [] → NoneYet st j x → SeenSome begun-on j ⊎ NoneYet begun-on j x
+          still-none x work z =
+              inr (record {
+                pending = moment-begun st w c j ∙ z .pending;
+                before = z .before;
+                load = z .load;
+                since = z .since ++ Begun w c ∷ [];
+                is = ap (λ (u : Story). u ++ Begun w c ∷ []) (z .is) ∙ append-assoc (z .before) (Does (z .load) ∷ z .since) (Begun w c ∷ []);
+                own = z .own;
+                loads = z .loads;
+                begun = omega (arith, ap (λ (y : Doing). y .begun) each-then, z .begun);
+                nothing = λ n low high. nothing n low high (decLt (length st) n);
+                tails = ap (λ (u : List Event). length (notions.itemsOf u)) same-acts ∙ z .tails;
+                leaving = z .leaving;
+              })
+            where
+              nothing : (n : ℕ) → length (z .before) ≤ n → n ≤ length begun-on → Dec (length st < n) → queueAt n begun-on .items ≡ []
+              nothing n low high (no u) = ap (λ (y : Queue). y .items) (past st (Begun w c) n (omega arith)) ∙ z .nothing n low (omega arith)
+              nothing n low high (yes u) =
+                  let last : n ≡ length st + 1 = omega (arith, longer st (Begun w c)) in
+                  ap (λ (v : ℕ). queueAt v begun-on .items) last ∙ ap (λ (y : Queue). y .items) (then-at st (Begun w c)) ∙ ap (λ (y : Queue). y .items) (queue-begun actor changeOf 0 st w c) ∙ empty-now j x z
+
+          due-beside : Due begun-on (m .ends .tail) j (taskOf (stood m j))
+          due-beside =
+              due-else st (Begun w c) j (m .ends .tail) (m .ends .tail) (omega arith) each-then (λ n z. moment-begun st w c j ∙ z) (λ n z. subst (λ (u : List Event). LatestIn (takersOf u) j n) (sym same-acts) z)
+              (λ n v z. subst (λ (u : List Event). ItemIn u n v) (sym same-acts) z) (λ n z. subst (λ (u : List Event). CallClaim u j n) (sym same-acts) z)
+              (omega (arith, ap (λ (u : List Event). length (takersOf u)) same-acts)) still-none (taskOf (stood m j)) (o .dues j)
+
+        due-begun : (j : ℕ) → Due begun-on (new .ends .tail) j (taskOf (stood new j))
+        due-begun j = subst (λ (e : Ends). Due begun-on (e .tail) j (taskOf (stood new j))) (sym (begun-ends m w (beginOf c))) (go (ℕ-discrete j w))
+          where
+            go : Dec (j ≡ w) → Due begun-on (m .ends .tail) j (taskOf (stood new j))
+            go (yes e) =
+                subst (λ (v : ℕ). Due begun-on (m .ends .tail) v (taskOf (stood new v))) (sym e)
+                (subst (λ (y : Place). Due begun-on (m .ends .tail) w (taskOf y)) (sym (begun-stood m w (beginOf c) in-row)) (begun-due begun-on (m .ends .tail) w c (work-begun actor changeOf 0 st w c)))
+            go (no ne) = subst (λ (y : Place). Due begun-on (m .ends .tail) j (taskOf y)) (sym (begun-else m w (beginOf c) j ne)) (due-beside j ne)
+
+        stands-begun : (v : ℕ) → placeIn v begun-on ≡ stood new v
+        stands-begun v = go (ℕ-discrete v w)
+          where
+            go : Dec (v ≡ w) → placeIn v begun-on ≡ stood new v
+            go (yes e) = ap (λ (j : ℕ). placeIn j begun-on) e ∙ place-begun st w c ∙ sym (begun-stood m w (beginOf c) in-row) ∙ ap (stood new) (sym e)
+            go (no ne) = place-unbegun st w c v ne ∙ o .stands v ∙ sym (begun-else m w (beginOf c) v ne)
+
+        pub told-begun : Reached workers new (actsIn st) → Told new begun-on
+        told-begun after =
+            record {
+              reached = subst (Reached workers new) (sym same-acts) after;
+              items = ap (λ (z : Queue). z .items) (queue-begun actor changeOf 0 st w c) ∙ o .items ∙ ap waiting (sym same-acts);
+              flag = ap (λ (z : Queue). z .closed) (queue-begun actor changeOf 0 st w c) ∙ o .flag ∙ ap (λ (e : Ends). markedOf (e .tail)) (sym (begun-ends m w (beginOf c)));
+              stands = stands-begun;
+              dues = due-begun;
+              answers = λ xs ys e x z said. go-answer xs ys e x said (one-more st (Begun w c) xs ys (Does e) z);
+              changes = λ xs ys e z. go-change xs ys e (one-more st (Begun w c) xs ys (Does e) z);
+            }
+          where
+            no-begin : (e : Event) → _≡_ {A = Element} (Does e) (Begun w c) → ⊥
+            no-begin e y = let z : _≡_ {A = ℕ} 0 1 = cc in omega arith
+
+            go-answer : (xs ys : Story) (e : Event) (x : Answer) → e .after ≡ Idle x → Order xs (Does e) ys st (Begun w c) [] → Speaks xs e x
+            go-answer xs ys e x said (earlier zs was left) = o .answers xs zs e x was said
+            go-answer xs ys e x said (same whole one rest) = absurd (no-begin e one)
+            go-answer xs ys e x said (later zs was left) = absurd (no-split zs (Does e) ys left)
+
+            go-change : (xs ys : Story) (e : Event) → Order xs (Does e) ys st (Begun w c) [] → Changes xs e
+            go-change xs ys e (earlier zs was left) = o .changes xs zs e was
+            go-change xs ys e (same whole one rest) = absurd (no-begin e one)
+            go-change xs ys e (later zs was left) = absurd (no-split zs (Does e) ys left)
+
+  -- every accepted entry leads on
+  pub told-kept : (m : Machine) (st : Story) (en : Entry) (next : Machine) → Told m st → Turned m en next → Told next (st ++ elementsBy eventsOf m en next)
+  unfolding actedAt
+  told-kept m st en next o (began w c mine idle) =
+      told-begun m st o w mine c (subst (Reached workers (begun m w (beginOf c))) (append-nil (actsIn st)) (turned-reached workers team m (actsIn st) (o .reached) en next (began w c mine idle)))
+  told-kept m st en next o (used w asked lose b t) =
+      told-act m st o w (b .known) lose (b .busy) (blockUsed (viewOf sizes (stood m w) .uses)) (slotUsed (viewOf sizes (stood m w) .uses)) (m .slots) (used-steps workers team m (actsIn st) (o .reached) w lose b t)
+      (turned-reached workers team m (actsIn st) (o .reached) en next (used w asked lose b t))
+  told-kept m st en next o (took w asked lose b t f) =
+      told-act m st o w (b .known) lose (b .busy) (lowestFree sizes (m .blocks)) 0 (cleared sizes (m .slots) (lowestFree sizes (m .blocks)))
+      (took-steps workers team m (actsIn st) (o .reached) w lose b t (lowestFree sizes (m .blocks)) f (lowest-free (m .blocks) f))
+      (turned-reached workers team m (actsIn st) (o .reached) en next (took w asked lose b t f))
