@@ -18,9 +18,9 @@ use Rattle.queue_schedules.specs.Reading.{Readable}
 use Rattle.unbounded_words.specs.declared.Index.{Index}
 use Rattle.unbounded_words.specs.declared.Pointer.{Pointer}
 use Rattle.unbounded_words.specs.declared.Pointer.the-variants.{None, To}
-use Rattle.unbounded_words.specs.Words.{sizes}
+use Rattle.unbounded_words.specs.Words.{sizes, markedOf}
 use Rattle.unbounded_places.specs.declared.Answer.{Answer}
-use Rattle.unbounded_places.specs.declared.Answer.the-variants.{No}
+use Rattle.unbounded_places.specs.declared.Answer.the-variants.{Popped, PopClosed, Len, Yes, No}
 use Rattle.unbounded_places.specs.declared.Place.the-variants.{Idle, Empty1}
 use Rattle.unbounded_places.specs.Places.{viewOf}
 use Rattle.unbounded_acts.specs.Acts.{WRITE, has}
@@ -37,7 +37,8 @@ use Rattle.unbounded_machine.specs.History.{eventsOf}
 use Rattle.unbounded.specs.declared.Bound.{Bound}
 use Rattle.unbounded.specs.Unbounded.{makeOf, stepOf, beginOf, actOf, capacityOf}
 use Rattle.unbounded_demands.specs.Notions.{Definition, Allowed, machineAfter, actsOf, Acts, Asking, Pushing, Popping, Reads, valueAt, stateAt, takingsOf, freeingsOf, signOf, HandsOut, itemsOf, takersOf, LatestIn, ItemIn, waiting, Fifo, position, Truth, chained}
-use Rattle.unbounded_demands.specs.Stories.{Story, storyOf, taskOf, Takes, itemIn, changeOf, actor, known, queueAt, replyOf, putBy, takenBy, givenBack, At, AfterNextTail, momentOf, placeIn, Leaving}
+use Rattle.unbounded_demands.specs.Claims.{CallClaim, closedBy, ClosesYes, NoClaims}
+use Rattle.unbounded_demands.specs.Stories.{Story, storyOf, taskOf, Takes, itemIn, changeOf, actor, known, queueAt, replyOf, putBy, takenBy, givenBack, At, AfterNextTail, momentOf, placeIn, Leaving, lastClaimed, asksLen, asksEmpty}
 
 -- ==== What an answer means: every run of the unbounded queue is a run of a plain queue without capacity (crates/queue_plain), but for one answer of is_empty. The story of a schedule is its
 -- accepted entries, begins too; the plain queue along it, and what each call has put in and taken out, are `known` of Stories.antt.
@@ -78,11 +79,12 @@ pub record Meant (earlier : Story) (act : Event) (a : Answer) : Type 0 where
   pub back : (x : ℕ) → givenBack a ≡ x ∷ [] → itemsBegun (known earlier .each (act .worker) .calls) ≡ x ∷ []
   pub closed : known earlier .each (act .worker) .calls ≡ Close ∷ [] → known (earlier ++ Does act ∷ []) .queue .closed ≡ true
 
--- The plain queue just before an act that changes it: something waits where the front goes out; it is open where an item comes in; and no act does both.
+-- The plain queue just before an act that changes it: something waits where the front goes out; it is open where an item comes in; and no act does both. A close that answers yes finds it open.
 pub record Changes (earlier : Story) (act : Event) : Type 0 where
   pub takes : changeOf act .takes ≡ true → 0 < length (known earlier .queue .items)
   pub while-open : changeOf act .puts ≡ true → known earlier .queue .closed ≡ false
   pub one : changeOf act .puts ≡ true → changeOf act .takes ≡ false
+  pub closes : changeOf act .closes ≡ true → act .after ≡ Idle Yes → known earlier .queue .closed ≡ false
 
 -- While a push is under way, the item in its record is the one of its begin.
 abbrev pub ItemKept : Machine → Story → Type 0
@@ -118,6 +120,30 @@ pub record PlainThroughout (d : Definition) (m : Machine) (h : List Event) (s : 
 abbrev pub AnswersPlain : Definition → Type 0
 AnswersPlain d =
     (workers : ℕ) → Allowed workers → (s : List ℕ) → PlainThroughout d (machineAfter d workers s) (actsOf d workers s) (storyOf d workers s)
+
+-- It happens: in a block of `more` slots and two more, pushed full, popped but for the last slot and that one claimed, worker 1's len answers 0, and its is_empty no, with nothing waiting.
+pub record SaidAtBlocksEnd (d : Definition) (more : ℕ) : Type 0 where
+  pub len : placeOf (machineAfter d 2 (lastClaimed more ++ asksLen) .workers) 1 ≡ Idle (Len 0)
+  pub empty : placeOf (machineAfter d 2 (lastClaimed more ++ asksEmpty) .workers) 1 ≡ Idle No
+  pub none-waits : known (storyOf d 2 (lastClaimed more ++ asksEmpty)) .queue .items ≡ []
+
+-- ---- close, and a call's own claim: said of the machine that entries reach, and of the acts behind it
+
+-- Tail's mark is set exactly if a close was made; of all closes one at most answers yes; and after a pop has answered Closed nothing is claimed.
+pub record CloseHolds (m : Machine) (h : List Event) : Type 0 where
+  pub mark : markedOf (m .ends .tail) ≡ closedBy h
+  pub yes-once : (earlier between later : List Event) (act again : Event) → h ≡ earlier ++ act ∷ between ++ again ∷ later → ClosesYes act → ClosesYes again → ⊥
+  pub none-after : (earlier later : List Event) (act : Event) → h ≡ earlier ++ act ∷ later → act .after ≡ Idle PopClosed → NoClaims later
+
+-- The claim rule of request 12 with the call's own claim: a value handed out is the item of the tail claim that has the number of the head claim that its call has made.
+abbrev pub OwnClaim : List Event → Type 0
+OwnClaim h =
+    (earlier later : List Event) (act : Event) (v : ℕ) → h ≡ earlier ++ act ∷ later → act .after ≡ Idle (Popped v)
+    → (k : ℕ) × CallClaim earlier (act .worker) k × LatestIn (takersOf earlier) (act .worker) k × ItemIn earlier k v
+
+abbrev pub ClosesAndClaims : Definition → Type 0
+ClosesAndClaims d =
+    (workers : ℕ) → Allowed workers → (s : List ℕ) → CloseHolds (machineAfter d workers s) (actsOf d workers s) × OwnClaim (actsOf d workers s)
 
 -- ==== 1. Any machine, entry or schedule handed in gets an answer or a numbered refusal; a refused step changes nothing.
 -- That each gets an answer is what the functions of crate unbounded promise: none has a `requires`, and each answer is equal to a

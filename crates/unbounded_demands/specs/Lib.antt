@@ -1,5 +1,5 @@
 pub mod Notions
-pub mod Claims
 pub mod Stories
+pub mod Claims
 pub mod Demands
 pub mod Runs

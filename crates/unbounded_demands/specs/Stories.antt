@@ -1,7 +1,7 @@
 -- The unbounded queue's story, with a plain queue without capacity along it: what each act does to that queue, and at which moment an answer is that queue's.
-use Prim.Native.Nat.{ℕ, _+_}
+use Prim.Native.Nat.{ℕ, zero, suc, _+_}
 use mathlib.Core.Bool.{Bool, true, false, cond}
-use mathlib.Core.List.{List, [], _∷_}
+use mathlib.Core.List.{List, [], _∷_, _++_}
 use lib.Dec.{eqb}
 use lib.ListN.{length}
 use Rattle.queue_entries.specs.Schedules.{historyBy}
@@ -23,7 +23,7 @@ use Rattle.unbounded_machine.specs.declared.Did.{Did}
 use Rattle.unbounded_machine.specs.declared.Event.{Event}
 use Rattle.unbounded_machine.specs.Machine.{freshOf}
 use Rattle.unbounded_machine.specs.History.{eventsOf}
-use Rattle.unbounded_demands.specs.Notions.{Definition, itemOf, takes}
+use Rattle.unbounded_demands.specs.Notions.{Definition, acts, itemOf, takes}
 
 abbrev pub Element : Type 0
 Element = stories.Element Event
@@ -273,3 +273,20 @@ pub data Leaving : Place → Type 0 where
   leaving7 : {b next : Pointer} {h new : Index} → Leaving (V7 h b new next)
   leaving8 : {b next : Pointer} {h i : Index} → Leaving (V8 h b next i)
   leaving9 : {b : Pointer} {h i : Index} → Leaving (V9 h b i)
+
+-- In a block of `more` slots and two more: worker 0 pushes it full (U1 to U13, with U4 to U6 at the first, U3 and U9 to U11 at the last slot), pops all but the last (V1 to V12, V3 at the first), and
+-- claims that (V1, V2, V4).
+unfoldable pub often : ℕ → List ℕ → List ℕ
+often zero entries = []
+often (suc n) entries = entries ++ often n entries
+
+abbrev pub lastClaimed : ℕ → List ℕ
+lastClaimed more =
+    0 ∷ 5 ∷ acts 0 8 ++ often more (0 ∷ 5 ∷ acts 0 5) ++ 0 ∷ 5 ∷ acts 0 9 ++ 2 ∷ 0 ∷ acts 0 7 ++ often more (2 ∷ 0 ∷ acts 0 6) ++ 2 ∷ 0 ∷ acts 0 3
+
+-- Then worker 1 asks.
+abbrev pub asksLen : List ℕ
+asksLen = 19 ∷ 0 ∷ acts 1 3
+
+abbrev pub asksEmpty : List ℕ
+asksEmpty = 20 ∷ 0 ∷ acts 1 2

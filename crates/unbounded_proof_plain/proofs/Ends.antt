@@ -8,7 +8,7 @@ use mathlib.Core.Bool.{Bool, true, false, cond}
 use lib.Dec.{eqb}
 use borrow.Author.Tests.{eq-eqb, eqb-true, eqb-false}
 use Rattle.unbounded_words.specs.declared.Index.{Index}
-use Rattle.unbounded_words.specs.Words.{sizes, wide, index, pastSlots, markedOf, unmarkedOf, withMark, later, minus, settled, behind, countOf}
+use Rattle.unbounded_words.specs.Words.{sizes, wide, index, pastSlots, markedOf, withMark, later, minus, settled, behind, countOf}
 use Rattle.unbounded_proof_words.proofs.Words.{word, half, past-word, unmarked-word, later-word}
 use Rattle.unbounded_proof_each_act.proofs.Step.{counted}
 

@@ -5,5 +5,8 @@ pub mod Rows
 pub mod Lookers
 pub mod Table
 pub mod Gap
+pub mod Steps
 pub mod Told
 pub mod Plain
+pub mod Closing
+pub mod BlocksEnd

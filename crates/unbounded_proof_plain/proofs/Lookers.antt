@@ -5,47 +5,38 @@ use native.Mathlib.Decide.{decLt}
 use mathlib.Core.Path.{_≡_, refl, sym, ap, _∙_, subst}
 use mathlib.Core.Logic.{_≢_, _⊎_, inl, inr}
 use mathlib.Core.Bool.{Bool, true, false, cond, true≢false}
-use mathlib.Core.List.{List, [], _∷_, _++_, append-nil}
-use lib.Dec.{eqb, ltb}
-use lib.ListN.{length, getD, take, drop}
-use lib.Seq.{drop-cons}
+use mathlib.Core.List.{List, []}
+use lib.Dec.{eqb}
+use lib.ListN.{length}
 use borrow.Author.Tests.{eq-eqb, ne-eqb, eqb-true, eqb-false}
-use Rattle.queue_entries.specs.declared.Call.{Call}
 use Rattle.queue_entries.specs.declared.Call.the-variants as call
 use Rattle.queue_schedules.proofs.Schedules.{either}
 use Rattle.queue_schedules.proofs.Splits.{no-cons}
 use Rattle.queue_plain.specs.Plain.{Reply, Queue, answerOf, yesIf}
 use Rattle.queue_plain.specs.Plain as plain
-use Rattle.queue_plain.specs.Story.{Does, Doing, actsIn, itemsOf}
-use Rattle.queue_plain.proofs.Stories.{acts-end, known-count, each-own}
-use Rattle.queue_plain.proofs.Calls.{work-on}
-use Rattle.queue_plain.proofs.Answers.{none-of, pop-front, pop-none}
+use Rattle.queue_plain.specs.Story.{Does, actsIn}
+use Rattle.queue_plain.proofs.Stories.{known-count}
+use Rattle.queue_plain.proofs.Answers.{none-of}
 use Rattle.unbounded_words.specs.declared.Index.{Index}
-use Rattle.unbounded_words.specs.declared.Pointer.{Pointer}
-use Rattle.unbounded_words.specs.declared.Pointer.the-variants.{None, To}
-use Rattle.unbounded_words.specs.Words.{sizes, wide, index, offsetOf, pastSlots, lastSlot, markedOf, withMark, later, same, samePosition, countOf, noneOf}
+use Rattle.unbounded_words.specs.Words.{sizes, index, markedOf, withMark, same, samePosition, countOf}
 use Rattle.unbounded_places.specs.declared.Slot.{Slot}
 use Rattle.unbounded_places.specs.declared.Block.{Block}
 use Rattle.unbounded_places.specs.declared.Ends.{Ends}
 use Rattle.unbounded_places.specs.declared.Answer.{Answer}
-use Rattle.unbounded_places.specs.declared.Answer.the-variants.{Nothing, Pushed, Closed, Popped, Empty, PopClosed, Len, Yes, No}
+use Rattle.unbounded_places.specs.declared.Answer.the-variants.{Popped, Len, Yes, No}
 use Rattle.unbounded_places.specs.declared.Place.{Place}
-use Rattle.unbounded_places.specs.declared.Place.the-variants.{Idle, U1, U2, U3, U4, U5, U6, U7, U8, U9, U10, U11, U12, U13, U14, U15, V1, V2, V3, V4, V5, V6, V7, V8, V9, V10, V11, V12, V13, V14, V15, Len1, Len2, Len3, Empty1, Empty2, Full1, Close1, IsClosed1}
-use Rattle.unbounded_places.specs.Places.{viewOf}
+use Rattle.unbounded_places.specs.declared.Place.the-variants.{Idle, Len1, Len2, Len3, Empty1, Empty2, Close1, IsClosed1}
 use Rattle.unbounded_acts.specs.declared.Acted.{Acted}
-use Rattle.unbounded_acts.specs.Acts.{leave, headTo, frontTo, tailTo, backTo, nextTo, freed, READ, WRITE, DESTROY, has, firstOr, answered, lacksNext, pushFrom, setAside, claimed, takeOr, popFrom, newHead, taken, nextIndex, destroyFrom, readOut, destroyIf, actOf}
+use Rattle.unbounded_acts.specs.Acts.{leave, tailTo, has, actOf}
 use Rattle.unbounded_machine.specs.declared.Event.{Event}
-use Rattle.unbounded_demands.specs.Notions.{takersOf, LatestIn, ItemIn, waiting, position}
-use Rattle.unbounded_demands.specs.Notions as notions
-use Rattle.unbounded_demands.specs.Claims.{CallClaim}
-use Rattle.unbounded_demands.specs.Stories.{Story, taskOf, closes, isClose, changeOf, actor, known, roomy, queueAt, At, AfterNextTail, Timing, timed, momentOf, replyOf, Now, Stays, timingTo}
-use Rattle.unbounded_demands.specs.Demands.{Answered, AtBlocksEnd, Meant}
+use Rattle.unbounded_demands.specs.Notions.{takersOf, position}
+use Rattle.unbounded_demands.specs.Stories.{Story, taskOf, changeOf, actor, known, roomy, queueAt, At, AfterNextTail, momentOf, Now, timingTo}
+use Rattle.unbounded_demands.specs.Demands.{AtBlocksEnd}
 use Rattle.unbounded_proof_each_act.proofs.Step.{counted}
-use Rattle.unbounded_proof_demand2.proofs.Logged.{items-more, takers-more, latest-own}
-use Rattle.unbounded_proof_plain.proofs.Ends.{mark-later, later-up, mark-marked, marked-up}
-use Rattle.unbounded_proof_plain.proofs.Work.{moment-own, longer, past, now-at, then-at, Work, Decided, decided-now, Brings, brought, EnteredBy, ClosedBy, TriesBy, TakesBy, SeenSome, NoneYet, FreesBy, Due}
-use Rattle.unbounded_proof_plain.proofs.Scene.{drop-long, latest-one, unput, not-idle, brings-closed, brings-open, brings-none, never-full, Scene, Speaks, Hints, Outcome, act, now, q₀, none-came, how-many, empty-there, still, times, stays, begun-same, kept, here, same-items, same-takers, same-waits, takes-on, to, meant, speaks}
-use Rattle.unbounded_proof_plain.proofs.Rows.{Mild, mild, go, says, on, decided, keep}
+use Rattle.unbounded_proof_plain.proofs.Ends.{mark-marked, marked-up}
+use Rattle.unbounded_proof_plain.proofs.Work.{moment-own, longer, past, now-at, then-at, Work, Decided, TakesBy, SeenSome, NoneYet, Due}
+use Rattle.unbounded_proof_plain.proofs.Scene.{Scene, Speaks, More, Outcome, act, now, q₀, none-came, how-many, stays, begun-same, here, same-items, same-takers, same-waits, to, meant, speaks}
+use Rattle.unbounded_proof_plain.proofs.Rows.{popped, unpopped, Mild, mild, go, says, on, decided, keep}
 
 module _ (st : Story) (e : Ends) (sc : Scene st e) (w : ℕ) where
   abbrev A : Place → Place → Event
@@ -66,6 +57,12 @@ module _ (st : Story) (e : Ends) (sc : Scene st e) (w : ℕ) where
   closed-is : (b : Bool) → markedOf (e .tail) ≡ b → Q .closed ≡ b
   closed-is b z = sc .flag ∙ z
 
+  unpopped-at : (a : Answer) → popped a ≡ false → (v : ℕ) → Idle a ≡ Idle (Popped v) → TakesBy st w
+  unpopped-at a other v z = let one : a ≡ Popped v = cc in unpopped st e sc w a other v one
+
+  not-yes : Idle No ≡ Idle Yes → ⊥
+  not-yes z = let q : _≡_ {A = ℕ} 0 1 = cc in omega arith
+
   -- ---- the lookers, and close
   abbrev Tells : Place → Acted → Type 0
   Tells p a = Out p (a .place) (a .ends .tail)
@@ -74,8 +71,8 @@ module _ (st : Story) (e : Ends) (sc : Scene st e) (w : ℕ) where
   unfolding leave tailTo
   close g s lose o =
       either (Tells Close1) (markedOf (e .tail)) _ _
-      (λ m. speaks st e sc w Close1 No plain.No (e .tail) refl m (omega arith) call.Close refl (told No plain.No refl refl refl (ap (λ (b : Bool). cond b plain.No plain.Yes) (closed-is true m))))
-      (λ m. speaks st e sc w Close1 Yes plain.Yes (withMark (e .tail)) refl (mark-marked (e .tail)) (marked-up (e .tail)) call.Close refl
+      (λ m. speaks st e sc w Close1 No plain.No (e .tail) refl m (omega arith) call.Close refl (record { gave = unpopped-at No refl; was-open = λ b z. absurd (not-yes z) }) (told No plain.No refl refl refl (ap (λ (b : Bool). cond b plain.No plain.Yes) (closed-is true m))))
+      (λ m. speaks st e sc w Close1 Yes plain.Yes (withMark (e .tail)) refl (mark-marked (e .tail)) (marked-up (e .tail)) call.Close refl (record { gave = unpopped-at Yes refl; was-open = λ b z. closed-is false m })
       (told Yes plain.Yes refl refl refl (ap (λ (b : Bool). cond b plain.No plain.Yes) (closed-is false m))))
     where
       told : (a : Answer) (r : Reply) → changeOf (A Close1 (Idle a)) .puts ≡ false → changeOf (A Close1 (Idle a)) .takes ≡ false → timingTo (taskOf Close1) (taskOf (Idle a)) ≡ Now
@@ -83,11 +80,11 @@ module _ (st : Story) (e : Ends) (sc : Scene st e) (w : ℕ) where
       told a r np nt at is = here st e sc w Close1 (Idle a) np nt at call.Close r o is
 
   pub is-closed : (b : Bool) → markedOf (e .tail) ≡ b → Work st w call.IsClosed [] [] → Out IsClosed1 (Idle (cond b Yes No)) (e .tail)
-  is-closed true m o = says st e sc w IsClosed1 calm Yes plain.Yes refl call.IsClosed refl (decided st e sc w IsClosed1 calm (Idle Yes) refl call.IsClosed plain.Yes o (ap yesIf (closed-is true m)))
+  is-closed true m o = says st e sc w IsClosed1 calm Yes plain.Yes refl (unpopped st e sc w Yes refl) call.IsClosed refl (decided st e sc w IsClosed1 calm (Idle Yes) refl call.IsClosed plain.Yes o (ap yesIf (closed-is true m)))
     where
       calm : Mild st e sc w IsClosed1
       calm = mild st e sc w (λ q. refl) (λ q. refl) refl
-  is-closed false m o = says st e sc w IsClosed1 calm No plain.No refl call.IsClosed refl (decided st e sc w IsClosed1 calm (Idle No) refl call.IsClosed plain.No o (ap yesIf (closed-is false m)))
+  is-closed false m o = says st e sc w IsClosed1 calm No plain.No refl (unpopped st e sc w No refl) call.IsClosed refl (decided st e sc w IsClosed1 calm (Idle No) refl call.IsClosed plain.No o (ap yesIf (closed-is false m)))
     where
       calm : Mild st e sc w IsClosed1
       calm = mild st e sc w (λ q. refl) (λ q. refl) refl
@@ -110,7 +107,7 @@ module _ (st : Story) (e : Ends) (sc : Scene st e) (w : ℕ) where
   unfolding leave same
   len3 g s t i o lose =
       either (Tells (Len3 t i)) (eqb (e .tail .0) (t .0)) _ _
-      (λ z. says st e sc w (Len3 t i) calm (Len (countOf sizes t i)) (plain.Count (countOf sizes t i)) refl call.Len refl (keep st e sc w (Len3 t i) calm (Idle (Len (countOf sizes t i))) refl _ _ _ _ (o .2 (eqb-true (e .tail .0) (t .0) z))))
+      (λ z. says st e sc w (Len3 t i) calm (Len (countOf sizes t i)) (plain.Count (countOf sizes t i)) refl (unpopped st e sc w (Len (countOf sizes t i)) refl) call.Len refl (keep st e sc w (Len3 t i) calm (Idle (Len (countOf sizes t i))) refl _ _ _ _ (o .2 (eqb-true (e .tail .0) (t .0) z))))
       (λ z. go st e sc w (Len3 t i) calm Len1 refl (on st e sc w (Len3 t i) calm Len1 _ _ _ (o .0)))
     where
       calm : Mild st e sc w (Len3 t i)
@@ -189,7 +186,7 @@ module _ (st : Story) (e : Ends) (sc : Scene st e) (w : ℕ) where
   pub empty2 : (i : Index) → Due st (e .tail) w (taskOf (Empty2 i)) → (b : Bool) → samePosition i (e .tail) ≡ b → Out (Empty2 i) (Idle (cond b Yes No)) (e .tail)
   unfolding samePosition
   empty2 i o true z =
-      says st e sc w (Empty2 i) calm Yes plain.Yes refl call.IsEmpty refl
+      says st e sc w (Empty2 i) calm Yes plain.Yes refl (unpopped st e sc w Yes refl) call.IsEmpty refl
       (decided st e sc w (Empty2 i) calm (Idle Yes) refl call.IsEmpty plain.Yes (o .0)
       (ap yesIf (eq-eqb (length (Q .items)) 0 (none (position (e .tail)) (position i) (eqb-true (position i) (position (e .tail)) z) (o .2)))))
     where
@@ -217,7 +214,7 @@ module _ (st : Story) (e : Ends) (sc : Scene st e) (w : ℕ) where
 
       answer : SeenSome st w ⊎ NoneYet st w i → Out (Empty2 i) (Idle No) (e .tail)
       answer (inl k) =
-          says st e sc w (Empty2 i) calm No plain.No refl call.IsEmpty refl
+          says st e sc w (Empty2 i) calm No plain.No refl (unpopped st e sc w No refl) call.IsEmpty refl
           (record {
             work = work;
             moment = k .moment;
@@ -228,8 +225,11 @@ module _ (st : Story) (e : Ends) (sc : Scene st e) (w : ℕ) where
                 ap (λ (x : Queue). answerOf x call.IsEmpty) (past st (Does (A (Empty2 i) (Idle No))) (k .moment) (k .inside))
                 ∙ ap yesIf (ne-eqb (length (queueAt (k .moment) st .items)) 0 (λ y. omega (arith, k .some)));
           })
-      answer (inr k) = record { due = tt; said = λ a y. said a y; came = none-came st e sc w (Empty2 i) (Idle No) refl; marks = refl; up = omega arith }
+      answer (inr k) = record { due = tt; said = λ a y. said a y; came = none-came st e sc w (Empty2 i) (Idle No) refl; more = extra; marks = refl; up = omega arith }
         where
+          extra : More st e sc w (Empty2 i) (Idle No)
+          extra = record { gave = unpopped-at No refl; was-open = λ b z. absurd (true≢false (sym b)) }
+
           far : position i < position (e .tail)
           far = apart (position i) (position (e .tail)) (o .1) (eqb-false (position i) (position (e .tail)) z)
             where

@@ -1,12 +1,11 @@
 -- Every run of the unbounded queue is a run of a plain queue without capacity, but for is_empty's no at a block's end, proved.
-use Prim.Native.Nat.{ℕ, _<_, _≤_}
+use Prim.Native.Nat.{ℕ, _<_}
 use native.Mathlib.Omega.{arith}
 use mathlib.Core.Path.{_≡_, refl, sym, ap, _∙_, subst}
 use mathlib.Core.Logic.{_⊎_, inl, inr}
 use mathlib.Core.Bool.{Bool, true, false, true≢false}
 use mathlib.Core.List.{List, [], _∷_, _++_, append-assoc}
 use lib.ListN.{length}
-use Rattle.queue_entries.specs.Limits.{workersMost}
 use Rattle.queue_entries.specs.Entries.{entryOf}
 use Rattle.queue_schedules.proofs.Histories.{entries-lead}
 use Rattle.queue_schedules.proofs.Splits.{cons-rest, no-cons, no-split}
@@ -27,13 +26,13 @@ use Rattle.unbounded_machine.specs.Machine.{freshOf}
 use Rattle.unbounded_machine.specs.Turn.{turnWith}
 use Rattle.unbounded_machine.specs.History.{eventsOf}
 use Rattle.unbounded_demands.proofs.Refusals.{unbounded-queue}
-use Rattle.unbounded_demands.specs.Notions.{Definition, definition, Allowed, machineAfter, actsOf, takersOf}
+use Rattle.unbounded_demands.specs.Notions.{Allowed, machineAfter, actsOf, takersOf}
 use Rattle.unbounded_demands.specs.Notions as notions
 use Rattle.unbounded_demands.specs.Stories.{Story, storyOf, Task, Rests, Starts, Tries, Given, Enters, Entered, Frees, Takes, LoadsHead, Counts, LooksAtTail, taskOf, itemIn, changeOf, actor, known, At, AfterNextTail, Moment, momentOf}
 use Rattle.unbounded_demands.specs.Demands.{Answered, AtBlocksEnd, ContentsWait, PlainThroughout, AnswersPlain}
 use Rattle.unbounded_proof_demand2.proofs.Turns.{stood, turned}
 use Rattle.unbounded_proof_demand2.proofs.Demand2.{table, fresh-stood, fresh-reached, demand2}
-use Rattle.unbounded_proof_plain.proofs.Work.{Work, brought, EnteredBy, FreesBy, Due}
+use Rattle.unbounded_proof_plain.proofs.Work.{brought, FreesBy, Due}
 use Rattle.unbounded_proof_plain.proofs.Told.{Told, told-kept}
 
 -- ---- under way
@@ -152,13 +151,14 @@ module _ (workers : ℕ) (a : Allowed workers) where
         dues = λ w. subst (λ (p : Place). Due [] (freshOf sizes workers .ends .tail) w (taskOf p)) (sym (fresh-stood w)) tt;
         answers = λ xs ys act x e said. absurd (no-split xs (Does act) ys e);
         changes = λ xs ys act e. absurd (no-split xs (Does act) ys e);
+        claims = λ xs ys act v e said. absurd (no-split xs act ys e);
       }
 
   one-entry : (m : Machine) (st : Story) (i j : ℕ) → Told workers (a .worker-most) m st → turnWith sizes actOf m i j .refusal ≡ 0
       → Told workers (a .worker-most) (turnWith sizes actOf m i j .machine) (st ++ elementsBy eventsOf m (entryOf i j) (turnWith sizes actOf m i j .machine))
   one-entry m st i j o e = told-kept workers (a .worker-most) m st (entryOf i j) _ o (turned m i j e)
 
-  told-after : (s : List ℕ) → Told workers (a .worker-most) (machineAfter table workers s) (storyOf table workers s)
+  pub told-after : (s : List ℕ) → Told workers (a .worker-most) (machineAfter table workers s) (storyOf table workers s)
   told-after s = entries-lead unbounded-queue (elementsBy eventsOf) (Told workers (a .worker-most)) one-entry s (freshOf sizes workers) [] 0 told-first
 
   -- ---- from what is told to the statement

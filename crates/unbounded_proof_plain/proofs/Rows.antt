@@ -1,54 +1,59 @@
 -- Each act of the table, from what its worker's call has behind it to what it then has.
-use Prim.Native.Nat.{ℕ, zero, suc, _+_, _-_, _%_, _≤_, _<_}
+use Prim.Native.Nat.{ℕ, suc, _+_, _-_, _≤_, _<_}
 use native.Mathlib.Omega.{arith}
-use native.Mathlib.Decide.{decLt}
 use mathlib.Core.Path.{_≡_, refl, sym, ap, _∙_, subst}
-use mathlib.Core.Logic.{_≢_, _⊎_, inl, inr}
 use mathlib.Core.Bool.{Bool, true, false, cond, true≢false}
 use mathlib.Core.List.{List, [], _∷_, _++_, append-nil}
 use lib.Dec.{eqb, ltb}
 use lib.ListN.{length, getD, take, drop}
 use lib.Seq.{drop-cons}
-use borrow.Author.Tests.{eq-eqb, ne-eqb, eqb-true, eqb-false}
+use borrow.Author.Tests.{eqb-true}
 use Rattle.queue_entries.specs.declared.Call.{Call}
 use Rattle.queue_entries.specs.declared.Call.the-variants as call
 use Rattle.queue_schedules.proofs.Schedules.{either}
-use Rattle.queue_schedules.proofs.Splits.{no-cons}
-use Rattle.queue_plain.specs.Plain.{Reply, Queue, answerOf, yesIf}
+use Rattle.queue_plain.specs.Plain.{Reply, Queue, answerOf}
 use Rattle.queue_plain.specs.Plain as plain
-use Rattle.queue_plain.specs.Story.{Does, Doing, actsIn, itemsOf}
-use Rattle.queue_plain.proofs.Stories.{acts-end, known-count, each-own}
+use Rattle.queue_plain.specs.Story.{Does, actsIn, itemsOf}
+use Rattle.queue_plain.proofs.Stories.{acts-end}
 use Rattle.queue_plain.proofs.Calls.{work-on}
-use Rattle.queue_plain.proofs.Answers.{none-of, pop-front, pop-none}
+use Rattle.queue_plain.proofs.Answers.{pop-front, pop-none}
 use Rattle.unbounded_words.specs.declared.Index.{Index}
 use Rattle.unbounded_words.specs.declared.Pointer.{Pointer}
-use Rattle.unbounded_words.specs.declared.Pointer.the-variants.{None, To}
-use Rattle.unbounded_words.specs.Words.{sizes, wide, index, offsetOf, pastSlots, lastSlot, markedOf, withMark, later, same, samePosition, countOf, noneOf}
+use Rattle.unbounded_words.specs.Words.{sizes, index, pastSlots, lastSlot, markedOf, later, same, samePosition, noneOf}
 use Rattle.unbounded_places.specs.declared.Slot.{Slot}
 use Rattle.unbounded_places.specs.declared.Block.{Block}
 use Rattle.unbounded_places.specs.declared.Ends.{Ends}
 use Rattle.unbounded_places.specs.declared.Answer.{Answer}
 use Rattle.unbounded_places.specs.declared.Answer.the-variants.{Nothing, Pushed, Closed, Popped, Empty, PopClosed, Len, Yes, No}
 use Rattle.unbounded_places.specs.declared.Place.{Place}
-use Rattle.unbounded_places.specs.declared.Place.the-variants.{Idle, U1, U2, U3, U4, U5, U6, U7, U8, U9, U10, U11, U12, U13, U14, U15, V1, V2, V3, V4, V5, V6, V7, V8, V9, V10, V11, V12, V13, V14, V15, Len1, Len2, Len3, Empty1, Empty2, Full1, Close1, IsClosed1}
+use Rattle.unbounded_places.specs.declared.Place.the-variants.{Idle, U1, U3, U4, U7, U8, U9, U10, U11, U12, U14, V1, V3, V4, V5, V6, V10, V13, V15}
 use Rattle.unbounded_places.specs.Places.{viewOf}
 use Rattle.unbounded_acts.specs.declared.Acted.{Acted}
-use Rattle.unbounded_acts.specs.Acts.{leave, headTo, frontTo, tailTo, backTo, nextTo, freed, READ, WRITE, DESTROY, has, firstOr, answered, lacksNext, pushFrom, setAside, claimed, takeOr, popFrom, newHead, taken, nextIndex, destroyFrom, readOut, destroyIf, actOf}
+use Rattle.unbounded_acts.specs.Acts.{leave, headTo, tailTo, has, firstOr, answered, lacksNext, pushFrom, claimed, takeOr, popFrom, newHead, taken, destroyFrom, destroyIf, actOf}
 use Rattle.unbounded_machine.specs.declared.Event.{Event}
-use Rattle.unbounded_demands.specs.Notions.{takersOf, LatestIn, ItemIn, waiting, position}
+use Rattle.unbounded_demands.specs.Notions.{takersOf, LatestIn, position}
 use Rattle.unbounded_demands.specs.Notions as notions
-use Rattle.unbounded_demands.specs.Claims.{CallClaim}
-use Rattle.unbounded_demands.specs.Stories.{Story, taskOf, closes, isClose, changeOf, actor, known, roomy, queueAt, At, AfterNextTail, Timing, timed, momentOf, replyOf, Now, Stays, timingTo}
-use Rattle.unbounded_demands.specs.Demands.{Answered, AtBlocksEnd, Meant}
+use Rattle.unbounded_demands.specs.Stories.{Story, taskOf, closes, isClose, changeOf, actor, roomy, replyOf, Now, Stays, timingTo}
 use Rattle.unbounded_proof_each_act.proofs.Step.{counted}
 use Rattle.unbounded_proof_demand2.proofs.Logged.{items-more, takers-more, latest-own}
-use Rattle.unbounded_proof_plain.proofs.Ends.{mark-later, later-up, mark-marked, marked-up}
-use Rattle.unbounded_proof_plain.proofs.Work.{moment-own, longer, past, now-at, then-at, Work, Decided, decided-now, Brings, brought, EnteredBy, ClosedBy, TriesBy, TakesBy, SeenSome, NoneYet, FreesBy, Due}
-use Rattle.unbounded_proof_plain.proofs.Scene.{drop-long, latest-one, unput, not-idle, brings-closed, brings-open, brings-none, never-full, Scene, Speaks, Hints, Outcome, act, now, q₀, none-came, how-many, empty-there, still, times, stays, begun-same, kept, here, same-items, same-takers, same-waits, takes-on, to, meant, speaks}
+use Rattle.unbounded_proof_plain.proofs.Ends.{mark-later, later-up}
+use Rattle.unbounded_proof_plain.proofs.Work.{Work, Decided, decided-now, brought, EnteredBy, ClosedBy, TriesBy, TakesBy, Due}
+use Rattle.unbounded_proof_plain.proofs.Scene.{drop-long, latest-one, unput, not-idle, brings-closed, brings-open, brings-none, Scene, Hints, More, no-more, Outcome, act, now, q₀, none-came, empty-there, still, kept, here, takes-on, to, speaks}
 
 same-is : (a b : Index) → same a b ≡ true → a ≡ b
 unfolding same
 same-is a b z = ap index (eqb-true (a .0) (b .0) z)
+
+abbrev pub popped : Answer → Bool
+popped Nothing = false
+popped Pushed = false
+popped (Closed x) = false
+popped (Popped v) = true
+popped Empty = false
+popped PopClosed = false
+popped (Len n) = false
+popped Yes = false
+popped No = false
 
 module _ (st : Story) (e : Ends) (sc : Scene st e) (w : ℕ) where
   abbrev A : Place → Place → Event
@@ -73,6 +78,10 @@ module _ (st : Story) (e : Ends) (sc : Scene st e) (w : ℕ) where
   closed-is : (b : Bool) → markedOf (e .tail) ≡ b → Q .closed ≡ b
   closed-is b z = sc .flag ∙ z
 
+  -- no other answer hands a value out
+  pub unpopped : (a : Answer) → popped a ≡ false → (v : ℕ) → a ≡ Popped v → TakesBy st w
+  unpopped a other v z = absurd (true≢false (sym (ap popped z) ∙ other))
+
   -- ---- where no act of p claims anything
   pub record Mild (p : Place) : Type 0 where
     pub no-put : (q : Place) → changeOf (A p q) .puts ≡ false
@@ -83,10 +92,13 @@ module _ (st : Story) (e : Ends) (sc : Scene st e) (w : ℕ) where
     pub go : (q : Place) → viewOf sizes q .busy ≡ true → Due (N p q) (e .tail) w (taskOf q) → Out p q (e .tail)
     go q busy o = to st e sc w p q (mild .no-put q) (mild .no-take q) busy (mild .open-still) o
 
-    pub says : (a : Answer) (r : Reply) → replyOf a ≡ r ∷ [] → (c : Call) → isClose c ≡ false
+    pub says : (a : Answer) (r : Reply) → replyOf a ≡ r ∷ [] → ((v : ℕ) → a ≡ Popped v → TakesBy st w) → (c : Call) → isClose c ≡ false
         → Decided (N p (Idle a)) w c (plain.putBy (itemsOf (c ∷ [])) r) (plain.takenBy r) r → Out p (Idle a) (e .tail)
-    says a r is c other o =
-        speaks st e sc w p a r (e .tail) is (sym (ap (λ (b : Bool). cond b true (markedOf (e .tail))) (mild .open-still))) (omega arith) c (other ∙ sym (mild .open-still)) o
+    says a r is gave c other o =
+        speaks st e sc w p a r (e .tail) is (sym (ap (λ (b : Bool). cond b true (markedOf (e .tail))) (mild .open-still))) (omega arith) c (other ∙ sym (mild .open-still)) extra o
+      where
+        extra : More st e sc w p (Idle a)
+        extra = record { gave = λ v z. let one : a ≡ Popped v = cc in gave v one; was-open = λ b z. absurd (true≢false (sym b ∙ mild .open-still)) }
 
     module _ (q : Place) where
       pub on : (c : Call) (put took : List ℕ) → Work st w c put took → Work (N p q) w c put took
@@ -114,10 +126,10 @@ module _ (st : Story) (e : Ends) (sc : Scene st e) (w : ℕ) where
     -- ---- push: the answers
     pub says-closed : (x : ℕ) → ClosedBy st w x → Out p (Idle (Closed x)) (e .tail)
     says-closed x o =
-        says (Closed x) (plain.Closed x) refl (o .call) (brings-none (o .call) x (o .brings)) (keep (Idle (Closed x)) refl _ _ _ _ (o .decided))
+        says (Closed x) (plain.Closed x) refl (unpopped (Closed x) refl) (o .call) (brings-none (o .call) x (o .brings)) (keep (Idle (Closed x)) refl _ _ _ _ (o .decided))
 
     pub says-pushed : (x : ℕ) → EnteredBy st w x → Out p (Idle Pushed) (e .tail)
-    says-pushed x o = says Pushed plain.Pushed refl (o .call) (brings-none (o .call) x (o .brings)) (keep (Idle Pushed) refl _ _ _ _ (o .decided))
+    says-pushed x o = says Pushed plain.Pushed refl (unpopped Pushed refl) (o .call) (brings-none (o .call) x (o .brings)) (keep (Idle Pushed) refl _ _ _ _ (o .decided))
 
     pub firsts : (n : Pointer) (u : Index) (b : Pointer) (x : ℕ) → TriesBy st w x → Out p (firstOr n u b x) (e .tail)
     unfolding firstOr
@@ -151,7 +163,7 @@ module _ (st : Story) (e : Ends) (sc : Scene st e) (w : ℕ) where
         let z = t .out v refl in
         let k = latest-one (takersOf h) w (o .number) (z .0) (o .latest) (z .1) in
         let same : o .v ≡ v = sym (o .item .is) ∙ ap (λ (n : ℕ). getD (notions.itemsOf h) n 0) k ∙ z .2 .is in
-        says (Popped v) (plain.Popped v) refl call.Pop refl
+        says (Popped v) (plain.Popped v) refl (λ u z. o) call.Pop refl
         (subst (λ (y : ℕ). Decided (N p (Idle (Popped v))) w call.Pop [] (y ∷ []) (plain.Popped y)) same (keep (Idle (Popped v)) refl _ _ _ _ (o .decided)))
 
     pub destroys : (b : Pointer) (i v : ℕ) → TakesBy st w → Out p (destroyFrom sizes b i v) (e .tail)
@@ -187,6 +199,7 @@ module _ (st : Story) (e : Ends) (sc : Scene st e) (w : ℕ) where
             });
         said = λ a z. absurd (not-idle q busy a z);
         came = λ y z. (ap itemsOf (o .work .its) ∙ brought (o .call) x (o .brings) ∙ sym item ∙ z, closed-is false unmarked);
+        more = no-more st e sc w p q busy;
         marks = ap (λ (i : Index). markedOf (later i)) (sym is) ∙ mark-later (e .tail) (sc .small) ∙ sym (ap (λ (b : Bool). cond b true (markedOf (e .tail))) open-still);
         up = subst (λ (i : Index). e .tail .0 ≤ later i .0) is (later-up (e .tail) (sc .small));
       }
@@ -217,6 +230,7 @@ module _ (st : Story) (e : Ends) (sc : Scene st e) (w : ℕ) where
         due = enters (U10 n t b x) (mild (λ q. refl) (λ q. refl) refl) (U11 n t b x) refl x o;
         said = λ a z. absurd (not-idle (U11 n t b x) refl a z);
         came = none-came st e sc w (U10 n t b x) (U11 n t b x) refl;
+        more = no-more st e sc w (U10 n t b x) (U11 n t b x) refl;
         marks = mark-later (e .tail) (sc .small);
         up = later-up (e .tail) (sc .small);
       }
@@ -268,7 +282,7 @@ module _ (st : Story) (e : Ends) (sc : Scene st e) (w : ℕ) where
       lost j = to st e sc w (V4 i b new) (V5 j) refl refl refl refl (still st e sc w (V4 i b new) (V5 j) refl refl _ _ _ o)
 
       won : (q : Place) → viewOf sizes q .busy ≡ true → Due (N (V4 i b new) q) (e .tail) w (taskOf q) → Out (V4 i b new) q (e .tail)
-      won q busy d = record { due = d; said = λ a z. absurd (not-idle q busy a z); came = none-came st e sc w (V4 i b new) q refl; marks = refl; up = omega arith }
+      won q busy d = record { due = d; said = λ a z. absurd (not-idle q busy a z); came = none-came st e sc w (V4 i b new) q refl; more = no-more st e sc w (V4 i b new) q busy; marks = refl; up = omega arith }
 
   -- V3: nothing waits, or it goes on
   pub v3 : (g : Block) (s : Slot) (i : Index) (b : Pointer) (lose : Bool) → Work st w call.Pop [] [] → Told (V3 i b) (actOf sizes e 0 g s (V3 i b) lose .place)
@@ -277,9 +291,9 @@ module _ (st : Story) (e : Ends) (sc : Scene st e) (w : ℕ) where
   v3 g s i b lose o =
       either Looks (samePosition i (e .tail)) _ _
       (λ z. either Looks (markedOf (e .tail)) _ _
-      (λ m k. says (V3 i b) calm PopClosed plain.EmptyAndClosed refl call.Pop refl
+      (λ m k. says (V3 i b) calm PopClosed plain.EmptyAndClosed refl (unpopped PopClosed refl) call.Pop refl
       (decided (V3 i b) calm (Idle PopClosed) refl call.Pop plain.EmptyAndClosed o (none-there true m (k .true-then PopClosed refl .1))))
-      (λ m k. says (V3 i b) calm Empty plain.Empty refl call.Pop refl (decided (V3 i b) calm (Idle Empty) refl call.Pop plain.Empty o (none-there false m (k .true-then Empty refl .1)))))
+      (λ m k. says (V3 i b) calm Empty plain.Empty refl (unpopped Empty refl) call.Pop refl (decided (V3 i b) calm (Idle Empty) refl call.Pop plain.Empty o (none-there false m (k .true-then Empty refl .1)))))
       (λ z k. wants (V3 i b) calm i b (newHead sizes i (e .tail)) o)
     where
       Looks : Acted → Type 0

@@ -3,12 +3,11 @@ use Prim.Native.Nat.{ℕ, zero, suc, _+_, _-_, _%_, _≤_, _<_}
 use native.Mathlib.Omega.{arith}
 use native.Mathlib.Decide.{decLt}
 use mathlib.Core.Path.{_≡_, refl, sym, ap, _∙_, subst}
-use mathlib.Core.Logic.{_⊎_, inl, inr}
+use mathlib.Core.Logic.{_⊎_, inl}
 use mathlib.Core.Bool.{Bool, true, false, cond, true≢false}
 use mathlib.Core.List.{List, [], _∷_, _++_, append-nil, append-assoc}
 use lib.Dec.{eqb}
-use lib.ListN.{length, getD, take, drop, length-append}
-use lib.Seq.{drop-cons}
+use lib.ListN.{length, getD, drop}
 use borrow.Author.Tests.{ne-eqb}
 use Rattle.queue_entries.specs.declared.Call.{Call}
 use Rattle.queue_entries.specs.declared.Call.the-variants as call
@@ -32,7 +31,7 @@ use Rattle.unbounded_machine.specs.History.{event}
 use Rattle.unbounded_demands.specs.Notions.{Sign, Plain, Exchange7, Exchange4, Pops, Pushes, HandsOut, answered, signOf, itemIn, itemBy, takes, takersOf, LatestIn, ItemIn, waiting, position, Truth}
 use Rattle.unbounded_demands.specs.Notions as notions
 use Rattle.unbounded_demands.specs.Claims.{Unanswered, CallClaim}
-use Rattle.unbounded_demands.specs.Stories.{Story, taskOf, isClose, closes, changeOf, actor, known, roomy, queueAt, replyOf, At, Timing, Now, Stays, timingTo, timingOf, timed, momentOf, placeIn, Leaving}
+use Rattle.unbounded_demands.specs.Stories.{Story, taskOf, isClose, closes, changeOf, actor, known, roomy, queueAt, replyOf, Timing, Now, Stays, timingTo, timingOf, timed, momentOf, placeIn, Leaving}
 use Rattle.unbounded_demands.specs.Demands.{Answered, AtBlocksEnd, Meant}
 use Rattle.unbounded_proof_each_act.proofs.Step.{counted}
 use Rattle.unbounded_proof_demand2.proofs.Logged.{items-more, takers-more}
@@ -166,12 +165,21 @@ module _ (st : Story) (e : Ends) (sc : Scene st e) (w : ℕ) where
     pub front : takes (act p q) ≡ true → 0 < length (q₀ .items)
     pub out : (v : ℕ) → signOf q ≡ HandsOut v → (k : ℕ) × LatestIn (takersOf h) w k × ItemIn h k v
 
+  -- a value is handed out of a claim of its call; a close says yes of an open queue
+  pub record More (p q : Place) : Type 0 where
+    pub gave : (v : ℕ) → q ≡ Idle (Popped v) → TakesBy st w
+    pub was-open : closes (taskOf p) ≡ true → q ≡ Idle Yes → q₀ .closed ≡ false
+
+  pub no-more : (p q : Place) → viewOf sizes q .busy ≡ true → More p q
+  no-more p q busy = record { gave = λ v z. absurd (not-idle q busy (Popped v) z); was-open = λ b z. absurd (not-idle q busy Yes z) }
+
   -- what the act leads to, or answers; tail's index is then t
   pub record Outcome (p q : Place) (t : Index) : Type 0 where
     pub due : Due (now p q) t w (taskOf q)
     pub said : (a : Answer) → q ≡ Idle a → Speaks st (act p q) a
     -- an item that comes in is its call's, and the queue is open then
     pub came : (x : ℕ) → notions.itemOf (act p q) ≡ x ∷ [] → (itemsOf (known st .each w .calls) ≡ x ∷ []) × (q₀ .closed ≡ false)
+    pub more : More p q
     pub marks : markedOf t ≡ cond (closes (taskOf p)) true (markedOf (e .tail))
     pub up : e .tail .0 ≤ t .0
 
@@ -236,7 +244,7 @@ module _ (st : Story) (e : Ends) (sc : Scene st e) (w : ℕ) where
     -- it leaves tail's index
     pub to : viewOf sizes q .busy ≡ true → closes (taskOf p) ≡ false → Due (now p q) (e .tail) w (taskOf q) → Outcome p q (e .tail)
     to busy open-still o =
-        record { due = o; said = λ a z. absurd (not-idle q busy a z); came = none-came p q (unput (signOf p) (signOf q) no-put); marks = rw open-still refl; up = omega arith }
+        record { due = o; said = λ a z. absurd (not-idle q busy a z); came = none-came p q (unput (signOf p) (signOf q) no-put); more = no-more p q busy; marks = rw open-still refl; up = omega arith }
 
   -- ---- an act that answers
   pub meant : (p q : Place) (c : Call) (a : Answer) (r : Reply) → replyOf a ≡ r ∷ [] → isClose c ≡ closes (taskOf p) → ((y : ℕ) → plain.givenBack r ≡ y ∷ [] → itemsOf (c ∷ []) ≡ y ∷ [])
@@ -273,12 +281,13 @@ module _ (st : Story) (e : Ends) (sc : Scene st e) (w : ℕ) where
       )
 
   pub speaks : (p : Place) (a : Answer) (r : Reply) (t : Index) → replyOf a ≡ r ∷ [] → markedOf t ≡ cond (closes (taskOf p)) true (markedOf (e .tail)) → e .tail .0 ≤ t .0 → (c : Call)
-      → isClose c ≡ closes (taskOf p) → Decided (now p (Idle a)) w c (plain.putBy (itemsOf (c ∷ [])) r) (plain.takenBy r) r → Outcome p (Idle a) t
-  speaks p a r t says marks up c shut o =
+      → isClose c ≡ closes (taskOf p) → More p (Idle a) → Decided (now p (Idle a)) w c (plain.putBy (itemsOf (c ∷ [])) r) (plain.takenBy r) r → Outcome p (Idle a) t
+  speaks p a r t says marks up c shut more o =
       record {
         due = tt;
         said = λ x is. let one : a ≡ x = cc in subst (Speaks st (act p (Idle a))) one (speak p a r says c shut o);
         came = none-came p (Idle a) (unput-idle (signOf p) a);
+        more = more;
         marks = marks;
         up = up;
       }

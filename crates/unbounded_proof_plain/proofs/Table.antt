@@ -2,8 +2,8 @@
 use Prim.Native.Nat.{ℕ, _+_}
 use native.Mathlib.Omega.{arith}
 use mathlib.Core.Path.{_≡_, refl, sym, ap, _∙_}
-use mathlib.Core.Bool.{Bool, true, false, cond, true≢false}
-use mathlib.Core.List.{List, [], _∷_, _++_}
+use mathlib.Core.Bool.{Bool, true, false, true≢false}
+use mathlib.Core.List.{List, []}
 use lib.Dec.{eqb}
 use lib.ListN.{length}
 use Rattle.queue_entries.specs.declared.Call.{Call}
@@ -23,16 +23,16 @@ use Rattle.unbounded_places.specs.declared.Place.{Place}
 use Rattle.unbounded_places.specs.declared.Place.the-variants.{Idle, U1, U2, U3, U4, U5, U6, U7, U8, U9, U10, U11, U12, U13, U14, U15, V1, V2, V3, V4, V5, V6, V7, V8, V9, V10, V11, V12, V13, V14, V15, Len1, Len2, Len3, Empty1, Empty2, Full1, Close1, IsClosed1}
 use Rattle.unbounded_places.specs.Places.{viewOf}
 use Rattle.unbounded_acts.specs.declared.Acted.{Acted}
-use Rattle.unbounded_acts.specs.Acts.{leave, headTo, frontTo, tailTo, backTo, WRITE, READ, DESTROY, has, answered, setAside, newHead, nextIndex, readOut, actOf}
+use Rattle.unbounded_acts.specs.Acts.{leave, headTo, frontTo, tailTo, backTo, WRITE, READ, DESTROY, has, answered, setAside, nextIndex, readOut, actOf}
 use Rattle.unbounded_demands.specs.Notions.{Sign, Plain, Exchange7, Exchange4, Pops, Pushes, HandsOut, signOf, itemBy, takesBy}
 use Rattle.unbounded_demands.specs.Stories.{Story, taskOf, closes, Stays, timingTo}
 use Rattle.unbounded_proof_invariant.proofs.Queue.{Ptr}
 use Rattle.unbounded_proof_invariant.proofs.Views.{Seen}
 use Rattle.unbounded_proof_words.proofs.Words.{mark-word}
 use Rattle.unbounded_proof_words.proofs.Stands.{Stands, u7}
-use Rattle.unbounded_proof_plain.proofs.Work.{Work, EnteredBy, ClosedBy, TriesBy, TakesBy, FreesBy, Due}
+use Rattle.unbounded_proof_plain.proofs.Work.{Work, EnteredBy, TriesBy, TakesBy, FreesBy, Due}
 use Rattle.unbounded_proof_plain.proofs.Scene.{never-full, brings-closed, Scene, Hints, Outcome, now, q₀}
-use Rattle.unbounded_proof_plain.proofs.Rows.{Mild, mild, go, says, on, tries, decided, enters, shut, pops, says-closed, says-pushed, tops, firsts, pop-tops, hands-out, destroys, destroys-if, u10, v3, v4}
+use Rattle.unbounded_proof_plain.proofs.Rows.{Mild, mild, go, says, on, tries, decided, enters, pops, says-closed, says-pushed, tops, firsts, pop-tops, hands-out, destroys, destroys-if, u10, v3, v4}
 use Rattle.unbounded_proof_plain.proofs.Rows as rows
 use Rattle.unbounded_proof_plain.proofs.Lookers.{close, is-closed, len2, len3, empty1, empty2}
 
@@ -169,6 +169,6 @@ module _ (st : Story) (e : Ends) (sc : Scene st e) (w k : ℕ) (g : Block) (s : 
   row (Len3 i j) at busy o t = len3 st e sc w g s i j o lose
   row Empty1 at busy o t = empty1 st e sc w o
   row (Empty2 i) at busy o t = empty2 st e sc w i o (samePosition i (e .tail)) refl
-  row Full1 at busy o t = says st e sc w Full1 (calm refl refl) No plain.No refl call.IsFull refl (decided st e sc w Full1 (calm refl refl) (Idle No) refl call.IsFull plain.No o (never-full (q₀ st e sc w)))
+  row Full1 at busy o t = says st e sc w Full1 (calm refl refl) No plain.No refl (rows.unpopped st e sc w No refl) call.IsFull refl (decided st e sc w Full1 (calm refl refl) (Idle No) refl call.IsFull plain.No o (never-full (q₀ st e sc w)))
   row Close1 at busy o t = close st e sc w g s lose o
   row IsClosed1 at busy o t = is-closed st e sc w (markedOf (e .tail)) refl o

@@ -1,16 +1,15 @@
 -- Along every schedule: the plain queue is the one that the words stand for, and every answer so far was that queue's.
-use Prim.Native.Nat.{ℕ, suc, _+_, _-_, _/_, _%_, _*_, _≤_, _<_}
+use Prim.Native.Nat.{ℕ, suc, _+_, _-_, _/_, _%_, _≤_, _<_}
 use native.Mathlib.Omega.{arith}
 use native.Mathlib.Decide.{ℕ-discrete, decLt}
 use mathlib.Core.Path.{_≡_, refl, sym, ap, _∙_, subst}
 use mathlib.Core.Logic.{_≢_, _⊎_, inl, inr}
-use mathlib.Core.Bool.{Bool, true, false, cond, true≢false}
-use mathlib.Core.List.{List, [], _∷_, _++_, map, append-nil, append-assoc}
+use mathlib.Core.Bool.{Bool, true, false, cond}
+use mathlib.Core.List.{List, [], _∷_, _++_, append-nil, append-assoc}
 use lib.Dec.{eqb}
-use lib.ListN.{length, getD, set, drop, length-append, List·getD-append}
+use lib.ListN.{length, getD, drop, length-append, List·getD-append}
 use lib.Seq.{drop-cons, drop-append-le}
-use borrow.Author.Tests.{eqb-true}
-use Rattle.queue_entries.specs.Limits.{workersMost, meterMost}
+use Rattle.queue_entries.specs.Limits.{workersMost}
 use Rattle.queue_entries.specs.declared.Call.{Call}
 use Rattle.queue_entries.specs.declared.Call.the-variants as call
 use Rattle.queue_entries.specs.declared.Entry.{Entry}
@@ -20,11 +19,11 @@ use Rattle.queue_plain.specs.Story.{Begun, Does, Doing, itemsOf, elementsBy, ac
 use Rattle.queue_plain.proofs.Stories.{acts-end, known-count, each-else, queue-act, queue-now, each-unbegun, queue-begun}
 use Rattle.queue_plain.proofs.Calls.{work-begun}
 use Rattle.unbounded_words.specs.declared.Index.{Index}
-use Rattle.unbounded_words.specs.Words.{sizes, wide, markedOf, countOf}
+use Rattle.unbounded_words.specs.Words.{sizes, markedOf, countOf}
 use Rattle.unbounded_places.specs.declared.Slot.{Slot}
 use Rattle.unbounded_places.specs.declared.Ends.{Ends}
-use Rattle.unbounded_places.specs.declared.Worker.{Worker}
 use Rattle.unbounded_places.specs.declared.Answer.{Answer}
+use Rattle.unbounded_places.specs.declared.Answer.the-variants.{Popped}
 use Rattle.unbounded_places.specs.declared.Place.{Place}
 use Rattle.unbounded_places.specs.declared.Place.the-variants.{Idle}
 use Rattle.unbounded_places.specs.Places.{viewOf, beginOf}
@@ -35,83 +34,26 @@ use Rattle.unbounded_machine.specs.declared.Event.{Event}
 use Rattle.unbounded_machine.specs.Machine.{blockAt, slotAt}
 use Rattle.unbounded_machine.specs.Turn.{lowestFree, cleared, blockUsed, slotUsed, begun, stored, actedAt}
 use Rattle.unbounded_machine.specs.History.{event, eventsOf}
-use Rattle.unbounded_demands.specs.Notions.{Sign, Plain, Exchange7, Exchange4, Pops, Pushes, HandsOut, signOf, itemBy, takesBy, itemOf, takes, takersOf, LatestIn, ItemIn, waiting, position, Truth}
+use Rattle.unbounded_demands.specs.Notions.{signOf, itemOf, takes, takersOf, LatestIn, ItemIn, waiting, position, Truth}
 use Rattle.unbounded_demands.specs.Notions as notions
 use Rattle.unbounded_demands.specs.Claims.{CallClaim}
-use Rattle.unbounded_demands.specs.Stories.{Element, Story, taskOf, Rests, Starts, Tries, Given, Enters, Entered, Frees, Takes, LoadsHead, Counts, LooksAtTail, closes, changeOf, actor, known, queueAt, At, AfterNextTail, Moment, heard, momentOf, placeIn, Leaving}
-use Rattle.unbounded_demands.specs.Demands.{Answered, Changes}
+use Rattle.unbounded_demands.specs.Stories.{Element, Story, taskOf, closes, changeOf, actor, known, queueAt, At, AfterNextTail, heard, momentOf, placeIn, Leaving}
+use Rattle.unbounded_demands.specs.Demands.{Changes, OwnClaim}
 use Rattle.unbounded_proof_invariant.proofs.Queue.{Shared}
-use Rattle.unbounded_proof_words.proofs.Words.{word, half, bit, mark-word}
-use Rattle.unbounded_proof_words.proofs.Stands.{placeOf, endsOf}
-use Rattle.unbounded_proof_words.proofs.Frames.{get-same, get-other}
+use Rattle.unbounded_proof_words.proofs.Words.{half, bit}
+use Rattle.unbounded_proof_words.proofs.Stands.{endsOf}
 use Rattle.unbounded_proof_each_act.proofs.Step.{counted, TellsTrue, taleOf, Logs, puts, neither, Step}
 use Rattle.unbounded_proof_each_act.proofs.Step as step
 use Rattle.unbounded_proof_each_act.proofs.Takings.{lowest-free}
-use Rattle.unbounded_proof_demand2.proofs.Turns.{stood, Busy, Turned, began, used, took}
+use Rattle.unbounded_proof_demand2.proofs.Turns.{stood, Turned, began, used, took}
 use Rattle.unbounded_proof_demand2.proofs.Logged.{items-more, takers-more, latest-other}
 use Rattle.unbounded_proof_demand2.proofs.Reached.{Reached, turned-reached, used-steps, took-steps}
 use Rattle.unbounded_proof_plain.proofs.Ends.{count-word}
-use Rattle.unbounded_proof_plain.proofs.Work.{moment-else, moment-begun, place-own, place-else, place-begun, place-unbegun, longer, past, then-at, Work, TriesBy, push, force, SeenSome, NoneYet, Due, due-else}
-use Rattle.unbounded_proof_plain.proofs.Scene.{claim-more, unput, Scene, Speaks, Hints, Outcome, how-many}
+use Rattle.unbounded_proof_plain.proofs.Work.{moment-else, moment-begun, place-own, place-else, place-begun, place-unbegun, longer, past, then-at, Work, SeenSome, NoneYet, Due, due-else}
+use Rattle.unbounded_proof_plain.proofs.Scene.{latest-one, claim-more, unput, Scene, Speaks, Hints, Outcome, how-many}
 use Rattle.unbounded_proof_plain.proofs.Table.{row}
 use Rattle.unbounded_proof_plain.proofs.Gap.{at-gap}
-
--- ---- what an act makes of a machine
-module _ (m : Machine) (w : ℕ) (l : List Slot) (k i : ℕ) (a : Acted) where
-  stored-stood : w < length (m .workers) → stood (stored sizes m w l k i a) w ≡ a .place
-  unfolding stored
-  stored-stood n = ap (λ (x : Worker). x .place) (get-same (m .workers) w (record { place = a .place }) _ n)
-
-  stored-else : (v : ℕ) → v ≢ w → stood (stored sizes m w l k i a) v ≡ stood m v
-  unfolding stored
-  stored-else v ne = ap (λ (x : Worker). x .place) (get-other (m .workers) w v (record { place = a .place }) _ ne)
-
-  stored-ends : stored sizes m w l k i a .ends ≡ a .ends
-  unfolding stored
-  stored-ends = refl
-
-module _ (m : Machine) (w : ℕ) (q : Place) where
-  begun-stood : w < length (m .workers) → stood (begun m w q) w ≡ q
-  unfolding begun
-  begun-stood n = ap (λ (x : Worker). x .place) (get-same (m .workers) w (record { place = q }) _ n)
-
-  begun-else : (v : ℕ) → v ≢ w → stood (begun m w q) v ≡ stood m v
-  unfolding begun
-  begun-else v ne = ap (λ (x : Worker). x .place) (get-other (m .workers) w v (record { place = q }) _ ne)
-
-  begun-ends : begun m w q .ends ≡ m .ends
-  unfolding begun
-  begun-ends = refl
-
--- ---- a call's first place
-begun-due : (st : Story) (t : Index) (w : ℕ) (c : Call) → Work st w c [] [] → Due st t w (taskOf (beginOf c))
-begun-due st t w (call.Push x) o = record { call = call.Push x; brings = push; work = o }
-begun-due st t w (call.ForcePush x) o = record { call = call.ForcePush x; brings = force; work = o }
-begun-due st t w call.Pop o = o
-begun-due st t w call.Len o = o
-begun-due st t w call.IsEmpty o = o
-begun-due st t w call.IsFull o = o
-begun-due st t w call.Close o = o
-begun-due st t w call.IsClosed o = o
-
--- ---- signs
-one-change : (a b : Sign) → eqb (length (itemBy a b)) 1 ≡ true → takesBy a b ≡ false
-one-change Plain b z = refl
-one-change Exchange7 b z = refl
-one-change Exchange4 b z = absurd (true≢false (sym z))
-one-change Pops b z = refl
-one-change (Pushes x) b z = refl
-one-change (HandsOut v) b z = refl
-
-item-is : (l : List ℕ) → eqb (length l) 1 ≡ true → (x : ℕ) × (l ≡ x ∷ [])
-item-is [] z = absurd (true≢false (sym z))
-item-is (x ∷ []) z = (x, refl)
-item-is (x ∷ y ∷ l) z = absurd (let n = eqb-true (length (x ∷ y ∷ l)) 1 z in omega arith)
-
-takes-some : (s u : Shared) (w : ℕ) (p q : Place) → Logs s u w p q → takesBy (signOf p) (signOf q) ≡ true → counted (s .head) < counted (s .tail)
-takes-some s u w p q (puts x item no-taking slot et ei eh eg loose) z = absurd (true≢false (sym z ∙ no-taking))
-takes-some s u w p q (step.takes no-item taking slot some et ei eh eg) z = omega arith
-takes-some s u w p q (neither no-item no-taking ut ct ei uh ch eg more) z = absurd (true≢false (sym z ∙ no-taking))
+use Rattle.unbounded_proof_plain.proofs.Steps.{stored-stood, stored-else, stored-ends, begun-stood, begun-else, begun-ends, begun-due, one-change, item-is, takes-some}
 
 module _ (workers : ℕ) (team : workers ≤ workersMost) where
   pub record Told (m : Machine) (st : Story) : Type 0 where
@@ -122,6 +64,7 @@ module _ (workers : ℕ) (team : workers ≤ workersMost) where
     pub dues : (w : ℕ) → Due st (m .ends .tail) w (taskOf (stood m w))
     pub answers : (xs ys : Story) (act : Event) (a : Answer) → st ≡ xs ++ Does act ∷ ys → act .after ≡ Idle a → Speaks xs act a
     pub changes : (xs ys : Story) (act : Event) → st ≡ xs ++ Does act ∷ ys → Changes xs act
+    pub claims : OwnClaim (actsIn st)
 
   module _ (m : Machine) (st : Story) (o : Told m st) where
     abbrev r : Reached workers m (actsIn st)
@@ -253,6 +196,7 @@ module _ (workers : ℕ) (team : workers ≤ workersMost) where
                 takes = λ z. hints .front z;
                 while-open = λ z. let x = item-is (itemOf act) z in out .came (x .0) (x .1) .1;
                 one = λ z. one-change (signOf p) (signOf q) z;
+                closes = λ b z. out .more .was-open b z;
               }
 
           -- ---- another's call
@@ -376,8 +320,21 @@ module _ (workers : ℕ) (team : workers ≤ workersMost) where
                 dues = due-each;
                 answers = λ xs ys e x z said. go-answer xs ys e x said (one-more st (Does act) xs ys (Does e) z);
                 changes = λ xs ys e z. go-change xs ys e (one-more st (Does act) xs ys (Does e) z);
+                claims = λ xs ys e v z said. go-claim xs ys e v said (one-more h act xs ys e (sym (acts-end st (Does act)) ∙ z));
               }
             where
+              go-claim : (xs ys : List Event) (e : Event) (v : ℕ) → e .after ≡ Idle (Popped v) → Order xs e ys h act [] → (n : ℕ) × CallClaim xs (e .worker) n × LatestIn (takersOf xs) (e .worker) n × ItemIn xs n v
+              go-claim xs ys e v said (earlier zs was left) = o .claims xs zs e v was said
+              go-claim xs ys e v said (same whole one rest) =
+                  let z = ap (λ (y : Event). y .after) (sym one) ∙ said in
+                  let given = out .more .gave v z in
+                  let known-out = hints .out v (ap signOf z) in
+                  let item : ItemIn h (given .number) v =
+                  subst (λ (n : ℕ). ItemIn h n v) (latest-one (takersOf h) w (known-out .0) (given .number) (known-out .1) (given .latest)) (known-out .2) in
+                  subst (λ (y : Event). (n : ℕ) × CallClaim xs (y .worker) n × LatestIn (takersOf xs) (y .worker) n × ItemIn xs n v) (sym one)
+                  (subst (λ (y : List Event). (n : ℕ) × CallClaim y w n × LatestIn (takersOf y) w n × ItemIn y n v) (sym whole) (given .number, given .claim, given .latest, item))
+              go-claim xs ys e v said (later zs was left) = absurd (no-split zs e ys left)
+
               go-answer : (xs ys : Story) (e : Event) (x : Answer) → e .after ≡ Idle x → Order xs (Does e) ys st (Does act) [] → Speaks xs e x
               go-answer xs ys e x said (earlier zs was left) = o .answers xs zs e x was said
               go-answer xs ys e x said (same whole one rest) =
@@ -469,6 +426,7 @@ module _ (workers : ℕ) (team : workers ≤ workersMost) where
               dues = due-begun;
               answers = λ xs ys e x z said. go-answer xs ys e x said (one-more st (Begun w c) xs ys (Does e) z);
               changes = λ xs ys e z. go-change xs ys e (one-more st (Begun w c) xs ys (Does e) z);
+              claims = subst OwnClaim (sym same-acts) (o .claims);
             }
           where
             no-begin : (e : Event) → _≡_ {A = Element} (Does e) (Begun w c) → ⊥

@@ -18,14 +18,13 @@ use Rattle.unbounded_words.specs.declared.Index.{Index}
 use Rattle.unbounded_words.specs.Words.{sizes, markedOf, countOf}
 use Rattle.unbounded_places.specs.declared.Answer.{Answer}
 use Rattle.unbounded_places.specs.declared.Answer.the-variants.{Nothing, Pushed, Closed, Popped, Empty, PopClosed, Len, Yes, No}
-use Rattle.unbounded_places.specs.declared.Place.{Place}
 use Rattle.unbounded_places.specs.declared.Place.the-variants.{Idle, Empty1}
 use Rattle.unbounded_places.specs.Places.{beginOf}
 use Rattle.unbounded_machine.specs.declared.Event.{Event}
 use Rattle.unbounded_demands.specs.Notions.{takersOf, LatestIn, ItemIn, position}
 use Rattle.unbounded_demands.specs.Notions as notions
 use Rattle.unbounded_demands.specs.Claims.{CallClaim}
-use Rattle.unbounded_demands.specs.Stories.{Element, Story, Task, Rests, Starts, Tries, Given, Enters, Entered, Frees, Takes, LoadsHead, Counts, LooksAtTail, changeOf, actor, known, roomy, queueAt, Moment, At, AfterNextTail, Timing, Now, Stays, timingOf, timed, heard, momentWith, momentOf, placeWith, placeIn, Leaving}
+use Rattle.unbounded_demands.specs.Stories.{Element, Story, Task, Rests, Starts, Tries, Given, Enters, Entered, Frees, Takes, LoadsHead, Counts, LooksAtTail, changeOf, actor, known, roomy, queueAt, At, AfterNextTail, Timing, Now, timingOf, timed, heard, momentWith, momentOf, placeWith, placeIn, Leaving}
 use Rattle.unbounded_proof_each_act.proofs.Step.{counted}
 
 -- ---- moments and places, one element more

@@ -1,12 +1,11 @@
 -- Each table that is no plain queue's, refuted by computing its schedule's story, and the plain queue along it.
-use Prim.Native.Nat.{ℕ, _+_, _*_, _<_}
+use Prim.Native.Nat.{ℕ, _+_, _<_}
 use native.Mathlib.Omega.{arith}
 use mathlib.Core.Bool.{Bool, true, false, cond, true≢false}
-use mathlib.Core.List.{List, [], _∷_, _++_}
+use mathlib.Core.List.{[], _∷_, _++_}
 use mathlib.Core.Path.{_≡_, refl, sym, ap, _∙_, subst}
 use mathlib.Core.Logic.{_⊎_, inl, inr}
 use lib.Dec.{eqb}
-use lib.ListN.{length}
 use Rattle.queue_entries.specs.declared.Call.{Call}
 use Rattle.queue_entries.specs.declared.Call.the-variants as call
 use Rattle.queue_entries.specs.Schedules.{runBy, historyBy}
@@ -19,9 +18,9 @@ use Rattle.queue_plain.specs.Story.{Begun, Does, itemsOf, knownFrom, followedFr
 use Rattle.unbounded_words.specs.declared.Pointer.the-variants.{None, To}
 use Rattle.unbounded_words.specs.Words.{index, pastSlots, lastSlot, markedOf, unmarkedOf, withMark, later, same, samePosition, sameBlock, minus, settled, behind, countOf}
 use Rattle.unbounded_places.specs.declared.Answer.{Answer}
-use Rattle.unbounded_places.specs.declared.Answer.the-variants.{Nothing, Pushed, Closed, Popped, Empty, Len, Yes, No}
+use Rattle.unbounded_places.specs.declared.Answer.the-variants.{Nothing, Pushed, Closed, Popped, Empty, PopClosed, Len, Yes, No}
 use Rattle.unbounded_places.specs.declared.Place.{Place}
-use Rattle.unbounded_places.specs.declared.Place.the-variants.{Idle, U1, U7, U12, V4, V6, V12, Len3, Empty1, Empty2, Full1, Close1, IsClosed1}
+use Rattle.unbounded_places.specs.declared.Place.the-variants.{Idle, U1, U7, U12, V3, V4, V6, V12, Len3, Empty1, Empty2, Full1, Close1, IsClosed1}
 use Rattle.unbounded_acts.specs.Acts.{leave, headTo, frontTo, tailTo, backTo, nextTo, freed, stateTo, valueTo, has, with, firstOr, answered, lacksNext, pushFrom, setAside, claimed, takeOr, popFrom, newHead, taken, nextIndex, destroyFrom, readOut, destroyIf}
 use Rattle.unbounded_machine.specs.declared.Event.{Event}
 use Rattle.unbounded_machine.specs.Machine.{live, freeBlocks, emptySlots, idlers, freshOf, blank, refused, accepted}
@@ -32,10 +31,11 @@ use Rattle.unbounded_machine.specs.Turn.{lowestFrom, lowestFree, clearedFrom, c
 use Rattle.unbounded_machine.specs.Contents.{contentsOf}
 use Rattle.unbounded_machine.specs.Run.{ran}
 use Rattle.unbounded_machine.specs.History.{event}
-use Rattle.unbounded_demands.specs.Notions.{acts}
-use Rattle.unbounded_demands.specs.Stories.{Story, storyOf, known, queueAt, replyOf, Moment, At, AfterNextTail, momentOf, placeIn, Leaving, leaving6, leaving7, leaving8, leaving9}
+use Rattle.unbounded_demands.specs.Notions.{acts, actsOf, takersOf}
+use Rattle.unbounded_demands.specs.Claims.{closedBy}
+use Rattle.unbounded_demands.specs.Stories.{Story, storyOf, known, queueAt, replyOf, Moment, At, AfterNextTail, momentOf, often, placeIn, Leaving, leaving6, leaving7, leaving8, leaving9}
 use Rattle.unbounded_demands.specs.Demands.{Answered, AtBlocksEnd}
-use Rattle.unbounded_slips.specs.Slips.{slipped, pushDrops, closedAfterClaim, claimsClosed, popsAnother, emptyAfterTaking, takesUnseen, lenNone, emptyYes, closeIdle}
+use Rattle.unbounded_slips.specs.Slips.{slipped, handsOutAgain, pushDrops, closedAfterClaim, claimsClosed, popsAnother, emptyAfterTaking, takesUnseen, lenNone, emptyYes, closeIdle}
 use Rattle.unbounded_slips.specs.Refuted.{does}
 use Rattle.unbounded_slips.specs.RefutedPlain.{pushed, RefutedPlain}
 
@@ -89,8 +89,11 @@ no-is-yes e = let z : plain.No ≡ plain.Yes = cons-first {xs = []} {ys = []} e 
 one-is-none : plain.Count 1 ∷ [] ≡ plain.Count 0 ∷ [] → ⊥
 one-is-none e = let z : plain.Count 1 ≡ plain.Count 0 = cons-first {xs = []} {ys = []} e in let q : _≡_ {A = ℕ} 1 0 = cc in omega arith
 
+yes-is-no : Idle Yes ≡ Idle No → ⊥
+yes-is-no e = let q : _≡_ {A = ℕ} 0 1 = cc in omega arith
+
 pub refuted-plain : RefutedPlain
-unfolding pastSlots lastSlot markedOf unmarkedOf withMark later same samePosition sameBlock minus settled behind countOf strayOf orderOf entryOf leave headTo frontTo tailTo backTo nextTo freed stateTo valueTo has with firstOr answered lacksNext pushFrom setAside claimed takeOr popFrom newHead taken nextIndex destroyFrom readOut destroyIf live freeBlocks emptySlots idlers freshOf blank refused accepted lastFits without walkFrom itemsFrom walkOf drop.itemsOf all inLimits recordFits recordsFit allIdle dropFits brokenIn entryBut lowestFrom lowestFree clearedFrom cleared begun stored actedAt movedBy turnWith contentsOf ran runBy historyBy acts itemsOf knownFrom followedFrom
+unfolding pastSlots lastSlot markedOf unmarkedOf withMark later same samePosition sameBlock minus settled behind countOf strayOf orderOf entryOf leave headTo frontTo tailTo backTo nextTo freed stateTo valueTo has with firstOr answered lacksNext pushFrom setAside claimed takeOr popFrom newHead taken nextIndex destroyFrom readOut destroyIf live freeBlocks emptySlots idlers freshOf blank refused accepted lastFits without walkFrom itemsFrom walkOf drop.itemsOf all inLimits recordFits recordsFit allIdle dropFits brokenIn entryBut lowestFrom lowestFree clearedFrom cleared begun stored actedAt movedBy turnWith contentsOf ran runBy historyBy acts often itemsOf knownFrom followedFrom takersOf closedBy
 refuted-plain =
     record {
       push-drops = λ p. no-cons (p .answers (storyOf (slipped pushDrops) 2 (does 0 0 5 0)) [] (event 0 (U1 None 5) (Idle Pushed)) Pushed refl refl .1 .put);
@@ -122,4 +125,12 @@ refuted-plain =
       close-idle =
           λ p. untrue (storyOf (slipped closeIdle) 2 (does 0 6 0 1 ++ does 0 6 0 0)) (event 0 Close1 (Idle Yes)) Yes call.Close 3 refl refl
           no-is-yes (p .answers _ [] _ Yes refl refl .0);
+      said-at-blocks-end = λ p. yes-is-no (p .empty);
+      mark = λ c. true≢false (sym (c .mark));
+      yes-once = λ c. c .yes-once [] [] [] (event 0 Close1 (Idle Yes)) (event 0 Close1 (Idle Yes)) refl (refl, refl) (refl, refl);
+      none-after =
+          λ c. no-cons (sym (c .none-after (actsOf (slipped claimsClosed) 2 (does 0 0 5 5 ++ does 1 6 0 1 ++ does 1 2 0 2)) (event 0 (U7 None (index 0) (To 0) 5) (U12 None (index 0) (To 0) 5) ∷ [])
+          (event 1 (V3 (index 0) (To 0)) (Idle PopClosed)) refl refl .0));
+      own-claim =
+          λ o. let k = o (actsOf (slipped handsOutAgain) 2 (does 0 2 0 2)) [] (event 0 (V3 (index 0) None) (Idle (Popped 0))) 0 refl refl .2 .made in omega arith;
     }

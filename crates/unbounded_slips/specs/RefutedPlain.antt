@@ -1,10 +1,10 @@
 -- What an answer means (first section of crates/unbounded_demands/specs/Demands.antt): of which table it is false, in the story of which schedule.
 use Prim.Native.Nat.{ℕ}
-use mathlib.Core.List.{List, [], _∷_, _++_}
+use mathlib.Core.List.{List, _++_}
 use Rattle.unbounded_demands.specs.Notions.{acts}
 use Rattle.unbounded_demands.specs.Stories.{Story, storyOf}
-use Rattle.unbounded_demands.specs.Demands.{PlainThroughout}
-use Rattle.unbounded_slips.specs.Slips.{unwritten, takesUnseen, pushDrops, pushesAnother, claimsClosed, closedAfterClaim, popsAnother, emptyAfterTaking, lenNone, emptyYes, emptyNo, fullYes, closedYes, closeIdle, slipped}
+use Rattle.unbounded_demands.specs.Demands.{PlainThroughout, SaidAtBlocksEnd, CloseHolds, OwnClaim}
+use Rattle.unbounded_slips.specs.Slips.{unwritten, handsOutAgain, takesUnseen, pushDrops, pushesAnother, claimsClosed, closedAfterClaim, popsAnother, emptyAfterTaking, lenNone, emptyYes, emptyNo, fullYes, closedYes, closeIdle, slipped}
 use Rattle.unbounded_slips.specs.Refuted.{Trial, trial, reached, past, does}
 
 abbrev pub told : Trial → Story
@@ -53,6 +53,18 @@ closedOfOpen = trial closedYes (does 1 7 0 1)
 abbrev pub closeTwice : Trial
 closeTwice = trial closeIdle (does 0 6 0 1 ++ does 0 6 0 1)
 
+-- a close
+abbrev pub closeOnce : Trial
+closeOnce = trial closeIdle (does 0 6 0 1)
+
+-- a push is at its exchange; worker 1 closes, and pops; the push claims
+abbrev pub popClosedBetween : Trial
+popClosedBetween = trial claimsClosed (does 0 0 5 5 ++ does 1 6 0 1 ++ does 1 2 0 3 ++ acts 0 1)
+
+-- a pop of a queue that never had an item
+abbrev pub popOfNone : Trial
+popOfNone = trial handsOutAgain (does 0 2 0 3)
+
 pub record RefutedPlain : Type 0 where
   -- Pushed, and the item not put in; Closed, and the item in: `Meant`
   pub push-drops : PlainIn (pushActs pushDrops 1) → ⊥
@@ -73,3 +85,11 @@ pub record RefutedPlain : Type 0 where
   pub full-yes : PlainIn fullOfNone → ⊥
   pub closed-yes : PlainIn closedOfOpen → ⊥
   pub close-idle : PlainIn closeTwice → ⊥
+  -- is_empty says yes at a block's end too
+  pub said-at-blocks-end : SaidAtBlocksEnd (slipped emptyYes) 0 → ⊥
+  -- a close that leaves no mark, two that say yes, a claim after a pop's Closed
+  pub mark : CloseHolds (reached closeOnce) (past closeOnce) → ⊥
+  pub yes-once : CloseHolds (reached closeTwice) (past closeTwice) → ⊥
+  pub none-after : CloseHolds (reached popClosedBetween) (past popClosedBetween) → ⊥
+  -- a value handed out without a claim
+  pub own-claim : OwnClaim (past popOfNone) → ⊥

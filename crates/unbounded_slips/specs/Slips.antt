@@ -15,7 +15,7 @@ use Rattle.unbounded_machine.specs.Turn.{Table, turnWith}
 use Rattle.unbounded_machine.specs.Run.{ran, runWith}
 use Rattle.unbounded_machine.specs.History.{historyWith}
 use Rattle.unbounded_demands.specs.Notions.{Definition, definition}
-use Rattle.unbounded_demands.specs.Demands.{AnswersPlain, UnderEverySchedule, ActByAct, WholeSchedules, NoBlock}
+use Rattle.unbounded_demands.specs.Demands.{AnswersPlain, ClosesAndClaims, UnderEverySchedule, ActByAct, WholeSchedules, NoBlock}
 use Rattle.unbounded_demands.specs.Runs.{short}
 
 -- ---- the slips
@@ -202,4 +202,4 @@ abbrev pub Faithful : Type 0
 Faithful = given ≡ definition sizes actOf
 
 abbrev pub Stands : Type 0
-Stands = AnswersPlain given × UnderEverySchedule given × ActByAct given × WholeSchedules given × NoBlock given
+Stands = AnswersPlain given × ClosesAndClaims given × UnderEverySchedule given × ActByAct given × WholeSchedules given × NoBlock given
