@@ -175,7 +175,8 @@ no-claims s (Begun w c ∷ more) o changes =
     no-claims (s ++ Begun w c ∷ []) more
     (record { items = ap (λ (q : Queue). q .items) (queue-begun actor changeOf 0 s w c) ∙ o .items; closed = ap (λ (q : Queue). q .closed) (queue-begun actor changeOf 0 s w c) ∙ o .closed })
     (λ xs ys act z. changes xs ys act (sym (append-assoc s (Begun w c ∷ []) more) ∙ z))
-no-claims s (Does e ∷ more) o changes = (none, not-taken (takes e) refl, no-claims (s ++ Does e ∷ []) more (shut-on s e none o) (λ xs ys act z. changes xs ys act (sym (append-assoc s (Does e ∷ []) more) ∙ z)))
+no-claims s (Does e ∷ more) o changes =
+    (none, not-taken (takes e) refl, no-claims (s ++ Does e ∷ []) more (shut-on s e none o) (λ xs ys act z. changes xs ys act (sym (append-assoc s (Does e ∷ []) more) ∙ z)))
   where
     at : Changes s e
     at = changes s more e refl

@@ -71,8 +71,10 @@ module _ (st : Story) (e : Ends) (sc : Scene st e) (w : ℕ) where
   unfolding leave tailTo
   close g s lose o =
       either (Tells Close1) (markedOf (e .tail)) _ _
-      (λ m. speaks st e sc w Close1 No plain.No (e .tail) refl m (omega arith) call.Close refl (record { gave = unpopped-at No refl; was-open = λ b z. absurd (not-yes z) }) (told No plain.No refl refl refl (ap (λ (b : Bool). cond b plain.No plain.Yes) (closed-is true m))))
-      (λ m. speaks st e sc w Close1 Yes plain.Yes (withMark (e .tail)) refl (mark-marked (e .tail)) (marked-up (e .tail)) call.Close refl (record { gave = unpopped-at Yes refl; was-open = λ b z. closed-is false m })
+      (λ m. speaks st e sc w Close1 No plain.No (e .tail) refl m (omega arith) call.Close refl (record { gave = unpopped-at No refl; was-open = λ b z. absurd (not-yes z) })
+      (told No plain.No refl refl refl (ap (λ (b : Bool). cond b plain.No plain.Yes) (closed-is true m))))
+      (λ m. speaks st e sc w Close1 Yes plain.Yes (withMark (e .tail)) refl (mark-marked (e .tail)) (marked-up (e .tail)) call.Close refl
+      (record { gave = unpopped-at Yes refl; was-open = λ b z. closed-is false m })
       (told Yes plain.Yes refl refl refl (ap (λ (b : Bool). cond b plain.No plain.Yes) (closed-is false m))))
     where
       told : (a : Answer) (r : Reply) → changeOf (A Close1 (Idle a)) .puts ≡ false → changeOf (A Close1 (Idle a)) .takes ≡ false → timingTo (taskOf Close1) (taskOf (Idle a)) ≡ Now
@@ -80,11 +82,13 @@ module _ (st : Story) (e : Ends) (sc : Scene st e) (w : ℕ) where
       told a r np nt at is = here st e sc w Close1 (Idle a) np nt at call.Close r o is
 
   pub is-closed : (b : Bool) → markedOf (e .tail) ≡ b → Work st w call.IsClosed [] [] → Out IsClosed1 (Idle (cond b Yes No)) (e .tail)
-  is-closed true m o = says st e sc w IsClosed1 calm Yes plain.Yes refl (unpopped st e sc w Yes refl) call.IsClosed refl (decided st e sc w IsClosed1 calm (Idle Yes) refl call.IsClosed plain.Yes o (ap yesIf (closed-is true m)))
+  is-closed true m o = says st e sc w IsClosed1 calm Yes plain.Yes refl (unpopped st e sc w Yes refl) call.IsClosed refl
+      (decided st e sc w IsClosed1 calm (Idle Yes) refl call.IsClosed plain.Yes o (ap yesIf (closed-is true m)))
     where
       calm : Mild st e sc w IsClosed1
       calm = mild st e sc w (λ q. refl) (λ q. refl) refl
-  is-closed false m o = says st e sc w IsClosed1 calm No plain.No refl (unpopped st e sc w No refl) call.IsClosed refl (decided st e sc w IsClosed1 calm (Idle No) refl call.IsClosed plain.No o (ap yesIf (closed-is false m)))
+  is-closed false m o = says st e sc w IsClosed1 calm No plain.No refl (unpopped st e sc w No refl) call.IsClosed refl
+      (decided st e sc w IsClosed1 calm (Idle No) refl call.IsClosed plain.No o (ap yesIf (closed-is false m)))
     where
       calm : Mild st e sc w IsClosed1
       calm = mild st e sc w (λ q. refl) (λ q. refl) refl
@@ -107,7 +111,8 @@ module _ (st : Story) (e : Ends) (sc : Scene st e) (w : ℕ) where
   unfolding leave same
   len3 g s t i o lose =
       either (Tells (Len3 t i)) (eqb (e .tail .0) (t .0)) _ _
-      (λ z. says st e sc w (Len3 t i) calm (Len (countOf sizes t i)) (plain.Count (countOf sizes t i)) refl (unpopped st e sc w (Len (countOf sizes t i)) refl) call.Len refl (keep st e sc w (Len3 t i) calm (Idle (Len (countOf sizes t i))) refl _ _ _ _ (o .2 (eqb-true (e .tail .0) (t .0) z))))
+      (λ z. says st e sc w (Len3 t i) calm (Len (countOf sizes t i)) (plain.Count (countOf sizes t i)) refl (unpopped st e sc w (Len (countOf sizes t i)) refl) call.Len refl
+      (keep st e sc w (Len3 t i) calm (Idle (Len (countOf sizes t i))) refl _ _ _ _ (o .2 (eqb-true (e .tail .0) (t .0) z))))
       (λ z. go st e sc w (Len3 t i) calm Len1 refl (on st e sc w (Len3 t i) calm Len1 _ _ _ (o .0)))
     where
       calm : Mild st e sc w (Len3 t i)

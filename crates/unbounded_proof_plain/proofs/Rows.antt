@@ -141,7 +141,8 @@ module _ (st : Story) (e : Ends) (sc : Scene st e) (w : ℕ) where
     unfolding pushFrom answered
     tops n u x o =
         either (λ (q : Place). Out p q (e .tail)) (markedOf u) (cond (noneOf n) (Idle (Closed x)) (U14 n (Closed x))) _
-        (λ m. either (λ (q : Place). Out p q (e .tail)) (noneOf n) (Idle (Closed x)) (U14 n (Closed x)) (λ z. says-closed x (o .1 m)) (λ z. go (U14 n (Closed x)) refl (shut (U14 n (Closed x)) refl x (o .1 m))))
+        (λ m. either (λ (q : Place). Out p q (e .tail)) (noneOf n) (Idle (Closed x)) (U14 n (Closed x)) (λ z. says-closed x (o .1 m))
+        (λ z. go (U14 n (Closed x)) refl (shut (U14 n (Closed x)) refl x (o .1 m))))
         (λ m. either (λ (q : Place). Out p q (e .tail)) (pastSlots sizes u) (U1 n x) _ (λ z. go (U1 n x) refl (tries (U1 n x) x (o .0)))
         (λ z. either (λ (q : Place). Out p q (e .tail)) (lacksNext sizes n u) (U3 u (e .back) x) _ (λ y. go (U3 u (e .back) x) refl (tries (U3 u (e .back) x) x (o .0)))
         (λ y. firsts n u (e .back) x (o .0))))
@@ -194,7 +195,8 @@ module _ (st : Story) (e : Ends) (sc : Scene st e) (w : ℕ) where
               decided =
                   decided-now st (A p q) (o .call) _ _ plain.Pushed (rw put) (o .work)
                   (subst (λ (b : Bool). Work (N p q) w (o .call) (cond b (itemsOf (o .call ∷ [])) []) []) put
-                  (subst (λ (b : Bool). Work (N p q) w (o .call) (cond (changeOf (A p q) .puts) (itemsOf (o .call ∷ [])) []) (cond b (take 1 (Q .items)) [])) no-take (work-on actor changeOf 0 st (A p q) (o .call) [] [] (o .work))))
+                  (subst (λ (b : Bool). Work (N p q) w (o .call) (cond (changeOf (A p q) .puts) (itemsOf (o .call ∷ [])) []) (cond b (take 1 (Q .items)) [])) no-take
+                  (work-on actor changeOf 0 st (A p q) (o .call) [] [] (o .work))))
                   (brings-open Q (o .call) x (o .brings) (closed-is false unmarked));
             });
         said = λ a z. absurd (not-idle q busy a z);
@@ -220,7 +222,12 @@ module _ (st : Story) (e : Ends) (sc : Scene st e) (w : ℕ) where
       lost i shut =
           to st e sc w (U7 n t b x) (U8 n i x) refl refl refl refl (
             record { call = o .call; brings = o .brings; work = still st e sc w (U7 n t b x) (U8 n i x) refl refl _ _ _ (o .work) },
-            λ m. record { call = o .call; brings = o .brings; decided = here st e sc w (U7 n t b x) (U8 n i x) refl refl refl (o .call) (plain.Closed x) (o .work) (brings-closed Q (o .call) x (o .brings) (shut m)) },
+            λ m. record {
+              call = o .call;
+              brings = o .brings;
+              decided = here st e sc w (U7 n t b x) (U8 n i x) refl refl refl (o .call) (plain.Closed x) (o .work)
+                  (brings-closed Q (o .call) x (o .brings) (shut m));
+            },
           )
 
   -- U10
@@ -247,7 +254,8 @@ module _ (st : Story) (e : Ends) (sc : Scene st e) (w : ℕ) where
       let front = front-is some in
       let v = getD (notions.itemsOf h) (length (takersOf h)) 0 in
       let items : notions.itemsOf (actsIn (N p q)) ≡ notions.itemsOf h =
-      ap notions.itemsOf (acts-end st (Does (A p q))) ∙ items-more h (A p q) ∙ ap (λ (l : List ℕ). notions.itemsOf h ++ l) (unput (notions.signOf p) (notions.signOf q) no-put) ∙ append-nil (notions.itemsOf h) in
+      ap notions.itemsOf (acts-end st (Does (A p q))) ∙ items-more h (A p q) ∙ ap (λ (l : List ℕ). notions.itemsOf h ++ l) (unput (notions.signOf p) (notions.signOf q) no-put) ∙ append-nil
+      (notions.itemsOf h) in
       let takers : takersOf (actsIn (N p q)) ≡ takersOf h ++ w ∷ [] =
       ap takersOf (acts-end st (Does (A p q))) ∙ takers-more h (A p q) ∙ ap (λ (b : Bool). takersOf h ++ cond b (w ∷ []) []) takes-one in
       record {
@@ -256,7 +264,8 @@ module _ (st : Story) (e : Ends) (sc : Scene st e) (w : ℕ) where
             decided-now st (A p q) call.Pop _ _ (plain.Popped v) (rw (no-put, takes-one)) o
             (subst (λ (l : List ℕ). Work (N p q) w call.Pop [] (take 1 l)) front
             (subst (λ (b : Bool). Work (N p q) w call.Pop [] (cond b (take 1 (Q .items)) [])) takes-one
-            (subst (λ (b : Bool). Work (N p q) w call.Pop (cond b (itemsOf (call.Pop ∷ [])) []) (cond (changeOf (A p q) .takes) (take 1 (Q .items)) [])) no-put (work-on actor changeOf 0 st (A p q) call.Pop [] [] o))))
+            (subst (λ (b : Bool). Work (N p q) w call.Pop (cond b (itemsOf (call.Pop ∷ [])) []) (cond (changeOf (A p q) .takes) (take 1 (Q .items)) [])) no-put
+            (work-on actor changeOf 0 st (A p q) call.Pop [] [] o))))
             (pop-front (roomy Q) v (drop (suc (length (takersOf h))) (notions.itemsOf h)) front);
         number = length (takersOf h);
         latest = subst (λ (l : List ℕ). LatestIn l w (length (takersOf h))) (sym takers) (latest-own (takersOf h) w);
@@ -282,7 +291,14 @@ module _ (st : Story) (e : Ends) (sc : Scene st e) (w : ℕ) where
       lost j = to st e sc w (V4 i b new) (V5 j) refl refl refl refl (still st e sc w (V4 i b new) (V5 j) refl refl _ _ _ o)
 
       won : (q : Place) → viewOf sizes q .busy ≡ true → Due (N (V4 i b new) q) (e .tail) w (taskOf q) → Out (V4 i b new) q (e .tail)
-      won q busy d = record { due = d; said = λ a z. absurd (not-idle q busy a z); came = none-came st e sc w (V4 i b new) q refl; more = no-more st e sc w (V4 i b new) q busy; marks = refl; up = omega arith }
+      won q busy d = record {
+        due = d;
+        said = λ a z. absurd (not-idle q busy a z);
+        came = none-came st e sc w (V4 i b new) q refl;
+        more = no-more st e sc w (V4 i b new) q busy;
+        marks = refl;
+        up = omega arith;
+      }
 
   -- V3: nothing waits, or it goes on
   pub v3 : (g : Block) (s : Slot) (i : Index) (b : Pointer) (lose : Bool) → Work st w call.Pop [] [] → Told (V3 i b) (actOf sizes e 0 g s (V3 i b) lose .place)
@@ -293,7 +309,8 @@ module _ (st : Story) (e : Ends) (sc : Scene st e) (w : ℕ) where
       (λ z. either Looks (markedOf (e .tail)) _ _
       (λ m k. says (V3 i b) calm PopClosed plain.EmptyAndClosed refl (unpopped PopClosed refl) call.Pop refl
       (decided (V3 i b) calm (Idle PopClosed) refl call.Pop plain.EmptyAndClosed o (none-there true m (k .true-then PopClosed refl .1))))
-      (λ m k. says (V3 i b) calm Empty plain.Empty refl (unpopped Empty refl) call.Pop refl (decided (V3 i b) calm (Idle Empty) refl call.Pop plain.Empty o (none-there false m (k .true-then Empty refl .1)))))
+      (λ m k. says (V3 i b) calm Empty plain.Empty refl (unpopped Empty refl) call.Pop refl
+      (decided (V3 i b) calm (Idle Empty) refl call.Pop plain.Empty o (none-there false m (k .true-then Empty refl .1)))))
       (λ z k. wants (V3 i b) calm i b (newHead sizes i (e .tail)) o)
     where
       Looks : Acted → Type 0

@@ -111,21 +111,25 @@ module _ (st : Story) (e : Ends) (sc : Scene st e) (w k : ℕ) (g : Block) (s : 
   gives n No o = absurd o
 
   -- a push, a pop goes on
-  trying : (p q : Place) (x : ℕ) → milds (signOf p) ≡ true → closes (taskOf p) ≡ false → viewOf sizes q .busy ≡ true → (TriesBy (now st e sc w p q) w x → Due (now st e sc w p q) (e .tail) w (taskOf q)) → TriesBy st w x → O p q
+  trying : (p q : Place) (x : ℕ) → milds (signOf p) ≡ true → closes (taskOf p) ≡ false → viewOf sizes q .busy ≡ true →
+      (TriesBy (now st e sc w p q) w x → Due (now st e sc w p q) (e .tail) w (taskOf q)) → TriesBy st w x → O p q
   trying p q x m c busy due o = go st e sc w p (calm m c) q busy (due (tries st e sc w p (calm m c) q x o))
 
   entering : (p q : Place) (x : ℕ) → milds (signOf p) ≡ true → closes (taskOf p) ≡ false → viewOf sizes q .busy ≡ true → timingTo (taskOf p) (taskOf q) ≡ Stays
       → (EnteredBy (now st e sc w p q) w x → Due (now st e sc w p q) (e .tail) w (taskOf q)) → EnteredBy st w x → O p q
   entering p q x m c busy at due o = go st e sc w p (calm m c) q busy (due (enters st e sc w p (calm m c) q at x o))
 
-  seeking : (p q : Place) → milds (signOf p) ≡ true → closes (taskOf p) ≡ false → viewOf sizes q .busy ≡ true → (c : Call) → (Work (now st e sc w p q) w c [] [] → Due (now st e sc w p q) (e .tail) w (taskOf q)) → Work st w c [] [] → O p q
+  seeking : (p q : Place) → milds (signOf p) ≡ true → closes (taskOf p) ≡ false → viewOf sizes q .busy ≡ true → (c : Call) →
+      (Work (now st e sc w p q) w c [] [] → Due (now st e sc w p q) (e .tail) w (taskOf q)) → Work st w c [] [] → O p q
   seeking p q m c busy cl due o = go st e sc w p (calm m c) q busy (due (on st e sc w p (calm m c) q cl [] [] o))
 
-  taking : (p q : Place) → milds (signOf p) ≡ true → closes (taskOf p) ≡ false → viewOf sizes q .busy ≡ true → timingTo (taskOf p) (taskOf q) ≡ Stays → (TakesBy (now st e sc w p q) w → Due (now st e sc w p q) (e .tail) w (taskOf q))
+  taking : (p q : Place) → milds (signOf p) ≡ true → closes (taskOf p) ≡ false → viewOf sizes q .busy ≡ true → timingTo (taskOf p) (taskOf q) ≡ Stays →
+      (TakesBy (now st e sc w p q) w → Due (now st e sc w p q) (e .tail) w (taskOf q))
       → TakesBy st w → O p q
   taking p q m c busy at due o = go st e sc w p (calm m c) q busy (due (pops st e sc w p (calm m c) q at busy o))
 
-  pub row : (p : Place) {a n : Ptr} {y : Seen} → Stands p a n y → viewOf sizes p .busy ≡ true → Due st (e .tail) w (taskOf p) → Told p (actOf sizes e k g s p lose) → Leads p (actOf sizes e k g s p lose)
+  pub row : (p : Place) {a n : Ptr} {y : Seen} → Stands p a n y → viewOf sizes p .busy ≡ true → Due st (e .tail) w (taskOf p) → Told p (actOf sizes e k g s p lose) → Leads p
+      (actOf sizes e k g s p lose)
   unfolding leave headTo frontTo tailTo backTo setAside readOut milds
   row (Idle a) at busy o t = absurd (true≢false (sym busy))
   row (U1 n x) at busy o t = loads n x o
@@ -134,7 +138,8 @@ module _ (st : Story) (e : Ends) (sc : Scene st e) (w k : ℕ) (g : Block) (s : 
   row (U4 n i x) at busy o t = trying (U4 n i x) (U5 n i (To k) x) x refl refl refl (λ d. d) o
   row (U5 n i new x) at busy o t =
       either (Leads (U5 n i new x)) (noneOf (e .back)) _ _ (λ z. trying (U5 n i new x) (U6 n i new x) x refl refl refl (λ d. d) o)
-      (λ z. either (O (U5 n i new x)) (noneOf n) (U1 new x) (U15 n new x) (λ y. trying (U5 n i new x) (U1 new x) x refl refl refl (λ d. d) o) (λ y. trying (U5 n i new x) (U15 n new x) x refl refl refl (λ d. d) o))
+      (λ z. either (O (U5 n i new x)) (noneOf n) (U1 new x) (U15 n new x) (λ y. trying (U5 n i new x) (U1 new x) x refl refl refl (λ d. d) o)
+      (λ y. trying (U5 n i new x) (U15 n new x) x refl refl refl (λ d. d) o))
   row (U6 n i new x) at busy o t = trying (U6 n i new x) (U7 n i new x) x refl refl refl (λ d. d) o
   row (U7 n i b x) at busy o t = rows.u7 st e sc w g s n i b x lose o (unmarked at)
   row (U8 n i x) at busy o t = tops st e sc w (U8 n i x) (calm refl refl) n i x o
@@ -151,14 +156,16 @@ module _ (st : Story) (e : Ends) (sc : Scene st e) (w k : ℕ) (g : Block) (s : 
   row (V4 i b new) at busy o t = v4 st e sc w g s i b new lose o t
   row (V5 i) at busy o t = pop-tops st e sc w (V5 i) (calm refl refl) i (e .front) o
   row (V6 i b new) at busy o t =
-      either (Leads (V6 i b new)) (noneOf (g .next)) _ _ (λ z. taking (V6 i b new) (V6 i b new) refl refl refl refl (λ d. d) o) (λ z. taking (V6 i b new) (V7 i b new (g .next)) refl refl refl refl (λ d. d) o)
+      either (Leads (V6 i b new)) (noneOf (g .next)) _ _ (λ z. taking (V6 i b new) (V6 i b new) refl refl refl refl (λ d. d) o)
+      (λ z. taking (V6 i b new) (V7 i b new (g .next)) refl refl refl refl (λ d. d) o)
   row (V7 i b new next) at busy o t = taking (V7 i b new next) (V8 i b next (nextIndex new (g .next))) refl refl refl refl (λ d. d) o
   row (V8 i b next j) at busy o t = taking (V8 i b next j) (V9 i b j) refl refl refl refl (λ d. d) o
   row (V9 i b j) at busy o t = taking (V9 i b j) (V10 i b) refl refl refl refl (λ d. d) o
   row (V10 i b) at busy o t =
       either (Leads (V10 i b)) (has WRITE (s .state)) _ _ (λ z. taking (V10 i b) (V11 i b) refl refl refl refl (λ d. d) o) (λ z. taking (V10 i b) (V10 i b) refl refl refl refl (λ d. d) o)
   row (V11 i b) at busy o t =
-      either (O (V11 i b)) (lastSlot sizes i) _ (V12 i b (s .value)) (λ z. destroys st e sc w (V11 i b) (calm refl refl) b 0 (s .value) o) (λ z. taking (V11 i b) (V12 i b (s .value)) refl refl refl refl (λ d. d) o)
+      either (O (V11 i b)) (lastSlot sizes i) _ (V12 i b (s .value)) (λ z. destroys st e sc w (V11 i b) (calm refl refl) b 0 (s .value) o)
+      (λ z. taking (V11 i b) (V12 i b (s .value)) refl refl refl refl (λ d. d) o)
   row (V12 i b v) at busy o t = destroys-if st e sc w (V12 i b v) (calm refl refl) (has DESTROY (s .state)) b (offsetOf sizes i) v o t
   row (V13 b i v) at busy o t =
       either (Leads (V13 b i v)) (has READ (s .state)) _ _ (λ z. destroys st e sc w (V13 b i v) (calm refl refl) b (i + 1) v o) (λ z. taking (V13 b i v) (V14 b i v) refl refl refl refl (λ d. d) o)
@@ -169,6 +176,7 @@ module _ (st : Story) (e : Ends) (sc : Scene st e) (w k : ℕ) (g : Block) (s : 
   row (Len3 i j) at busy o t = len3 st e sc w g s i j o lose
   row Empty1 at busy o t = empty1 st e sc w o
   row (Empty2 i) at busy o t = empty2 st e sc w i o (samePosition i (e .tail)) refl
-  row Full1 at busy o t = says st e sc w Full1 (calm refl refl) No plain.No refl (rows.unpopped st e sc w No refl) call.IsFull refl (decided st e sc w Full1 (calm refl refl) (Idle No) refl call.IsFull plain.No o (never-full (q₀ st e sc w)))
+  row Full1 at busy o t = says st e sc w Full1 (calm refl refl) No plain.No refl (rows.unpopped st e sc w No refl) call.IsFull refl
+      (decided st e sc w Full1 (calm refl refl) (Idle No) refl call.IsFull plain.No o (never-full (q₀ st e sc w)))
   row Close1 at busy o t = close st e sc w g s lose o
   row IsClosed1 at busy o t = is-closed st e sc w (markedOf (e .tail)) refl o

@@ -276,7 +276,8 @@ module _ (workers : ℕ) (team : workers ≤ workersMost) where
                       begun = omega (arith, begun-then, z .begun);
                       nothing = λ n low high. nothing n low high (decLt (length st) n);
                       tails =
-                          ap length (ap notions.itemsOf (acts-end st (Does act)) ∙ items-more h act ∙ ap (λ (u : List ℕ). notions.itemsOf h ++ u) (unput (signOf p) (signOf q) y) ∙ append-nil (notions.itemsOf h))
+                          ap length (ap notions.itemsOf (acts-end st (Does act)) ∙ items-more h act ∙ ap (λ (u : List ℕ). notions.itemsOf h ++ u) (unput (signOf p) (signOf q) y) ∙ append-nil
+                          (notions.itemsOf h))
                           ∙ z .tails;
                       leaving = z .leaving;
                     })
@@ -323,7 +324,8 @@ module _ (workers : ℕ) (team : workers ≤ workersMost) where
                 claims = λ xs ys e v z said. go-claim xs ys e v said (one-more h act xs ys e (sym (acts-end st (Does act)) ∙ z));
               }
             where
-              go-claim : (xs ys : List Event) (e : Event) (v : ℕ) → e .after ≡ Idle (Popped v) → Order xs e ys h act [] → (n : ℕ) × CallClaim xs (e .worker) n × LatestIn (takersOf xs) (e .worker) n × ItemIn xs n v
+              go-claim : (xs ys : List Event) (e : Event) (v : ℕ) → e .after ≡ Idle (Popped v) → Order xs e ys h act [] → (n : ℕ) × CallClaim xs (e .worker) n × LatestIn (takersOf xs) (e .worker) n
+                  × ItemIn xs n v
               go-claim xs ys e v said (earlier zs was left) = o .claims xs zs e v was said
               go-claim xs ys e v said (same whole one rest) =
                   let z = ap (λ (y : Event). y .after) (sym one) ∙ said in
@@ -392,11 +394,13 @@ module _ (workers : ℕ) (team : workers ≤ workersMost) where
               nothing n low high (no u) = ap (λ (y : Queue). y .items) (past st (Begun w c) n (omega arith)) ∙ z .nothing n low (omega arith)
               nothing n low high (yes u) =
                   let last : n ≡ length st + 1 = omega (arith, longer st (Begun w c)) in
-                  ap (λ (v : ℕ). queueAt v begun-on .items) last ∙ ap (λ (y : Queue). y .items) (then-at st (Begun w c)) ∙ ap (λ (y : Queue). y .items) (queue-begun actor changeOf 0 st w c) ∙ empty-now j x z
+                  ap (λ (v : ℕ). queueAt v begun-on .items) last ∙ ap (λ (y : Queue). y .items) (then-at st (Begun w c)) ∙ ap (λ (y : Queue). y .items) (queue-begun actor changeOf 0 st w c)
+                  ∙ empty-now j x z
 
           due-beside : Due begun-on (m .ends .tail) j (taskOf (stood m j))
           due-beside =
-              due-else st (Begun w c) j (m .ends .tail) (m .ends .tail) (omega arith) each-then (λ n z. moment-begun st w c j ∙ z) (λ n z. subst (λ (u : List Event). LatestIn (takersOf u) j n) (sym same-acts) z)
+              due-else st (Begun w c) j (m .ends .tail) (m .ends .tail) (omega arith) each-then (λ n z. moment-begun st w c j ∙ z)
+              (λ n z. subst (λ (u : List Event). LatestIn (takersOf u) j n) (sym same-acts) z)
               (λ n v z. subst (λ (u : List Event). ItemIn u n v) (sym same-acts) z) (λ n z. subst (λ (u : List Event). CallClaim u j n) (sym same-acts) z)
               (omega (arith, ap (λ (u : List Event). length (takersOf u)) same-acts)) still-none (taskOf (stood m j)) (o .dues j)
 
@@ -406,7 +410,8 @@ module _ (workers : ℕ) (team : workers ≤ workersMost) where
             go : Dec (j ≡ w) → Due begun-on (m .ends .tail) j (taskOf (stood new j))
             go (yes e) =
                 subst (λ (v : ℕ). Due begun-on (m .ends .tail) v (taskOf (stood new v))) (sym e)
-                (subst (λ (y : Place). Due begun-on (m .ends .tail) w (taskOf y)) (sym (begun-stood m w (beginOf c) in-row)) (begun-due begun-on (m .ends .tail) w c (work-begun actor changeOf 0 st w c)))
+                (subst (λ (y : Place). Due begun-on (m .ends .tail) w (taskOf y)) (sym (begun-stood m w (beginOf c) in-row))
+                (begun-due begun-on (m .ends .tail) w c (work-begun actor changeOf 0 st w c)))
             go (no ne) = subst (λ (y : Place). Due begun-on (m .ends .tail) j (taskOf y)) (sym (begun-else m w (beginOf c) j ne)) (due-beside j ne)
 
         stands-begun : (v : ℕ) → placeIn v begun-on ≡ stood new v
@@ -448,7 +453,8 @@ module _ (workers : ℕ) (team : workers ≤ workersMost) where
   told-kept m st en next o (began w c mine idle) =
       told-begun m st o w mine c (subst (Reached workers (begun m w (beginOf c))) (append-nil (actsIn st)) (turned-reached workers team m (actsIn st) (o .reached) en next (began w c mine idle)))
   told-kept m st en next o (used w asked lose b t) =
-      told-act m st o w (b .known) lose (b .busy) (blockUsed (viewOf sizes (stood m w) .uses)) (slotUsed (viewOf sizes (stood m w) .uses)) (m .slots) (used-steps workers team m (actsIn st) (o .reached) w lose b t)
+      told-act m st o w (b .known) lose (b .busy) (blockUsed (viewOf sizes (stood m w) .uses)) (slotUsed (viewOf sizes (stood m w) .uses)) (m .slots)
+      (used-steps workers team m (actsIn st) (o .reached) w lose b t)
       (turned-reached workers team m (actsIn st) (o .reached) en next (used w asked lose b t))
   told-kept m st en next o (took w asked lose b t f) =
       told-act m st o w (b .known) lose (b .busy) (lowestFree sizes (m .blocks)) 0 (cleared sizes (m .slots) (lowestFree sizes (m .blocks)))

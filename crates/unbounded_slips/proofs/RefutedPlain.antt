@@ -107,7 +107,8 @@ refuted-plain =
           λ p. no-cons (sym (p .answers (storyOf (slipped emptyAfterTaking) 2 (pushed ++ does 1 2 0 6)) [] (event 1 (V12 (index 0) (To 0) 5) (Idle Empty)) Empty refl refl .1 .took));
       claims-closed =
           λ p. true≢false (p .changes (storyOf (slipped claimsClosed) 2 (does 0 0 5 5 ++ does 1 6 0 1)) [] (event 0 (U7 None (index 0) (To 0) 5) (U12 None (index 0) (To 0) 5)) refl .while-open refl);
-      takes-unseen = λ p. let q : 0 < 0 = p .changes (storyOf (slipped takesUnseen) 2 (pushed ++ does 1 2 0 7 ++ does 1 2 0 3)) [] (event 1 (V4 (index 2) (To 0) (index 4)) (V6 (index 2) (To 0) (index 4))) refl .takes refl in omega arith;
+      takes-unseen = λ p. let q : 0 < 0 = p .changes (storyOf (slipped takesUnseen) 2 (pushed ++ does 1 2 0 7 ++ does 1 2 0 3)) []
+          (event 1 (V4 (index 2) (To 0) (index 4)) (V6 (index 2) (To 0) (index 4))) refl .takes refl in omega arith;
       unwritten = λ p. let q : _≡_ {A = ℕ} 0 5 = cons-first {xs = []} {ys = []} (p .nothing-lost .contents refl) in omega arith;
       len-none =
           λ p. untrue (storyOf (slipped lenNone) 2 (pushed ++ does 1 3 0 2)) (event 1 (Len3 (index 2) (index 0)) (Idle (Len 0))) (Len 0) call.Len 11 refl refl
