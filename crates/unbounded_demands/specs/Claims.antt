@@ -1,14 +1,18 @@
--- A call's own claim, and the closes of a history.
+-- A call's own claim, what was written for a claim, and the closes of a history.
 use Prim.Native.Nat.{ℕ}
 use mathlib.Core.Bool.{Bool, true, false, cond}
 use mathlib.Core.List.{List, [], _∷_, _++_}
 use mathlib.Core.Path.{_≡_}
+use lib.Dec.{eqb}
 use lib.ListN.{length}
+use Rattle.unbounded_words.specs.declared.Index.{Index}
+use Rattle.unbounded_words.specs.declared.Pointer.{Pointer}
 use Rattle.unbounded_places.specs.declared.Answer.{Answer}
 use Rattle.unbounded_places.specs.declared.Answer.the-variants.{Yes}
-use Rattle.unbounded_places.specs.declared.Place.the-variants.{Idle, Close1}
+use Rattle.unbounded_places.specs.declared.Place.{Place}
+use Rattle.unbounded_places.specs.declared.Place.the-variants.{Idle, U12, Close1}
 use Rattle.unbounded_machine.specs.declared.Event.{Event}
-use Rattle.unbounded_demands.specs.Notions.{itemOf, takes, takersOf}
+use Rattle.unbounded_demands.specs.Notions.{itemOf, takes, takersOf, LatestIn}
 use Rattle.unbounded_demands.specs.Stories.{taskOf, closes}
 
 -- Worker w has answered nothing in these acts.
@@ -26,6 +30,24 @@ pub record CallClaim (h : List Event) (w k : ℕ) : Type 0 where
   pub claims : takes act ≡ true
   pub number : length (takersOf earlier) ≡ k
   pub same-call : Unanswered w later
+
+-- Of the tail claims in order: their workers.
+unfoldable pub tailersOf : List Event → List ℕ
+tailersOf [] = []
+tailersOf (e ∷ h) = cond (eqb (length (itemOf e)) 1) (e .worker ∷ []) [] ++ tailersOf h
+
+-- The next act writes the item x.
+pub data Writes : Place → ℕ → Type 0 where
+  writes12 : {n b : Pointer} {t : Index} {x : ℕ} → Writes (U12 n t b x) x
+
+-- The item v of tail claim number k was written: at U12, by the worker whose latest tail claim that was.
+pub record WrittenIn (h : List Event) (k v : ℕ) : Type 0 where
+  pub earlier : List Event
+  pub act : Event
+  pub later : List Event
+  pub is : h ≡ earlier ++ act ∷ later
+  pub claim : LatestIn (tailersOf earlier) (act .worker) k
+  pub writes : Writes (act .before) v
 
 -- A close was made.
 unfoldable pub closedBy : List Event → Bool

@@ -37,7 +37,7 @@ use Rattle.unbounded_machine.specs.History.{eventsOf}
 use Rattle.unbounded.specs.declared.Bound.{Bound}
 use Rattle.unbounded.specs.Unbounded.{makeOf, stepOf, beginOf, actOf, capacityOf}
 use Rattle.unbounded_demands.specs.Notions.{Definition, Allowed, machineAfter, actsOf, Acts, Asking, Pushing, Popping, Reads, valueAt, stateAt, takingsOf, freeingsOf, signOf, HandsOut, itemsOf, takersOf, LatestIn, ItemIn, waiting, Fifo, position, Truth, chained}
-use Rattle.unbounded_demands.specs.Claims.{CallClaim, closedBy, ClosesYes, NoClaims}
+use Rattle.unbounded_demands.specs.Claims.{CallClaim, WrittenIn, closedBy, ClosesYes, NoClaims}
 use Rattle.unbounded_demands.specs.Stories.{Story, storyOf, taskOf, Takes, itemIn, changeOf, actor, known, queueAt, replyOf, putBy, takenBy, givenBack, At, AfterNextTail, momentOf, placeIn, Leaving, lastClaimed, asksLen, asksEmpty}
 
 -- ==== What an answer means: every run of the unbounded queue is a run of a plain queue without capacity (crates/queue_plain), but for one answer of is_empty. The story of a schedule is its
@@ -135,11 +135,12 @@ pub record CloseHolds (m : Machine) (h : List Event) : Type 0 where
   pub yes-once : (earlier between later : List Event) (act again : Event) → h ≡ earlier ++ act ∷ between ++ again ∷ later → ClosesYes act → ClosesYes again → ⊥
   pub none-after : (earlier later : List Event) (act : Event) → h ≡ earlier ++ act ∷ later → act .after ≡ Idle PopClosed → NoClaims later
 
--- The claim rule of request 12 with the call's own claim: a value handed out is the item of the tail claim that has the number of the head claim that its call has made.
+-- The claim rule of request 12 with the call's own claim: a value handed out is the item of the tail claim that has the number of the head claim that its call has made, and was written for that
+-- tail claim.
 abbrev pub OwnClaim : List Event → Type 0
 OwnClaim h =
     (earlier later : List Event) (act : Event) (v : ℕ) → h ≡ earlier ++ act ∷ later → act .after ≡ Idle (Popped v)
-    → (k : ℕ) × CallClaim earlier (act .worker) k × LatestIn (takersOf earlier) (act .worker) k × ItemIn earlier k v
+    → (k : ℕ) × CallClaim earlier (act .worker) k × LatestIn (takersOf earlier) (act .worker) k × ItemIn earlier k v × WrittenIn earlier k v
 
 abbrev pub ClosesAndClaims : Definition → Type 0
 ClosesAndClaims d =

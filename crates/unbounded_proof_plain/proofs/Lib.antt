@@ -6,6 +6,7 @@ pub mod Lookers
 pub mod Table
 pub mod Gap
 pub mod Steps
+pub mod Written
 pub mod Told
 pub mod Plain
 pub mod Closing

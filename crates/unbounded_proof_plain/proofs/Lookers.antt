@@ -57,7 +57,7 @@ module _ (st : Story) (e : Ends) (sc : Scene st e) (w : ℕ) where
   closed-is : (b : Bool) → markedOf (e .tail) ≡ b → Q .closed ≡ b
   closed-is b z = sc .flag ∙ z
 
-  unpopped-at : (a : Answer) → popped a ≡ false → (v : ℕ) → Idle a ≡ Idle (Popped v) → TakesBy st w
+  unpopped-at : {P : Type 0} (a : Answer) → popped a ≡ false → (v : ℕ) → Idle a ≡ Idle (Popped v) → P
   unpopped-at a other v z = let one : a ≡ Popped v = cc in unpopped st e sc w a other v one
 
   not-yes : Idle No ≡ Idle Yes → ⊥

@@ -152,6 +152,7 @@ module _ (workers : ℕ) (a : Allowed workers) where
         answers = λ xs ys act x e said. absurd (no-split xs (Does act) ys e);
         changes = λ xs ys act e. absurd (no-split xs (Does act) ys e);
         claims = λ xs ys act v e said. absurd (no-split xs act ys e);
+        written = λ k l. absurd (omega arith);
       }
 
   one-entry : (m : Machine) (st : Story) (i j : ℕ) → Told workers (a .worker-most) m st → turnWith sizes actOf m i j .refusal ≡ 0

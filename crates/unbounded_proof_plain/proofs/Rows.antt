@@ -11,6 +11,7 @@ use borrow.Author.Tests.{eqb-true}
 use Rattle.queue_entries.specs.declared.Call.{Call}
 use Rattle.queue_entries.specs.declared.Call.the-variants as call
 use Rattle.queue_schedules.proofs.Schedules.{either}
+use Rattle.queue_schedules.proofs.Splits.{cons-first}
 use Rattle.queue_plain.specs.Plain.{Reply, Queue, answerOf}
 use Rattle.queue_plain.specs.Plain as plain
 use Rattle.queue_plain.specs.Story.{Does, actsIn, itemsOf}
@@ -31,14 +32,14 @@ use Rattle.unbounded_places.specs.Places.{viewOf}
 use Rattle.unbounded_acts.specs.declared.Acted.{Acted}
 use Rattle.unbounded_acts.specs.Acts.{leave, headTo, tailTo, has, firstOr, answered, lacksNext, pushFrom, claimed, takeOr, popFrom, newHead, taken, destroyFrom, destroyIf, actOf}
 use Rattle.unbounded_machine.specs.declared.Event.{Event}
-use Rattle.unbounded_demands.specs.Notions.{takersOf, LatestIn, position}
+use Rattle.unbounded_demands.specs.Notions.{Pushing, push9, push12, takersOf, LatestIn, position}
 use Rattle.unbounded_demands.specs.Notions as notions
-use Rattle.unbounded_demands.specs.Stories.{Story, taskOf, closes, isClose, changeOf, actor, roomy, replyOf, Now, Stays, timingTo}
+use Rattle.unbounded_demands.specs.Stories.{Story, Enters, taskOf, closes, isClose, changeOf, actor, roomy, replyOf, Now, Stays, timingTo}
 use Rattle.unbounded_proof_each_act.proofs.Step.{counted}
 use Rattle.unbounded_proof_demand2.proofs.Logged.{items-more, takers-more, latest-own}
 use Rattle.unbounded_proof_plain.proofs.Ends.{mark-later, later-up}
 use Rattle.unbounded_proof_plain.proofs.Work.{Work, Decided, decided-now, brought, EnteredBy, ClosedBy, TriesBy, TakesBy, Due}
-use Rattle.unbounded_proof_plain.proofs.Scene.{drop-long, latest-one, unput, not-idle, brings-closed, brings-open, brings-none, Scene, Hints, More, no-more, Outcome, act, now, q₀, none-came, empty-there, still, kept, here, takes-on, to, speaks}
+use Rattle.unbounded_proof_plain.proofs.Scene.{drop-long, latest-one, unput, not-idle, brings-closed, brings-open, brings-none, Scene, Handing, Hints, More, no-more, Outcome, act, now, q₀, none-came, empty-there, still, kept, here, takes-on, to, speaks}
 
 same-is : (a b : Index) → same a b ≡ true → a ≡ b
 unfolding same
@@ -79,7 +80,7 @@ module _ (st : Story) (e : Ends) (sc : Scene st e) (w : ℕ) where
   closed-is b z = sc .flag ∙ z
 
   -- no other answer hands a value out
-  pub unpopped : (a : Answer) → popped a ≡ false → (v : ℕ) → a ≡ Popped v → TakesBy st w
+  pub unpopped : {P : Type 0} (a : Answer) → popped a ≡ false → (v : ℕ) → a ≡ Popped v → P
   unpopped a other v z = absurd (true≢false (sym (ap popped z) ∙ other))
 
   -- ---- where no act of p claims anything
@@ -92,7 +93,7 @@ module _ (st : Story) (e : Ends) (sc : Scene st e) (w : ℕ) where
     pub go : (q : Place) → viewOf sizes q .busy ≡ true → Due (N p q) (e .tail) w (taskOf q) → Out p q (e .tail)
     go q busy o = to st e sc w p q (mild .no-put q) (mild .no-take q) busy (mild .open-still) o
 
-    pub says : (a : Answer) (r : Reply) → replyOf a ≡ r ∷ [] → ((v : ℕ) → a ≡ Popped v → TakesBy st w) → (c : Call) → isClose c ≡ false
+    pub says : (a : Answer) (r : Reply) → replyOf a ≡ r ∷ [] → ((v : ℕ) → a ≡ Popped v → TakesBy st w × Handing p) → (c : Call) → isClose c ≡ false
         → Decided (N p (Idle a)) w c (plain.putBy (itemsOf (c ∷ [])) r) (plain.takenBy r) r → Out p (Idle a) (e .tail)
     says a r is gave c other o =
         speaks st e sc w p a r (e .tail) is (sym (ap (λ (b : Bool). cond b true (markedOf (e .tail))) (mild .open-still))) (omega arith) c (other ∙ sym (mild .open-still)) extra o
@@ -159,12 +160,12 @@ module _ (st : Story) (e : Ends) (sc : Scene st e) (w : ℕ) where
         either (λ (q : Place). Out p q (e .tail)) (pastSlots sizes i) V1 _ (λ z. go V1 refl (on V1 _ _ _ o))
         (λ z. either (λ (q : Place). Out p q (e .tail)) (markedOf i) (takeOr i b (later i)) (V3 i b) (λ y. wants i b (later i) o) (λ y. go (V3 i b) refl (on (V3 i b) _ _ _ o)))
 
-    pub hands-out : (v : ℕ) → TakesBy st w → Told p (Idle (Popped v)) → Out p (Idle (Popped v)) (e .tail)
-    hands-out v o t =
+    pub hands-out : (v : ℕ) → Handing p → TakesBy st w → Told p (Idle (Popped v)) → Out p (Idle (Popped v)) (e .tail)
+    hands-out v hand o t =
         let z = t .out v refl in
         let k = latest-one (takersOf h) w (o .number) (z .0) (o .latest) (z .1) in
         let same : o .v ≡ v = sym (o .item .is) ∙ ap (λ (n : ℕ). getD (notions.itemsOf h) n 0) k ∙ z .2 .is in
-        says (Popped v) (plain.Popped v) refl (λ u z. o) call.Pop refl
+        says (Popped v) (plain.Popped v) refl (λ u z. (o, hand)) call.Pop refl
         (subst (λ (y : ℕ). Decided (N p (Idle (Popped v))) w call.Pop [] (y ∷ []) (plain.Popped y)) same (keep (Idle (Popped v)) refl _ _ _ _ (o .decided)))
 
     pub destroys : (b : Pointer) (i v : ℕ) → TakesBy st w → Out p (destroyFrom sizes b i v) (e .tail)
@@ -172,10 +173,10 @@ module _ (st : Story) (e : Ends) (sc : Scene st e) (w : ℕ) where
     destroys b i v o =
         either (λ (q : Place). Out p q (e .tail)) (ltb (i + 1) 31) (V13 b i v) (V15 b v) (λ z. go (V13 b i v) refl (pops (V13 b i v) refl refl o)) (λ z. go (V15 b v) refl (pops (V15 b v) refl refl o))
 
-    pub destroys-if : (set : Bool) (b : Pointer) (i v : ℕ) → TakesBy st w → Told p (destroyIf sizes set b i v) → Out p (destroyIf sizes set b i v) (e .tail)
+    pub destroys-if : (set : Bool) (b : Pointer) (i v : ℕ) → Handing p → TakesBy st w → Told p (destroyIf sizes set b i v) → Out p (destroyIf sizes set b i v) (e .tail)
     unfolding destroyIf
-    destroys-if set b i v o =
-        either (λ (q : Place). Told p q → Out p q (e .tail)) set (destroyFrom sizes b (i + 1) v) (Idle (Popped v)) (λ z t. destroys b (i + 1) v o) (λ z t. hands-out v o t)
+    destroys-if set b i v hand o =
+        either (λ (q : Place). Told p q → Out p q (e .tail)) set (destroyFrom sizes b (i + 1) v) (Idle (Popped v)) (λ z t. destroys b (i + 1) v o) (λ z t. hands-out v hand o t)
 
   pub mild : {p : Place} → ((q : Place) → changeOf (A p q) .puts ≡ false) → ((q : Place) → changeOf (A p q) .takes ≡ false) → closes (taskOf p) ≡ false → Mild p
   mild a b c = record { no-put = a; no-take = b; open-still = c }
@@ -184,8 +185,8 @@ module _ (st : Story) (e : Ends) (sc : Scene st e) (w : ℕ) where
 
   -- a won U7
   claims : (p q : Place) (u : Index) (x : ℕ) → notions.itemOf (A p q) ≡ x ∷ [] → changeOf (A p q) .takes ≡ false → closes (taskOf p) ≡ false → viewOf sizes q .busy ≡ true
-      → TriesBy st w x → markedOf (e .tail) ≡ false → e .tail ≡ u → (EnteredBy (N p q) w x → Due (N p q) (later u) w (taskOf q)) → Out p q (later u)
-  claims p q u x item no-take open-still busy o unmarked is due =
+      → taskOf q ≡ Enters x → Pushing q u → TriesBy st w x → markedOf (e .tail) ≡ false → e .tail ≡ u → (EnteredBy (N p q) w x → Due (N p q) (later u) w (taskOf q)) → Out p q (later u)
+  claims p q u x item no-take open-still busy task pushing o unmarked is due =
       let put : changeOf (A p q) .puts ≡ true = ap (λ (l : List ℕ). eqb (length l) 1) item in
       record {
         due =
@@ -200,7 +201,17 @@ module _ (st : Story) (e : Ends) (sc : Scene st e) (w : ℕ) where
                   (brings-open Q (o .call) x (o .brings) (closed-is false unmarked));
             });
         said = λ a z. absurd (not-idle q busy a z);
-        came = λ y z. (ap itemsOf (o .work .its) ∙ brought (o .call) x (o .brings) ∙ sym item ∙ z, closed-is false unmarked);
+        came =
+            λ y z.
+            let one : x ≡ y = cons-first (sym item ∙ z) in
+            record {
+              its = ap itemsOf (o .work .its) ∙ brought (o .call) x (o .brings) ∙ sym item ∙ z;
+              while-open = closed-is false unmarked;
+              task = task ∙ ap Enters one;
+              word = u;
+              pushing = pushing;
+              at-tail = sym is;
+            };
         more = no-more st e sc w p q busy;
         marks = ap (λ (i : Index). markedOf (later i)) (sym is) ∙ mark-later (e .tail) (sc .small) ∙ sym (ap (λ (b : Bool). cond b true (markedOf (e .tail))) open-still);
         up = subst (λ (i : Index). e .tail .0 ≤ later i .0) is (later-up (e .tail) (sc .small));
@@ -214,8 +225,8 @@ module _ (st : Story) (e : Ends) (sc : Scene st e) (w : ℕ) where
       (λ z. either (λ (a : Acted). Out (U7 n t b x) (a .place) (a .ends .tail)) lose _ _
       (λ l. lost t (λ m. absurd (true≢false (sym m ∙ fresh))))
       (λ l. either (λ (q : Place). Out (U7 n t b x) q (later t)) (lastSlot sizes t) (U9 n t b x) (U12 n t b x)
-      (λ y. claims (U7 n t b x) (U9 n t b x) t x refl refl refl refl o (ap markedOf (same-is (e .tail) t z) ∙ fresh) (same-is (e .tail) t z) (λ d. d))
-      (λ y. claims (U7 n t b x) (U12 n t b x) t x refl refl refl refl o (ap markedOf (same-is (e .tail) t z) ∙ fresh) (same-is (e .tail) t z) (λ d. d))))
+      (λ y. claims (U7 n t b x) (U9 n t b x) t x refl refl refl refl refl push9 o (ap markedOf (same-is (e .tail) t z) ∙ fresh) (same-is (e .tail) t z) (λ d. d))
+      (λ y. claims (U7 n t b x) (U12 n t b x) t x refl refl refl refl refl push12 o (ap markedOf (same-is (e .tail) t z) ∙ fresh) (same-is (e .tail) t z) (λ d. d))))
       (λ z. lost (e .tail) (λ m. closed-is true m))
     where
       lost : (i : Index) → (markedOf i ≡ true → Q .closed ≡ true) → Out (U7 n t b x) (U8 n i x) (e .tail)

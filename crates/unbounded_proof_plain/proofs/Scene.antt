@@ -19,19 +19,20 @@ use Rattle.queue_plain.proofs.Stories.{acts-end, each-own, queue-act}
 use Rattle.queue_plain.proofs.Calls.{work-still, back-came}
 use Rattle.queue_plain.proofs.Answers.{none-of, push-closed, push-room, force-closed, force-room}
 use Rattle.unbounded_words.specs.declared.Index.{Index}
+use Rattle.unbounded_words.specs.declared.Pointer.{Pointer}
 use Rattle.unbounded_words.specs.Words.{sizes, wide, markedOf, countOf}
 use Rattle.unbounded_places.specs.declared.Ends.{Ends}
 use Rattle.unbounded_places.specs.declared.Answer.{Answer}
 use Rattle.unbounded_places.specs.declared.Answer.the-variants.{Nothing, Pushed, Closed, Popped, Empty, PopClosed, Len, Yes, No}
 use Rattle.unbounded_places.specs.declared.Place.{Place}
-use Rattle.unbounded_places.specs.declared.Place.the-variants.{Idle}
+use Rattle.unbounded_places.specs.declared.Place.the-variants.{Idle, V12, V14, V15}
 use Rattle.unbounded_places.specs.Places.{viewOf}
 use Rattle.unbounded_machine.specs.declared.Event.{Event}
 use Rattle.unbounded_machine.specs.History.{event}
-use Rattle.unbounded_demands.specs.Notions.{Sign, Plain, Exchange7, Exchange4, Pops, Pushes, HandsOut, answered, signOf, itemIn, itemBy, takes, takersOf, LatestIn, ItemIn, waiting, position, Truth}
+use Rattle.unbounded_demands.specs.Notions.{Pushing, Sign, Plain, Exchange7, Exchange4, Pops, Pushes, HandsOut, answered, signOf, itemIn, itemBy, takes, takersOf, LatestIn, ItemIn, waiting, position, Truth}
 use Rattle.unbounded_demands.specs.Notions as notions
 use Rattle.unbounded_demands.specs.Claims.{Unanswered, CallClaim}
-use Rattle.unbounded_demands.specs.Stories.{Story, taskOf, isClose, closes, changeOf, actor, known, roomy, queueAt, replyOf, Timing, Now, Stays, timingTo, timingOf, timed, momentOf, placeIn, Leaving}
+use Rattle.unbounded_demands.specs.Stories.{Story, Enters, taskOf, isClose, closes, changeOf, actor, known, roomy, queueAt, replyOf, Timing, Now, Stays, timingTo, timingOf, timed, momentOf, placeIn, Leaving}
 use Rattle.unbounded_demands.specs.Demands.{Answered, AtBlocksEnd, Meant}
 use Rattle.unbounded_proof_each_act.proofs.Step.{counted}
 use Rattle.unbounded_proof_demand2.proofs.Logged.{items-more, takers-more}
@@ -130,6 +131,12 @@ brings-none c x force = refl
 pub never-full : (q : Queue) → answerOf (roomy q) call.IsFull ≡ plain.No
 never-full q = ap plain.yesIf (room q)
 
+-- the places from which a value is handed out
+pub data Handing : Place → Type 0 where
+  hands12 : {h : Index} {b : Pointer} {v : ℕ} → Handing (V12 h b v)
+  hands14 : {b : Pointer} {i v : ℕ} → Handing (V14 b i v)
+  hands15 : {b : Pointer} {v : ℕ} → Handing (V15 b v)
+
 -- ---- the plain queue beside the words
 pub record Scene (st : Story) (e : Ends) : Type 0 where
   pub flag : known st .queue .closed ≡ markedOf (e .tail)
@@ -165,9 +172,18 @@ module _ (st : Story) (e : Ends) (sc : Scene st e) (w : ℕ) where
     pub front : takes (act p q) ≡ true → 0 < length (q₀ .items)
     pub out : (v : ℕ) → signOf q ≡ HandsOut v → (k : ℕ) × LatestIn (takersOf h) w k × ItemIn h k v
 
+  -- an item that came in, with the word of its claim
+  pub record Came (q : Place) (x : ℕ) : Type 0 where
+    pub its : itemsOf (known st .each w .calls) ≡ x ∷ []
+    pub while-open : q₀ .closed ≡ false
+    pub task : taskOf q ≡ Enters x
+    pub word : Index
+    pub pushing : Pushing q word
+    pub at-tail : word ≡ e .tail
+
   -- a value is handed out of a claim of its call; a close says yes of an open queue
   pub record More (p q : Place) : Type 0 where
-    pub gave : (v : ℕ) → q ≡ Idle (Popped v) → TakesBy st w
+    pub gave : (v : ℕ) → q ≡ Idle (Popped v) → TakesBy st w × Handing p
     pub was-open : closes (taskOf p) ≡ true → q ≡ Idle Yes → q₀ .closed ≡ false
 
   pub no-more : (p q : Place) → viewOf sizes q .busy ≡ true → More p q
@@ -178,12 +194,12 @@ module _ (st : Story) (e : Ends) (sc : Scene st e) (w : ℕ) where
     pub due : Due (now p q) t w (taskOf q)
     pub said : (a : Answer) → q ≡ Idle a → Speaks st (act p q) a
     -- an item that comes in is its call's, and the queue is open then
-    pub came : (x : ℕ) → notions.itemOf (act p q) ≡ x ∷ [] → (itemsOf (known st .each w .calls) ≡ x ∷ []) × (q₀ .closed ≡ false)
+    pub came : (x : ℕ) → notions.itemOf (act p q) ≡ x ∷ [] → Came q x
     pub more : More p q
     pub marks : markedOf t ≡ cond (closes (taskOf p)) true (markedOf (e .tail))
     pub up : e .tail .0 ≤ t .0
 
-  pub none-came : (p q : Place) → notions.itemOf (act p q) ≡ [] → (x : ℕ) → notions.itemOf (act p q) ≡ x ∷ [] → (itemsOf (known st .each w .calls) ≡ x ∷ []) × (q₀ .closed ≡ false)
+  pub none-came : (p q : Place) → notions.itemOf (act p q) ≡ [] → (x : ℕ) → notions.itemOf (act p q) ≡ x ∷ [] → Came q x
   none-came p q none x z = absurd (no-cons (sym none ∙ z))
 
   pub how-many : length (q₀ .items) ≡ counted (position (e .tail)) - counted (position (e .head))

@@ -31,7 +31,7 @@ use Rattle.unbounded_proof_invariant.proofs.Views.{Seen}
 use Rattle.unbounded_proof_words.proofs.Words.{mark-word}
 use Rattle.unbounded_proof_words.proofs.Stands.{Stands, u7}
 use Rattle.unbounded_proof_plain.proofs.Work.{Work, EnteredBy, TriesBy, TakesBy, FreesBy, Due}
-use Rattle.unbounded_proof_plain.proofs.Scene.{never-full, brings-closed, Scene, Hints, Outcome, now, q₀}
+use Rattle.unbounded_proof_plain.proofs.Scene.{hands12, hands14, hands15, never-full, brings-closed, Scene, Hints, Outcome, now, q₀}
 use Rattle.unbounded_proof_plain.proofs.Rows.{Mild, mild, go, says, on, tries, decided, enters, pops, says-closed, says-pushed, tops, firsts, pop-tops, hands-out, destroys, destroys-if, u10, v3, v4}
 use Rattle.unbounded_proof_plain.proofs.Rows as rows
 use Rattle.unbounded_proof_plain.proofs.Lookers.{close, is-closed, len2, len3, empty1, empty2}
@@ -166,11 +166,11 @@ module _ (st : Story) (e : Ends) (sc : Scene st e) (w k : ℕ) (g : Block) (s : 
   row (V11 i b) at busy o t =
       either (O (V11 i b)) (lastSlot sizes i) _ (V12 i b (s .value)) (λ z. destroys st e sc w (V11 i b) (calm refl refl) b 0 (s .value) o)
       (λ z. taking (V11 i b) (V12 i b (s .value)) refl refl refl refl (λ d. d) o)
-  row (V12 i b v) at busy o t = destroys-if st e sc w (V12 i b v) (calm refl refl) (has DESTROY (s .state)) b (offsetOf sizes i) v o t
+  row (V12 i b v) at busy o t = destroys-if st e sc w (V12 i b v) (calm refl refl) (has DESTROY (s .state)) b (offsetOf sizes i) v hands12 o t
   row (V13 b i v) at busy o t =
       either (Leads (V13 b i v)) (has READ (s .state)) _ _ (λ z. destroys st e sc w (V13 b i v) (calm refl refl) b (i + 1) v o) (λ z. taking (V13 b i v) (V14 b i v) refl refl refl refl (λ d. d) o)
-  row (V14 b i v) at busy o t = destroys-if st e sc w (V14 b i v) (calm refl refl) (has READ (s .state)) b i v o t
-  row (V15 b v) at busy o t = hands-out st e sc w (V15 b v) (calm refl refl) v o t
+  row (V14 b i v) at busy o t = destroys-if st e sc w (V14 b i v) (calm refl refl) (has READ (s .state)) b i v hands14 o t
+  row (V15 b v) at busy o t = hands-out st e sc w (V15 b v) (calm refl refl) v hands15 o t
   row Len1 at busy o t = seeking Len1 (Len2 (e .tail)) refl refl refl call.Len (λ d. (d, omega arith)) o
   row (Len2 i) at busy o t = len2 st e sc w i o
   row (Len3 i j) at busy o t = len3 st e sc w g s i j o lose

@@ -4,7 +4,7 @@ use native.Mathlib.Omega.{arith}
 use native.Mathlib.Decide.{ℕ-discrete, decLt}
 use mathlib.Core.Path.{_≡_, refl, sym, ap, _∙_, subst}
 use mathlib.Core.Logic.{_≢_, _⊎_, inl, inr}
-use mathlib.Core.Bool.{Bool, true, false, cond}
+use mathlib.Core.Bool.{Bool, true, false, cond, true≢false}
 use mathlib.Core.List.{List, [], _∷_, _++_, append-nil, append-assoc}
 use lib.Dec.{eqb}
 use lib.ListN.{length, getD, drop, length-append, List·getD-append}
@@ -13,7 +13,7 @@ use Rattle.queue_entries.specs.Limits.{workersMost}
 use Rattle.queue_entries.specs.declared.Call.{Call}
 use Rattle.queue_entries.specs.declared.Call.the-variants as call
 use Rattle.queue_entries.specs.declared.Entry.{Entry}
-use Rattle.queue_schedules.proofs.Splits.{Order, earlier, same, later, one-more, no-split}
+use Rattle.queue_schedules.proofs.Splits.{no-cons, Order, earlier, same, later, one-more, no-split}
 use Rattle.queue_plain.specs.Plain.{Queue}
 use Rattle.queue_plain.specs.Story.{Begun, Does, Doing, itemsOf, elementsBy, actsIn}
 use Rattle.queue_plain.proofs.Stories.{acts-end, known-count, each-else, queue-act, queue-now, each-unbegun, queue-begun}
@@ -34,9 +34,9 @@ use Rattle.unbounded_machine.specs.declared.Event.{Event}
 use Rattle.unbounded_machine.specs.Machine.{blockAt, slotAt}
 use Rattle.unbounded_machine.specs.Turn.{lowestFree, cleared, blockUsed, slotUsed, begun, stored, actedAt}
 use Rattle.unbounded_machine.specs.History.{event, eventsOf}
-use Rattle.unbounded_demands.specs.Notions.{signOf, itemOf, takes, takersOf, LatestIn, ItemIn, waiting, position, Truth}
+use Rattle.unbounded_demands.specs.Notions.{Pushing, signOf, itemOf, takes, takersOf, LatestIn, ItemIn, waiting, position, Truth}
 use Rattle.unbounded_demands.specs.Notions as notions
-use Rattle.unbounded_demands.specs.Claims.{CallClaim}
+use Rattle.unbounded_demands.specs.Claims.{CallClaim, WrittenIn}
 use Rattle.unbounded_demands.specs.Stories.{Element, Story, taskOf, closes, changeOf, actor, known, queueAt, At, AfterNextTail, heard, momentOf, placeIn, Leaving}
 use Rattle.unbounded_demands.specs.Demands.{Changes, OwnClaim}
 use Rattle.unbounded_proof_invariant.proofs.Queue.{Shared}
@@ -53,9 +53,13 @@ use Rattle.unbounded_proof_plain.proofs.Work.{moment-else, moment-begun
 use Rattle.unbounded_proof_plain.proofs.Scene.{latest-one, claim-more, unput, Scene, Speaks, Hints, Outcome, how-many}
 use Rattle.unbounded_proof_plain.proofs.Table.{row}
 use Rattle.unbounded_proof_plain.proofs.Gap.{at-gap}
+use Rattle.unbounded_proof_plain.proofs.Written.{Wrote, wrote-still, writes-row, Claimed, wrote-on, pushing-busy, written-out}
 use Rattle.unbounded_proof_plain.proofs.Steps.{stored-stood, stored-else, stored-ends, begun-stood, begun-else, begun-ends, begun-due, one-change, item-is, takes-some}
 
 module _ (workers : ℕ) (team : workers ≤ workersMost) where
+  abbrev OwnAt : List Event → ℕ → ℕ → Type 0
+  OwnAt h w v = (n : ℕ) × CallClaim h w n × LatestIn (takersOf h) w n × ItemIn h n v × WrittenIn h n v
+
   pub record Told (m : Machine) (st : Story) : Type 0 where
     pub reached : Reached workers m (actsIn st)
     pub items : known st .queue .items ≡ waiting (actsIn st)
@@ -65,6 +69,7 @@ module _ (workers : ℕ) (team : workers ≤ workersMost) where
     pub answers : (xs ys : Story) (act : Event) (a : Answer) → st ≡ xs ++ Does act ∷ ys → act .after ≡ Idle a → Speaks xs act a
     pub changes : (xs ys : Story) (act : Event) → st ≡ xs ++ Does act ∷ ys → Changes xs act
     pub claims : OwnClaim (actsIn st)
+    pub written : (k : ℕ) → k < length (notions.itemsOf (actsIn st)) → Wrote (stood m) (actsIn st) k
 
   module _ (m : Machine) (st : Story) (o : Told m st) where
     abbrev r : Reached workers m (actsIn st)
@@ -169,7 +174,7 @@ module _ (workers : ℕ) (team : workers ≤ workersMost) where
 
               go : Logs s (d .after) w p q → cond (takes act) (drop 1 items₀) items₀ ++ cond (eqb (length (itemOf act)) 1) (itemsOf (known st .each w .calls)) [] ≡ waiting (h ++ act ∷ [])
               go (puts x item no-taking slot et ei eh eg loose) =
-                  rw (no-taking, item, out .came x item .0, o .items)
+                  rw (no-taking, item, out .came x item .its, o .items)
                   (sym (waiting-is (notions.itemsOf h ++ x ∷ []) (takersOf h) (gave (x ∷ []) item) (took false no-taking ∙ append-nil (takersOf h))
                   ∙ drop-append-le (length (takersOf h)) (notions.itemsOf h) (x ∷ []) taken-few))
               go (step.takes no-item taking slot some et ei eh eg) =
@@ -194,7 +199,7 @@ module _ (workers : ℕ) (team : workers ≤ workersMost) where
           changed =
               record {
                 takes = λ z. hints .front z;
-                while-open = λ z. let x = item-is (itemOf act) z in out .came (x .0) (x .1) .1;
+                while-open = λ z. let x = item-is (itemOf act) z in out .came (x .0) (x .1) .while-open;
                 one = λ z. one-change (signOf p) (signOf q) z;
                 closes = λ b z. out .more .was-open b z;
               }
@@ -263,7 +268,7 @@ module _ (workers : ℕ) (team : workers ≤ workersMost) where
                     x₀ = item-is (itemOf act) y
 
                     came : known st′ .queue .items ≡ x₀ .0 ∷ []
-                    came = left ∙ ap (λ (b : Bool). cond b (itemsOf (known st .each w .calls)) []) y ∙ out .came (x₀ .0) (x₀ .1) .0
+                    came = left ∙ ap (λ (b : Bool). cond b (itemsOf (known st .each w .calls)) []) y ∙ out .came (x₀ .0) (x₀ .1) .its
                 go false y =
                     inr (record {
                       pending = pending false y;
@@ -311,6 +316,29 @@ module _ (workers : ℕ) (team : workers ≤ workersMost) where
               go (yes e) = ap (λ (j : ℕ). placeIn j st′) e ∙ place-own st act ∙ sym went ∙ ap (stood next) (sym e)
               go (no ne) = place-else st act v ne ∙ o .stands v ∙ sym (stored-else m w l k i a v ne)
 
+          -- a claim of this act, and those before it
+          claimed : (x : ℕ) → itemOf act ≡ x ∷ [] → Claimed (stood m) (stood next) h w q went (stored-else m w l k i a) x
+          claimed x z =
+              let c = out .came x z in
+              let at : position (c .word) ≡ s .tail = ap position (c .at-tail) ∙ tail-at in
+              record {
+                task = c .task;
+                word = c .word;
+                pushing = c .pushing;
+                number = ap counted at ∙ sym (r .logged .items-long);
+                slot = slot-of (d .logs) at;
+              }
+            where
+              slot-of : Logs s (d .after) w p q → position (out .came x z .word) ≡ s .tail → position (out .came x z .word) % 32 < 31
+              slot-of (puts y item no-taking slot et ei eh eg loose) at = omega arith
+              slot-of (step.takes no-item taking slot some et ei eh eg) at = absurd (no-cons (sym no-item ∙ z))
+              slot-of (neither no-item no-taking ut ct ei uh ch eg more) at = absurd (no-cons (sym no-item ∙ z))
+
+          wrote-then : (n : ℕ) → n < length (notions.itemsOf (h ++ act ∷ [])) → Wrote (stood next) (h ++ act ∷ []) n
+          wrote-then =
+              wrote-on (stood m) (stood next) h w q went (stored-else m w l k i a) (λ x t z y. writes-row (m .ends) w k (blockAt (m .blocks) k) (slotAt sizes l k i) lose p x t z y) claimed
+              (o .written)
+
           told-q : Told next st′
           told-q =
               record {
@@ -321,20 +349,21 @@ module _ (workers : ℕ) (team : workers ≤ workersMost) where
                 dues = due-each;
                 answers = λ xs ys e x z said. go-answer xs ys e x said (one-more st (Does act) xs ys (Does e) z);
                 changes = λ xs ys e z. go-change xs ys e (one-more st (Does act) xs ys (Does e) z);
+                written = subst (λ (y : List Event). (n : ℕ) → n < length (notions.itemsOf y) → Wrote (stood next) y n) (sym (acts-end st (Does act))) wrote-then;
                 claims = λ xs ys e v z said. go-claim xs ys e v said (one-more h act xs ys e (sym (acts-end st (Does act)) ∙ z));
               }
             where
-              go-claim : (xs ys : List Event) (e : Event) (v : ℕ) → e .after ≡ Idle (Popped v) → Order xs e ys h act [] → (n : ℕ) × CallClaim xs (e .worker) n × LatestIn (takersOf xs) (e .worker) n
-                  × ItemIn xs n v
+              go-claim : (xs ys : List Event) (e : Event) (v : ℕ) → e .after ≡ Idle (Popped v) → Order xs e ys h act [] → OwnAt xs (e .worker) v
               go-claim xs ys e v said (earlier zs was left) = o .claims xs zs e v was said
               go-claim xs ys e v said (same whole one rest) =
                   let z = ap (λ (y : Event). y .after) (sym one) ∙ said in
-                  let given = out .more .gave v z in
+                  let given = out .more .gave v z .0 in
                   let known-out = hints .out v (ap signOf z) in
                   let item : ItemIn h (given .number) v =
                   subst (λ (n : ℕ). ItemIn h n v) (latest-one (takersOf h) w (known-out .0) (given .number) (known-out .1) (given .latest)) (known-out .2) in
-                  subst (λ (y : Event). (n : ℕ) × CallClaim xs (y .worker) n × LatestIn (takersOf xs) (y .worker) n × ItemIn xs n v) (sym one)
-                  (subst (λ (y : List Event). (n : ℕ) × CallClaim y w n × LatestIn (takersOf y) w n × ItemIn y n v) (sym whole) (given .number, given .claim, given .latest, item))
+                  let wrote = written-out (m .ends) (m .blocks) (m .slots) (m .workers) (m .meter) s (r .sim) h (r .logged) w (out .more .gave v z .1) (given .number) v (given .latest) item
+                  (o .written (given .number) (item .made)) in
+                  subst (λ (y : Event). OwnAt xs (y .worker) v) (sym one) (subst (λ (y : List Event). OwnAt y w v) (sym whole) (given .number, given .claim, given .latest, item, wrote))
               go-claim xs ys e v said (later zs was left) = absurd (no-split zs e ys left)
 
               go-answer : (xs ys : Story) (e : Event) (x : Answer) → e .after ≡ Idle x → Order xs (Does e) ys st (Does act) [] → Speaks xs e x
@@ -421,8 +450,8 @@ module _ (workers : ℕ) (team : workers ≤ workersMost) where
             go (yes e) = ap (λ (j : ℕ). placeIn j begun-on) e ∙ place-begun st w c ∙ sym (begun-stood m w (beginOf c) in-row) ∙ ap (stood new) (sym e)
             go (no ne) = place-unbegun st w c v ne ∙ o .stands v ∙ sym (begun-else m w (beginOf c) v ne)
 
-        pub told-begun : Reached workers new (actsIn st) → Told new begun-on
-        told-begun after =
+        pub told-begun : viewOf sizes (stood m w) .busy ≡ false → Reached workers new (actsIn st) → Told new begun-on
+        told-begun idle after =
             record {
               reached = subst (Reached workers new) (sym same-acts) after;
               items = ap (λ (z : Queue). z .items) (queue-begun actor changeOf 0 st w c) ∙ o .items ∙ ap waiting (sym same-acts);
@@ -432,8 +461,13 @@ module _ (workers : ℕ) (team : workers ≤ workersMost) where
               answers = λ xs ys e x z said. go-answer xs ys e x said (one-more st (Begun w c) xs ys (Does e) z);
               changes = λ xs ys e z. go-change xs ys e (one-more st (Begun w c) xs ys (Does e) z);
               claims = subst OwnClaim (sym same-acts) (o .claims);
+              written = subst (λ (y : List Event). (n : ℕ) → n < length (notions.itemsOf y) → Wrote (stood new) y n) (sym same-acts)
+                  (λ n z. wrote-still (stood m) (stood new) (actsIn st) n there (o .written n z));
             }
           where
+            there : (v : ℕ) (t : Index) → Pushing (stood m v) t → stood new v ≡ stood m v
+            there v t y = begun-else m w (beginOf c) v (λ z. true≢false (sym (pushing-busy (stood m v) t y) ∙ ap (λ (j : ℕ). viewOf sizes (stood m j) .busy) z ∙ idle))
+
             no-begin : (e : Event) → _≡_ {A = Element} (Does e) (Begun w c) → ⊥
             no-begin e y = let z : _≡_ {A = ℕ} 0 1 = cc in omega arith
 
@@ -451,7 +485,7 @@ module _ (workers : ℕ) (team : workers ≤ workersMost) where
   pub told-kept : (m : Machine) (st : Story) (en : Entry) (next : Machine) → Told m st → Turned m en next → Told next (st ++ elementsBy eventsOf m en next)
   unfolding actedAt
   told-kept m st en next o (began w c mine idle) =
-      told-begun m st o w mine c (subst (Reached workers (begun m w (beginOf c))) (append-nil (actsIn st)) (turned-reached workers team m (actsIn st) (o .reached) en next (began w c mine idle)))
+      told-begun m st o w mine c idle (subst (Reached workers (begun m w (beginOf c))) (append-nil (actsIn st)) (turned-reached workers team m (actsIn st) (o .reached) en next (began w c mine idle)))
   told-kept m st en next o (used w asked lose b t) =
       told-act m st o w (b .known) lose (b .busy) (blockUsed (viewOf sizes (stood m w) .uses)) (slotUsed (viewOf sizes (stood m w) .uses)) (m .slots)
       (used-steps workers team m (actsIn st) (o .reached) w lose b t)

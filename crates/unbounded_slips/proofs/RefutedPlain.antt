@@ -2,7 +2,7 @@
 use Prim.Native.Nat.{ℕ, _+_, _<_}
 use native.Mathlib.Omega.{arith}
 use mathlib.Core.Bool.{Bool, true, false, cond, true≢false}
-use mathlib.Core.List.{[], _∷_, _++_}
+use mathlib.Core.List.{List, [], _∷_, _++_}
 use mathlib.Core.Path.{_≡_, refl, sym, ap, _∙_, subst}
 use mathlib.Core.Logic.{_⊎_, inl, inr}
 use lib.Dec.{eqb}
@@ -31,11 +31,11 @@ use Rattle.unbounded_machine.specs.Turn.{lowestFrom, lowestFree, clearedFrom, c
 use Rattle.unbounded_machine.specs.Contents.{contentsOf}
 use Rattle.unbounded_machine.specs.Run.{ran}
 use Rattle.unbounded_machine.specs.History.{event}
-use Rattle.unbounded_demands.specs.Notions.{acts, actsOf, takersOf}
-use Rattle.unbounded_demands.specs.Claims.{closedBy}
+use Rattle.unbounded_demands.specs.Notions.{acts, actsOf, takersOf, Sign, Plain, Exchange7, Exchange4, Pops, Pushes, HandsOut, signOf}
+use Rattle.unbounded_demands.specs.Claims.{Writes, writes12, WrittenIn, closedBy}
 use Rattle.unbounded_demands.specs.Stories.{Story, storyOf, known, queueAt, replyOf, Moment, At, AfterNextTail, momentOf, often, placeIn, Leaving, leaving6, leaving7, leaving8, leaving9}
 use Rattle.unbounded_demands.specs.Demands.{Answered, AtBlocksEnd}
-use Rattle.unbounded_slips.specs.Slips.{slipped, handsOutAgain, pushDrops, closedAfterClaim, claimsClosed, popsAnother, emptyAfterTaking, takesUnseen, lenNone, emptyYes, closeIdle}
+use Rattle.unbounded_slips.specs.Slips.{slipped, handsOutAgain, readsEarly, pushDrops, closedAfterClaim, claimsClosed, popsAnother, emptyAfterTaking, takesUnseen, lenNone, emptyYes, closeIdle}
 use Rattle.unbounded_slips.specs.Refuted.{does}
 use Rattle.unbounded_slips.specs.RefutedPlain.{pushed, RefutedPlain}
 
@@ -83,6 +83,34 @@ unended act a unnamed (inl o) =
     let q : _≡_ {A = ℕ} 0 1 = cc in omega arith
 unended act a unnamed (inr o) = no-end (o .before) (o .load) (o .since) (o .is) (o .leaving .0) (o .leaving .1)
 
+-- no act of these is at a write
+abbrev isPushes : Sign → Bool
+isPushes Plain = false
+isPushes Exchange7 = false
+isPushes Exchange4 = false
+isPushes Pops = false
+isPushes (Pushes x) = true
+isPushes (HandsOut v) = false
+
+unfoldable writesIn : List Event → Bool
+writesIn [] = false
+writesIn (e ∷ h) = cond (isPushes (signOf (e .before))) true (writesIn h)
+
+writing : (p : Place) (v : ℕ) → Writes p v → isPushes (signOf p) ≡ true
+writing p v writes12 = refl
+
+wrote-in : (xs : List Event) (e : Event) (ys : List Event) → isPushes (signOf (e .before)) ≡ true → writesIn (xs ++ e ∷ ys) ≡ true
+unfolding writesIn
+wrote-in [] e ys z = ap (λ (b : Bool). cond b true (writesIn ys)) z
+wrote-in (x ∷ xs) e ys z = ap (λ (b : Bool). cond (isPushes (signOf (x .before))) true b) (wrote-in xs e ys z) ∙ go (isPushes (signOf (x .before)))
+  where
+    go : (b : Bool) → cond b true true ≡ true
+    go true = refl
+    go false = refl
+
+unwritten-in : (h : List Event) (k v : ℕ) → writesIn h ≡ false → WrittenIn h k v → ⊥
+unwritten-in h k v none o = true≢false (sym (ap writesIn (o .is) ∙ wrote-in (o .earlier) (o .act) (o .later) (writing (o .act .before) v (o .writes))) ∙ none)
+
 no-is-yes : plain.No ∷ [] ≡ plain.Yes ∷ [] → ⊥
 no-is-yes e = let z : plain.No ≡ plain.Yes = cons-first {xs = []} {ys = []} e in let q : _≡_ {A = ℕ} 0 1 = cc in omega arith
 
@@ -93,7 +121,7 @@ yes-is-no : Idle Yes ≡ Idle No → ⊥
 yes-is-no e = let q : _≡_ {A = ℕ} 0 1 = cc in omega arith
 
 pub refuted-plain : RefutedPlain
-unfolding pastSlots lastSlot markedOf unmarkedOf withMark later same samePosition sameBlock minus settled behind countOf strayOf orderOf entryOf leave headTo frontTo tailTo backTo nextTo freed stateTo valueTo has with firstOr answered lacksNext pushFrom setAside claimed takeOr popFrom newHead taken nextIndex destroyFrom readOut destroyIf live freeBlocks emptySlots idlers freshOf blank refused accepted lastFits without walkFrom itemsFrom walkOf drop.itemsOf all inLimits recordFits recordsFit allIdle dropFits brokenIn entryBut lowestFrom lowestFree clearedFrom cleared begun stored actedAt movedBy turnWith contentsOf ran runBy historyBy acts often itemsOf knownFrom followedFrom takersOf closedBy
+unfolding pastSlots lastSlot markedOf unmarkedOf withMark later same samePosition sameBlock minus settled behind countOf strayOf orderOf entryOf leave headTo frontTo tailTo backTo nextTo freed stateTo valueTo has with firstOr answered lacksNext pushFrom setAside claimed takeOr popFrom newHead taken nextIndex destroyFrom readOut destroyIf live freeBlocks emptySlots idlers freshOf blank refused accepted lastFits without walkFrom itemsFrom walkOf drop.itemsOf all inLimits recordFits recordsFit allIdle dropFits brokenIn entryBut lowestFrom lowestFree clearedFrom cleared begun stored actedAt movedBy turnWith contentsOf ran runBy historyBy acts often itemsOf knownFrom followedFrom takersOf closedBy writesIn
 refuted-plain =
     record {
       push-drops = λ p. no-cons (p .answers (storyOf (slipped pushDrops) 2 (does 0 0 5 0)) [] (event 0 (U1 None 5) (Idle Pushed)) Pushed refl refl .1 .put);
@@ -134,4 +162,7 @@ refuted-plain =
           (event 1 (V3 (index 0) (To 0)) (Idle PopClosed)) refl refl .0));
       own-claim =
           λ o. let k = o (actsOf (slipped handsOutAgain) 2 (does 0 2 0 2)) [] (event 0 (V3 (index 0) None) (Idle (Popped 0))) 0 refl refl .2 .made in omega arith;
+      unwritten-out =
+          λ o. let z = o (actsOf (slipped readsEarly) 2 (does 0 0 0 6 ++ does 1 2 0 6)) [] (event 1 (V12 (index 0) (To 0) 0) (Idle (Popped 0))) 0 refl refl in
+          unwritten-in (actsOf (slipped readsEarly) 2 (does 0 0 0 6 ++ does 1 2 0 6)) (z .0) 0 refl (z .4);
     }

@@ -4,7 +4,7 @@ use mathlib.Core.List.{List, _++_}
 use Rattle.unbounded_demands.specs.Notions.{acts}
 use Rattle.unbounded_demands.specs.Stories.{Story, storyOf}
 use Rattle.unbounded_demands.specs.Demands.{PlainThroughout, SaidAtBlocksEnd, CloseHolds, OwnClaim}
-use Rattle.unbounded_slips.specs.Slips.{unwritten, handsOutAgain, takesUnseen, pushDrops, pushesAnother, claimsClosed, closedAfterClaim, popsAnother, emptyAfterTaking, lenNone, emptyYes, emptyNo, fullYes, closedYes, closeIdle, slipped}
+use Rattle.unbounded_slips.specs.Slips.{unwritten, handsOutAgain, takesUnseen, readsEarly, pushDrops, pushesAnother, claimsClosed, closedAfterClaim, popsAnother, emptyAfterTaking, lenNone, emptyYes, emptyNo, fullYes, closedYes, closeIdle, slipped}
 use Rattle.unbounded_slips.specs.Refuted.{Trial, trial, reached, past, does}
 
 abbrev pub told : Trial → Story
@@ -65,6 +65,10 @@ popClosedBetween = trial claimsClosed (does 0 0 5 5 ++ does 1 6 0 1 ++ does 1 2 
 abbrev pub popOfNone : Trial
 popOfNone = trial handsOutAgain (does 0 2 0 3)
 
+-- a pop of a slot that is claimed, for an item 0, and not written: it reads the 0 that was there
+abbrev pub popTooEarly : Trial
+popTooEarly = trial readsEarly (does 0 0 0 6 ++ does 1 2 0 7)
+
 pub record RefutedPlain : Type 0 where
   -- Pushed, and the item not put in; Closed, and the item in: `Meant`
   pub push-drops : PlainIn (pushActs pushDrops 1) → ⊥
@@ -93,3 +97,5 @@ pub record RefutedPlain : Type 0 where
   pub none-after : CloseHolds (reached popClosedBetween) (past popClosedBetween) → ⊥
   -- a value handed out without a claim
   pub own-claim : OwnClaim (past popOfNone) → ⊥
+  -- the right value, and not written for the claim
+  pub unwritten-out : OwnClaim (past popTooEarly) → ⊥
