@@ -14,10 +14,10 @@ use Rattle.unbounded_proof_invariant.proofs.Views.{Seen, SeenOk}
 use Rattle.unbounded_proof_invariant.proofs.Own.{popOf, none-not-to}
 use Rattle.unbounded_proof_words.proofs.Stands.{placeOf, Stands, idle, u1, u2, u3, u4, u5, u6, u7, u8, u9, u10, u11, u12, u13, u14, u15, v1, v2, v3, v4, v5, v6, v7, v8, v9, v10, v11, v12, v13, v14, v15, len1, len2, len3, empty1, empty2, full1, close1, closed1, Sim}
 
-to-ptr : (p q : ℕ) → to p ≡ to q → p ≡ q
+pub to-ptr : (p q : ℕ) → to p ≡ to q → p ≡ q
 to-ptr p q e = cc
 
-not-none : {P : Type 0} (q : ℕ) → none ≡ to q → P
+pub not-none : {P : Type 0} (q : ℕ) → none ≡ to q → P
 not-none q e = absurd (none-not-to none q refl e)
 
 module _ (s : Shared) (w q : ℕ) (at-end : s .head ≡ q + 1) (last : q % 32 ≡ 30) where

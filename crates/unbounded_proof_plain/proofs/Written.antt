@@ -34,6 +34,7 @@ use Rattle.unbounded_proof_words.proofs.Stands.{placeOf, Stands, idle, u1, u2, 
 use Rattle.unbounded_proof_words.proofs.Live.{push-held}
 use Rattle.unbounded_proof_each_act.proofs.Step.{counted, held, taleOf}
 use Rattle.unbounded_proof_demand2.proofs.Logged.{items-more, latest-other, latest-own, Logged}
+use Rattle.unbounded_proof_plain.proofs.Gap.{to-ptr, not-none}
 use Rattle.unbounded_proof_plain.proofs.Scene.{latest-one, unput, Handing, hands12, hands14, hands15}
 
 -- ---- the workers of tail claims
@@ -266,12 +267,6 @@ module _ (at then : ℕ → Place) (h : List Event) (w : ℕ) (q : Place) (went 
             claim false y = absurd (omega (arith, long, ap length (unput (signOf (at w)) (signOf q) y)))
 
 -- ---- what is handed out was written
-to-ptr : (p q : ℕ) → to p ≡ to q → p ≡ q
-to-ptr p q e = cc
-
-not-none : {P : Type 0} (q : ℕ) → none ≡ to q → P
-not-none q e = absurd (none-not-to none q refl e)
-
 module _ (s : Shared) (w q : ℕ) where
   -- a worker with the pop of a position holds its head claim
   pops-held : (p : Place) (a n : Ptr) (x : Seen) → Stands p a n x → SeenOk s w x → popOf x ≡ to q → (held (taleOf p) ≡ true) × (s .got w ≡ q)
