@@ -21,7 +21,7 @@ use Rattle.unbounded_words.specs.declared.Pointer.the-variants.{None, To}
 use Rattle.unbounded_words.specs.Words.{sizes, markedOf}
 use Rattle.unbounded_places.specs.declared.Answer.{Answer}
 use Rattle.unbounded_places.specs.declared.Answer.the-variants.{Popped, PopClosed, Len, Yes, No}
-use Rattle.unbounded_places.specs.declared.Place.the-variants.{Idle, Empty1}
+use Rattle.unbounded_places.specs.declared.Place.the-variants.{Idle, Empty1, Empty2}
 use Rattle.unbounded_places.specs.Places.{viewOf}
 use Rattle.unbounded_acts.specs.Acts.{WRITE, has}
 use Rattle.unbounded_machine.specs.declared.Machine.{Machine}
@@ -38,7 +38,7 @@ use Rattle.unbounded.specs.declared.Bound.{Bound}
 use Rattle.unbounded.specs.Unbounded.{makeOf, stepOf, beginOf, actOf, capacityOf}
 use Rattle.unbounded_demands.specs.Notions.{Definition, Allowed, machineAfter, actsOf, Acts, Asking, Pushing, Popping, Reads, valueAt, stateAt, takingsOf, freeingsOf, signOf, HandsOut, itemsOf, takersOf, LatestIn, ItemIn, waiting, Fifo, position, Truth, chained}
 use Rattle.unbounded_demands.specs.Claims.{CallClaim, WrittenIn, closedBy, ClosesYes, NoClaims}
-use Rattle.unbounded_demands.specs.Stories.{Story, storyOf, taskOf, Takes, itemIn, changeOf, actor, known, queueAt, replyOf, putBy, takenBy, givenBack, At, AfterNextTail, momentOf, placeIn, Leaving, lastClaimed, asksLen, asksEmpty}
+use Rattle.unbounded_demands.specs.Stories.{Story, storyOf, taskOf, Takes, itemIn, changeOf, actor, known, queueAt, replyOf, putBy, takenBy, givenBack, At, AfterNextTail, momentOf, placeIn, Leaving, Filling, lastClaimed, asksLen, asksEmpty}
 
 -- ==== What an answer means: every run of the unbounded queue is a run of a plain queue without capacity (crates/queue_plain), but for one answer of is_empty. The story of a schedule is its
 -- accepted entries, begins too; the plain queue along it, and what each call has put in and taken out, are `known` of Stories.antt.
@@ -70,6 +70,18 @@ pub record AtBlocksEnd (earlier : Story) (act : Event) (a : Answer) : Type 0 whe
   pub begun : known earlier .each (act .worker) .begun < length before
   pub nothing-waits : (n : ℕ) → length before ≤ n → n ≤ length earlier → queueAt n earlier .items ≡ []
   pub leaving : (v : ℕ) × Leaving (placeIn v before)
+
+-- And it answers so there, but where tail's index stands at that block's end too: where is_empty answers yes although at its load of head's index some pop stood there, some push stands between
+-- its claim of a block's last slot and its add to tail's index (U9, U10).
+pub record YesAtBlocksEnd (earlier : Story) (w : ℕ) : Type 0 where
+  pub before : Story
+  pub load : Event
+  pub since : Story
+  pub is : earlier ≡ before ++ Does load ∷ since
+  pub its-own : load .worker ≡ w
+  pub loads : load .before ≡ Empty1
+  pub begun : known earlier .each w .begun < length before
+  pub filling : (v : ℕ) → Leaving (placeIn v before) → (u : ℕ) × Filling (placeIn u earlier)
 
 -- A call that answered Pushed put its item in once and took none out; Popped took out the one that it hands out and put in none; any other answer neither. Closed gives the item back that the
 -- call came with. After a close, whatever it answered, the queue is closed.
@@ -111,6 +123,7 @@ pub record PlainThroughout (d : Definition) (m : Machine) (h : List Event) (s : 
   pub acts : actsIn s ≡ h
   pub answers : (earlier later : Story) (act : Event) (a : Answer) → s ≡ earlier ++ Does act ∷ later → act .after ≡ Idle a
       → (Answered earlier act a ⊎ AtBlocksEnd earlier act a) × Meant earlier act a
+  pub yes-there : (earlier later : Story) (act : Event) (h : Index) → s ≡ earlier ++ Does act ∷ later → act .before ≡ Empty2 h → act .after ≡ Idle Yes → YesAtBlocksEnd earlier (act .worker)
   pub changes : (earlier later : Story) (act : Event) → s ≡ earlier ++ Does act ∷ later → Changes earlier act
   pub item-kept : ItemKept m s
   pub nothing-lost : NothingLost d m s

@@ -274,6 +274,11 @@ pub data Leaving : Place → Type 0 where
   leaving8 : {b next : Pointer} {h i : Index} → Leaving (V8 h b next i)
   leaving9 : {b : Pointer} {h i : Index} → Leaving (V9 h b i)
 
+-- A push between its claim of a block's last slot and its add to tail's index.
+pub data Filling : Place → Type 0 where
+  filling9 : {n b : Pointer} {t : Index} {x : ℕ} → Filling (U9 n t b x)
+  filling10 : {n b : Pointer} {t : Index} {x : ℕ} → Filling (U10 n t b x)
+
 -- In a block of `more` slots and two more: worker 0 pushes it full (U1 to U13, with U4 to U6 at the first, U3 and U9 to U11 at the last slot), pops all but the last (V1 to V12, V3 at the first), and
 -- claims that (V1, V2, V4).
 unfoldable pub often : ℕ → List ℕ → List ℕ

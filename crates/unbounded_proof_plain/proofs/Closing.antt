@@ -1,10 +1,10 @@
 -- Close holds, and a value is handed out of its call's own claim: from what is told along every schedule.
-use Prim.Native.Nat.{ℕ, _<_}
+use Prim.Native.Nat.{ℕ}
 use native.Mathlib.Omega.{arith}
 use mathlib.Core.Path.{_≡_, refl, sym, ap, _∙_, subst}
 use mathlib.Core.Logic.{_⊎_, inl, inr}
 use mathlib.Core.Bool.{Bool, true, false, cond, true≢false}
-use mathlib.Core.List.{List, [], _∷_, _++_, append-assoc, append-nil}
+use mathlib.Core.List.{List, [], _∷_, _++_, append-assoc}
 use lib.Dec.{eqb}
 use lib.ListN.{length, drop}
 use Rattle.queue_entries.specs.declared.Call.{Call}
@@ -14,7 +14,7 @@ use Rattle.queue_plain.specs.Plain.{Reply, Queue, answerOf, fullOf, frontOf, ye
 use Rattle.queue_plain.specs.Plain as plain
 use Rattle.queue_plain.specs.Story.{Begun, Does, Known, actsIn, itemsOf, knownWith, knownFrom}
 use Rattle.queue_plain.proofs.Stories.{acts-story, known-count, queue-act, queue-begun, queue-now}
-use Rattle.unbounded_words.specs.Words.{sizes, markedOf}
+use Rattle.unbounded_words.specs.Words.{sizes}
 use Rattle.unbounded_places.specs.declared.Answer.{Answer}
 use Rattle.unbounded_places.specs.declared.Answer.the-variants.{PopClosed, No}
 use Rattle.unbounded_places.specs.declared.Place.{Place}
@@ -33,7 +33,7 @@ use Rattle.unbounded_demands.specs.Stories.{Story, storyOf, taskOf, closes, cha
 use Rattle.unbounded_demands.specs.Demands.{Answered, AtBlocksEnd, Changes, CloseHolds, OwnClaim, ClosesAndClaims}
 use Rattle.unbounded_proof_demand2.proofs.Demand2.{table}
 use Rattle.unbounded_proof_plain.proofs.Work.{moment-own}
-use Rattle.unbounded_proof_plain.proofs.Scene.{unput, unput-idle, Speaks}
+use Rattle.unbounded_proof_plain.proofs.Scene.{unput, unput-idle}
 use Rattle.unbounded_proof_plain.proofs.Told.{Told}
 use Rattle.unbounded_proof_plain.proofs.Plain.{told-after}
 

@@ -23,7 +23,7 @@ use Rattle.unbounded_places.specs.declared.Slot.{Slot}
 use Rattle.unbounded_places.specs.declared.Block.{Block}
 use Rattle.unbounded_places.specs.declared.Ends.{Ends}
 use Rattle.unbounded_places.specs.declared.Answer.{Answer}
-use Rattle.unbounded_places.specs.declared.Answer.the-variants.{Popped, Len, Yes, No}
+use Rattle.unbounded_places.specs.declared.Answer.the-variants.{Nothing, Pushed, Closed, Popped, Empty, PopClosed, Len, Yes, No}
 use Rattle.unbounded_places.specs.declared.Place.{Place}
 use Rattle.unbounded_places.specs.declared.Place.the-variants.{Idle, Len1, Len2, Len3, Empty1, Empty2, Close1, IsClosed1}
 use Rattle.unbounded_acts.specs.declared.Acted.{Acted}
@@ -31,12 +31,23 @@ use Rattle.unbounded_acts.specs.Acts.{leave, tailTo, has, actOf}
 use Rattle.unbounded_machine.specs.declared.Event.{Event}
 use Rattle.unbounded_demands.specs.Notions.{takersOf, position}
 use Rattle.unbounded_demands.specs.Stories.{Story, taskOf, changeOf, actor, known, roomy, queueAt, At, AfterNextTail, momentOf, Now, timingTo}
-use Rattle.unbounded_demands.specs.Demands.{AtBlocksEnd}
+use Rattle.unbounded_demands.specs.Demands.{YesAtBlocksEnd, AtBlocksEnd}
 use Rattle.unbounded_proof_each_act.proofs.Step.{counted}
 use Rattle.unbounded_proof_plain.proofs.Ends.{mark-marked, marked-up}
-use Rattle.unbounded_proof_plain.proofs.Work.{moment-own, longer, past, now-at, then-at, Work, Decided, TakesBy, SeenSome, NoneYet, Due}
+use Rattle.unbounded_proof_plain.proofs.Work.{moment-own, longer, past, now-at, then-at, Work, Decided, SeenSome, NoneYet, Due}
 use Rattle.unbounded_proof_plain.proofs.Scene.{Scene, Speaks, More, Outcome, act, now, q₀, none-came, how-many, stays, begun-same, here, same-items, same-takers, same-waits, to, meant, speaks}
-use Rattle.unbounded_proof_plain.proofs.Rows.{popped, unpopped, Mild, mild, go, says, on, decided, keep}
+use Rattle.unbounded_proof_plain.proofs.Rows.{quietly, Mild, mild, go, says, on, decided, keep}
+
+abbrev popped : Answer → Bool
+popped Nothing = false
+popped Pushed = false
+popped (Closed x) = false
+popped (Popped v) = true
+popped Empty = false
+popped PopClosed = false
+popped (Len n) = false
+popped Yes = false
+popped No = false
 
 module _ (st : Story) (e : Ends) (sc : Scene st e) (w : ℕ) where
   abbrev A : Place → Place → Event
@@ -57,11 +68,20 @@ module _ (st : Story) (e : Ends) (sc : Scene st e) (w : ℕ) where
   closed-is : (b : Bool) → markedOf (e .tail) ≡ b → Q .closed ≡ b
   closed-is b z = sc .flag ∙ z
 
-  unpopped-at : {P : Type 0} (a : Answer) → popped a ≡ false → (v : ℕ) → Idle a ≡ Idle (Popped v) → P
-  unpopped-at a other v z = let one : a ≡ Popped v = cc in unpopped st e sc w a other v one
+  unpopped : {P : Type 0} (a : Answer) → popped a ≡ false → (v : ℕ) → Idle a ≡ Idle (Popped v) → P
+  unpopped a other v z = let one : a ≡ Popped v = cc in absurd (true≢false (sym (ap popped one) ∙ other))
+
+  not-there : {P : Type 0} (i : Index) → Close1 ≡ Empty2 i → P
+  not-there i z = absurd (let q : _≡_ {A = ℕ} 0 1 = cc in omega arith)
 
   not-yes : Idle No ≡ Idle Yes → ⊥
   not-yes z = let q : _≡_ {A = ℕ} 0 1 = cc in omega arith
+
+  yes-popped : {v : ℕ} → Yes ≡ Popped v → ⊥
+  yes-popped z = let q : _≡_ {A = ℕ} 0 1 = cc in omega arith
+
+  elsewhere : (i : Index) → IsClosed1 ≡ Empty2 i → ⊥
+  elsewhere i z = let q : _≡_ {A = ℕ} 0 1 = cc in omega arith
 
   -- ---- the lookers, and close
   abbrev Tells : Place → Acted → Type 0
@@ -71,10 +91,10 @@ module _ (st : Story) (e : Ends) (sc : Scene st e) (w : ℕ) where
   unfolding leave tailTo
   close g s lose o =
       either (Tells Close1) (markedOf (e .tail)) _ _
-      (λ m. speaks st e sc w Close1 No plain.No (e .tail) refl m (omega arith) call.Close refl (record { gave = unpopped-at No refl; was-open = λ b z. absurd (not-yes z) })
+      (λ m. speaks st e sc w Close1 No plain.No (e .tail) refl m (omega arith) call.Close refl (record { gave = unpopped No refl; saw = λ i y z. not-there i y; was-open = λ b z. absurd (not-yes z) })
       (told No plain.No refl refl refl (ap (λ (b : Bool). cond b plain.No plain.Yes) (closed-is true m))))
       (λ m. speaks st e sc w Close1 Yes plain.Yes (withMark (e .tail)) refl (mark-marked (e .tail)) (marked-up (e .tail)) call.Close refl
-      (record { gave = unpopped-at Yes refl; was-open = λ b z. closed-is false m })
+      (record { gave = unpopped Yes refl; saw = λ i y z. not-there i y; was-open = λ b z. closed-is false m })
       (told Yes plain.Yes refl refl refl (ap (λ (b : Bool). cond b plain.No plain.Yes) (closed-is false m))))
     where
       told : (a : Answer) (r : Reply) → changeOf (A Close1 (Idle a)) .puts ≡ false → changeOf (A Close1 (Idle a)) .takes ≡ false → timingTo (taskOf Close1) (taskOf (Idle a)) ≡ Now
@@ -82,12 +102,12 @@ module _ (st : Story) (e : Ends) (sc : Scene st e) (w : ℕ) where
       told a r np nt at is = here st e sc w Close1 (Idle a) np nt at call.Close r o is
 
   pub is-closed : (b : Bool) → markedOf (e .tail) ≡ b → Work st w call.IsClosed [] [] → Out IsClosed1 (Idle (cond b Yes No)) (e .tail)
-  is-closed true m o = says st e sc w IsClosed1 calm Yes plain.Yes refl (unpopped st e sc w Yes refl) call.IsClosed refl
+  is-closed true m o = says st e sc w IsClosed1 calm Yes plain.Yes refl (record { gave = λ v z. absurd (yes-popped z); saw = λ i y z. absurd (elsewhere i y) }) call.IsClosed refl
       (decided st e sc w IsClosed1 calm (Idle Yes) refl call.IsClosed plain.Yes o (ap yesIf (closed-is true m)))
     where
       calm : Mild st e sc w IsClosed1
       calm = mild st e sc w (λ q. refl) (λ q. refl) refl
-  is-closed false m o = says st e sc w IsClosed1 calm No plain.No refl (unpopped st e sc w No refl) call.IsClosed refl
+  is-closed false m o = says st e sc w IsClosed1 calm No plain.No refl (quietly st e sc w IsClosed1 No refl) call.IsClosed refl
       (decided st e sc w IsClosed1 calm (Idle No) refl call.IsClosed plain.No o (ap yesIf (closed-is false m)))
     where
       calm : Mild st e sc w IsClosed1
@@ -111,7 +131,7 @@ module _ (st : Story) (e : Ends) (sc : Scene st e) (w : ℕ) where
   unfolding leave same
   len3 g s t i o lose =
       either (Tells (Len3 t i)) (eqb (e .tail .0) (t .0)) _ _
-      (λ z. says st e sc w (Len3 t i) calm (Len (countOf sizes t i)) (plain.Count (countOf sizes t i)) refl (unpopped st e sc w (Len (countOf sizes t i)) refl) call.Len refl
+      (λ z. says st e sc w (Len3 t i) calm (Len (countOf sizes t i)) (plain.Count (countOf sizes t i)) refl (quietly st e sc w (Len3 t i) (Len (countOf sizes t i)) refl) call.Len refl
       (keep st e sc w (Len3 t i) calm (Idle (Len (countOf sizes t i))) refl _ _ _ _ (o .2 (eqb-true (e .tail .0) (t .0) z))))
       (λ z. go st e sc w (Len3 t i) calm Len1 refl (on st e sc w (Len3 t i) calm Len1 _ _ _ (o .0)))
     where
@@ -128,6 +148,7 @@ module _ (st : Story) (e : Ends) (sc : Scene st e) (w : ℕ) where
         on st e sc w Empty1 calm-first q _ _ _ o,
         sc .low,
         omega (arith, sc .heads, ap length (same-takers st e sc w Empty1 q refl refl)),
+        record { before = st; load = A Empty1 q; since = []; is = refl; own = refl; loads = refl; begun = begun; left = sc .leaves },
         look (eqb (length (Q .items)) 0) refl,
       )
     where
@@ -191,16 +212,29 @@ module _ (st : Story) (e : Ends) (sc : Scene st e) (w : ℕ) where
   pub empty2 : (i : Index) → Due st (e .tail) w (taskOf (Empty2 i)) → (b : Bool) → samePosition i (e .tail) ≡ b → Out (Empty2 i) (Idle (cond b Yes No)) (e .tail)
   unfolding samePosition
   empty2 i o true z =
-      says st e sc w (Empty2 i) calm Yes plain.Yes refl (unpopped st e sc w Yes refl) call.IsEmpty refl
+      says st e sc w (Empty2 i) calm Yes plain.Yes refl (record { gave = λ v z. absurd (yes-popped z); saw = λ j y y₁. seen-so }) call.IsEmpty refl
       (decided st e sc w (Empty2 i) calm (Idle Yes) refl call.IsEmpty plain.Yes (o .0)
       (ap yesIf (eq-eqb (length (Q .items)) 0 (none (position (e .tail)) (position i) (eqb-true (position i) (position (e .tail)) z) (o .2)))))
     where
       calm : Mild st e sc w (Empty2 i)
       calm = mild st e sc w (λ q. refl) (λ q. refl) refl
 
+      seen-so : YesAtBlocksEnd st w
+      seen-so =
+          record {
+            before = o .3 .before;
+            load = o .3 .load;
+            since = o .3 .since;
+            is = o .3 .is;
+            its-own = o .3 .own;
+            loads = o .3 .loads;
+            begun = o .3 .begun;
+            filling = λ v y. sc .fills (ap (λ (n : ℕ). n % 32) (sym (eqb-true (position i) (position (e .tail)) z)) ∙ o .3 .left v y);
+          }
+
       none : (p k : ℕ) → k ≡ position (e .tail) → counted k ≤ length (takersOf h) → length (Q .items) ≡ 0
       none p k is l = let y = ap counted is in omega (arith, how-many st e sc w, sc .heads)
-  empty2 i o false z = answer (o .3)
+  empty2 i o false z = answer (o .4)
     where
       calm : Mild st e sc w (Empty2 i)
       calm = mild st e sc w (λ q. refl) (λ q. refl) refl
@@ -219,7 +253,7 @@ module _ (st : Story) (e : Ends) (sc : Scene st e) (w : ℕ) where
 
       answer : SeenSome st w ⊎ NoneYet st w i → Out (Empty2 i) (Idle No) (e .tail)
       answer (inl k) =
-          says st e sc w (Empty2 i) calm No plain.No refl (unpopped st e sc w No refl) call.IsEmpty refl
+          says st e sc w (Empty2 i) calm No plain.No refl (quietly st e sc w (Empty2 i) No refl) call.IsEmpty refl
           (record {
             work = work;
             moment = k .moment;
@@ -233,7 +267,7 @@ module _ (st : Story) (e : Ends) (sc : Scene st e) (w : ℕ) where
       answer (inr k) = record { due = tt; said = λ a y. said a y; came = none-came st e sc w (Empty2 i) (Idle No) refl; more = extra; marks = refl; up = omega arith }
         where
           extra : More st e sc w (Empty2 i) (Idle No)
-          extra = record { gave = unpopped-at No refl; was-open = λ b z. absurd (true≢false (sym b)) }
+          extra = record { gave = unpopped No refl; saw = λ j y z. absurd (not-yes z); was-open = λ b z. absurd (true≢false (sym b)) }
 
           far : position i < position (e .tail)
           far = apart (position i) (position (e .tail)) (o .1) (eqb-false (position i) (position (e .tail)) z)

@@ -150,6 +150,7 @@ module _ (workers : ℕ) (a : Allowed workers) where
         stands = λ v. sym (fresh-stood v);
         dues = λ w. subst (λ (p : Place). Due [] (freshOf sizes workers .ends .tail) w (taskOf p)) (sym (fresh-stood w)) tt;
         answers = λ xs ys act x e said. absurd (no-split xs (Does act) ys e);
+        yes-there = λ xs ys act i e at said. absurd (no-split xs (Does act) ys e);
         changes = λ xs ys act e. absurd (no-split xs (Does act) ys e);
         claims = λ xs ys act v e said. absurd (no-split xs act ys e);
         written = λ k l. absurd (omega arith);
@@ -190,6 +191,7 @@ module _ (workers : ℕ) (a : Allowed workers) where
         record {
           acts = refl;
           answers = o .answers;
+          yes-there = o .yes-there;
           changes = o .changes;
           item-kept = λ w x e. item-of st (m .ends .tail) w (taskOf (stood m w)) (o .dues w) x e;
           nothing-lost =

@@ -27,7 +27,7 @@ use Rattle.unbounded_places.specs.declared.Ends.{Ends}
 use Rattle.unbounded_places.specs.declared.Answer.{Answer}
 use Rattle.unbounded_places.specs.declared.Answer.the-variants.{Nothing, Pushed, Closed, Popped, Empty, PopClosed, Len, Yes, No}
 use Rattle.unbounded_places.specs.declared.Place.{Place}
-use Rattle.unbounded_places.specs.declared.Place.the-variants.{Idle, U1, U3, U4, U7, U8, U9, U10, U11, U12, U14, V1, V3, V4, V5, V6, V10, V13, V15}
+use Rattle.unbounded_places.specs.declared.Place.the-variants.{Idle, U1, U3, U4, U7, U8, U9, U10, U11, U12, U14, V1, V3, V4, V5, V6, V10, V13, V15, Empty2}
 use Rattle.unbounded_places.specs.Places.{viewOf}
 use Rattle.unbounded_acts.specs.declared.Acted.{Acted}
 use Rattle.unbounded_acts.specs.Acts.{leave, headTo, tailTo, has, firstOr, answered, lacksNext, pushFrom, claimed, takeOr, popFrom, newHead, taken, destroyFrom, destroyIf, actOf}
@@ -35,26 +35,30 @@ use Rattle.unbounded_machine.specs.declared.Event.{Event}
 use Rattle.unbounded_demands.specs.Notions.{Pushing, push9, push12, takersOf, LatestIn, position}
 use Rattle.unbounded_demands.specs.Notions as notions
 use Rattle.unbounded_demands.specs.Stories.{Story, Enters, taskOf, closes, isClose, changeOf, actor, roomy, replyOf, Now, Stays, timingTo}
+use Rattle.unbounded_demands.specs.Demands.{YesAtBlocksEnd}
 use Rattle.unbounded_proof_each_act.proofs.Step.{counted}
 use Rattle.unbounded_proof_demand2.proofs.Logged.{items-more, takers-more, latest-own}
 use Rattle.unbounded_proof_plain.proofs.Ends.{mark-later, later-up}
 use Rattle.unbounded_proof_plain.proofs.Work.{Work, Decided, decided-now, brought, EnteredBy, ClosedBy, TriesBy, TakesBy, Due}
 use Rattle.unbounded_proof_plain.proofs.Scene.{drop-long, latest-one, unput, not-idle, brings-closed, brings-open, brings-none, Scene, Handing, Hints, More, no-more, Outcome, act, now, q₀, none-came, empty-there, still, kept, here, takes-on, to, speaks}
 
+popped-yes : {v : ℕ} → Popped v ≡ Yes → ⊥
+popped-yes z = let q : _≡_ {A = ℕ} 0 1 = cc in omega arith
+
 same-is : (a b : Index) → same a b ≡ true → a ≡ b
 unfolding same
 same-is a b z = ap index (eqb-true (a .0) (b .0) z)
 
-abbrev pub popped : Answer → Bool
-popped Nothing = false
-popped Pushed = false
-popped (Closed x) = false
-popped (Popped v) = true
-popped Empty = false
-popped PopClosed = false
-popped (Len n) = false
-popped Yes = false
-popped No = false
+abbrev pub telling : Answer → Bool
+telling Nothing = false
+telling Pushed = false
+telling (Closed x) = false
+telling (Popped v) = true
+telling Empty = false
+telling PopClosed = false
+telling (Len n) = false
+telling Yes = true
+telling No = false
 
 module _ (st : Story) (e : Ends) (sc : Scene st e) (w : ℕ) where
   abbrev A : Place → Place → Event
@@ -79,9 +83,13 @@ module _ (st : Story) (e : Ends) (sc : Scene st e) (w : ℕ) where
   closed-is : (b : Bool) → markedOf (e .tail) ≡ b → Q .closed ≡ b
   closed-is b z = sc .flag ∙ z
 
-  -- no other answer hands a value out
-  pub unpopped : {P : Type 0} (a : Answer) → popped a ≡ false → (v : ℕ) → a ≡ Popped v → P
-  unpopped a other v z = absurd (true≢false (sym (ap popped z) ∙ other))
+  -- what an answer tells besides: a value is handed out, is_empty says yes
+  pub record Extra (p : Place) (a : Answer) : Type 0 where
+    pub gave : (v : ℕ) → a ≡ Popped v → TakesBy st w × Handing p
+    pub saw : (i : Index) → p ≡ Empty2 i → a ≡ Yes → YesAtBlocksEnd st w
+
+  pub quietly : (p : Place) (a : Answer) → telling a ≡ false → Extra p a
+  quietly p a other = record { gave = λ v z. absurd (true≢false (sym (ap telling z) ∙ other)); saw = λ i y z. absurd (true≢false (sym (ap telling z) ∙ other)) }
 
   -- ---- where no act of p claims anything
   pub record Mild (p : Place) : Type 0 where
@@ -93,13 +101,18 @@ module _ (st : Story) (e : Ends) (sc : Scene st e) (w : ℕ) where
     pub go : (q : Place) → viewOf sizes q .busy ≡ true → Due (N p q) (e .tail) w (taskOf q) → Out p q (e .tail)
     go q busy o = to st e sc w p q (mild .no-put q) (mild .no-take q) busy (mild .open-still) o
 
-    pub says : (a : Answer) (r : Reply) → replyOf a ≡ r ∷ [] → ((v : ℕ) → a ≡ Popped v → TakesBy st w × Handing p) → (c : Call) → isClose c ≡ false
+    pub says : (a : Answer) (r : Reply) → replyOf a ≡ r ∷ [] → Extra p a → (c : Call) → isClose c ≡ false
         → Decided (N p (Idle a)) w c (plain.putBy (itemsOf (c ∷ [])) r) (plain.takenBy r) r → Out p (Idle a) (e .tail)
-    says a r is gave c other o =
-        speaks st e sc w p a r (e .tail) is (sym (ap (λ (b : Bool). cond b true (markedOf (e .tail))) (mild .open-still))) (omega arith) c (other ∙ sym (mild .open-still)) extra o
+    says a r is extra c other o =
+        speaks st e sc w p a r (e .tail) is (sym (ap (λ (b : Bool). cond b true (markedOf (e .tail))) (mild .open-still))) (omega arith) c (other ∙ sym (mild .open-still)) more o
       where
-        extra : More st e sc w p (Idle a)
-        extra = record { gave = λ v z. let one : a ≡ Popped v = cc in gave v one; was-open = λ b z. absurd (true≢false (sym b ∙ mild .open-still)) }
+        more : More st e sc w p (Idle a)
+        more =
+            record {
+              gave = λ v z. let one : a ≡ Popped v = cc in extra .gave v one;
+              saw = λ i y z. let one : a ≡ Yes = cc in extra .saw i y one;
+              was-open = λ b z. absurd (true≢false (sym b ∙ mild .open-still));
+            }
 
     module _ (q : Place) where
       pub on : (c : Call) (put took : List ℕ) → Work st w c put took → Work (N p q) w c put took
@@ -127,10 +140,10 @@ module _ (st : Story) (e : Ends) (sc : Scene st e) (w : ℕ) where
     -- ---- push: the answers
     pub says-closed : (x : ℕ) → ClosedBy st w x → Out p (Idle (Closed x)) (e .tail)
     says-closed x o =
-        says (Closed x) (plain.Closed x) refl (unpopped (Closed x) refl) (o .call) (brings-none (o .call) x (o .brings)) (keep (Idle (Closed x)) refl _ _ _ _ (o .decided))
+        says (Closed x) (plain.Closed x) refl (quietly p (Closed x) refl) (o .call) (brings-none (o .call) x (o .brings)) (keep (Idle (Closed x)) refl _ _ _ _ (o .decided))
 
     pub says-pushed : (x : ℕ) → EnteredBy st w x → Out p (Idle Pushed) (e .tail)
-    says-pushed x o = says Pushed plain.Pushed refl (unpopped Pushed refl) (o .call) (brings-none (o .call) x (o .brings)) (keep (Idle Pushed) refl _ _ _ _ (o .decided))
+    says-pushed x o = says Pushed plain.Pushed refl (quietly p Pushed refl) (o .call) (brings-none (o .call) x (o .brings)) (keep (Idle Pushed) refl _ _ _ _ (o .decided))
 
     pub firsts : (n : Pointer) (u : Index) (b : Pointer) (x : ℕ) → TriesBy st w x → Out p (firstOr n u b x) (e .tail)
     unfolding firstOr
@@ -165,7 +178,7 @@ module _ (st : Story) (e : Ends) (sc : Scene st e) (w : ℕ) where
         let z = t .out v refl in
         let k = latest-one (takersOf h) w (o .number) (z .0) (o .latest) (z .1) in
         let same : o .v ≡ v = sym (o .item .is) ∙ ap (λ (n : ℕ). getD (notions.itemsOf h) n 0) k ∙ z .2 .is in
-        says (Popped v) (plain.Popped v) refl (λ u z. (o, hand)) call.Pop refl
+        says (Popped v) (plain.Popped v) refl (record { gave = λ u z. (o, hand); saw = λ i y z. absurd (popped-yes z) }) call.Pop refl
         (subst (λ (y : ℕ). Decided (N p (Idle (Popped v))) w call.Pop [] (y ∷ []) (plain.Popped y)) same (keep (Idle (Popped v)) refl _ _ _ _ (o .decided)))
 
     pub destroys : (b : Pointer) (i v : ℕ) → TakesBy st w → Out p (destroyFrom sizes b i v) (e .tail)
@@ -318,9 +331,9 @@ module _ (st : Story) (e : Ends) (sc : Scene st e) (w : ℕ) where
   v3 g s i b lose o =
       either Looks (samePosition i (e .tail)) _ _
       (λ z. either Looks (markedOf (e .tail)) _ _
-      (λ m k. says (V3 i b) calm PopClosed plain.EmptyAndClosed refl (unpopped PopClosed refl) call.Pop refl
+      (λ m k. says (V3 i b) calm PopClosed plain.EmptyAndClosed refl (quietly (V3 i b) PopClosed refl) call.Pop refl
       (decided (V3 i b) calm (Idle PopClosed) refl call.Pop plain.EmptyAndClosed o (none-there true m (k .true-then PopClosed refl .1))))
-      (λ m k. says (V3 i b) calm Empty plain.Empty refl (unpopped Empty refl) call.Pop refl
+      (λ m k. says (V3 i b) calm Empty plain.Empty refl (quietly (V3 i b) Empty refl) call.Pop refl
       (decided (V3 i b) calm (Idle Empty) refl call.Pop plain.Empty o (none-there false m (k .true-then Empty refl .1)))))
       (λ z k. wants (V3 i b) calm i b (newHead sizes i (e .tail)) o)
     where

@@ -25,15 +25,15 @@ use Rattle.unbounded_places.specs.declared.Ends.{Ends}
 use Rattle.unbounded_places.specs.declared.Answer.{Answer}
 use Rattle.unbounded_places.specs.declared.Answer.the-variants.{Nothing, Pushed, Closed, Popped, Empty, PopClosed, Len, Yes, No}
 use Rattle.unbounded_places.specs.declared.Place.{Place}
-use Rattle.unbounded_places.specs.declared.Place.the-variants.{Idle, V12, V14, V15}
+use Rattle.unbounded_places.specs.declared.Place.the-variants.{Idle, V12, V14, V15, Empty2}
 use Rattle.unbounded_places.specs.Places.{viewOf}
 use Rattle.unbounded_machine.specs.declared.Event.{Event}
 use Rattle.unbounded_machine.specs.History.{event}
 use Rattle.unbounded_demands.specs.Notions.{Pushing, Sign, Plain, Exchange7, Exchange4, Pops, Pushes, HandsOut, answered, signOf, itemIn, itemBy, takes, takersOf, LatestIn, ItemIn, waiting, position, Truth}
 use Rattle.unbounded_demands.specs.Notions as notions
 use Rattle.unbounded_demands.specs.Claims.{Unanswered, CallClaim}
-use Rattle.unbounded_demands.specs.Stories.{Story, Enters, taskOf, isClose, closes, changeOf, actor, known, roomy, queueAt, replyOf, Timing, Now, Stays, timingTo, timingOf, timed, momentOf, placeIn, Leaving}
-use Rattle.unbounded_demands.specs.Demands.{Answered, AtBlocksEnd, Meant}
+use Rattle.unbounded_demands.specs.Stories.{Story, Enters, taskOf, isClose, closes, changeOf, actor, known, roomy, queueAt, replyOf, Timing, Now, Stays, timingTo, timingOf, timed, momentOf, placeIn, Leaving, Filling}
+use Rattle.unbounded_demands.specs.Demands.{Answered, AtBlocksEnd, YesAtBlocksEnd, Meant}
 use Rattle.unbounded_proof_each_act.proofs.Step.{counted}
 use Rattle.unbounded_proof_demand2.proofs.Logged.{items-more, takers-more}
 use Rattle.unbounded_proof_plain.proofs.Work.{moment-own, longer, past, Work, Decided, carried, decided-now, Brings, push, force, TakesBy, Due}
@@ -148,6 +148,9 @@ pub record Scene (st : Story) (e : Ends) : Type 0 where
   pub small : e .tail .0 + 2 < wide
   -- head's index at a block's end
   pub gap : position (e .head) % 32 ≡ 31 → (v : ℕ) × Leaving (placeIn v st)
+  pub leaves : (v : ℕ) → Leaving (placeIn v st) → position (e .head) % 32 ≡ 31
+  -- and tail's
+  pub fills : position (e .tail) % 32 ≡ 31 → (u : ℕ) × Filling (placeIn u st)
 
 -- An answer is the plain queue's, or is_empty's no at a block's end; and means what it says.
 abbrev pub Speaks : Story → Event → Answer → Type 0
@@ -184,10 +187,11 @@ module _ (st : Story) (e : Ends) (sc : Scene st e) (w : ℕ) where
   -- a value is handed out of a claim of its call; a close says yes of an open queue
   pub record More (p q : Place) : Type 0 where
     pub gave : (v : ℕ) → q ≡ Idle (Popped v) → TakesBy st w × Handing p
+    pub saw : (i : Index) → p ≡ Empty2 i → q ≡ Idle Yes → YesAtBlocksEnd st w
     pub was-open : closes (taskOf p) ≡ true → q ≡ Idle Yes → q₀ .closed ≡ false
 
   pub no-more : (p q : Place) → viewOf sizes q .busy ≡ true → More p q
-  no-more p q busy = record { gave = λ v z. absurd (not-idle q busy (Popped v) z); was-open = λ b z. absurd (not-idle q busy Yes z) }
+  no-more p q busy = record { gave = λ v z. absurd (not-idle q busy (Popped v) z); saw = λ i y z. absurd (not-idle q busy Yes z); was-open = λ b z. absurd (not-idle q busy Yes z) }
 
   -- what the act leads to, or answers; tail's index is then t
   pub record Outcome (p q : Place) (t : Index) : Type 0 where

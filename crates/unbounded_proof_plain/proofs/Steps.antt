@@ -1,15 +1,17 @@
--- What a turn makes of a machine's parts and of a call that begins, and what the signs of an act tell.
+-- What a turn makes of a machine's parts, of a call that begins and of a story's acts; and what the signs of an act tell.
 use Prim.Native.Nat.{ℕ, _-_, _<_}
 use native.Mathlib.Omega.{arith}
-use mathlib.Core.Path.{_≡_, refl, sym, ap, _∙_}
+use mathlib.Core.Path.{_≡_, refl, sym, ap, _∙_, subst}
 use mathlib.Core.Logic.{_≢_}
 use mathlib.Core.Bool.{true, false, true≢false}
-use mathlib.Core.List.{List, [], _∷_}
+use mathlib.Core.List.{List, [], _∷_, _++_}
 use lib.Dec.{eqb}
 use lib.ListN.{length}
 use borrow.Author.Tests.{eqb-true}
 use Rattle.queue_entries.specs.declared.Call.{Call}
 use Rattle.queue_entries.specs.declared.Call.the-variants as call
+use Rattle.queue_schedules.proofs.Splits.{Order, earlier, same, later, one-more, no-split}
+use Rattle.queue_plain.specs.Story.{Begun, Does}
 use Rattle.unbounded_words.specs.declared.Index.{Index}
 use Rattle.unbounded_words.specs.Words.{sizes}
 use Rattle.unbounded_places.specs.declared.Slot.{Slot}
@@ -18,9 +20,10 @@ use Rattle.unbounded_places.specs.declared.Place.{Place}
 use Rattle.unbounded_places.specs.Places.{beginOf}
 use Rattle.unbounded_acts.specs.declared.Acted.{Acted}
 use Rattle.unbounded_machine.specs.declared.Machine.{Machine}
+use Rattle.unbounded_machine.specs.declared.Event.{Event}
 use Rattle.unbounded_machine.specs.Turn.{begun, stored}
 use Rattle.unbounded_demands.specs.Notions.{Sign, Plain, Exchange7, Exchange4, Pops, Pushes, HandsOut, signOf, itemBy, takesBy, takes}
-use Rattle.unbounded_demands.specs.Stories.{Story, taskOf}
+use Rattle.unbounded_demands.specs.Stories.{Element, Story, taskOf}
 use Rattle.unbounded_proof_invariant.proofs.Queue.{Shared}
 use Rattle.unbounded_proof_words.proofs.Frames.{get-same, get-other}
 use Rattle.unbounded_proof_each_act.proofs.Step.{counted, Logs, puts, neither}
@@ -84,3 +87,24 @@ pub takes-some : (s u : Shared) (w : ℕ) (p q : Place) → Logs s u w p q → t
 takes-some s u w p q (puts x item no-taking slot et ei eh eg loose) z = absurd (true≢false (sym z ∙ no-taking))
 takes-some s u w p q (step.takes no-item taking slot some et ei eh eg) z = omega arith
 takes-some s u w p q (neither no-item no-taking ut ct ei uh ch eg more) z = absurd (true≢false (sym z ∙ no-taking))
+
+-- ---- what holds of each act of a story, one element more
+module _ (P : Story → Event → Type 0) (st : Story) (old : (xs ys : Story) (e : Event) → st ≡ xs ++ Does e ∷ ys → P xs e) where
+  pub on-act : (act : Event) → P st act → (xs ys : Story) (e : Event) → st ++ Does act ∷ [] ≡ xs ++ Does e ∷ ys → P xs e
+  on-act act new xs ys e z = go (one-more st (Does act) xs ys (Does e) z)
+    where
+      go : Order xs (Does e) ys st (Does act) [] → P xs e
+      go (earlier zs was left) = old xs zs e was
+      go (same whole one rest) = let is : e ≡ act = cc in subst (λ (u : Story). P u e) (sym whole) (subst (P st) (sym is) new)
+      go (later zs was left) = absurd (no-split zs (Does e) ys left)
+
+  pub on-begin : (w : ℕ) (c : Call) (xs ys : Story) (e : Event) → st ++ Begun w c ∷ [] ≡ xs ++ Does e ∷ ys → P xs e
+  on-begin w c xs ys e z = go (one-more st (Begun w c) xs ys (Does e) z)
+    where
+      no-begin : _≡_ {A = Element} (Does e) (Begun w c) → ⊥
+      no-begin y = let q : _≡_ {A = ℕ} 0 1 = cc in omega arith
+
+      go : Order xs (Does e) ys st (Begun w c) [] → P xs e
+      go (earlier zs was left) = old xs zs e was
+      go (same whole one rest) = absurd (no-begin one)
+      go (later zs was left) = absurd (no-split zs (Does e) ys left)

@@ -176,7 +176,7 @@ module _ (st : Story) (e : Ends) (sc : Scene st e) (w k : ℕ) (g : Block) (s : 
   row (Len3 i j) at busy o t = len3 st e sc w g s i j o lose
   row Empty1 at busy o t = empty1 st e sc w o
   row (Empty2 i) at busy o t = empty2 st e sc w i o (samePosition i (e .tail)) refl
-  row Full1 at busy o t = says st e sc w Full1 (calm refl refl) No plain.No refl (rows.unpopped st e sc w No refl) call.IsFull refl
+  row Full1 at busy o t = says st e sc w Full1 (calm refl refl) No plain.No refl (rows.quietly st e sc w Full1 No refl) call.IsFull refl
       (decided st e sc w Full1 (calm refl refl) (Idle No) refl call.IsFull plain.No o (never-full (q₀ st e sc w)))
   row Close1 at busy o t = close st e sc w g s lose o
   row IsClosed1 at busy o t = is-closed st e sc w (markedOf (e .tail)) refl o

@@ -23,9 +23,9 @@ use Rattle.unbounded_words.specs.Words.{sizes, markedOf, countOf}
 use Rattle.unbounded_places.specs.declared.Slot.{Slot}
 use Rattle.unbounded_places.specs.declared.Ends.{Ends}
 use Rattle.unbounded_places.specs.declared.Answer.{Answer}
-use Rattle.unbounded_places.specs.declared.Answer.the-variants.{Popped}
+use Rattle.unbounded_places.specs.declared.Answer.the-variants.{Popped, Yes}
 use Rattle.unbounded_places.specs.declared.Place.{Place}
-use Rattle.unbounded_places.specs.declared.Place.the-variants.{Idle}
+use Rattle.unbounded_places.specs.declared.Place.the-variants.{Idle, Empty2}
 use Rattle.unbounded_places.specs.Places.{viewOf, beginOf}
 use Rattle.unbounded_acts.specs.declared.Acted.{Acted}
 use Rattle.unbounded_acts.specs.Acts.{actOf}
@@ -37,8 +37,8 @@ use Rattle.unbounded_machine.specs.History.{event, eventsOf}
 use Rattle.unbounded_demands.specs.Notions.{Pushing, signOf, itemOf, takes, takersOf, LatestIn, ItemIn, waiting, position, Truth}
 use Rattle.unbounded_demands.specs.Notions as notions
 use Rattle.unbounded_demands.specs.Claims.{CallClaim, WrittenIn}
-use Rattle.unbounded_demands.specs.Stories.{Element, Story, taskOf, closes, changeOf, actor, known, queueAt, At, AfterNextTail, heard, momentOf, placeIn, Leaving}
-use Rattle.unbounded_demands.specs.Demands.{Changes, OwnClaim}
+use Rattle.unbounded_demands.specs.Stories.{Story, taskOf, closes, changeOf, actor, known, queueAt, At, AfterNextTail, heard, momentOf, placeIn, Leaving, Filling}
+use Rattle.unbounded_demands.specs.Demands.{YesAtBlocksEnd, Changes, OwnClaim}
 use Rattle.unbounded_proof_invariant.proofs.Queue.{Shared}
 use Rattle.unbounded_proof_words.proofs.Words.{half, bit}
 use Rattle.unbounded_proof_words.proofs.Stands.{endsOf}
@@ -52,11 +52,17 @@ use Rattle.unbounded_proof_plain.proofs.Ends.{count-word}
 use Rattle.unbounded_proof_plain.proofs.Work.{moment-else, moment-begun, place-own, place-else, place-begun, place-unbegun, longer, past, then-at, Work, SeenSome, NoneYet, Due, due-else}
 use Rattle.unbounded_proof_plain.proofs.Scene.{latest-one, claim-more, unput, Scene, Speaks, Hints, Outcome, how-many}
 use Rattle.unbounded_proof_plain.proofs.Table.{row}
-use Rattle.unbounded_proof_plain.proofs.Gap.{at-gap}
+use Rattle.unbounded_proof_plain.proofs.Gap.{leaving-gap, at-gap, tail-gap}
 use Rattle.unbounded_proof_plain.proofs.Written.{Wrote, wrote-still, writes-row, Claimed, wrote-on, pushing-busy, written-out}
-use Rattle.unbounded_proof_plain.proofs.Steps.{stored-stood, stored-else, stored-ends, begun-stood, begun-else, begun-ends, begun-due, one-change, item-is, takes-some}
+use Rattle.unbounded_proof_plain.proofs.Steps.{stored-stood, stored-else, stored-ends, begun-stood, begun-else, begun-ends, begun-due, one-change, item-is, takes-some, on-act, on-begin}
 
 module _ (workers : ℕ) (team : workers ≤ workersMost) where
+  abbrev Answers : Story → Event → Type 0
+  Answers s e = (a : Answer) → e .after ≡ Idle a → Speaks s e a
+
+  abbrev YesThere : Story → Event → Type 0
+  YesThere s e = (i : Index) → e .before ≡ Empty2 i → e .after ≡ Idle Yes → YesAtBlocksEnd s (e .worker)
+
   abbrev OwnAt : List Event → ℕ → ℕ → Type 0
   OwnAt h w v = (n : ℕ) × CallClaim h w n × LatestIn (takersOf h) w n × ItemIn h n v × WrittenIn h n v
 
@@ -67,6 +73,7 @@ module _ (workers : ℕ) (team : workers ≤ workersMost) where
     pub stands : (v : ℕ) → placeIn v st ≡ stood m v
     pub dues : (w : ℕ) → Due st (m .ends .tail) w (taskOf (stood m w))
     pub answers : (xs ys : Story) (act : Event) (a : Answer) → st ≡ xs ++ Does act ∷ ys → act .after ≡ Idle a → Speaks xs act a
+    pub yes-there : (xs ys : Story) (act : Event) (i : Index) → st ≡ xs ++ Does act ∷ ys → act .before ≡ Empty2 i → act .after ≡ Idle Yes → YesAtBlocksEnd xs (act .worker)
     pub changes : (xs ys : Story) (act : Event) → st ≡ xs ++ Does act ∷ ys → Changes xs act
     pub claims : OwnClaim (actsIn st)
     pub written : (k : ℕ) → k < length (notions.itemsOf (actsIn st)) → Wrote (stood m) (actsIn st) k
@@ -107,6 +114,14 @@ module _ (workers : ℕ) (team : workers ≤ workersMost) where
               λ z.
               let g = at-gap (m .ends) (m .blocks) (m .slots) (m .workers) (m .meter) s (r .sim) (ap (λ (n : ℕ). n % 32) (sym head-at) ∙ z) in
               (g .0, subst Leaving (sym (o .stands (g .0))) (g .1));
+          leaves =
+              λ v z.
+              let y = r .sim .places v in
+              ap (λ (n : ℕ). n % 32) head-at ∙ leaving-gap s v (stood m v) (y .aside) (y .new) (y .seen) (y .at) (y .good .seen) (subst Leaving (o .stands v) z);
+          fills =
+              λ z.
+              let g = tail-gap (m .ends) (m .blocks) (m .slots) (m .workers) (m .meter) s (r .sim) (ap (λ (n : ℕ). n % 32) (sym tail-at) ∙ z) in
+              (g .0, subst Filling (sym (o .stands (g .0))) (g .1));
         }
 
     -- is_empty has found nothing
@@ -347,8 +362,9 @@ module _ (workers : ℕ) (team : workers ≤ workersMost) where
                 flag = flag-on ∙ ap (λ (e : Ends). markedOf (e .tail)) (sym (stored-ends m w l k i a));
                 stands = stands-on;
                 dues = due-each;
-                answers = λ xs ys e x z said. go-answer xs ys e x said (one-more st (Does act) xs ys (Does e) z);
-                changes = λ xs ys e z. go-change xs ys e (one-more st (Does act) xs ys (Does e) z);
+                answers = λ xs ys e x z. on-act Answers st (λ us vs f y. λ x said. o .answers us vs f x y said) act (out .said) xs ys e z x;
+                yes-there = λ xs ys e j z. on-act YesThere st (λ us vs f y. λ j. o .yes-there us vs f j y) act (out .more .saw) xs ys e z j;
+                changes = on-act Changes st (o .changes) act changed;
                 written = subst (λ (y : List Event). (n : ℕ) → n < length (notions.itemsOf y) → Wrote (stood next) y n) (sym (acts-end st (Does act))) wrote-then;
                 claims = λ xs ys e v z said. go-claim xs ys e v said (one-more h act xs ys e (sym (acts-end st (Does act)) ∙ z));
               }
@@ -365,21 +381,6 @@ module _ (workers : ℕ) (team : workers ≤ workersMost) where
                   (o .written (given .number) (item .made)) in
                   subst (λ (y : Event). OwnAt xs (y .worker) v) (sym one) (subst (λ (y : List Event). OwnAt y w v) (sym whole) (given .number, given .claim, given .latest, item, wrote))
               go-claim xs ys e v said (later zs was left) = absurd (no-split zs e ys left)
-
-              go-answer : (xs ys : Story) (e : Event) (x : Answer) → e .after ≡ Idle x → Order xs (Does e) ys st (Does act) [] → Speaks xs e x
-              go-answer xs ys e x said (earlier zs was left) = o .answers xs zs e x was said
-              go-answer xs ys e x said (same whole one rest) =
-                  let is : e ≡ act = cc in
-                  let spoken = out .said x (ap (λ (y : Event). y .after) (sym is) ∙ said) in
-                  subst (λ (u : Story). Speaks u e x) (sym whole) (subst (λ (y : Event). Speaks st y x) (sym is) spoken)
-              go-answer xs ys e x said (later zs was left) = absurd (no-split zs (Does e) ys left)
-
-              go-change : (xs ys : Story) (e : Event) → Order xs (Does e) ys st (Does act) [] → Changes xs e
-              go-change xs ys e (earlier zs was left) = o .changes xs zs e was
-              go-change xs ys e (same whole one rest) =
-                  let is : e ≡ act = cc in
-                  subst (λ (u : Story). Changes u e) (sym whole) (subst (λ (y : Event). Changes st y) (sym is) changed)
-              go-change xs ys e (later zs was left) = absurd (no-split zs (Does e) ys left)
 
         pub told-act : Step (m .blocks) (m .slots) (m .workers) (m .meter) s w (stood m w) k i l a → Reached workers next (actsIn st ++ event w (stood m w) (stood next w) ∷ [])
             → Told next (st ++ Does (event w (stood m w) (stood next w)) ∷ [])
@@ -458,8 +459,9 @@ module _ (workers : ℕ) (team : workers ≤ workersMost) where
               flag = ap (λ (z : Queue). z .closed) (queue-begun actor changeOf 0 st w c) ∙ o .flag ∙ ap (λ (e : Ends). markedOf (e .tail)) (sym (begun-ends m w (beginOf c)));
               stands = stands-begun;
               dues = due-begun;
-              answers = λ xs ys e x z said. go-answer xs ys e x said (one-more st (Begun w c) xs ys (Does e) z);
-              changes = λ xs ys e z. go-change xs ys e (one-more st (Begun w c) xs ys (Does e) z);
+              answers = λ xs ys e x z. on-begin Answers st (λ us vs f y. λ x said. o .answers us vs f x y said) w c xs ys e z x;
+              yes-there = λ xs ys e j z. on-begin YesThere st (λ us vs f y. λ j. o .yes-there us vs f j y) w c xs ys e z j;
+              changes = on-begin Changes st (o .changes) w c;
               claims = subst OwnClaim (sym same-acts) (o .claims);
               written = subst (λ (y : List Event). (n : ℕ) → n < length (notions.itemsOf y) → Wrote (stood new) y n) (sym same-acts)
                   (λ n z. wrote-still (stood m) (stood new) (actsIn st) n there (o .written n z));
@@ -467,19 +469,6 @@ module _ (workers : ℕ) (team : workers ≤ workersMost) where
           where
             there : (v : ℕ) (t : Index) → Pushing (stood m v) t → stood new v ≡ stood m v
             there v t y = begun-else m w (beginOf c) v (λ z. true≢false (sym (pushing-busy (stood m v) t y) ∙ ap (λ (j : ℕ). viewOf sizes (stood m j) .busy) z ∙ idle))
-
-            no-begin : (e : Event) → _≡_ {A = Element} (Does e) (Begun w c) → ⊥
-            no-begin e y = let z : _≡_ {A = ℕ} 0 1 = cc in omega arith
-
-            go-answer : (xs ys : Story) (e : Event) (x : Answer) → e .after ≡ Idle x → Order xs (Does e) ys st (Begun w c) [] → Speaks xs e x
-            go-answer xs ys e x said (earlier zs was left) = o .answers xs zs e x was said
-            go-answer xs ys e x said (same whole one rest) = absurd (no-begin e one)
-            go-answer xs ys e x said (later zs was left) = absurd (no-split zs (Does e) ys left)
-
-            go-change : (xs ys : Story) (e : Event) → Order xs (Does e) ys st (Begun w c) [] → Changes xs e
-            go-change xs ys e (earlier zs was left) = o .changes xs zs e was
-            go-change xs ys e (same whole one rest) = absurd (no-begin e one)
-            go-change xs ys e (later zs was left) = absurd (no-split zs (Does e) ys left)
 
   -- every accepted entry leads on
   pub told-kept : (m : Machine) (st : Story) (en : Entry) (next : Machine) → Told m st → Turned m en next → Told next (st ++ elementsBy eventsOf m en next)

@@ -4,7 +4,7 @@ use native.Mathlib.Omega.{arith}
 use mathlib.Core.Path.{_≡_, refl, sym, ap, _∙_, subst}
 use mathlib.Core.Logic.{_≢_, _⊎_, inl, inr}
 use mathlib.Core.Bool.{Bool, true, cond}
-use mathlib.Core.List.{List, [], _∷_, _++_}
+use mathlib.Core.List.{List, [], _∷_, _++_, append-assoc}
 use lib.ListN.{length, length-append}
 use borrow.Author.Tests.{eq-eqb, ne-eqb}
 use Rattle.queue_entries.specs.declared.Call.{Call}
@@ -160,6 +160,17 @@ pub record TakesBy (st : Story) (w : ℕ) : Type 0 where
   pub item : ItemIn (actsIn st) number v
   pub claim : CallClaim (actsIn st) w number
 
+-- is_empty's load of head's index, the word h; where a pop was leaving a block, that was the block's end
+pub record Loaded (st : Story) (w : ℕ) (h : Index) : Type 0 where
+  pub before : Story
+  pub load : Event
+  pub since : Story
+  pub is : st ≡ before ++ Does load ∷ since
+  pub own : load .worker ≡ w
+  pub loads : load .before ≡ Empty1
+  pub begun : known st .each w .begun < length before
+  pub left : (v : ℕ) → Leaving (placeIn v before) → position h % 32 ≡ 31
+
 -- something waits at the moment
 pub record SeenSome (st : Story) (w : ℕ) : Type 0 where
   pub moment : ℕ
@@ -205,7 +216,7 @@ Due st t w Takes = TakesBy st w
 Due st t w (LoadsHead u) = Work st w call.Len [] [] × (u .0 ≤ t .0)
 Due st t w (Counts u h) = Work st w call.Len [] [] × (u .0 ≤ t .0) × (t .0 ≡ u .0 → Decided st w call.Len [] [] (plain.Count (countOf sizes u h)))
 Due st t w (LooksAtTail h) =
-    Work st w call.IsEmpty [] [] × (position h ≤ position t) × (counted (position h) ≤ length (takersOf (actsIn st))) × (SeenSome st w ⊎ NoneYet st w h)
+    Work st w call.IsEmpty [] [] × (position h ≤ position t) × (counted (position h) ≤ length (takersOf (actsIn st))) × Loaded st w h × (SeenSome st w ⊎ NoneYet st w h)
 
 -- ---- another's element: the story goes on, w's part of it stays
 module _ (st : Story) (x : Element) (w : ℕ) (t u : Index) (up : t .0 ≤ u .0) (each : known (st ++ x ∷ []) .each w ≡ known st .each w)
@@ -257,6 +268,19 @@ module _ (st : Story) (x : Element) (w : ℕ) (t u : Index) (up : t .0 ≤ u .0)
   looks-else h work (inl o) = inl (some-else o)
   looks-else h work (inr o) = none h work o
 
+  loaded-else : (h : Index) → Loaded st w h → Loaded st′ w h
+  loaded-else h o =
+      record {
+        before = o .before;
+        load = o .load;
+        since = o .since ++ x ∷ [];
+        is = ap (λ (s : Story). s ++ x ∷ []) (o .is) ∙ append-assoc (o .before) (Does (o .load) ∷ o .since) (x ∷ []);
+        own = o .own;
+        loads = o .loads;
+        begun = omega (arith, ap (λ (z : Doing). z .begun) each, o .begun);
+        left = o .left;
+      }
+
   pub due-else : (k : Task) → Due st t w k → Due st′ u w k
   due-else (Rests a) o = tt
   due-else (Starts c) o = work-else c [] [] o
@@ -276,4 +300,4 @@ module _ (st : Story) (x : Element) (w : ℕ) (t u : Index) (up : t .0 ≤ u .0)
       }
   due-else (LoadsHead i) o = (work-else _ _ _ (o .0), omega (arith, o .1))
   due-else (Counts i h) o = (work-else _ _ _ (o .0), omega (arith, o .1), λ e. decided-else _ _ _ _ (o .2 (omega (arith, o .1))))
-  due-else (LooksAtTail h) o = (work-else _ _ _ (o .0), omega (arith, o .1), omega (arith, o .2), looks-else h (o .0) (o .3))
+  due-else (LooksAtTail h) o = (work-else _ _ _ (o .0), omega (arith, o .1), omega (arith, o .2), loaded-else h (o .3), looks-else h (o .0) (o .4))

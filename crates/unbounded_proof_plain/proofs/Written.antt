@@ -1,5 +1,5 @@
 -- Every tail claim's item was written for it, or its worker is on the way to the write; and what is handed out was written.
-use Prim.Native.Nat.{ℕ, _+_, _%_, _≤_, _<_}
+use Prim.Native.Nat.{ℕ, _+_, _%_, _<_}
 use native.Mathlib.Omega.{arith}
 use native.Mathlib.Decide.{ℕ-discrete, decLt}
 use mathlib.Core.Path.{_≡_, refl, sym, ap, _∙_, subst}
@@ -28,9 +28,9 @@ use Rattle.unbounded_demands.specs.Stories.{Task, Rests, Starts, Tries, Given, 
 use Rattle.unbounded_proof_invariant.proofs.Queue.{Ptr, none, to, Hand, Open, Done, By, Shared}
 use Rattle.unbounded_proof_invariant.proofs.Kept.{hand-by-done}
 use Rattle.unbounded_proof_invariant.proofs.Views.{Seen, SeenOk}
-use Rattle.unbounded_proof_invariant.proofs.Own.{pushOf, popOf, none-not-to}
+use Rattle.unbounded_proof_invariant.proofs.Own.{pushOf, popOf}
 use Rattle.unbounded_proof_words.proofs.Words.{word, half}
-use Rattle.unbounded_proof_words.proofs.Stands.{placeOf, Stands, idle, u1, u2, u3, u4, u5, u6, u7, u8, u9, u10, u11, u12, u13, u14, u15, v1, v2, v3, v4, v5, v6, v7, v8, v9, v10, v11, v12, v13, v14, v15, len1, len2, len3, empty1, empty2, full1, close1, closed1, Standing, Sim}
+use Rattle.unbounded_proof_words.proofs.Stands.{placeOf, Stands, idle, u1, u2, u3, u4, u5, u6, u7, u8, u9, u10, u11, u12, u13, u14, u15, v1, v2, v3, v4, v5, v6, v7, v8, v9, v10, v11, v12, v13, v14, v15, len1, len2, len3, empty1, empty2, full1, close1, closed1, Sim}
 use Rattle.unbounded_proof_words.proofs.Live.{push-held}
 use Rattle.unbounded_proof_each_act.proofs.Step.{counted, held, taleOf}
 use Rattle.unbounded_proof_demand2.proofs.Logged.{items-more, latest-other, latest-own, Logged}
