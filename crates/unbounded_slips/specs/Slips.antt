@@ -25,46 +25,46 @@ none = 0
 
 -- U1 answers Pushed: the item is gone
 abbrev pub pushDrops : ℕ
-pushDrops = 31
+pushDrops = 51
 
 -- a won U7 goes on with another item than the call's
 abbrev pub pushesAnother : ℕ
-pushesAnother = 32
+pushesAnother = 52
 
 -- U7 compares positions alone: it claims after a close too
 abbrev pub claimsClosed : ℕ
-claimsClosed = 33
+claimsClosed = 53
 
 -- U12 answers Closed, with its item in the queue
 abbrev pub closedAfterClaim : ℕ
-closedAfterClaim = 34
+closedAfterClaim = 54
 
 -- V11 goes on with another value than the one in the slot
 abbrev pub popsAnother : ℕ
-popsAnother = 35
+popsAnother = 55
 
 -- V12 answers Empty, and has taken the item out
 abbrev pub emptyAfterTaking : ℕ
-emptyAfterTaking = 36
+emptyAfterTaking = 56
 
 -- len, is_empty, is_full, is_closed answer this whatever they load; close does nothing, and says yes
 abbrev pub lenNone : ℕ
-lenNone = 37
+lenNone = 57
 
 abbrev pub emptyYes : ℕ
-emptyYes = 38
+emptyYes = 58
 
 abbrev pub emptyNo : ℕ
-emptyNo = 39
+emptyNo = 59
 
 abbrev pub fullYes : ℕ
-fullYes = 40
+fullYes = 60
 
 abbrev pub closedYes : ℕ
-closedYes = 41
+closedYes = 61
 
 abbrev pub closeIdle : ℕ
-closeIdle = 42
+closeIdle = 62
 
 -- U6 is left out: a won U5 goes on at U7, and head's block is never stored
 abbrev pub noHeadBlock : ℕ
