@@ -9,13 +9,19 @@ use Rattle.queue_entries.specs.declared.Told.{Told}
 use Rattle.queue_entries.specs.Told.{told}
 use Rattle.queue_entries.specs.declared.Entry.the-variants.{Unreadable}
 use Rattle.queue_entries.specs.Entries.{entryOf}
+use Rattle.queue_entries.specs.declared.Call.{Call}
+use Rattle.queue_entries.specs.declared.Call.the-variants.{IsEmpty, Close}
+use Rattle.queue_plain.specs.Plain.{answerOf}
+use Rattle.queue_plain.specs.Story.{Does, actsIn, fresh, cameFrom, wentFrom}
+use Rattle.queue_plain.specs.Story.{itemsOf as itemsBegun}
 use Rattle.queue_schedules.specs.Reading.{Readable}
 use Rattle.unbounded_words.specs.declared.Index.{Index}
 use Rattle.unbounded_words.specs.declared.Pointer.{Pointer}
 use Rattle.unbounded_words.specs.declared.Pointer.the-variants.{None, To}
-use Rattle.unbounded_words.specs.Words.{sizes}
+use Rattle.unbounded_words.specs.Words.{sizes, markedOf}
 use Rattle.unbounded_places.specs.declared.Answer.{Answer}
-use Rattle.unbounded_places.specs.declared.Place.the-variants.{Idle}
+use Rattle.unbounded_places.specs.declared.Answer.the-variants.{Popped, PopClosed, Len, Yes, No}
+use Rattle.unbounded_places.specs.declared.Place.the-variants.{Idle, Empty1, Empty2}
 use Rattle.unbounded_places.specs.Places.{viewOf}
 use Rattle.unbounded_acts.specs.Acts.{WRITE, has}
 use Rattle.unbounded_machine.specs.declared.Machine.{Machine}
@@ -31,6 +37,127 @@ use Rattle.unbounded_machine.specs.History.{eventsOf}
 use Rattle.unbounded.specs.declared.Bound.{Bound}
 use Rattle.unbounded.specs.Unbounded.{makeOf, stepOf, beginOf, actOf, capacityOf}
 use Rattle.unbounded_demands.specs.Notions.{Definition, Allowed, machineAfter, actsOf, Acts, Asking, Pushing, Popping, Reads, valueAt, stateAt, takingsOf, freeingsOf, signOf, HandsOut, itemsOf, takersOf, LatestIn, ItemIn, waiting, Fifo, position, Truth, chained}
+use Rattle.unbounded_demands.specs.Claims.{CallClaim, WrittenIn, closedBy, ClosesYes, NoClaims}
+use Rattle.unbounded_demands.specs.Stories.{Story, storyOf, taskOf, Takes, itemIn, changeOf, actor, known, queueAt, replyOf, putBy, takenBy, givenBack, At, AfterNextTail, momentOf, placeIn, Leaving, Filling, lastClaimed, asksLen, asksEmpty}
+
+-- ==== What an answer means: every run of the unbounded queue is a run of a plain queue without capacity (crates/queue_plain), but for one answer of is_empty. The story of a schedule is its
+-- accepted entries, begins too; the plain queue along it, and what each call has put in and taken out, are `known` of Stories.antt.
+
+-- After the story `earlier` an act of its worker answers a. Inside the call that it is in, after its begin and not after this act, there is a moment at which the plain queue, asked that
+-- call, gives that answer; `momentOf` names it.
+pub record Answered (earlier : Story) (act : Event) (a : Answer) : Type 0 where
+  pub call : Call
+  pub its : known earlier .each (act .worker) .calls ≡ call ∷ []
+  pub moment : ℕ
+  pub named : momentOf (act .worker) (earlier ++ Does act ∷ []) ≡ At moment
+  pub begun : known earlier .each (act .worker) .begun < moment
+  pub inside : moment ≤ length earlier
+  pub plain : answerOf (queueAt moment earlier) call ∷ [] ≡ replyOf a
+
+-- The one answer that is none of the plain queue's, as the source has it: a no of is_empty while nothing waits. Nothing waits from its load of head's index on up to its answer; and at that load
+-- some pop stood between its claim of a block's last slot and its store of head's index (V6 to V9).
+pub record AtBlocksEnd (earlier : Story) (act : Event) (a : Answer) : Type 0 where
+  pub its : known earlier .each (act .worker) .calls ≡ IsEmpty ∷ []
+  pub says-no : a ≡ No
+  pub unnamed : momentOf (act .worker) (earlier ++ Does act ∷ []) ≡ AfterNextTail
+  -- its load of head's index
+  pub before : Story
+  pub load : Event
+  pub since : Story
+  pub is : earlier ≡ before ++ Does load ∷ since
+  pub its-own : load .worker ≡ act .worker
+  pub loads : load .before ≡ Empty1
+  pub begun : known earlier .each (act .worker) .begun < length before
+  pub nothing-waits : (n : ℕ) → length before ≤ n → n ≤ length earlier → queueAt n earlier .items ≡ []
+  pub leaving : (v : ℕ) × Leaving (placeIn v before)
+
+-- And it answers so there, but where tail's index stands at that block's end too: where is_empty answers yes although at its load of head's index some pop stood there, some push stands between
+-- its claim of a block's last slot and its add to tail's index (U9, U10).
+pub record YesAtBlocksEnd (earlier : Story) (w : ℕ) : Type 0 where
+  pub before : Story
+  pub load : Event
+  pub since : Story
+  pub is : earlier ≡ before ++ Does load ∷ since
+  pub its-own : load .worker ≡ w
+  pub loads : load .before ≡ Empty1
+  pub begun : known earlier .each w .begun < length before
+  pub filling : (v : ℕ) → Leaving (placeIn v before) → (u : ℕ) × Filling (placeIn u earlier)
+
+-- A call that answered Pushed put its item in once and took none out; Popped took out the one that it hands out and put in none; any other answer neither. Closed gives the item back that the
+-- call came with. After a close, whatever it answered, the queue is closed.
+pub record Meant (earlier : Story) (act : Event) (a : Answer) : Type 0 where
+  pub put : known (earlier ++ Does act ∷ []) .each (act .worker) .puts ≡ putBy a (itemsBegun (known earlier .each (act .worker) .calls))
+  pub took : known (earlier ++ Does act ∷ []) .each (act .worker) .takes ≡ takenBy a
+  pub back : (x : ℕ) → givenBack a ≡ x ∷ [] → itemsBegun (known earlier .each (act .worker) .calls) ≡ x ∷ []
+  pub closed : known earlier .each (act .worker) .calls ≡ Close ∷ [] → known (earlier ++ Does act ∷ []) .queue .closed ≡ true
+
+-- The plain queue just before an act that changes it: something waits where the front goes out; it is open where an item comes in; and no act does both. A close that answers yes finds it open.
+pub record Changes (earlier : Story) (act : Event) : Type 0 where
+  pub takes : changeOf act .takes ≡ true → 0 < length (known earlier .queue .items)
+  pub while-open : changeOf act .puts ≡ true → known earlier .queue .closed ≡ false
+  pub one : changeOf act .puts ≡ true → changeOf act .takes ≡ false
+  pub closes : changeOf act .closes ≡ true → act .after ≡ Idle Yes → known earlier .queue .closed ≡ false
+
+-- While a push is under way, the item in its record is the one of its begin.
+abbrev pub ItemKept : Machine → Story → Type 0
+ItemKept m s = (w x : ℕ) → itemIn (taskOf (placeOf (m .workers) w)) ≡ x ∷ [] → itemsBegun (known s .each w .calls) ≡ x ∷ []
+
+pub record NothingLost (d : Definition) (m : Machine) (s : Story) : Type 0 where
+  -- what came in, in order, is what went out, in order, and then what waits
+  pub in-order : cameFrom actor changeOf (fresh 0) s ≡ wentFrom actor changeOf (fresh 0) s ++ known s .queue .items
+  -- with all workers idle these are the contents
+  pub contents : allIdle (d .sizes) (m .workers) ≡ true → contentsOf (d .sizes) m ≡ known s .queue .items
+  -- what a call under way has taken out is one item at most, and then it stands between its claim and its answer (V6 to V15); what a call has taken out that has ended, it handed out (`Meant`)
+  pub hands : (w v : ℕ) (more : List ℕ) → viewOf (d .sizes) (placeOf (m .workers) w) .busy ≡ true → known s .each w .takes ≡ v ∷ more
+      → (more ≡ []) × (taskOf (placeOf (m .workers) w) ≡ Takes)
+
+-- A call that ended before another began comes before it in the plain queue's run.
+abbrev pub InCallOrder : Story → Type 0
+InCallOrder s =
+    (earlier between later : Story) (first second : Event) (a b : Answer) (i j : ℕ) → s ≡ earlier ++ Does first ∷ between ++ Does second ∷ later
+    → first .after ≡ Idle a → second .after ≡ Idle b → length earlier < known (earlier ++ Does first ∷ between) .each (second .worker) .begun
+    → momentOf (first .worker) (earlier ++ Does first ∷ []) ≡ At i → momentOf (second .worker) (earlier ++ Does first ∷ between ++ Does second ∷ []) ≡ At j → i < j
+
+pub record PlainThroughout (d : Definition) (m : Machine) (h : List Event) (s : Story) : Type 0 where
+  -- it is the story of the same acts
+  pub acts : actsIn s ≡ h
+  pub answers : (earlier later : Story) (act : Event) (a : Answer) → s ≡ earlier ++ Does act ∷ later → act .after ≡ Idle a
+      → (Answered earlier act a ⊎ AtBlocksEnd earlier act a) × Meant earlier act a
+  pub yes-there : (earlier later : Story) (act : Event) (h : Index) → s ≡ earlier ++ Does act ∷ later → act .before ≡ Empty2 h → act .after ≡ Idle Yes → YesAtBlocksEnd earlier (act .worker)
+  pub changes : (earlier later : Story) (act : Event) → s ≡ earlier ++ Does act ∷ later → Changes earlier act
+  pub item-kept : ItemKept m s
+  pub nothing-lost : NothingLost d m s
+  pub call-order : InCallOrder s
+
+-- Every number of workers, every schedule.
+abbrev pub AnswersPlain : Definition → Type 0
+AnswersPlain d =
+    (workers : ℕ) → Allowed workers → (s : List ℕ) → PlainThroughout d (machineAfter d workers s) (actsOf d workers s) (storyOf d workers s)
+
+-- It happens: in a block of `more` slots and two more, pushed full, popped but for the last slot and that one claimed, worker 1's len answers 0, and its is_empty no, with nothing waiting.
+pub record SaidAtBlocksEnd (d : Definition) (more : ℕ) : Type 0 where
+  pub len : placeOf (machineAfter d 2 (lastClaimed more ++ asksLen) .workers) 1 ≡ Idle (Len 0)
+  pub empty : placeOf (machineAfter d 2 (lastClaimed more ++ asksEmpty) .workers) 1 ≡ Idle No
+  pub none-waits : known (storyOf d 2 (lastClaimed more ++ asksEmpty)) .queue .items ≡ []
+
+-- ---- close, and a call's own claim: said of the machine that entries reach, and of the acts behind it
+
+-- Tail's mark is set exactly if a close was made; of all closes one at most answers yes; and after a pop has answered Closed nothing is claimed.
+pub record CloseHolds (m : Machine) (h : List Event) : Type 0 where
+  pub mark : markedOf (m .ends .tail) ≡ closedBy h
+  pub yes-once : (earlier between later : List Event) (act again : Event) → h ≡ earlier ++ act ∷ between ++ again ∷ later → ClosesYes act → ClosesYes again → ⊥
+  pub none-after : (earlier later : List Event) (act : Event) → h ≡ earlier ++ act ∷ later → act .after ≡ Idle PopClosed → NoClaims later
+
+-- The claim rule of request 12 with the call's own claim: a value handed out is the item of the tail claim that has the number of the head claim that its call has made, and was written for that
+-- tail claim.
+abbrev pub OwnClaim : List Event → Type 0
+OwnClaim h =
+    (earlier later : List Event) (act : Event) (v : ℕ) → h ≡ earlier ++ act ∷ later → act .after ≡ Idle (Popped v)
+    → (k : ℕ) × CallClaim earlier (act .worker) k × LatestIn (takersOf earlier) (act .worker) k × ItemIn earlier k v × WrittenIn earlier k v
+
+abbrev pub ClosesAndClaims : Definition → Type 0
+ClosesAndClaims d =
+    (workers : ℕ) → Allowed workers → (s : List ℕ) → CloseHolds (machineAfter d workers s) (actsOf d workers s) × OwnClaim (actsOf d workers s)
 
 -- ==== 1. Any machine, entry or schedule handed in gets an answer or a numbered refusal; a refused step changes nothing.
 -- That each gets an answer is what the functions of crate unbounded promise: none has a `requires`, and each answer is equal to a

@@ -1,2 +1,3 @@
+pub mod RefutedPlain
 pub mod Refuted
 pub mod Faithful
