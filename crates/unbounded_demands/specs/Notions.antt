@@ -9,10 +9,11 @@ use lib.ListN.{getD, length, drop}
 use Rattle.queue_entries.specs.Limits.{workersMost, meterMost}
 use Rattle.queue_entries.specs.declared.Order.the-variants.{Act}
 use Rattle.queue_entries.specs.declared.Entry.the-variants.{Asks}
+use Rattle.queue_schedules.specs.Alone.{passedBy, ownActsBy}
 use Rattle.unbounded_words.specs.declared.Index.{Index}
 use Rattle.unbounded_words.specs.declared.Pointer.{Pointer}
 use Rattle.unbounded_words.specs.declared.Pointer.the-variants.{None, To}
-use Rattle.unbounded_words.specs.Words.{Sizes, offsetOf, markedOf, numberOf}
+use Rattle.unbounded_words.specs.Words.{Sizes, offsetOf, markedOf, noneOf, numberOf}
 use Rattle.unbounded_places.specs.declared.Ends.{Ends}
 use Rattle.unbounded_places.specs.declared.Block.{Block}
 use Rattle.unbounded_places.specs.declared.Answer.{Answer}
@@ -374,3 +375,96 @@ unfoldable pub chained : ℕ → List Block → Pointer → ℕ → Bool
 chained zero l from b = false
 chained (suc more) l None b = false
 chained (suc more) l (To k) b = cond (eqb k b) true (chained more l (blockAt l k .next) b)
+
+-- ---- the pool's own slots, and who is waited for
+
+-- In hand as before, with the block: the slot is that of block b at the offset of the word.
+pub data PushingIn : Place → Pointer → Index → Type 0 where
+  in9 : {n b : Pointer} {t : Index} {x : ℕ} → PushingIn (U9 n t b x) b t
+  in10 : {n b : Pointer} {t : Index} {x : ℕ} → PushingIn (U10 n t b x) b t
+  in11 : {n b : Pointer} {t : Index} {x : ℕ} → PushingIn (U11 n t b x) b t
+  in12 : {n b : Pointer} {t : Index} {x : ℕ} → PushingIn (U12 n t b x) b t
+  in13 : {n b : Pointer} {t : Index} → PushingIn (U13 n t b) b t
+
+pub data PoppingIn : Place → Pointer → Index → Type 0 where
+  out6 : {b : Pointer} {h new : Index} → PoppingIn (V6 h b new) b h
+  out7 : {b next : Pointer} {h new : Index} → PoppingIn (V7 h b new next) b h
+  out8 : {b next : Pointer} {h i : Index} → PoppingIn (V8 h b next i) b h
+  out9 : {b : Pointer} {h i : Index} → PoppingIn (V9 h b i) b h
+  out10 : {b : Pointer} {h : Index} → PoppingIn (V10 h b) b h
+  out11 : {b : Pointer} {h : Index} → PoppingIn (V11 h b) b h
+  out12 : {b : Pointer} {h : Index} {v : ℕ} → PoppingIn (V12 h b v) b h
+
+-- Two words and their blocks name one slot of the pool.
+abbrev pub OneSlot : Sizes → Pointer → Index → Pointer → Index → Type 0
+OneSlot z b t c u = (b ≡ c) × (offsetOf z t ≡ offsetOf z u)
+
+-- A push that claimed a block's last slot and has not moved tail past the gap behind it (U9, U10), nor stored next of its block (U9 to U11).
+pub data Crossing : Place → Index → Type 0 where
+  cross9 : {n b : Pointer} {t : Index} {x : ℕ} → Crossing (U9 n t b x) t
+  cross10 : {n b : Pointer} {t : Index} {x : ℕ} → Crossing (U10 n t b x) t
+
+pub data Tying : Place → Pointer → Index → Type 0 where
+  tie9 : {n b : Pointer} {t : Index} {x : ℕ} → Tying (U9 n t b x) b t
+  tie10 : {n b : Pointer} {t : Index} {x : ℕ} → Tying (U10 n t b x) b t
+  tie11 : {n b : Pointer} {t : Index} {x : ℕ} → Tying (U11 n t b x) b t
+
+-- A pop that claimed a block's last slot and has not moved head past the gap behind it (V6 to V9).
+pub data Leaving : Place → Index → Type 0 where
+  leave6 : {b : Pointer} {h new : Index} → Leaving (V6 h b new) h
+  leave7 : {b next : Pointer} {h new : Index} → Leaving (V7 h b new next) h
+  leave8 : {b next : Pointer} {h i : Index} → Leaving (V8 h b next i) h
+  leave9 : {b : Pointer} {h i : Index} → Leaving (V9 h b i) h
+
+-- A push that installed the first block and has not stored it in head's block (U6).
+pub data Fronting : Place → Type 0 where
+  front6 : {n new : Pointer} {t : Index} {x : ℕ} → Fronting (U6 n t new x)
+
+-- How many acts of its own a push with a slot in hand is from its end; U14 is one more.
+abbrev pub pushLeft : Place → ℕ
+pushLeft (Idle a) = 0
+pushLeft (U1 n x) = 0
+pushLeft (U2 n t x) = 0
+pushLeft (U3 t b x) = 0
+pushLeft (U4 n t x) = 0
+pushLeft (U5 n t new x) = 0
+pushLeft (U6 n t new x) = 0
+pushLeft (U7 n t b x) = 0
+pushLeft (U8 n t x) = 0
+pushLeft (U9 n t b x) = 5
+pushLeft (U10 n t b x) = 4
+pushLeft (U11 n t b x) = 3
+pushLeft (U12 n t b x) = cond (noneOf n) 2 3
+pushLeft (U13 n t b) = cond (noneOf n) 1 2
+pushLeft (U14 n a) = 1
+pushLeft (U15 n new x) = 0
+pushLeft V1 = 0
+pushLeft (V2 h) = 0
+pushLeft (V3 h b) = 0
+pushLeft (V4 h b new) = 0
+pushLeft (V5 h) = 0
+pushLeft (V6 h b new) = 0
+pushLeft (V7 h b new next) = 0
+pushLeft (V8 h b next i) = 0
+pushLeft (V9 h b i) = 0
+pushLeft (V10 h b) = 0
+pushLeft (V11 h b) = 0
+pushLeft (V12 h b v) = 0
+pushLeft (V13 b i v) = 0
+pushLeft (V14 b i v) = 0
+pushLeft (V15 b v) = 0
+pushLeft Len1 = 0
+pushLeft (Len2 t) = 0
+pushLeft (Len3 t h) = 0
+pushLeft Empty1 = 0
+pushLeft (Empty2 h) = 0
+pushLeft Full1 = 0
+pushLeft Close1 = 0
+pushLeft IsClosed1 = 0
+
+-- Entries one after another, refused ones passed over; and how many of them are acts of w, and accepted.
+abbrev pub passed : Definition → Machine → List ℕ → Machine
+passed d = passedBy (λ (x : Did). x .refusal) (λ (x : Did). x .machine) (d .turn)
+
+abbrev pub ownActs : Definition → ℕ → Machine → List ℕ → ℕ
+ownActs d = ownActsBy (λ (x : Did). x .refusal) (λ (x : Did). x .machine) (d .turn)

@@ -81,7 +81,7 @@ all-free zero k l = absurd (omega arith)
 all-free (suc n) zero l = refl
 all-free (suc n) (suc k) l = all-free n k (omega arith)
 
-fresh-stood : (w : ℕ) → placeOf idlers w ≡ Idle Nothing
+pub fresh-stood : (w : ℕ) → placeOf idlers w ≡ Idle Nothing
 unfolding idlers
 fresh-stood w = ap (λ (x : Worker). x .place) (same-all workersMost w idler)
 
@@ -97,7 +97,7 @@ fresh-even : (k : ℕ) → k < 64 → takingsOf k [] ≡ freeingsOf sizes k [] +
 unfolding takingsOf freeingsOf
 fresh-even k l = let e = ap {B = ℕ} (λ (t : Bool). cond t 1 0) (live-is (freeBlocks sizes) k l ∙ ap not (free-at k l)) in omega arith
 
-fresh-reached : (workers : ℕ) → Reached workers (freshOf sizes workers) []
+pub fresh-reached : (workers : ℕ) → Reached workers (freshOf sizes workers) []
 unfolding freshOf notions.itemsOf takersOf
 fresh-reached workers =
     record {

@@ -1,2 +1,3 @@
 pub mod Refuted
 pub mod Faithful
+pub mod Further

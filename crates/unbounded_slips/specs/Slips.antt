@@ -4,12 +4,12 @@ use mathlib.Core.Bool.{Bool, cond}
 use mathlib.Core.List.{List}
 use mathlib.Core.Path.{_≡_}
 use lib.Dec.{eqb}
-use Rattle.unbounded_words.specs.declared.Pointer.the-variants.{None}
+use Rattle.unbounded_words.specs.declared.Pointer.the-variants.{None, To}
 use Rattle.unbounded_words.specs.Words.{Sizes, sizes, later, same, samePosition, noneOf}
-use Rattle.unbounded_places.specs.declared.Answer.the-variants.{Closed, Popped, Empty}
+use Rattle.unbounded_places.specs.declared.Answer.the-variants.{Pushed, Closed, Popped, Empty}
 use Rattle.unbounded_places.specs.declared.Place.the-variants.{Idle, U1, U2, U3, U4, U5, U6, U7, U8, U9, U10, U11, U12, U13, U14, U15, V1, V2, V3, V4, V5, V6, V7, V8, V9, V10, V11, V12, V13, V14, V15, Len1, Len2, Len3, Empty1, Empty2, Full1, Close1, IsClosed1}
 use Rattle.unbounded_acts.specs.declared.Acted.{Acted}
-use Rattle.unbounded_acts.specs.Acts.{leave, backTo, claimed, takeOr, destroyFrom, actOf}
+use Rattle.unbounded_acts.specs.Acts.{leave, backTo, newBlock, firstOr, answered, claimed, takeOr, destroyFrom, actOf}
 use Rattle.unbounded_machine.specs.declared.Machine.{Machine}
 use Rattle.unbounded_machine.specs.Turn.{Table, turnWith}
 use Rattle.unbounded_machine.specs.Run.{ran, runWith}
@@ -71,6 +71,22 @@ skipsReader = 11
 abbrev pub keepsBlock : ℕ
 keepsBlock = 12
 
+-- U3 sets block 0 aside, whichever it took
+abbrev pub asideFirst : ℕ
+asideFirst = 31
+
+-- a lost U5 with nothing set aside takes another block at once
+abbrev pub takesAgain : ℕ
+takesAgain = 32
+
+-- U13 answers and does not set WRITE
+abbrev pub unset : ℕ
+unset = 33
+
+-- U12 writes, and writes again
+abbrev pub writesOn : ℕ
+writesOn = 34
+
 -- The row of the table, but for this slip.
 abbrev but : ℕ → ℕ → Acted → Acted → Acted
 but n slip wrong right = cond (eqb n slip) wrong right
@@ -80,17 +96,19 @@ abbrev pub actWith : ℕ → Table
 actWith m z e k g s (Idle a) lose = actOf z e k g s (Idle a) lose
 actWith m z e k g s (U1 n x) lose = actOf z e k g s (U1 n x) lose
 actWith m z e k g s (U2 n t x) lose = actOf z e k g s (U2 n t x) lose
-actWith m z e k g s (U3 t b x) lose = actOf z e k g s (U3 t b x) lose
+actWith m z e k g s (U3 t b x) lose = but m asideFirst (leave e newBlock s (firstOr (To 0) t b x)) (actOf z e k g s (U3 t b x) lose)
 actWith m z e k g s (U4 n t x) lose = actOf z e k g s (U4 n t x) lose
-actWith m z e k g s (U5 n t new x) lose = but m noHeadBlock (cond (noneOf (e .back)) (leave (backTo e new) g s (U7 n t new x)) (actOf z e k g s (U5 n t new x) lose)) (actOf z e k g s (U5 n t new x) lose)
+actWith m z e k g s (U5 n t new x) lose =
+    but m noHeadBlock (cond (noneOf (e .back)) (leave (backTo e new) g s (U7 n t new x)) (actOf z e k g s (U5 n t new x) lose))
+    (but m takesAgain (cond (noneOf (e .back)) (actOf z e k g s (U5 n t new x) lose) (cond (noneOf n) (leave e g s (U4 new t x)) (actOf z e k g s (U5 n t new x) lose))) (actOf z e k g s (U5 n t new x) lose))
 actWith m z e k g s (U6 n t new x) lose = actOf z e k g s (U6 n t new x) lose
 actWith m z e k g s (U7 n t b x) lose = but m tailUnmoved (cond (same (e .tail) t) (cond lose (actOf z e k g s (U7 n t b x) lose) (leave e g s (claimed z n t b x))) (actOf z e k g s (U7 n t b x) lose)) (actOf z e k g s (U7 n t b x) lose)
 actWith m z e k g s (U8 n t x) lose = but m closedUnseen (leave e g s (Idle (Closed x))) (actOf z e k g s (U8 n t x) lose)
 actWith m z e k g s (U9 n t b x) lose = actOf z e k g s (U9 n t b x) lose
 actWith m z e k g s (U10 n t b x) lose = actOf z e k g s (U10 n t b x) lose
 actWith m z e k g s (U11 n t b x) lose = but m untied (leave e g s (U12 None t b x)) (actOf z e k g s (U11 n t b x) lose)
-actWith m z e k g s (U12 n t b x) lose = but m unwritten (leave e g s (U13 n t b)) (actOf z e k g s (U12 n t b x) lose)
-actWith m z e k g s (U13 n t b) lose = actOf z e k g s (U13 n t b) lose
+actWith m z e k g s (U12 n t b x) lose = but m unwritten (leave e g s (U13 n t b)) (but m writesOn (leave e g s (U12 n t b x)) (actOf z e k g s (U12 n t b x) lose))
+actWith m z e k g s (U13 n t b) lose = but m unset (leave e g s (answered n Pushed)) (actOf z e k g s (U13 n t b) lose)
 actWith m z e k g s (U14 n a) lose = but m asideKept (leave e g s (Idle a)) (actOf z e k g s (U14 n a) lose)
 actWith m z e k g s (U15 n new x) lose = actOf z e k g s (U15 n new x) lose
 actWith m z e k g s V1 lose = actOf z e k g s V1 lose

@@ -1,0 +1,108 @@
+-- Each slip of the statements on numbers, on the pool and on progress, refuted by computing.
+use Prim.Native.Nat.{ℕ, zero, suc, _+_, _*_, _<_, _≤_}
+use mathlib.Core.Path.{_≡_, refl, sym, ap, _∙_, subst}
+use mathlib.Core.Logic.{_⊎_, inl, inr}
+use mathlib.Core.Bool.{Bool, true, false, cond, true≢false}
+use mathlib.Core.List.{List, [], _∷_, _++_}
+use native.Mathlib.Omega.{arith}
+use lib.ListN.{length, getD, replicate}
+use Rattle.queue_numbers.specs.Numbers.{has as among}
+use Rattle.queue_schedules.specs.Alone.{passedBy, ownActsBy}
+use Rattle.queue_entries.specs.Schedules.{runBy, searchBy, scheduleBy, historyBy}
+use Rattle.queue_entries.specs.Entries.{strayOf, orderOf, entryOf, entryBut}
+use Rattle.queue_entries.specs.Limits.{all, inLimits}
+use Rattle.unbounded_words.specs.declared.Index.{Index}
+use Rattle.queue_entries.proofs.Pick.{both-left, both-right}
+use Rattle.unbounded_words.specs.declared.Pointer.{Pointer}
+use Rattle.unbounded_words.specs.declared.Pointer.the-variants.{None, To}
+use Rattle.unbounded_words.specs.Words.{index, pastSlots, lastSlot, markedOf, unmarkedOf, withMark, later, same, samePosition, sameBlock, minus, settled, behind, countOf}
+use Rattle.unbounded_places.specs.declared.Worker.{Worker}
+use Rattle.unbounded_places.specs.declared.Place.{Place}
+use Rattle.unbounded_places.specs.Places.{viewOf}
+use Rattle.unbounded_acts.specs.Acts.{leave, headTo, frontTo, tailTo, backTo, nextTo, freed, stateTo, valueTo, has, with, firstOr, answered, lacksNext, pushFrom, setAside, claimed, takeOr, popFrom, newHead, taken, nextIndex, destroyFrom, readOut, destroyIf, actOf}
+use Rattle.unbounded_machine.specs.declared.Machine.{Machine}
+use Rattle.unbounded_machine.specs.Machine.{live, freeBlocks, emptySlots, idlers, freshOf, blank, refused, accepted, placeOf, freeBlock, idler}
+use Rattle.unbounded_machine.specs.Drop.{lastFits, without, walkFrom, itemsFrom, walkOf}
+use Rattle.unbounded_machine.specs.Drop as drop
+use Rattle.unbounded_machine.specs.Broken.{recordFits, recordsFit, allIdle, dropFits, brokenIn}
+use Rattle.unbounded_machine.specs.Turn.{entryHere, lowestFrom, lowestFree, clearedFrom, cleared, begun, stored, actedAt, movedBy, turnWith}
+use Rattle.unbounded_machine.specs.Contents.{contentsOf}
+use Rattle.unbounded_machine.specs.Run.{ran}
+use Rattle.unbounded_demands.specs.Notions.{Definition, definition, machineAfter, acts, itemsOf, takersOf, takingsOf, freeingsOf, push12, PushingIn, in9, in10, in11, in12, in13, pushLeft, passed}
+use Rattle.unbounded_demands.specs.Notions as notions
+use Rattle.unbounded_demands.specs.Demands.{AnswersPushed, WantsBlock}
+use Rattle.unbounded_demands.specs.Runs.{short}
+use Rattle.unbounded_slips.specs.Slips.{slipped, stingy, writesOn}
+use Rattle.unbounded_slips.specs.Refuted.{reached, does}
+use Rattle.unbounded_slips.specs.Further.{FurtherRefuted, popWaitsOn, pushWrites}
+
+abbrev busyAt : Machine → ℕ → Bool
+busyAt m w = viewOf short (placeOf (m .workers) w) .busy
+
+-- ---- nobody has a slot's push in hand
+in-left : (p : Place) (b : Pointer) (t : Index) → PushingIn p b t → pushLeft p ≡ 0 → ⊥
+in-left p b t in9 z = omega arith
+in-left p b t in10 z = omega arith
+in-left p b t in11 z = omega arith
+in-left p b t (in12 {n = None}) z = omega arith
+in-left p b t (in12 {n = To c}) z = omega arith
+in-left p b t (in13 {n = None}) z = omega arith
+in-left p b t (in13 {n = To c}) z = omega arith
+
+idle-all : (n v : ℕ) → getD (replicate n idler) v idler ≡ idler
+idle-all zero v = refl
+idle-all (suc n) zero = refl
+idle-all (suc n) (suc v) = idle-all n v
+
+-- two workers, and fourteen that were never begun
+nobody : (ws : List Worker) → pushLeft (placeOf ws 0) ≡ 0 → pushLeft (placeOf ws 1) ≡ 0 → ((v : ℕ) → getD ws (suc (suc v)) idler ≡ getD (replicate 14 idler) v idler)
+    → (v : ℕ) → pushLeft (placeOf ws v) ≡ 0
+nobody ws a b rest zero = a
+nobody ws a b rest (suc zero) = b
+nobody ws a b rest (suc (suc v)) = ap (λ (x : Worker). pushLeft (x .place)) (rest v ∙ idle-all 14 v)
+
+-- ---- a push that never ends
+unfoldable busyAlong : Definition → Machine → ℕ → List ℕ → Bool
+busyAlong d m w [] = busyAt m w
+busyAlong d m w (first ∷ []) = busyAt m w
+busyAlong d m w (first ∷ second ∷ others) = cond (busyAt m w) (busyAlong d (d .turn m first second .machine) w others) false
+
+holds-on : (d : Definition) (m : Machine) (w n : ℕ) (entries : List ℕ) → busyAlong d m w entries ≡ true → AnswersPushed d m w entries n → ⊥
+unfolding busyAlong passedBy
+holds-on d m w n entries b l =
+    true≢false (sym (along m (l .before) (l .after) (ap (busyAlong d m w) (sym (l .split)) ∙ b)) ∙ ap (λ (p : Place). viewOf short p .busy) (l .ends))
+  where
+    here : (m : Machine) (entries : List ℕ) → busyAlong d m w entries ≡ true → busyAt m w ≡ true
+    here m [] b = b
+    here m (first ∷ []) b = b
+    here m (first ∷ second ∷ others) b = both-left (busyAt m w) _ b
+
+    along : (m : Machine) (before after : List ℕ) → busyAlong d m w (before ++ after) ≡ true → busyAt (passed d m before) w ≡ true
+    along m [] after b = here m after b
+    along m (first ∷ []) after b = here m (first ∷ after) b
+    along m (first ∷ second ∷ others) after b = along (d .turn m first second .machine) others after (both-right (busyAt m w) _ b)
+
+pub further-refuted : FurtherRefuted
+unfolding pastSlots lastSlot markedOf unmarkedOf withMark later same samePosition sameBlock minus settled behind countOf strayOf orderOf entryOf leave headTo frontTo tailTo backTo nextTo freed stateTo valueTo has with firstOr answered lacksNext pushFrom setAside claimed takeOr popFrom newHead taken nextIndex destroyFrom readOut destroyIf live freeBlocks emptySlots idlers freshOf blank refused accepted lastFits without walkFrom itemsFrom walkOf drop.itemsOf all inLimits recordFits recordsFit allIdle dropFits brokenIn entryBut lowestFrom lowestFree clearedFrom cleared begun stored actedAt movedBy turnWith contentsOf ran runBy searchBy scheduleBy historyBy acts itemsOf takersOf takingsOf freeingsOf notions.chained among passedBy ownActsBy busyAlong
+further-refuted =
+    record {
+      numbered = λ n. true≢false (sym (n .make 1));
+      lowest-first = λ l. true≢false (l .lower short (freeBlock ∷ freeBlock ∷ []) 0 (omega arith));
+      twenty-three =
+          λ t.
+          let q : WantsBlock stingy (machineAfter (definition short actOf) 2 (does 0 0 5 8 ++ does 0 0 6 2)) 8 0 = t (machineAfter (definition short actOf) 2 (does 0 0 5 8 ++ does 0 0 6 2)) 8 0 .0 refl in
+          true≢false (q .none-free 1 (omega arith));
+      one-aside = λ o. o 1 (To 1) (To 2) 6 refl;
+      one-hand = λ h. let q : _≡_ {A = ℕ} 0 1 = h .0 0 1 (To 0) (To 0) (index 0) (index 6) in12 in12 (refl, refl) in omega arith;
+      refused-by = λ r. eight (r 0 refl);
+      holders =
+          λ h.
+          let o = h .write 1 (index 0) (To 0) refl refl in
+          in-left _ (To 0) (o .1) (o .2) (nobody (reached popWaitsOn .workers) refl refl (λ v. refl) (o .0));
+      push-ends = λ e. holds-on (slipped writesOn) (reached pushWrites) 0 2 (acts 0 2) refl (e .ends (reached pushWrites) 0 (index 0) (acts 0 2) push12 (let q : 2 ≤ 2 = omega arith in q));
+    }
+  where
+    eight : {m : ℕ} → (_≡_ {A = ℕ} 8 0) ⊎ ((_≡_ {A = ℕ} 8 7 × (4294967295 ≤ m)) ⊎ (_≡_ {A = ℕ} 8 23)) → ⊥
+    eight (inl e) = omega arith
+    eight (inr (inl e)) = let z = e .0 in omega arith
+    eight (inr (inr e)) = omega arith
