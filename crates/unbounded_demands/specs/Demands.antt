@@ -1,6 +1,6 @@
 -- The statements of request 12, all of them, in its words, and what is said of the pool and of progress beside them. The notions (history, claim, hand ..) are
 -- defined in Notions.antt. The proofs are gathered in crates/unbounded_proof_all_demands/proofs/Headlines.antt.
-use Prim.Native.Nat.{ℕ, _+_, _*_, _%_, _≤_, _<_}
+use Prim.Native.Nat.{ℕ, suc, _+_, _*_, _%_, _≤_, _<_}
 use mathlib.Core.Bool.{Bool, true, false, cond}
 use mathlib.Core.List.{List, [], _∷_, _++_}
 use mathlib.Core.Logic.{_↔_, _⊎_}
@@ -13,6 +13,7 @@ use Rattle.queue_entries.specs.declared.Order.the-variants.{Act}
 use Rattle.queue_entries.specs.declared.Entry.the-variants.{Unreadable, Asks}
 use Rattle.queue_entries.specs.Entries.{entryOf}
 use Rattle.queue_schedules.specs.Reading.{Readable}
+use Rattle.queue_schedules.specs.Alone.{acts}
 use Rattle.queue_numbers.specs.Numbers.{Numbers}
 use Rattle.queue_numbers.specs.Numbers as numbers
 use Rattle.unbounded_words.specs.declared.Index.{Index}
@@ -38,7 +39,7 @@ use Rattle.unbounded_machine.specs.Run.{ran, runFrom, runOf}
 use Rattle.unbounded_machine.specs.History.{eventsOf}
 use Rattle.unbounded.specs.declared.Bound.{Bound}
 use Rattle.unbounded.specs.Unbounded.{makeOf, stepOf, beginOf, actOf, capacityOf}
-use Rattle.unbounded_demands.specs.Notions.{Definition, Allowed, machineAfter, actsOf, Acts, Asking, Pushing, Popping, Reads, valueAt, stateAt, takingsOf, freeingsOf, signOf, HandsOut, itemsOf, takersOf, LatestIn, ItemIn, waiting, Fifo, position, Truth, chained, PushingIn, PoppingIn, OneSlot, Crossing, Tying, Leaving, Fronting, pushLeft, passed, ownActs}
+use Rattle.unbounded_demands.specs.Notions.{Definition, Allowed, machineAfter, actsOf, Acts, Asking, Pushing, Popping, Reads, valueAt, stateAt, takingsOf, freeingsOf, signOf, HandsOut, itemsOf, takersOf, LatestIn, ItemIn, waiting, Fifo, position, Truth, chained, PushingIn, PoppingIn, OneSlot, Crossing, Tying, Leaving, Fronting, pushLeft, passed, ownActs, Holding, popMost}
 
 -- ==== 1. Any machine, entry or schedule handed in gets an answer or a numbered refusal; a refused step changes nothing.
 -- That each gets an answer is what the functions of crate unbounded promise: none has a `requires`, and each answer is equal to a
@@ -288,3 +289,21 @@ pub record PushEnds (d : Definition) : Type 0 where
   pub ends : (m : Machine) (w : ℕ) (t : Index) (entries : List ℕ) → Pushing (placeOf (m .workers) w) t
       → pushLeft (placeOf (m .workers) w) ≤ ownActs d w m entries → AnswersPushed d m w entries (pushLeft (placeOf (m .workers) w))
   pub most : (p : Place) (t : Index) → Pushing p t → pushLeft p ≤ 5
+
+-- Worker w's call, if only acts of w are scheduled (code 8), ends within so many of them, none refused.
+pub record EndsAlone (d : Definition) (m : Machine) (w most : ℕ) : Type 0 where
+  -- the acts before the last
+  pub before : ℕ
+  pub within : before + 1 ≤ most
+  pub accepted : d .run m 0 (acts w (suc before)) .refusal ≡ 0
+  pub busy : viewOf (d .sizes) (placeOf (d .run m 0 (acts w before) .machine .workers) w) .busy ≡ true
+  pub idle : viewOf (d .sizes) (placeOf (d .run m 0 (acts w (suc before)) .machine .workers) w) .busy ≡ false
+
+-- A pop that alone is scheduled ends, with no holder among the others.
+abbrev pub PopAlone : Definition → Machine → Type 0
+PopAlone d m =
+    (w : ℕ) → 0 < popMost (placeOf (m .workers) w) → m .meter + popMost (placeOf (m .workers) w) ≤ meterMost
+    → ((v : ℕ) → (v ≡ w → ⊥) → Holding (placeOf (m .workers) v) → ⊥) → EndsAlone d m w (popMost (placeOf (m .workers) w))
+
+abbrev pub PopsEndAlone : Definition → Type 0
+PopsEndAlone d = (workers : ℕ) → Allowed workers → (s : List ℕ) → PopAlone d (machineAfter d workers s)

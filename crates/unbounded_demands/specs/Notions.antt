@@ -1,5 +1,5 @@
 -- What the statements of request 12 speak of.
-use Prim.Native.Nat.{ℕ, zero, suc, _+_, _*_, _/_, _<_, _≤_}
+use Prim.Native.Nat.{ℕ, zero, suc, _+_, _*_, _-_, _/_, _<_, _≤_}
 use mathlib.Core.Bool.{Bool, true, false, cond}
 use mathlib.Core.List.{List, [], _∷_, _++_}
 use mathlib.Core.Logic.{_≢_}
@@ -468,3 +468,52 @@ passed d = passedBy (λ (x : Did). x .refusal) (λ (x : Did). x .machine) (d .tu
 
 abbrev pub ownActs : Definition → ℕ → Machine → List ℕ → ℕ
 ownActs d = ownActsBy (λ (x : Did). x .refusal) (λ (x : Did). x .machine) (d .turn)
+
+-- Whom a pop can wait for: a push that fronts the first block or has a slot in hand, a pop that leaves a block.
+pub data Holding : Place → Type 0 where
+  fronts : {p : Place} → Fronting p → Holding p
+  pushes : {p : Place} {b : Pointer} {t : Index} → PushingIn p b t → Holding p
+  leaves : {p : Place} {h : Index} → Leaving p h → Holding p
+
+-- How many acts a pop that alone is scheduled, with no such holder, is from its end at most: 41 from its begin; 43 where the word it loaded is old. 31 of them
+-- destroy a block. 0 at other places.
+abbrev pub popMost : Place → ℕ
+popMost (Idle a) = 0
+popMost (U1 n x) = 0
+popMost (U2 n t x) = 0
+popMost (U3 t b x) = 0
+popMost (U4 n t x) = 0
+popMost (U5 n t new x) = 0
+popMost (U6 n t new x) = 0
+popMost (U7 n t b x) = 0
+popMost (U8 n t x) = 0
+popMost (U9 n t b x) = 0
+popMost (U10 n t b x) = 0
+popMost (U11 n t b x) = 0
+popMost (U12 n t b x) = 0
+popMost (U13 n t b) = 0
+popMost (U14 n a) = 0
+popMost (U15 n new x) = 0
+popMost V1 = 41
+popMost (V2 h) = 43
+popMost (V3 h b) = 42
+popMost (V4 h b new) = 41
+popMost (V5 h) = 43
+popMost (V6 h b new) = 37
+popMost (V7 h b new next) = 36
+popMost (V8 h b next i) = 35
+popMost (V9 h b i) = 34
+popMost (V10 h b) = 33
+popMost (V11 h b) = 32
+popMost (V12 h b v) = 31
+popMost (V13 b i v) = 31 - i
+popMost (V14 b i v) = 31 - i
+popMost (V15 b v) = 1
+popMost Len1 = 0
+popMost (Len2 t) = 0
+popMost (Len3 t h) = 0
+popMost Empty1 = 0
+popMost (Empty2 h) = 0
+popMost Full1 = 0
+popMost Close1 = 0
+popMost IsClosed1 = 0

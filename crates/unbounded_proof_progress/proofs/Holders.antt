@@ -36,7 +36,7 @@ use Rattle.unbounded_proof_progress.proofs.Hands.{Pushes, crossing, tyi
 some-none : (c : ℕ) → To c ≡ None → ⊥
 some-none c e = let z : _≡_ {A = ℕ} 0 1 = cc in omega arith
 
-position-word : (t : Index) (p : ℕ) (m : Bool) → t ≡ word p m → position t ≡ p
+pub position-word : (t : Index) (p : ℕ) (m : Bool) → t ≡ word p m → position t ≡ p
 position-word t p m e = ap (λ (i : Index). i .0 / 2) e ∙ half p m
 
 module _ (workers : ℕ) (m : Machine) (h : List Event) (r : Reached workers m h) where
@@ -56,10 +56,10 @@ module _ (workers : ℕ) (m : Machine) (h : List Event) (r : Reached workers m h
       let o = stands v in
       pops-at s (r .sim .inv) v (stood m v) (o .aside) (o .new) (o .seen) (o .at) (o .good .seen) q (o .good .pops q e)
 
-  tail-is : m .ends .tail ≡ word (s .tail) (s .closed)
+  pub tail-is : m .ends .tail ≡ word (s .tail) (s .closed)
   tail-is = ap (λ (e : Ends). e .tail) (r .sim .ends)
 
-  head-is : m .ends .head ≡ word (s .head) (s .mark)
+  pub head-is : m .ends .head ≡ word (s .head) (s .mark)
   head-is = ap (λ (e : Ends). e .head) (r .sim .ends)
 
   -- ---- tail's gap, and head's

@@ -88,7 +88,7 @@ nearer e k g c lose p (end13 {n = To d}) = on end14 refl
 nearer e k g c lose p end14 = over refl refl
 
 -- a busy worker has a record
-recorded : (ws : List Worker) (w : ℕ) → viewOf sizes (placeOf ws w) .busy ≡ true → w < length ws
+pub recorded : (ws : List Worker) (w : ℕ) → viewOf sizes (placeOf ws w) .busy ≡ true → w < length ws
 recorded [] w b = absurd (true≢false (sym b))
 recorded (x ∷ ws) zero b = omega arith
 recorded (x ∷ ws) (suc w) b = let l = recorded ws w b in omega arith

@@ -8,6 +8,7 @@ use native.Mathlib.Omega.{arith}
 use lib.ListN.{length, getD, replicate}
 use Rattle.queue_numbers.specs.Numbers.{has as among}
 use Rattle.queue_schedules.specs.Alone.{passedBy, ownActsBy}
+use Rattle.queue_schedules.specs.Alone as one-by-one
 use Rattle.queue_entries.specs.Schedules.{runBy, searchBy, scheduleBy, historyBy}
 use Rattle.queue_entries.specs.Entries.{strayOf, orderOf, entryOf, entryBut}
 use Rattle.queue_entries.specs.Limits.{all, inLimits}
@@ -17,7 +18,9 @@ use Rattle.unbounded_words.specs.declared.Pointer.{Pointer}
 use Rattle.unbounded_words.specs.declared.Pointer.the-variants.{None, To}
 use Rattle.unbounded_words.specs.Words.{index, pastSlots, lastSlot, markedOf, unmarkedOf, withMark, later, same, samePosition, sameBlock, minus, settled, behind, countOf}
 use Rattle.unbounded_places.specs.declared.Worker.{Worker}
+use Rattle.unbounded_places.specs.declared.Answer.the-variants.{Nothing}
 use Rattle.unbounded_places.specs.declared.Place.{Place}
+use Rattle.unbounded_places.specs.declared.Place.the-variants.{Idle}
 use Rattle.unbounded_places.specs.Places.{viewOf}
 use Rattle.unbounded_acts.specs.Acts.{leave, headTo, frontTo, tailTo, backTo, nextTo, freed, stateTo, valueTo, has, with, firstOr, answered, lacksNext, pushFrom, setAside, claimed, takeOr, popFrom, newHead, taken, nextIndex, destroyFrom, readOut, destroyIf, actOf}
 use Rattle.unbounded_machine.specs.declared.Machine.{Machine}
@@ -28,38 +31,43 @@ use Rattle.unbounded_machine.specs.Broken.{recordFits, recordsFit, allIdle, dro
 use Rattle.unbounded_machine.specs.Turn.{entryHere, lowestFrom, lowestFree, clearedFrom, cleared, begun, stored, actedAt, movedBy, turnWith}
 use Rattle.unbounded_machine.specs.Contents.{contentsOf}
 use Rattle.unbounded_machine.specs.Run.{ran}
-use Rattle.unbounded_demands.specs.Notions.{Definition, definition, machineAfter, acts, itemsOf, takersOf, takingsOf, freeingsOf, push12, PushingIn, in9, in10, in11, in12, in13, pushLeft, passed}
+use Rattle.unbounded_demands.specs.Notions.{Definition, definition, machineAfter, acts, itemsOf, takersOf, takingsOf, freeingsOf, push12, in12, Holding, pushLeft, passed}
 use Rattle.unbounded_demands.specs.Notions as notions
-use Rattle.unbounded_demands.specs.Demands.{AnswersPushed, WantsBlock}
+use Rattle.unbounded_demands.specs.Demands.{AnswersPushed, EndsAlone, WantsBlock}
 use Rattle.unbounded_demands.specs.Runs.{short}
-use Rattle.unbounded_slips.specs.Slips.{slipped, stingy, writesOn}
+use Rattle.unbounded_proof_progress.proofs.PopRank.{holdsAt, holding-at, in-left}
+use Rattle.unbounded_slips.specs.Slips.{slipped, stingy, writesOn, freesOn}
 use Rattle.unbounded_slips.specs.Refuted.{reached, does}
-use Rattle.unbounded_slips.specs.Further.{FurtherRefuted, popWaitsOn, pushWrites}
+use Rattle.unbounded_slips.specs.Further.{FurtherRefuted, popWaitsOn, pushWrites, popFrees}
 
 abbrev busyAt : Machine → ℕ → Bool
 busyAt m w = viewOf short (placeOf (m .workers) w) .busy
 
--- ---- nobody has a slot's push in hand
-in-left : (p : Place) (b : Pointer) (t : Index) → PushingIn p b t → pushLeft p ≡ 0 → ⊥
-in-left p b t in9 z = omega arith
-in-left p b t in10 z = omega arith
-in-left p b t in11 z = omega arith
-in-left p b t (in12 {n = None}) z = omega arith
-in-left p b t (in12 {n = To c}) z = omega arith
-in-left p b t (in13 {n = None}) z = omega arith
-in-left p b t (in13 {n = To c}) z = omega arith
-
+-- ---- two workers, and fourteen that were never begun
 idle-all : (n v : ℕ) → getD (replicate n idler) v idler ≡ idler
 idle-all zero v = refl
 idle-all (suc n) zero = refl
 idle-all (suc n) (suc v) = idle-all n v
 
--- two workers, and fourteen that were never begun
-nobody : (ws : List Worker) → pushLeft (placeOf ws 0) ≡ 0 → pushLeft (placeOf ws 1) ≡ 0 → ((v : ℕ) → getD ws (suc (suc v)) idler ≡ getD (replicate 14 idler) v idler)
-    → (v : ℕ) → pushLeft (placeOf ws v) ≡ 0
-nobody ws a b rest zero = a
-nobody ws a b rest (suc zero) = b
-nobody ws a b rest (suc (suc v)) = ap (λ (x : Worker). pushLeft (x .place)) (rest v ∙ idle-all 14 v)
+idle-rest : (ws : List Worker) → ((v : ℕ) → getD ws (suc (suc v)) idler ≡ getD (replicate 14 idler) v idler) → (v : ℕ) → placeOf ws (suc (suc v)) ≡ Idle Nothing
+idle-rest ws rest v = ap (λ (x : Worker). x .place) (rest v ∙ idle-all 14 v)
+
+nobody : (ws : List Worker) → pushLeft (placeOf ws 0) ≡ 0 → pushLeft (placeOf ws 1) ≡ 0 → ((v : ℕ) → placeOf ws (suc (suc v)) ≡ Idle Nothing) → (v : ℕ) → pushLeft (placeOf ws v) ≡ 0
+nobody ws a b quiet zero = a
+nobody ws a b quiet (suc zero) = b
+nobody ws a b quiet (suc (suc v)) = ap pushLeft (quiet v)
+
+-- nobody but worker 0 is waited for
+alone : (ws : List Worker) → placeOf ws 1 ≡ Idle Nothing → ((v : ℕ) → placeOf ws (suc (suc v)) ≡ Idle Nothing) → (v : ℕ) → (v ≡ 0 → ⊥) → Holding (placeOf ws v) → ⊥
+alone ws one quiet zero ne h = ne refl
+alone ws one quiet (suc zero) ne h = true≢false (sym (holding-at (placeOf ws 1) h) ∙ ap holdsAt one)
+alone ws one quiet (suc (suc v)) ne h = true≢false (sym (holding-at (placeOf ws (suc (suc v))) h) ∙ ap holdsAt (quiet v))
+
+-- ---- a pop whose last act does not end it
+no-end : (d : Definition) (m : Machine) (w : ℕ) → viewOf (d .sizes) (placeOf (d .run m 0 (one-by-one.acts w 1) .machine .workers) w) .busy ≡ true → EndsAlone d m w 1 → ⊥
+no-end d m w b e =
+    let z : e .before ≡ 0 = omega (arith, e .within) in
+    true≢false (sym (ap (λ (n : ℕ). viewOf (d .sizes) (placeOf (d .run m 0 (one-by-one.acts w (suc n)) .machine .workers) w) .busy) z ∙ b) ∙ e .idle)
 
 -- ---- a push that never ends
 unfoldable busyAlong : Definition → Machine → ℕ → List ℕ → Bool
@@ -83,7 +91,7 @@ holds-on d m w n entries b l =
     along m (first ∷ second ∷ others) after b = along (d .turn m first second .machine) others after (both-right (busyAt m w) _ b)
 
 pub further-refuted : FurtherRefuted
-unfolding pastSlots lastSlot markedOf unmarkedOf withMark later same samePosition sameBlock minus settled behind countOf strayOf orderOf entryOf leave headTo frontTo tailTo backTo nextTo freed stateTo valueTo has with firstOr answered lacksNext pushFrom setAside claimed takeOr popFrom newHead taken nextIndex destroyFrom readOut destroyIf live freeBlocks emptySlots idlers freshOf blank refused accepted lastFits without walkFrom itemsFrom walkOf drop.itemsOf all inLimits recordFits recordsFit allIdle dropFits brokenIn entryBut lowestFrom lowestFree clearedFrom cleared begun stored actedAt movedBy turnWith contentsOf ran runBy searchBy scheduleBy historyBy acts itemsOf takersOf takingsOf freeingsOf notions.chained among passedBy ownActsBy busyAlong
+unfolding pastSlots lastSlot markedOf unmarkedOf withMark later same samePosition sameBlock minus settled behind countOf strayOf orderOf entryOf leave headTo frontTo tailTo backTo nextTo freed stateTo valueTo has with firstOr answered lacksNext pushFrom setAside claimed takeOr popFrom newHead taken nextIndex destroyFrom readOut destroyIf live freeBlocks emptySlots idlers freshOf blank refused accepted lastFits without walkFrom itemsFrom walkOf drop.itemsOf all inLimits recordFits recordsFit allIdle dropFits brokenIn entryBut lowestFrom lowestFree clearedFrom cleared begun stored actedAt movedBy turnWith contentsOf ran runBy searchBy scheduleBy historyBy acts itemsOf takersOf takingsOf freeingsOf notions.chained among passedBy ownActsBy busyAlong one-by-one.acts
 further-refuted =
     record {
       numbered = λ n. true≢false (sym (n .make 1));
@@ -98,8 +106,10 @@ further-refuted =
       holders =
           λ h.
           let o = h .write 1 (index 0) (To 0) refl refl in
-          in-left _ (To 0) (o .1) (o .2) (nobody (reached popWaitsOn .workers) refl refl (λ v. refl) (o .0));
+          in-left _ (To 0) (o .1) (o .2) (nobody (reached popWaitsOn .workers) refl refl (idle-rest (reached popWaitsOn .workers) (λ v. refl)) (o .0));
       push-ends = λ e. holds-on (slipped writesOn) (reached pushWrites) 0 2 (acts 0 2) refl (e .ends (reached pushWrites) 0 (index 0) (acts 0 2) push12 (let q : 2 ≤ 2 = omega arith in q));
+      pop-alone =
+          λ p. no-end (slipped freesOn) (reached popFrees) 0 refl (p 0 (omega arith) (omega arith) (alone (reached popFrees .workers) refl (idle-rest (reached popFrees .workers) (λ v. refl))));
     }
   where
     eight : {m : ℕ} → (_≡_ {A = ℕ} 8 0) ⊎ ((_≡_ {A = ℕ} 8 7 × (4294967295 ≤ m)) ⊎ (_≡_ {A = ℕ} 8 23)) → ⊥

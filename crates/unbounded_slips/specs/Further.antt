@@ -11,10 +11,10 @@ use Rattle.unbounded_machine.specs.Run.{runWith}
 use Rattle.unbounded_machine.specs.History.{historyWith}
 use Rattle.unbounded_machine.specs.Turn.{turnWith}
 use Rattle.unbounded_demands.specs.Notions.{Definition, definition, machineAfter, acts}
-use Rattle.unbounded_demands.specs.Demands.{refusals, Numbered, LowestFirst, TwentyThree, OneAside, OneHandInPool, RefusedByMeterOrPool, Holders, PushEnds}
+use Rattle.unbounded_demands.specs.Demands.{refusals, Numbered, LowestFirst, TwentyThree, OneAside, OneHandInPool, RefusedByMeterOrPool, Holders, PushEnds, PopAlone}
 use Rattle.unbounded_demands.specs.Runs.{short}
-use Rattle.unbounded_slips.specs.Slips.{actWith, none, asideFirst, takesAgain, unset, writesOn, slipped, stingy}
-use Rattle.unbounded_slips.specs.Refuted.{Trial, trial, reached, does}
+use Rattle.unbounded_slips.specs.Slips.{actWith, none, asideFirst, takesAgain, unset, writesOn, freesOn, slipped, stingy}
+use Rattle.unbounded_slips.specs.Refuted.{Trial, trial, reached, does, twoPushed}
 
 -- Numbers of refusals as the face gives them, but that a making is refused by 1, which document 01 gives to a capacity.
 abbrev pub givesOne : Numbers Machine
@@ -58,6 +58,10 @@ popWaitsOn = trial unset (does 0 0 5 8 ++ does 1 2 0 4)
 abbrev pub pushWrites : Trial
 pushWrites = trial writesOn (does 0 0 5 6)
 
+-- a block was pushed full and popped, and worker 0 has to free it
+abbrev pub popFrees : Trial
+popFrees = trial freesOn (twoPushed ++ does 0 2 0 7 ++ does 0 2 0 10)
+
 pub record FurtherRefuted : Type 0 where
   pub numbered : Numbered givesOne → ⊥
   pub lowest-first : LowestFirst lastOne → ⊥
@@ -67,3 +71,4 @@ pub record FurtherRefuted : Type 0 where
   pub refused-by : RefusedByMeterOrPool refusing (reached pushBegun) → ⊥
   pub holders : Holders (slipped unset) (reached popWaitsOn) → ⊥
   pub push-ends : PushEnds (slipped writesOn) → ⊥
+  pub pop-alone : PopAlone (slipped freesOn) (reached popFrees) → ⊥

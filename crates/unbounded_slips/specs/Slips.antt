@@ -87,6 +87,10 @@ unset = 33
 abbrev pub writesOn : ℕ
 writesOn = 34
 
+-- V15 stays there
+abbrev pub freesOn : ℕ
+freesOn = 35
+
 -- The row of the table, but for this slip.
 abbrev but : ℕ → ℕ → Acted → Acted → Acted
 but n slip wrong right = cond (eqb n slip) wrong right
@@ -128,7 +132,7 @@ actWith m z e k g s (V11 h b) lose = actOf z e k g s (V11 h b) lose
 actWith m z e k g s (V12 h b v) lose = actOf z e k g s (V12 h b v) lose
 actWith m z e k g s (V13 b i v) lose = but m skipsReader (leave e g s (destroyFrom z b (i + 1) v)) (actOf z e k g s (V13 b i v) lose)
 actWith m z e k g s (V14 b i v) lose = actOf z e k g s (V14 b i v) lose
-actWith m z e k g s (V15 b v) lose = but m keepsBlock (leave e g s (Idle (Popped v))) (actOf z e k g s (V15 b v) lose)
+actWith m z e k g s (V15 b v) lose = but m keepsBlock (leave e g s (Idle (Popped v))) (but m freesOn (leave e g s (V15 b v)) (actOf z e k g s (V15 b v) lose))
 actWith m z e k g s Len1 lose = actOf z e k g s Len1 lose
 actWith m z e k g s (Len2 t) lose = actOf z e k g s (Len2 t) lose
 actWith m z e k g s (Len3 t h) lose = actOf z e k g s (Len3 t h) lose
