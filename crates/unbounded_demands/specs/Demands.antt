@@ -39,7 +39,7 @@ use Rattle.unbounded_machine.specs.Run.{ran, runFrom, runOf}
 use Rattle.unbounded_machine.specs.History.{eventsOf}
 use Rattle.unbounded.specs.declared.Bound.{Bound}
 use Rattle.unbounded.specs.Unbounded.{makeOf, stepOf, beginOf, actOf, capacityOf}
-use Rattle.unbounded_demands.specs.Notions.{Definition, Allowed, machineAfter, actsOf, Acts, Asking, Pushing, Popping, Reads, valueAt, stateAt, takingsOf, freeingsOf, signOf, HandsOut, itemsOf, takersOf, LatestIn, ItemIn, waiting, Fifo, position, Truth, chained, PushingIn, PoppingIn, OneSlot, Crossing, Tying, Leaving, Fronting, pushLeft, passed, ownActs, Holding, popMost}
+use Rattle.unbounded_demands.specs.Notions.{Definition, Allowed, machineAfter, actsOf, Acts, Asking, Pushing, Popping, Reads, valueAt, stateAt, takingsOf, freeingsOf, signOf, HandsOut, itemsOf, takersOf, LatestIn, ItemIn, waiting, Fifo, position, Truth, chained, PushingIn, PoppingIn, OneSlot, Crossing, Tying, Leaving, Fronting, pushLeft, passed, ownActs, Holding, popMost, pushMost}
 
 -- ==== 1. Any machine, entry or schedule handed in gets an answer or a numbered refusal; a refused step changes nothing.
 -- That each gets an answer is what the functions of crate unbounded promise: none has a `requires`, and each answer is equal to a
@@ -307,3 +307,13 @@ PopAlone d m =
 
 abbrev pub PopsEndAlone : Definition → Type 0
 PopsEndAlone d = (workers : ℕ) → Allowed workers → (s : List ℕ) → PopAlone d (machineAfter d workers s)
+
+-- A push that alone is scheduled ends, with tail in nobody else's hand and a block free.
+abbrev pub PushAlone : Definition → Machine → Type 0
+PushAlone d m =
+    (w : ℕ) → 0 < pushMost (placeOf (m .workers) w) → m .meter + pushMost (placeOf (m .workers) w) ≤ meterMost
+    → ((v : ℕ) (t : Index) → (v ≡ w → ⊥) → Crossing (placeOf (m .workers) v) t → ⊥)
+    → ((k : ℕ) × (k < d .sizes .blocks) × (blockAt (m .blocks) k .free ≡ true)) → EndsAlone d m w (pushMost (placeOf (m .workers) w))
+
+abbrev pub PushesEndAlone : Definition → Type 0
+PushesEndAlone d = (workers : ℕ) → Allowed workers → (s : List ℕ) → PushAlone d (machineAfter d workers s)

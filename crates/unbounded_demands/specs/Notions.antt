@@ -517,3 +517,46 @@ popMost (Empty2 h) = 0
 popMost Full1 = 0
 popMost Close1 = 0
 popMost IsClosed1 = 0
+
+-- How many acts a push that alone is scheduled, with no other worker at U9 or U10 and a free block, is from its end at most: 9 from its begin; 10 where the word
+-- it loaded is old. 0 at other places.
+abbrev pub pushMost : Place → ℕ
+pushMost (Idle a) = 0
+pushMost (U1 n x) = 9
+pushMost (U2 n t x) = 10
+pushMost (U3 t b x) = 9
+pushMost (U4 n t x) = 10
+pushMost (U5 n t new x) = 9
+pushMost (U6 n t new x) = 10
+pushMost (U7 n t b x) = 9
+pushMost (U8 n t x) = 10
+pushMost (U9 n t b x) = 5
+pushMost (U10 n t b x) = 4
+pushMost (U11 n t b x) = 3
+pushMost (U12 n t b x) = 3
+pushMost (U13 n t b) = 2
+pushMost (U14 n a) = 1
+pushMost (U15 n new x) = 0
+pushMost V1 = 0
+pushMost (V2 h) = 0
+pushMost (V3 h b) = 0
+pushMost (V4 h b new) = 0
+pushMost (V5 h) = 0
+pushMost (V6 h b new) = 0
+pushMost (V7 h b new next) = 0
+pushMost (V8 h b next i) = 0
+pushMost (V9 h b i) = 0
+pushMost (V10 h b) = 0
+pushMost (V11 h b) = 0
+pushMost (V12 h b v) = 0
+pushMost (V13 b i v) = 0
+pushMost (V14 b i v) = 0
+pushMost (V15 b v) = 0
+pushMost Len1 = 0
+pushMost (Len2 t) = 0
+pushMost (Len3 t h) = 0
+pushMost Empty1 = 0
+pushMost (Empty2 h) = 0
+pushMost Full1 = 0
+pushMost Close1 = 0
+pushMost IsClosed1 = 0

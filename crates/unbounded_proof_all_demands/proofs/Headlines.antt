@@ -4,7 +4,7 @@ use Rattle.unbounded_words.specs.Words.{sizes}
 use Rattle.unbounded_acts.specs.Acts.{actOf}
 use Rattle.unbounded_machine.specs.Turn.{lowestFree}
 use Rattle.unbounded_demands.specs.Notions.{Definition, definition}
-use Rattle.unbounded_demands.specs.Demands.{RefusedUnchanged, Numbered, refusals, ListFirst, OnlyOne, UnderEverySchedule, ActByAct, WholeSchedules, NoBlock, LowestFirst, TwentyThree, PoolUnderEverySchedule, ProgressUnderEverySchedule, PushEnds, PopsEndAlone}
+use Rattle.unbounded_demands.specs.Demands.{RefusedUnchanged, Numbered, refusals, ListFirst, OnlyOne, UnderEverySchedule, ActByAct, WholeSchedules, NoBlock, LowestFirst, TwentyThree, PoolUnderEverySchedule, ProgressUnderEverySchedule, PushEnds, PopsEndAlone, PushesEndAlone}
 use Rattle.unbounded_demands.specs.Runs.{Runs}
 use Rattle.unbounded_demands.proofs.Refusals.{refused-unchanged, list-first, only-one}
 use Rattle.unbounded_demands.proofs.Numbers.{numbered}
@@ -16,6 +16,7 @@ use Rattle.unbounded_proof_pool.proofs.Pool.{pool-kept}
 use Rattle.unbounded_proof_progress.proofs.Progress.{progress}
 use Rattle.unbounded_proof_progress.proofs.PushEnds.{push-ends}
 use Rattle.unbounded_proof_progress.proofs.PopAlone.{pops-end-alone}
+use Rattle.unbounded_proof_progress.proofs.PushAlone.{pushes-end-alone}
 
 -- The source's table, over a pool of 64 blocks of 31 slots.
 abbrev pub source : Definition
@@ -37,9 +38,9 @@ pub pool : NoBlock source × LowestFirst lowestFree × TwentyThree source × Poo
 pool = (blocks-run-out, lowest-first, twenty-three, pool-kept)
 
 -- Progress: an act of a call under way is refused by 7 or 23 alone; whoever waits has a holder; a push with a slot in hand ends within five acts of its own;
--- a pop that alone is scheduled, with no holder, ends within 43.
-pub goes-on : ProgressUnderEverySchedule source × PushEnds source × PopsEndAlone source
-goes-on = (progress, push-ends, pops-end-alone)
+-- alone, with no holder, a pop ends within 43 acts, and with a free block a push within 10.
+pub goes-on : ProgressUnderEverySchedule source × PushEnds source × PopsEndAlone source × PushesEndAlone source
+goes-on = (progress, push-ends, pops-end-alone, pushes-end-alone)
 
 -- The table of runs.
 pub on-paper : Runs

@@ -96,11 +96,11 @@ late-on back n z = ap (λ (t : Bool). cond t true (not (noneOf back))) z
 late-some : (back n : Pointer) → noneOf back ≡ false → late back n ≡ true
 late-some back n z = either (λ (t : Bool). t ≡ true) (noneOf n) true (not (noneOf back)) (λ e. refl) (λ e. ap not z)
 
-late-none : (back n : Pointer) → noneOf back ≡ true → late back n ≡ true → noneOf n ≡ true
+pub late-none : (back n : Pointer) → noneOf back ≡ true → late back n ≡ true → noneOf n ≡ true
 late-none back None z h = refl
 late-none back (To c) z h = absurd (true≢false (sym h ∙ ap not z))
 
-to-some : (b : Pointer) (c : ℕ) → b ≡ To c → noneOf b ≡ false
+pub to-some : (b : Pointer) (c : ℕ) → b ≡ To c → noneOf b ≡ false
 to-some b c e = ap noneOf e
 
 -- ---- the places of an act

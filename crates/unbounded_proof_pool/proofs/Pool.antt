@@ -35,14 +35,14 @@ use Rattle.unbounded_proof_demand2.proofs.Demand2.{fresh-stood, fresh-reached}
 use Rattle.unbounded_proof_pool.proofs.Aside.{fine, AllFine, turned-fine}
 
 -- ---- no second block is set aside
-abbrev Both : ℕ → Machine → List Event → Type 0
+abbrev pub Both : ℕ → Machine → List Event → Type 0
 Both workers m h = Reached workers m h × AllFine m
 
 fresh-fine : (workers : ℕ) → AllFine (freshOf sizes workers)
 unfolding freshOf
 fresh-fine workers v = ap (fine None) (fresh-stood v)
 
-both-reached : (workers : ℕ) → Allowed workers → (s : List ℕ) → Both workers (machineAfter (definition sizes actOf) workers s) (actsOf (definition sizes actOf) workers s)
+pub both-reached : (workers : ℕ) → Allowed workers → (s : List ℕ) → Both workers (machineAfter (definition sizes actOf) workers s) (actsOf (definition sizes actOf) workers s)
 both-reached workers a s =
     entries-lead unbounded-queue eventsOf (Both workers)
     (λ m h x y r e. (

@@ -4,4 +4,6 @@ pub mod Hands
 pub mod Holders
 pub mod PopRank
 pub mod PopAlone
+pub mod PushRank
+pub mod PushAlone
 pub mod Progress

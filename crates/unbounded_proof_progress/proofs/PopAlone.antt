@@ -227,7 +227,7 @@ pop-busy Close1 z = refl
 pop-busy IsClosed1 z = refl
 
 -- an idle worker's act is refused
-idle-refused : (w : ℕ) (m : Machine) → viewOf sizes (stood m w) .busy ≡ false → turnWith sizes actOf m (16 * w + 8) 0 .refusal ≡ 0 → ⊥
+pub idle-refused : (w : ℕ) (m : Machine) → viewOf sizes (stood m w) .busy ≡ false → turnWith sizes actOf m (16 * w + 8) 0 .refusal ≡ 0 → ⊥
 idle-refused w m z e = go (entryOf (16 * w + 8) 0) (turnWith sizes actOf m (16 * w + 8) 0 .machine) (turned m (16 * w + 8) 0 e) (act-entry w)
   where
     asks-one : (v : ℕ) (a b : Bool) → Asks v (Act a) ≡ Asks w (Act b) → v ≡ w

@@ -80,23 +80,23 @@ rankAt e l Full1 = 50
 rankAt e l Close1 = 50
 rankAt e l IsClosed1 = 50
 
-none-is : (b : Pointer) → noneOf b ≡ true → b ≡ None
+pub none-is : (b : Pointer) → noneOf b ≡ true → b ≡ None
 none-is None z = refl
 none-is (To c) z = absurd (true≢false (sym z))
 
-same-self : (h : Index) → same h h ≡ true
+pub same-self : (h : Index) → same h h ≡ true
 unfolding same
 same-self h = eq-eqb (h .0) (h .0) refl
 
-same-number : (a b : Index) → same a b ≡ true → a .0 ≡ b .0
+pub same-number : (a b : Index) → same a b ≡ true → a .0 ≡ b .0
 unfolding same
 same-number a b z = eqb-true (a .0) (b .0) z
 
-at-gap : (i : Index) → pastSlots sizes i ≡ true → offsetOf sizes i ≡ 31
+pub at-gap : (i : Index) → pastSlots sizes i ≡ true → offsetOf sizes i ≡ 31
 unfolding pastSlots
 at-gap i z = eqb-true (offsetOf sizes i) 31 z
 
-mark-same : (a b : Index) → a .0 ≡ b .0 → markedOf a ≡ markedOf b
+pub mark-same : (a b : Index) → a .0 ≡ b .0 → markedOf a ≡ markedOf b
 unfolding markedOf
 mark-same a b z = ap (λ (n : ℕ). eqb (n % 2) 1) z
 

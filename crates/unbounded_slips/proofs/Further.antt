@@ -31,14 +31,15 @@ use Rattle.unbounded_machine.specs.Broken.{recordFits, recordsFit, allIdle, dro
 use Rattle.unbounded_machine.specs.Turn.{entryHere, lowestFrom, lowestFree, clearedFrom, cleared, begun, stored, actedAt, movedBy, turnWith}
 use Rattle.unbounded_machine.specs.Contents.{contentsOf}
 use Rattle.unbounded_machine.specs.Run.{ran}
-use Rattle.unbounded_demands.specs.Notions.{Definition, definition, machineAfter, acts, itemsOf, takersOf, takingsOf, freeingsOf, push12, in12, Holding, pushLeft, passed}
+use Rattle.unbounded_demands.specs.Notions.{Definition, definition, machineAfter, acts, itemsOf, takersOf, takingsOf, freeingsOf, push12, in12, Holding, Crossing, pushLeft, passed}
 use Rattle.unbounded_demands.specs.Notions as notions
 use Rattle.unbounded_demands.specs.Demands.{AnswersPushed, EndsAlone, WantsBlock}
 use Rattle.unbounded_demands.specs.Runs.{short}
 use Rattle.unbounded_proof_progress.proofs.PopRank.{holdsAt, holding-at, in-left}
-use Rattle.unbounded_slips.specs.Slips.{slipped, stingy, writesOn, freesOn}
+use Rattle.unbounded_proof_progress.proofs.PushRank.{cross-left}
+use Rattle.unbounded_slips.specs.Slips.{actWith, slipped, stingy, writesOn, freesOn, givesOn}
 use Rattle.unbounded_slips.specs.Refuted.{reached, does}
-use Rattle.unbounded_slips.specs.Further.{FurtherRefuted, popWaitsOn, pushWrites, popFrees}
+use Rattle.unbounded_slips.specs.Further.{FurtherRefuted, popWaitsOn, pushWrites, popFrees, threeBlocks, pushGives}
 
 abbrev busyAt : Machine → ℕ → Bool
 busyAt m w = viewOf short (placeOf (m .workers) w) .busy
@@ -63,7 +64,13 @@ alone ws one quiet zero ne h = ne refl
 alone ws one quiet (suc zero) ne h = true≢false (sym (holding-at (placeOf ws 1) h) ∙ ap holdsAt one)
 alone ws one quiet (suc (suc v)) ne h = true≢false (sym (holding-at (placeOf ws (suc (suc v))) h) ∙ ap holdsAt (quiet v))
 
--- ---- a pop whose last act does not end it
+-- nobody but worker 0 moves tail
+uncrossed : (ws : List Worker) → pushLeft (placeOf ws 1) ≡ 0 → ((v : ℕ) → placeOf ws (suc (suc v)) ≡ Idle Nothing) → (v : ℕ) (t : Index) → (v ≡ 0 → ⊥) → Crossing (placeOf ws v) t → ⊥
+uncrossed ws one quiet zero t ne h = ne refl
+uncrossed ws one quiet (suc zero) t ne h = cross-left (placeOf ws 1) t h one
+uncrossed ws one quiet (suc (suc v)) t ne h = cross-left (placeOf ws (suc (suc v))) t h (ap pushLeft (quiet v))
+
+-- ---- a call whose last act does not end it
 no-end : (d : Definition) (m : Machine) (w : ℕ) → viewOf (d .sizes) (placeOf (d .run m 0 (one-by-one.acts w 1) .machine .workers) w) .busy ≡ true → EndsAlone d m w 1 → ⊥
 no-end d m w b e =
     let z : e .before ≡ 0 = omega (arith, e .within) in
@@ -110,6 +117,10 @@ further-refuted =
       push-ends = λ e. holds-on (slipped writesOn) (reached pushWrites) 0 2 (acts 0 2) refl (e .ends (reached pushWrites) 0 (index 0) (acts 0 2) push12 (let q : 2 ≤ 2 = omega arith in q));
       pop-alone =
           λ p. no-end (slipped freesOn) (reached popFrees) 0 refl (p 0 (omega arith) (omega arith) (alone (reached popFrees .workers) refl (idle-rest (reached popFrees .workers) (λ v. refl))));
+      push-alone =
+          λ p.
+          no-end (definition threeBlocks (actWith givesOn)) pushGives 0 refl
+          (p 0 (omega arith) (omega arith) (uncrossed (pushGives .workers) refl (idle-rest (pushGives .workers) (λ v. refl))) (2, omega arith, refl));
     }
   where
     eight : {m : ℕ} → (_≡_ {A = ℕ} 8 0) ⊎ ((_≡_ {A = ℕ} 8 7 × (4294967295 ≤ m)) ⊎ (_≡_ {A = ℕ} 8 23)) → ⊥

@@ -11,9 +11,9 @@ use Rattle.unbounded_machine.specs.Run.{runWith}
 use Rattle.unbounded_machine.specs.History.{historyWith}
 use Rattle.unbounded_machine.specs.Turn.{turnWith}
 use Rattle.unbounded_demands.specs.Notions.{Definition, definition, machineAfter, acts}
-use Rattle.unbounded_demands.specs.Demands.{refusals, Numbered, LowestFirst, TwentyThree, OneAside, OneHandInPool, RefusedByMeterOrPool, Holders, PushEnds, PopAlone}
+use Rattle.unbounded_demands.specs.Demands.{refusals, Numbered, LowestFirst, TwentyThree, OneAside, OneHandInPool, RefusedByMeterOrPool, Holders, PushEnds, PopAlone, PushAlone}
 use Rattle.unbounded_demands.specs.Runs.{short}
-use Rattle.unbounded_slips.specs.Slips.{actWith, none, asideFirst, takesAgain, unset, writesOn, freesOn, slipped, stingy}
+use Rattle.unbounded_slips.specs.Slips.{actWith, none, asideFirst, takesAgain, unset, writesOn, freesOn, givesOn, slipped, stingy}
 use Rattle.unbounded_slips.specs.Refuted.{Trial, trial, reached, does, twoPushed}
 
 -- Numbers of refusals as the face gives them, but that a making is refused by 1, which document 01 gives to a capacity.
@@ -62,6 +62,10 @@ pushWrites = trial writesOn (does 0 0 5 6)
 abbrev pub popFrees : Trial
 popFrees = trial freesOn (twoPushed ++ does 0 2 0 7 ++ does 0 2 0 10)
 
+-- worker 1 closes while a push has a block set aside, and the push has to give it back; one of three blocks is free
+abbrev pub pushGives : Machine
+pushGives = machineAfter (definition threeBlocks (actWith givesOn)) 2 (does 0 0 5 8 ++ does 0 0 6 3 ++ does 1 6 0 1 ++ acts 0 2)
+
 pub record FurtherRefuted : Type 0 where
   pub numbered : Numbered givesOne → ⊥
   pub lowest-first : LowestFirst lastOne → ⊥
@@ -72,3 +76,4 @@ pub record FurtherRefuted : Type 0 where
   pub holders : Holders (slipped unset) (reached popWaitsOn) → ⊥
   pub push-ends : PushEnds (slipped writesOn) → ⊥
   pub pop-alone : PopAlone (slipped freesOn) (reached popFrees) → ⊥
+  pub push-alone : PushAlone (definition threeBlocks (actWith givesOn)) pushGives → ⊥

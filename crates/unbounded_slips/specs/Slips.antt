@@ -91,6 +91,10 @@ writesOn = 34
 abbrev pub freesOn : ℕ
 freesOn = 35
 
+-- U14 stays there
+abbrev pub givesOn : ℕ
+givesOn = 36
+
 -- The row of the table, but for this slip.
 abbrev but : ℕ → ℕ → Acted → Acted → Acted
 but n slip wrong right = cond (eqb n slip) wrong right
@@ -113,7 +117,7 @@ actWith m z e k g s (U10 n t b x) lose = actOf z e k g s (U10 n t b x) lose
 actWith m z e k g s (U11 n t b x) lose = but m untied (leave e g s (U12 None t b x)) (actOf z e k g s (U11 n t b x) lose)
 actWith m z e k g s (U12 n t b x) lose = but m unwritten (leave e g s (U13 n t b)) (but m writesOn (leave e g s (U12 n t b x)) (actOf z e k g s (U12 n t b x) lose))
 actWith m z e k g s (U13 n t b) lose = but m unset (leave e g s (answered n Pushed)) (actOf z e k g s (U13 n t b) lose)
-actWith m z e k g s (U14 n a) lose = but m asideKept (leave e g s (Idle a)) (actOf z e k g s (U14 n a) lose)
+actWith m z e k g s (U14 n a) lose = but m asideKept (leave e g s (Idle a)) (but m givesOn (leave e g s (U14 n a)) (actOf z e k g s (U14 n a) lose))
 actWith m z e k g s (U15 n new x) lose = actOf z e k g s (U15 n new x) lose
 actWith m z e k g s V1 lose = actOf z e k g s V1 lose
 actWith m z e k g s (V2 h) lose = actOf z e k g s (V2 h) lose
