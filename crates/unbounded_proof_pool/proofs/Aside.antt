@@ -143,7 +143,8 @@ module _ (s : Shared) (w : ℕ) (e : Ends) (is : e ≡ endsOf s) (k : ℕ) (g : 
   act-fits p a n x idle o h = (refl, λ some. some)
   act-fits p a n x (u1 en) o h = (h, λ some. some)
   act-fits p a n x (u2 {n = m} {t = t} {x = y} en et) o h = (push-from m t (e .back) y h, λ some. some)
-  act-fits p a n x (u3 {t = t} {d = d} {b = b} {x = y} et ed l) o h = (either (Fits (e .back)) (noneOf d) (U4 (To k) t y) (U7 (To k) t d y) (λ z. absurd (true≢false (sym z ∙ to-some d b ed))) (λ z. late-some (e .back) (To k) (some-back (o .2))), λ some. some)
+  act-fits p a n x (u3 {t = t} {d = d} {b = b} {x = y} et ed l) o h =
+      (either (Fits (e .back)) (noneOf d) (U4 (To k) t y) (U7 (To k) t d y) (λ z. absurd (true≢false (sym z ∙ to-some d b ed))) (λ z. late-some (e .back) (To k) (some-back (o .2))), λ some. some)
   act-fits p a n x (u4 en et) o h = (h, λ some. some)
   act-fits p a n x (u5 {n = m} {d = d} {t = t} {b = b} {x = y} en et ed) o h =
       either (Kept e) (noneOf (e .back)) _ _ (λ z. (h, λ some. to-some d b ed))
@@ -253,7 +254,8 @@ begun-fine back call.Close = refl
 begun-fine back call.IsClosed = refl
 
 -- the record of w is another now
-placed : (ws : List Worker) (w : ℕ) (q : Place) (back : Pointer) → Fits back q → ((v : ℕ) → Fits back (placeOf ws v)) → w < length ws → (v : ℕ) → Fits back (placeOf (set ws w (record { place = q })) v)
+placed : (ws : List Worker) (w : ℕ) (q : Place) (back : Pointer) → Fits back q → ((v : ℕ) → Fits back (placeOf ws v)) → w < length ws → (v : ℕ) → Fits back
+    (placeOf (set ws w (record { place = q })) v)
 placed ws w q back h all l v = go (ℕ-discrete v w)
   where
     go : Dec (v ≡ w) → Fits back (placeOf (set ws w (record { place = q })) v)

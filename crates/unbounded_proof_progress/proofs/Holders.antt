@@ -132,7 +132,8 @@ module _ (workers : ℕ) (m : Machine) (h : List Event) (r : Reached workers m h
 
     untied : blockAt (m .blocks) (numberOf sizes b) .next ≡ None → s .link (i / 32) ≡ true → ⊥
     untied next l =
-        let g : blockAt (m .blocks) k ≡ record { next = nextOf (s .link) (s .phys) (i / 32); free = false } = subst (λ (x : Own). HeadRep (s .link) (s .phys) x (blockAt (m .blocks) k)) own (r .sim .headers k small) in
+        let g : blockAt (m .blocks) k ≡ record { next = nextOf (s .link) (s .phys) (i / 32); free = false } = subst (λ (x : Own). HeadRep (s .link) (s .phys) x (blockAt (m .blocks) k)) own
+        (r .sim .headers k small) in
         some-none (s .phys (i / 32 + 1))
         (sym (ap (λ (x : Bool). cond x (To (s .phys (i / 32 + 1))) None) l) ∙ sym (ap (λ (x : Block). x .next) g) ∙ sym (ap (λ (d : Pointer). blockAt (m .blocks) (numberOf sizes d) .next) eb) ∙ next)
 
@@ -154,7 +155,8 @@ module _ (workers : ℕ) (m : Machine) (h : List Event) (r : Reached workers m h
     unfolding has
     written e = eq-eqb (stateAt sizes m b t / 1 % 2) 1 state-is
       where
-        cell : slotAt sizes (m .slots) k (i % 32) ≡ slot (stateOf (isDone (s .push (32 * (i / 32) + i % 32))) (readBit (i % 32) (s .pop (32 * (i / 32) + i % 32))) (s .destroy (i / 32) (i % 32))) (s .val (32 * (i / 32) + i % 32))
+        cell : slotAt sizes (m .slots) k (i % 32) ≡ slot (stateOf (isDone (s .push (32 * (i / 32) + i % 32))) (readBit (i % 32) (s .pop (32 * (i / 32) + i % 32))) (s .destroy (i / 32) (i % 32)))
+            (s .val (32 * (i / 32) + i % 32))
         cell = subst (λ (x : Own). SlotRep (s .push) (s .pop) (s .destroy) (s .val) x (i % 32) (slotAt sizes (m .slots) k (i % 32))) own (r .sim .cells k (i % 32) small (held .2))
 
         here : slotAt sizes (m .slots) (numberOf sizes b) (offsetOf sizes t) ≡ slotAt sizes (m .slots) k (i % 32)

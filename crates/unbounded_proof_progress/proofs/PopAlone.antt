@@ -278,7 +278,8 @@ module _ (workers : ℕ) (allowed : Allowed workers) (w : ℕ) where
     rank-falls =
         let s = r .sim .places w in
         let f = falls workers m h r w (o .1) (stood m w) (s .aside) (s .new) (s .seen) (s .at) (s .good .seen) refl (o .3) b in
-        subst (λ (x : Worker). rankAt (usedBy sizes actOf m w (stood m w) false .ends) (usedBy sizes actOf m w (stood m w) false .slots) (x .place) < rank m) (sym (get-same (m .workers) w _ _ (recorded (m .workers) w b))) f
+        subst (λ (x : Worker). rankAt (usedBy sizes actOf m w (stood m w) false .ends) (usedBy sizes actOf m w (stood m w) false .slots) (x .place) < rank m)
+        (sym (get-same (m .workers) w _ _ (recorded (m .workers) w b))) f
 
     alone-still : Alone (usedBy sizes actOf m w (stood m w) false)
     unfolding actedAt stored

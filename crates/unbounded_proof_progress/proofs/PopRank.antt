@@ -256,9 +256,12 @@ module _ (workers : ℕ) (m : Machine) (h : List Event) (r : Reached workers m h
               ap (λ (x : Bool). cond x (cond (noneOf (e .front)) (cond (samePosition i (e .tail)) 1 42) 39) 42) t ∙ ap (λ (x : Bool). cond x (cond (samePosition i (e .tail)) 1 42) 39) n in
               omega arith
           looks true n =
-              let here : samePosition i (e .tail) ≡ true = position-same i (e .tail) (sym (ap (λ (x : ℕ). x / 2) z) ∙ position-word (e .head) (s .head) (s .mark) (head-is workers m h r) ∙ low n ∙ sym (position-word (e .tail) (s .tail) (s .closed) (tail-is workers m h r))) in
+              let here : samePosition i (e .tail) ≡ true = position-same i (e .tail)
+              (sym (ap (λ (x : ℕ). x / 2) z) ∙ position-word (e .head) (s .head) (s .mark) (head-is workers m h r) ∙ low n ∙ sym
+              (position-word (e .tail) (s .tail) (s .closed) (tail-is workers m h r))) in
               let c : rankAt e l (V3 i (e .front)) ≡ 1 =
-              ap (λ (x : Bool). cond x (cond (noneOf (e .front)) (cond (samePosition i (e .tail)) 1 42) 39) 42) t ∙ ap (λ (x : Bool). cond x (cond (samePosition i (e .tail)) 1 42) 39) n ∙ ap (λ (x : Bool). cond x 1 42) here in
+              ap (λ (x : Bool). cond x (cond (noneOf (e .front)) (cond (samePosition i (e .tail)) 1 42) 39) 42) t ∙ ap (λ (x : Bool). cond x (cond (samePosition i (e .tail)) 1 42) 39) n ∙ ap
+              (λ (x : Bool). cond x 1 42) here in
               omega arith
             where
               low : noneOf (e .front) ≡ true → s .head ≡ s .tail
@@ -334,7 +337,8 @@ module _ (workers : ℕ) (m : Machine) (h : List Event) (r : Reached workers m h
   falls p a n x (v2 {h = i} eh) o at few busy = top (apart p at refl) i _
   falls p a n x (v3 {h = i} {d = d} eh ed) o at few busy =
       either (Lower p (rankAt e (m .slots) p)) (samePosition i (e .tail)) _ _
-      (λ z. either (Lower p (rankAt e (m .slots) p)) (markedOf (e .tail)) _ _ (λ y. looked-some (same (e .head) i) (noneOf d) (samePosition i (e .tail))) (λ y. looked-some (same (e .head) i) (noneOf d) (samePosition i (e .tail))))
+      (λ z. either (Lower p (rankAt e (m .slots) p)) (markedOf (e .tail)) _ _ (λ y. looked-some (same (e .head) i) (noneOf d) (samePosition i (e .tail)))
+      (λ y. looked-some (same (e .head) i) (noneOf d) (samePosition i (e .tail))))
       (λ z. either (λ (q : Place). rankAt e (slotsKept p) q < rankAt e (m .slots) p) (noneOf d) V1 (V4 i d (newHead sizes i (e .tail)))
       (λ y. looked-back (same (e .head) i) (noneOf d) (samePosition i (e .tail)) y z) (λ y. looked-takes (same (e .head) i) (noneOf d) (samePosition i (e .tail)) y))
   falls p a n x (v4 {h = i} {new = j} {d = d} k eh ed ew) o at few busy =
@@ -346,7 +350,8 @@ module _ (workers : ℕ) (m : Machine) (h : List Event) (r : Reached workers m h
   falls p a n x (v5 {h = i} eh) o at few busy = top (apart p at refl) i _
   falls p a n x (v6 {h = i} {new = j} {d = d} k l eh ed ew) o at few busy =
       either (Lower p 37) (noneOf (blockAt (m .blocks) (numberOf sizes d) .next)) _ _
-      (λ z. let y = held .next w i j d at (none-is _ z) in absurd (alone (y .0) (λ q. in-left p d (y .1) (subst (λ (u : Place). PushingIn u d (y .1)) (ap (stood m) q ∙ at) (ties _ d (y .1) (y .2))) refl) (pushes (ties _ d (y .1) (y .2)))))
+      (λ z. let y = held .next w i j d at (none-is _ z) in absurd
+      (alone (y .0) (λ q. in-left p d (y .1) (subst (λ (u : Place). PushingIn u d (y .1)) (ap (stood m) q ∙ at) (ties _ d (y .1) (y .2))) refl) (pushes (ties _ d (y .1) (y .2)))))
       (λ z. omega arith)
   falls p a n x (v7 k l eh ed ew ec) o at few busy = omega arith
   falls p a n x (v8 k eh ed ec ew) o at few busy = omega arith
@@ -355,7 +360,8 @@ module _ (workers : ℕ) (m : Machine) (h : List Event) (r : Reached workers m h
       either (Lower p 33) (has WRITE (stateAt sizes m d i)) _ _ (λ z. omega arith)
       (λ z. let y = held .write w i d at z in absurd (nobody (apart p at refl) (y .0) (pushes (y .2))))
   falls p a n x (v11 {h = i} {d = d} k eh ed) o at few busy =
-      either (λ (q : Place). rankAt e (slotsKept p) q < 32) (lastSlot sizes i) (destroyFrom sizes d 0 (stateValue d i)) (V12 i d (stateValue d i)) (λ z. below e (slotsKept p) d 0 (stateValue d i) 32 (omega arith) (omega arith)) (λ z. omega arith)
+      either (λ (q : Place). rankAt e (slotsKept p) q < 32) (lastSlot sizes i) (destroyFrom sizes d 0 (stateValue d i)) (V12 i d (stateValue d i))
+      (λ z. below e (slotsKept p) d 0 (stateValue d i) 32 (omega arith) (omega arith)) (λ z. omega arith)
   falls p a n x (v12 {h = i} {d = d} {p = q} {v = v} k eh ed) o at few busy =
       let f : offsetOf sizes i ≡ q % 32 = ap (offsetOf sizes) eh ∙ offset-word q k in
       either (λ (y : Place). rankAt e (slotsAfter p (act p)) y < 1 + (30 - offsetOf sizes i)) (has DESTROY (stateAt sizes m d i)) (destroyFrom sizes d (offsetOf sizes i + 1) v) (Idle (Popped v))
@@ -363,11 +369,14 @@ module _ (workers : ℕ) (m : Machine) (h : List Event) (r : Reached workers m h
   falls p a n x (v13 {d = d} {b = b} {i = i} {v = v} ed l) o at few busy =
       either (Lower p (1 + (30 - i))) (has READ (slotAt sizes (m .slots) (numberOf sizes d) i .state)) _ _
       (λ z. below e _ d (i + 1) v (1 + (30 - i)) (omega arith) (omega arith))
-      (λ z. let y : _≡_ {A = ℕ} (cond (has READ (slotAt sizes (set (m .slots) (slotNumber sizes (numberOf sizes d) i) (slotAt sizes (m .slots) (numberOf sizes d) i)) (numberOf sizes d) i .state)) (1 + (30 - i)) 1) (1) =
-      ap {B = ℕ} (λ (c : Slot). cond (has READ (c .state)) (1 + (30 - i)) 1) (slot-kept (numberOf sizes d) i (slotAt sizes (m .slots) (numberOf sizes d) i) (small d b (o .0) ed (o .2)) (omega arith)) ∙ ap {B = ℕ} (λ (t : Bool). cond t (1 + (30 - i)) 1) z in
+      (λ z. let y : _≡_ {A = ℕ} (cond (has READ (slotAt sizes (set (m .slots) (slotNumber sizes (numberOf sizes d) i) (slotAt sizes (m .slots) (numberOf sizes d) i)) (numberOf sizes d) i .state))
+      (1 + (30 - i)) 1) (1) =
+      ap {B = ℕ} (λ (c : Slot). cond (has READ (c .state)) (1 + (30 - i)) 1)
+      (slot-kept (numberOf sizes d) i (slotAt sizes (m .slots) (numberOf sizes d) i) (small d b (o .0) ed (o .2)) (omega arith)) ∙ ap {B = ℕ} (λ (t : Bool). cond t (1 + (30 - i)) 1) z in
       omega arith)
   falls p a n x (v14 {d = d} {i = i} {v = v} ed l) o at few busy =
-      either (λ (y : Place). rankAt e (slotsAfter p (act p)) y < rankAt e (m .slots) p) (has READ (slotAt sizes (m .slots) (numberOf sizes d) i .state)) (destroyFrom sizes d (i + 1) v) (Idle (Popped v))
+      either (λ (y : Place). rankAt e (slotsAfter p (act p)) y < rankAt e (m .slots) p) (has READ (slotAt sizes (m .slots) (numberOf sizes d) i .state)) (destroyFrom sizes d (i + 1) v)
+      (Idle (Popped v))
       (λ z. let c : _≡_ {A = ℕ} (cond (has READ (slotAt sizes (m .slots) (numberOf sizes d) i .state)) (1 + (30 - i)) 1) (1 + (30 - i)) = ap {B = ℕ} (λ (t : Bool). cond t (1 + (30 - i)) 1) z in
       subst (λ (n : ℕ). rankAt e (slotsAfter p (act p)) (destroyFrom sizes d (i + 1) v) < n) (sym c) (below e (slotsAfter p (act p)) d (i + 1) v (1 + (30 - i)) (omega arith) (omega arith)))
       (λ z. let c : _≡_ {A = ℕ} (cond (has READ (slotAt sizes (m .slots) (numberOf sizes d) i .state)) (1 + (30 - i)) 1) (1) = ap {B = ℕ} (λ (t : Bool). cond t (1 + (30 - i)) 1) z in omega arith)

@@ -394,4 +394,5 @@ found l k small f = go (decLt (lowestFree sizes l) 64)
 pub pushes-end-alone : PushesEndAlone (definition sizes actOf)
 pushes-end-alone workers a s w pushes time alone (k, small, free) =
     let b = both-reached workers a s in
-    alone-ends workers a w (machineAfter (definition sizes actOf) workers s) (actsOf (definition sizes actOf) workers s) (b .0) (b .1) pushes time alone (found (machineAfter (definition sizes actOf) workers s .blocks) k small free)
+    alone-ends workers a w (machineAfter (definition sizes actOf) workers s) (actsOf (definition sizes actOf) workers s) (b .0) (b .1) pushes time alone
+    (found (machineAfter (definition sizes actOf) workers s .blocks) k small free)

@@ -14,6 +14,7 @@ use Rattle.unbounded_words.specs.declared.Pointer.the-variants.{None, To}
 use Rattle.unbounded_words.specs.declared.Index.{Index}
 use Rattle.unbounded_words.specs.Words.{sizes, noneOf, offsetOf, pastSlots, lastSlot, markedOf, same, later}
 use Rattle.unbounded_places.specs.declared.Slot.{Slot}
+use Rattle.unbounded_places.specs.declared.Block.{Block}
 use Rattle.unbounded_places.specs.declared.Ends.{Ends}
 use Rattle.unbounded_places.specs.declared.Answer.the-variants.{Pushed, Closed}
 use Rattle.unbounded_places.specs.declared.Place.{Place}
@@ -363,7 +364,11 @@ module _ (workers : ℕ) (m : Machine) (h : List Event) (r : Reached workers m h
         (λ z. (top-set (markedOf (e .tail)) (same (e .tail) t) (noneOf n) z, λ q. absurd (true≢false (sym q)))))
         (λ k. either Good (pastSlots sizes t) (U1 n x) _ (λ y. back-at-one k y (same (e .tail) t) refl)
         (λ y. either Good (lacksNext sizes n t) (U3 t (e .back) x) _
-        (λ l. (top-three (markedOf (e .tail)) (same (e .tail) t) (noneOf n) (current k) (lacks-none n t l), λ q. wanted (noneOf n) true (markedOf t) k (ap (λ (b : Bool). cond b true false) (lacks-none n t l))))
+        (λ l. (
+          top-three (markedOf (e .tail)) (same (e .tail) t) (noneOf n) (current k) (lacks-none n t l),
+          λ q. wanted (noneOf n) true (markedOf t) k
+              (ap (λ (b : Bool). cond b true false) (lacks-none n t l)),
+        ))
         (λ l. either Good (noneOf (e .back)) (U4 n t x) (U7 n t (e .back) x)
         (λ z. (
           subst (λ (b : Bool). four (markedOf (e .tail)) b < top (markedOf (e .tail)) (same (e .tail) t) (noneOf n)) (sym z) (top-four (markedOf (e .tail)) (same (e .tail) t) (noneOf n) (current k)),
@@ -372,10 +377,11 @@ module _ (workers : ℕ) (m : Machine) (h : List Event) (r : Reached workers m h
         (λ z. (top-claim (markedOf (e .tail)) (same (e .tail) t) (lastSlot sizes t) (noneOf n) (current k), λ q. wanted (noneOf n) _ (markedOf t) k q)))))
 
   -- ---- every act of a push
+  abbrev Led : Place → ℕ → Ends → Block → Place → Type 0
+  Led p k f g q = (pushRank f q < pushRank e p) × (pushNeeds f q ≡ true → (pushNeeds e p ≡ true) × (g ≡ blockAt (m .blocks) k) × (viewOf sizes p .takes ≡ false))
+
   abbrev Down : Place → ℕ → Acted → Type 0
-  Down p k c =
-      (pushRank (c .ends) (c .place) < pushRank e p)
-      × (pushNeeds (c .ends) (c .place) ≡ true → (pushNeeds e p ≡ true) × (c .block ≡ blockAt (m .blocks) k) × (viewOf sizes p .takes ≡ false))
+  Down p k c = Led p k (c .ends) (c .block) (c .place)
 
   never : {A : Type 0} → false ≡ true → A
   never z = absurd (true≢false (sym z))
@@ -400,41 +406,53 @@ module _ (workers : ℕ) (m : Machine) (h : List Event) (r : Reached workers m h
       → viewOf sizes p .busy ≡ true → Down p k (actOf sizes e k (blockAt (m .blocks) k) c p false)
   unfolding leave frontTo tailTo backTo answered claimed setAside firstOr
   falls k c p a n x idle o at knows few busy = absurd (true≢false (sym busy))
-  falls k c p a n x (u1 {n = i} {x = y} en) o at knows few busy = (subst (λ (b : Bool). top (markedOf (e .tail)) b (noneOf i) < one (markedOf (e .tail)) (noneOf i)) (sym (same-self (e .tail))) (one-top (markedOf (e .tail)) (noneOf i)), λ z. (z, refl, refl))
+  falls k c p a n x (u1 {n = i} {x = y} en) o at knows few busy =
+      (subst (λ (b : Bool). top (markedOf (e .tail)) b (noneOf i) < one (markedOf (e .tail)) (noneOf i)) (sym (same-self (e .tail))) (one-top (markedOf (e .tail)) (noneOf i)), λ z. (z, refl, refl))
   falls k c p a n x (u2 {n = i} {t = t} {x = y} en et) o at knows few busy = let g = topped (ap pushLeft at) i t y knows in (g .0, λ z. (g .1 z, refl, refl))
   falls k c p a n x (u3 {t = t} {d = d} {b = b} {x = y} et ed l) o at knows few busy =
-      either (λ (q : Place). (pushRank e q < pushRank e p) × (pushNeeds e q ≡ true → (pushNeeds e p ≡ true) × (newBlock ≡ blockAt (m .blocks) k) × (viewOf sizes p .takes ≡ false))) (noneOf d) (U4 (To k) t y) (U7 (To k) t d y)
+      either (Led p k e newBlock) (noneOf d) (U4 (To k) t y) (U7 (To k) t d y)
       (λ z. absurd (true≢false (sym z ∙ to-some d b ed))) (λ z. (three-claim (markedOf (e .tail)) (same (e .tail) t) (lastSlot sizes t), never))
   falls k c p a n x (u4 en et) o at knows few busy = (four-five (markedOf (e .tail)) (noneOf (e .back)), never)
   falls k c p a n x (u5 {n = i} {d = d} {t = t} {b = b} {x = y} en et ed) o at knows few busy =
       either (Down p k) (noneOf (e .back)) _ _
-      (λ z. let same-then : markedOf (e .tail) ≡ false → same (e .tail) t ≡ true = (λ q. same-word (e .tail) t (tail-0 z q ∙ sym et)) in
-      (subst (λ (v : Bool). six (markedOf (e .tail)) (same (e .tail) t) < five (markedOf (e .tail)) v) (sym z) (five-six (markedOf (e .tail)) (same (e .tail) t) same-then), λ q. absurd (unwanted (markedOf (e .tail)) (same (e .tail) t) same-then q)))
-      (λ z. either (λ (q : Place). (pushRank e q < pushRank e p) × (pushNeeds e q ≡ true → (pushNeeds e p ≡ true) × (blockAt (m .blocks) k ≡ blockAt (m .blocks) k) × (viewOf sizes p .takes ≡ false))) (noneOf i) (U1 d y) (U15 i d y)
-      (λ q. (subst (λ (v : Bool). one (markedOf (e .tail)) (noneOf d) < five (markedOf (e .tail)) v) (sym z) (five-one (markedOf (e .tail)) (noneOf d) (to-some d b ed)), λ u. never (sym (ap (λ (v : Bool). cond v (not (markedOf (e .tail))) false) (to-some d b ed)) ∙ u))) (λ q. absurd (true≢false (sym knows ∙ q))))
-  falls k c p a n x (u6 {n = i} {d = d} {t = t} en et ed) o at knows few busy = (six-claim (markedOf (e .tail)) (same (e .tail) t) (lastSlot sizes t) (noneOf i) knows (first-slot t et), λ z. (both-right (noneOf i) _ z, refl, refl))
+      (λ z. let same-then : markedOf (e .tail) ≡ false → same (e .tail) t ≡ true = (λ q. same-word (e .tail) t (tail-0 z q ∙ sym et)) in (
+        subst (λ (v : Bool). six (markedOf (e .tail)) (same (e .tail) t) < five (markedOf (e .tail)) v) (sym z) (five-six (markedOf (e .tail)) (same (e .tail) t) same-then),
+        λ q. absurd
+            (unwanted (markedOf (e .tail)) (same (e .tail) t) same-then q),
+      ))
+      (λ z. either (Led p k e (blockAt (m .blocks) k)) (noneOf i) (U1 d y) (U15 i d y)
+      (λ q. (
+        subst (λ (v : Bool). one (markedOf (e .tail)) (noneOf d) < five (markedOf (e .tail)) v) (sym z) (five-one (markedOf (e .tail)) (noneOf d) (to-some d b ed)),
+        λ u. never
+            (sym (ap (λ (v : Bool). cond v (not (markedOf (e .tail))) false) (to-some d b ed)) ∙ u),
+      )) (λ q. absurd (true≢false (sym knows ∙ q))))
+  falls k c p a n x (u6 {n = i} {d = d} {t = t} en et ed) o at knows few busy =
+      (six-claim (markedOf (e .tail)) (same (e .tail) t) (lastSlot sizes t) (noneOf i) knows (first-slot t et), λ z. (both-right (noneOf i) _ z, refl, refl))
   falls k c p a n x (u7 {n = i} {d = d} {t = t} {p = q} {x = y} en et ed l) o at knows few busy =
       either (Down p k) (same (e .tail) t) _ _
       (λ z. let clear : markedOf (e .tail) ≡ false = mark-same (e .tail) t (same-number (e .tail) t z) ∙ ap markedOf et ∙ mark-word q false in
-      either (λ (v : Place). (pushRank (tailTo e (later t)) v < pushRank e p) × (pushNeeds (tailTo e (later t)) v ≡ true → (pushNeeds e p ≡ true) × (blockAt (m .blocks) k ≡ blockAt (m .blocks) k) × (viewOf sizes p .takes ≡ false))) (lastSlot sizes t) (U9 i t d y) (U12 i t d y)
+      either (Led p k (tailTo e (later t)) (blockAt (m .blocks) k)) (lastSlot sizes t) (U9 i t d y) (U12 i t d y)
       (λ v. (subst (λ (n : ℕ). 5 < n) (sym (claimed-is clear z v)) (claim-last (noneOf i)), never))
       (λ v. (subst (λ (n : ℕ). cond (noneOf i) 2 3 < n) (sym (claimed-is clear z v)) (claim-slot (noneOf i)), never)))
       (λ z. (
         subst (λ (v : Bool). top (markedOf (e .tail)) v (noneOf i) < claim (markedOf (e .tail)) (same (e .tail) t) (lastSlot sizes t) (noneOf i)) (sym (same-self (e .tail)))
-            (subst (λ (v : Bool). top (markedOf (e .tail)) true (noneOf i) < claim (markedOf (e .tail)) v (lastSlot sizes t) (noneOf i)) (sym z) (claim-lost (markedOf (e .tail)) (lastSlot sizes t) (noneOf i))),
+            (subst (λ (v : Bool). top (markedOf (e .tail)) true (noneOf i) < claim (markedOf (e .tail)) v (lastSlot sizes t) (noneOf i)) (sym z)
+            (claim-lost (markedOf (e .tail)) (lastSlot sizes t) (noneOf i))),
         λ u. (lost-wants (noneOf i) (markedOf (e .tail)) (same (e .tail) t) z u, refl, refl),
       ))
     where
-      claimed-is : markedOf (e .tail) ≡ false → same (e .tail) t ≡ true → {v : Bool} → lastSlot sizes t ≡ v → claim (markedOf (e .tail)) (same (e .tail) t) (lastSlot sizes t) (noneOf i) ≡ claim false true v (noneOf i)
+      claimed-is : markedOf (e .tail) ≡ false → same (e .tail) t ≡ true → {v : Bool} → lastSlot sizes t ≡ v → claim (markedOf (e .tail)) (same (e .tail) t) (lastSlot sizes t)
+          (noneOf i) ≡ claim false true v (noneOf i)
       claimed-is a b c =
-          ap (λ (f : Bool). claim f (same (e .tail) t) (lastSlot sizes t) (noneOf i)) a ∙ ap (λ (f : Bool). claim false f (lastSlot sizes t) (noneOf i)) b ∙ ap (λ (f : Bool). claim false true f (noneOf i)) c
+          ap (λ (f : Bool). claim f (same (e .tail) t) (lastSlot sizes t) (noneOf i)) a ∙ ap (λ (f : Bool). claim false f (lastSlot sizes t) (noneOf i)) b ∙ ap
+          (λ (f : Bool). claim false true f (noneOf i)) c
   falls k c p a n x (u8 {n = i} {t = t} {x = y} en et) o at knows few busy = let g = topped (ap pushLeft at) i t y knows in (g .0, λ z. (g .1 z, refl, refl))
   falls k c p a n x (u9 en et ed) o at knows few busy = (omega arith, never)
   falls k c p a n x (u10 en et ed) o at knows few busy = (omega arith, never)
   falls k c p a n x (u11 en et ed) o at knows few busy = (omega arith, never)
   falls k c p a n x (u12 {n = i} en et ed) o at knows few busy = (one-less (noneOf i), never)
   falls k c p a n x (u13 {n = i} en et ed) o at knows few busy =
-      either (λ (q : Place). (pushRank e q < cond (noneOf i) 1 2) × (pushNeeds e q ≡ true → (pushNeeds e p ≡ true) × (blockAt (m .blocks) k ≡ blockAt (m .blocks) k) × (viewOf sizes p .takes ≡ false))) (noneOf i) (Idle Pushed) (U14 i Pushed)
+      either (Led p k e (blockAt (m .blocks) k)) (noneOf i) (Idle Pushed) (U14 i Pushed)
       (λ z. (some-left (noneOf i), never)) (λ z. (two-left (noneOf i) z, never))
   falls k c p a n x (u14 en ok) o at knows few busy = (omega arith, never)
   falls k c p a n x (u15 en ed) o at knows few busy = absurd (omega arith)

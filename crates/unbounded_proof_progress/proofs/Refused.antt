@@ -52,7 +52,8 @@ module _ (m : Machine) (w : ℕ) (u : brokenOf sizes m ≡ false) (known : w < m
   unfolding movedBy accepted refused
   moved-met =
       picked (λ (d : Did). Met m (d .refusal)) (viewOf sizes p .takes) _ (accepted (usedBy sizes actOf m w p false))
-      (picked (λ (d : Did). Met m (d .refusal)) (ltb (lowestFree sizes (m .blocks)) 64) (accepted (takenBy sizes actOf m w p false (lowestFree sizes (m .blocks)))) (refused 23 m) (inl refl) (inr (inr refl)))
+      (picked (λ (d : Did). Met m (d .refusal)) (ltb (lowestFree sizes (m .blocks)) 64) (accepted (takenBy sizes actOf m w p false (lowestFree sizes (m .blocks)))) (refused 23 m) (inl refl)
+      (inr (inr refl)))
       (inl refl)
 
   pub met : Met m (turnWith sizes actOf m (16 * w + 8) 0 .refusal)

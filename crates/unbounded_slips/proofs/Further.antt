@@ -98,14 +98,20 @@ holds-on d m w n entries b l =
     along m (first ∷ second ∷ others) after b = along (d .turn m first second .machine) others after (both-right (busyAt m w) _ b)
 
 pub further-refuted : FurtherRefuted
-unfolding pastSlots lastSlot markedOf unmarkedOf withMark later same samePosition sameBlock minus settled behind countOf strayOf orderOf entryOf leave headTo frontTo tailTo backTo nextTo freed stateTo valueTo has with firstOr answered lacksNext pushFrom setAside claimed takeOr popFrom newHead taken nextIndex destroyFrom readOut destroyIf live freeBlocks emptySlots idlers freshOf blank refused accepted lastFits without walkFrom itemsFrom walkOf drop.itemsOf all inLimits recordFits recordsFit allIdle dropFits brokenIn entryBut lowestFrom lowestFree clearedFrom cleared begun stored actedAt movedBy turnWith contentsOf ran runBy searchBy scheduleBy historyBy acts itemsOf takersOf takingsOf freeingsOf notions.chained among passedBy ownActsBy busyAlong one-by-one.acts
+unfolding pastSlots lastSlot markedOf unmarkedOf withMark later same samePosition sameBlock minus settled behind countOf strayOf orderOf entryOf leave
+    headTo frontTo tailTo backTo nextTo freed stateTo valueTo has with firstOr answered lacksNext pushFrom setAside claimed takeOr popFrom
+    newHead taken nextIndex destroyFrom readOut destroyIf live freeBlocks emptySlots idlers freshOf blank refused accepted lastFits without
+    walkFrom itemsFrom walkOf drop.itemsOf all inLimits recordFits recordsFit allIdle dropFits brokenIn entryBut lowestFrom lowestFree
+    clearedFrom cleared begun stored actedAt movedBy turnWith contentsOf ran runBy searchBy scheduleBy historyBy acts itemsOf takersOf takingsOf
+    freeingsOf notions.chained among passedBy ownActsBy busyAlong one-by-one.acts
 further-refuted =
     record {
       numbered = λ n. true≢false (sym (n .make 1));
       lowest-first = λ l. true≢false (l .lower short (freeBlock ∷ freeBlock ∷ []) 0 (omega arith));
       twenty-three =
           λ t.
-          let q : WantsBlock stingy (machineAfter (definition short actOf) 2 (does 0 0 5 8 ++ does 0 0 6 2)) 8 0 = t (machineAfter (definition short actOf) 2 (does 0 0 5 8 ++ does 0 0 6 2)) 8 0 .0 refl in
+          let q : WantsBlock stingy (machineAfter (definition short actOf) 2 (does 0 0 5 8 ++ does 0 0 6 2)) 8 0 = t
+          (machineAfter (definition short actOf) 2 (does 0 0 5 8 ++ does 0 0 6 2)) 8 0 .0 refl in
           true≢false (q .none-free 1 (omega arith));
       one-aside = λ o. o 1 (To 1) (To 2) 6 refl;
       one-hand = λ h. let q : _≡_ {A = ℕ} 0 1 = h .0 0 1 (To 0) (To 0) (index 0) (index 6) in12 in12 (refl, refl) in omega arith;
