@@ -20,6 +20,7 @@ use Rattle.unbounded_words.specs.Words as words
 use Rattle.unbounded_places.specs.declared.Slot.{Slot}
 use Rattle.unbounded_places.specs.declared.Ends.{Ends}
 use Rattle.unbounded_places.specs.declared.Worker.{Worker}
+use Rattle.unbounded_places.specs.declared.Answer.{Answer}
 use Rattle.unbounded_places.specs.declared.Place.{Place}
 use Rattle.unbounded_places.specs.declared.Place.the-variants.{Idle, U1, U2, U3, U4, U5, U6, U7, U8, U9, U10, U11, U12, U13, U14, U15, V1, V2, V3, V4, V5, V6, V7, V8, V9, V10, V11, V12, V13, V14, V15, Len1, Len2, Len3, Empty1, Empty2, Full1, Close1, IsClosed1}
 use Rattle.unbounded_places.specs.Places.{viewOf}
@@ -184,47 +185,47 @@ rank-most e l p a n x full1 z = absurd (omega arith)
 rank-most e l p a n x close1 z = absurd (omega arith)
 rank-most e l p a n x closed1 z = absurd (omega arith)
 
--- a pop is busy
-pop-busy : (p : Place) → 0 < popMost p → viewOf sizes p .busy ≡ true
-pop-busy (Idle a) z = absurd (omega arith)
-pop-busy (U1 n x) z = refl
-pop-busy (U2 n t x) z = refl
-pop-busy (U3 t b x) z = refl
-pop-busy (U4 n t x) z = refl
-pop-busy (U5 n t new x) z = refl
-pop-busy (U6 n t new x) z = refl
-pop-busy (U7 n t b x) z = refl
-pop-busy (U8 n t x) z = refl
-pop-busy (U9 n t b x) z = refl
-pop-busy (U10 n t b x) z = refl
-pop-busy (U11 n t b x) z = refl
-pop-busy (U12 n t b x) z = refl
-pop-busy (U13 n t b) z = refl
-pop-busy (U14 n a) z = refl
-pop-busy (U15 n new x) z = refl
-pop-busy V1 z = refl
-pop-busy (V2 h) z = refl
-pop-busy (V3 h b) z = refl
-pop-busy (V4 h b new) z = refl
-pop-busy (V5 h) z = refl
-pop-busy (V6 h b new) z = refl
-pop-busy (V7 h b new next) z = refl
-pop-busy (V8 h b next i) z = refl
-pop-busy (V9 h b i) z = refl
-pop-busy (V10 h b) z = refl
-pop-busy (V11 h b) z = refl
-pop-busy (V12 h b v) z = refl
-pop-busy (V13 b i v) z = refl
-pop-busy (V14 b i v) z = refl
-pop-busy (V15 b v) z = refl
-pop-busy Len1 z = refl
-pop-busy (Len2 t) z = refl
-pop-busy (Len3 t h) z = refl
-pop-busy Empty1 z = refl
-pop-busy (Empty2 h) z = refl
-pop-busy Full1 z = refl
-pop-busy Close1 z = refl
-pop-busy IsClosed1 z = refl
+-- where a number of a place that is none of idle ones is some, the worker is busy
+pub busy-where : (f : Place → ℕ) → ((a : Answer) → f (Idle a) ≡ 0) → (p : Place) → 0 < f p → viewOf sizes p .busy ≡ true
+busy-where f none (Idle a) z = absurd (omega (arith, none a))
+busy-where f none (U1 n x) z = refl
+busy-where f none (U2 n t x) z = refl
+busy-where f none (U3 t b x) z = refl
+busy-where f none (U4 n t x) z = refl
+busy-where f none (U5 n t new x) z = refl
+busy-where f none (U6 n t new x) z = refl
+busy-where f none (U7 n t b x) z = refl
+busy-where f none (U8 n t x) z = refl
+busy-where f none (U9 n t b x) z = refl
+busy-where f none (U10 n t b x) z = refl
+busy-where f none (U11 n t b x) z = refl
+busy-where f none (U12 n t b x) z = refl
+busy-where f none (U13 n t b) z = refl
+busy-where f none (U14 n a) z = refl
+busy-where f none (U15 n new x) z = refl
+busy-where f none V1 z = refl
+busy-where f none (V2 h) z = refl
+busy-where f none (V3 h b) z = refl
+busy-where f none (V4 h b new) z = refl
+busy-where f none (V5 h) z = refl
+busy-where f none (V6 h b new) z = refl
+busy-where f none (V7 h b new next) z = refl
+busy-where f none (V8 h b next i) z = refl
+busy-where f none (V9 h b i) z = refl
+busy-where f none (V10 h b) z = refl
+busy-where f none (V11 h b) z = refl
+busy-where f none (V12 h b v) z = refl
+busy-where f none (V13 b i v) z = refl
+busy-where f none (V14 b i v) z = refl
+busy-where f none (V15 b v) z = refl
+busy-where f none Len1 z = refl
+busy-where f none (Len2 t) z = refl
+busy-where f none (Len3 t h) z = refl
+busy-where f none Empty1 z = refl
+busy-where f none (Empty2 h) z = refl
+busy-where f none Full1 z = refl
+busy-where f none Close1 z = refl
+busy-where f none IsClosed1 z = refl
 
 -- an idle worker's act is refused
 pub idle-refused : (w : ℕ) (m : Machine) → viewOf sizes (stood m w) .busy ≡ false → turnWith sizes actOf m (16 * w + 8) 0 .refusal ≡ 0 → ⊥
@@ -311,7 +312,7 @@ module _ (workers : ℕ) (allowed : Allowed workers) (w : ℕ) where
       let o = r .sim .places w in
       let f = rank-most (m .ends) (m .slots) (stood m w) (o .aside) (o .new) (o .seen) (o .at) pops in
       let e = ends-by unbounded-queue eventsOf w busy rank Holds (idle-refused w) (λ x b. rank-some (x .ends) (x .slots) (stood x w) b) stepped
-      (popMost (stood m w)) m h 0 (r, alone, time, omega (arith, f .0, f .1)) (pop-busy (stood m w) pops) (f .0) in
+      (popMost (stood m w)) m h 0 (r, alone, time, omega (arith, f .0, f .1)) (busy-where popMost (λ i. refl) (stood m w) pops) (f .0) in
       record {
         before = e .before;
         within = e .within;

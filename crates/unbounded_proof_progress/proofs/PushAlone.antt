@@ -39,7 +39,7 @@ use Rattle.unbounded_proof_pool.proofs.Aside.{AllFine, turned-fine}
 use Rattle.unbounded_proof_pool.proofs.Pool.{both-reached}
 use Rattle.unbounded_proof_progress.proofs.Refused.{act-here}
 use Rattle.unbounded_proof_progress.proofs.PushEnds.{recorded}
-use Rattle.unbounded_proof_progress.proofs.PopAlone.{idle-refused}
+use Rattle.unbounded_proof_progress.proofs.PopAlone.{busy-where, idle-refused}
 use Rattle.unbounded_proof_progress.proofs.PushRank.{pushRank, pushNeeds, one, top, three, four, five, six, claim, falls}
 
 one-most : (c n : Bool) → (0 < one c n) × (one c n ≤ 9)
@@ -191,47 +191,6 @@ rank-most e Full1 z = absurd (omega arith)
 rank-most e Close1 z = absurd (omega arith)
 rank-most e IsClosed1 z = absurd (omega arith)
 
-push-busy : (p : Place) → 0 < pushMost p → viewOf sizes p .busy ≡ true
-push-busy (Idle a) z = absurd (omega arith)
-push-busy (U1 n x) z = refl
-push-busy (U2 n t x) z = refl
-push-busy (U3 t b x) z = refl
-push-busy (U4 n t x) z = refl
-push-busy (U5 n t new x) z = refl
-push-busy (U6 n t new x) z = refl
-push-busy (U7 n t b x) z = refl
-push-busy (U8 n t x) z = refl
-push-busy (U9 n t b x) z = refl
-push-busy (U10 n t b x) z = refl
-push-busy (U11 n t b x) z = refl
-push-busy (U12 n t b x) z = refl
-push-busy (U13 n t b) z = refl
-push-busy (U14 n a) z = refl
-push-busy (U15 n new x) z = refl
-push-busy V1 z = refl
-push-busy (V2 h) z = refl
-push-busy (V3 h b) z = refl
-push-busy (V4 h b new) z = refl
-push-busy (V5 h) z = refl
-push-busy (V6 h b new) z = refl
-push-busy (V7 h b new next) z = refl
-push-busy (V8 h b next i) z = refl
-push-busy (V9 h b i) z = refl
-push-busy (V10 h b) z = refl
-push-busy (V11 h b) z = refl
-push-busy (V12 h b v) z = refl
-push-busy (V13 b i v) z = refl
-push-busy (V14 b i v) z = refl
-push-busy (V15 b v) z = refl
-push-busy Len1 z = refl
-push-busy (Len2 t) z = refl
-push-busy (Len3 t h) z = refl
-push-busy Empty1 z = refl
-push-busy (Empty2 h) z = refl
-push-busy Full1 z = refl
-push-busy Close1 z = refl
-push-busy IsClosed1 z = refl
-
 -- whoever takes a block needs one
 takes-needs : (e : Ends) (p : Place) → viewOf sizes p .takes ≡ true → pushNeeds e p ≡ true
 takes-needs e (Idle a) z = absurd (true≢false (sym z))
@@ -374,7 +333,7 @@ module _ (workers : ℕ) (allowed : Allowed workers) (w : ℕ) where
   alone-ends m h r fine pushes time alone free =
       let f = rank-most (m .ends) (stood m w) pushes in
       let e = ends-by unbounded-queue eventsOf w busy rank Holds (idle-refused w) (λ x b. rank-some (x .ends) (stood x w) b) step
-      (pushMost (stood m w)) m h 0 (r, fine, alone, time, omega (arith, f .0, f .1), (λ z. free)) (push-busy (stood m w) pushes) (f .0) in
+      (pushMost (stood m w)) m h 0 (r, fine, alone, time, omega (arith, f .0, f .1), (λ z. free)) (busy-where pushMost (λ i. refl) (stood m w) pushes) (f .0) in
       record {
         before = e .before;
         within = e .within;

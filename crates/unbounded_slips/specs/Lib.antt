@@ -1,3 +1,4 @@
 pub mod Slips
 pub mod Refuted
 pub mod Further
+pub mod Whole
