@@ -268,11 +268,11 @@ abbrev pub placeIn : ℕ → Story → Place
 placeIn w s = followedFrom actor changeOf (placeWith w) (fresh 0) (Idle Nothing) s
 
 -- A pop between its claim of a block's last slot and its store of head's index.
-pub data Leaving : Place → Type 0 where
-  leaving6 : {b : Pointer} {h new : Index} → Leaving (V6 h b new)
-  leaving7 : {b next : Pointer} {h new : Index} → Leaving (V7 h b new next)
-  leaving8 : {b next : Pointer} {h i : Index} → Leaving (V8 h b next i)
-  leaving9 : {b : Pointer} {h i : Index} → Leaving (V9 h b i)
+pub data Emptying : Place → Type 0 where
+  leaving6 : {b : Pointer} {h new : Index} → Emptying (V6 h b new)
+  leaving7 : {b next : Pointer} {h new : Index} → Emptying (V7 h b new next)
+  leaving8 : {b next : Pointer} {h i : Index} → Emptying (V8 h b next i)
+  leaving9 : {b : Pointer} {h i : Index} → Emptying (V9 h b i)
 
 -- A push between its claim of a block's last slot and its add to tail's index.
 pub data Filling : Place → Type 0 where

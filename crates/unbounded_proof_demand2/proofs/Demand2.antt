@@ -229,7 +229,7 @@ module _ (workers : ℕ) (allowed : Allowed workers) (m : Machine) (h : List Eve
   unfolding dropFits
   drop-fits = either (λ (t : Bool). t ≡ true) (allIdle sizes (m .workers)) (walkOf sizes (m .ends) (m .blocks) .sound) true (λ z. walk-whole z .0) (λ z. refl)
 
-  unbroken : brokenOf sizes m ≡ false
+  pub unbroken : brokenOf sizes m ≡ false
   unfolding brokenIn inLimits
   unbroken =
       ap (λ (t : Bool). cond (cond t false (leb (m .count) workersMost)) (cond (recordsFit sizes (m .blocks) (m .count) (m .workers)) (not (dropFits sizes (m .ends) (m .blocks) (m .workers))) true) true) (ne-eqb (m .count) 0 (λ e. omega (arith, r .team, allowed .worker-some)))

@@ -10,7 +10,7 @@ use Rattle.unbounded_places.specs.declared.Block.{Block}
 use Rattle.unbounded_places.specs.declared.Slot.{Slot}
 use Rattle.unbounded_places.specs.declared.Worker.{Worker}
 use Rattle.unbounded_places.specs.declared.Place.{Place}
-use Rattle.unbounded_demands.specs.Stories.{Leaving, leaving6, leaving7, leaving8, leaving9, Filling, filling9, filling10}
+use Rattle.unbounded_demands.specs.Stories.{Emptying, leaving6, leaving7, leaving8, leaving9, Filling, filling9, filling10}
 use Rattle.unbounded_proof_invariant.proofs.Queue.{Ptr, none, to, Hand, Open, Done, By, Shared, Inv}
 use Rattle.unbounded_proof_invariant.proofs.Views.{Seen, SeenOk}
 use Rattle.unbounded_proof_invariant.proofs.Own.{pushOf, popOf, none-not-to}
@@ -30,7 +30,7 @@ module _ (s : Shared) (w q : ℕ) (at-end : s .head ≡ q + 1) (last : q % 32 �
       let l = f (ap (λ (n : ℕ). n % 32) same ∙ last) in
       absurd (omega arith)
 
-  leaves : (p : Place) (a n : Ptr) (x : Seen) → Stands p a n x → SeenOk s w x → popOf x ≡ to q → Leaving p
+  leaves : (p : Place) (a n : Ptr) (x : Seen) → Stands p a n x → SeenOk s w x → popOf x ≡ to q → Emptying p
   leaves p a n x idle o e = not-none q e
   leaves p a n x (u1 en) o e = not-none q e
   leaves p a n x (u2 en et) o e = not-none q e
@@ -72,7 +72,7 @@ module _ (s : Shared) (w q : ℕ) (at-end : s .head ≡ q + 1) (last : q % 32 �
   leaves p a n x closed1 o e = not-none q e
 
 -- and so it is only there
-pub leaving-gap : (s : Shared) (w : ℕ) (p : Place) (a n : Ptr) (x : Seen) → Stands p a n x → SeenOk s w x → Leaving p → s .head % 32 ≡ 31
+pub leaving-gap : (s : Shared) (w : ℕ) (p : Place) (a n : Ptr) (x : Seen) → Stands p a n x → SeenOk s w x → Emptying p → s .head % 32 ≡ 31
 leaving-gap s w p a n x (v6 m k eh ed ew) o leaving6 = omega (arith, o .1, o .2)
 leaving-gap s w p a n x (v7 m k eh ed ew ec) o leaving7 = omega (arith, o .1, o .2)
 leaving-gap s w p a n x (v8 m eh ed ec ew) o leaving8 = omega (arith, o .1, o .2)
@@ -129,13 +129,13 @@ module _ (s : Shared) (inv : Inv s) (w q : ℕ) (at-end : s .tail ≡ q + 1) (la
   fills p a n x closed1 o z = not-none q z
 
 module _ (e : Ends) (blocks : List Block) (slots : List Slot) (ws : List Worker) (meter : ℕ) (s : Shared) (sim : Sim e blocks slots ws meter s) where
-  pub at-gap : s .head % 32 ≡ 31 → (v : ℕ) × Leaving (placeOf ws v)
+  pub at-gap : s .head % 32 ≡ 31 → (v : ℕ) × Emptying (placeOf ws v)
   at-gap gap = held (s .pop (s .head - 1)) refl
     where
       last : (s .head - 1) % 32 ≡ 30
       last = omega arith
 
-      held : (x : Hand) → s .pop (s .head - 1) ≡ x → (v : ℕ) × Leaving (placeOf ws v)
+      held : (x : Hand) → s .pop (s .head - 1) ≡ x → (v : ℕ) × Emptying (placeOf ws v)
       held Open z = absurd (sim .inv .hands .popped (s .head - 1) (omega arith) (omega arith) z)
       held Done z =
           let at : s .head - 1 ≡ 32 * ((s .head - 1) / 32) + 30 = omega arith in

@@ -32,7 +32,7 @@ use Rattle.unbounded_machine.specs.History.{event}
 use Rattle.unbounded_demands.specs.Notions.{Pushing, Sign, Plain, Exchange7, Exchange4, Pops, Pushes, HandsOut, answered, signOf, itemIn, itemBy, takes, takersOf, LatestIn, ItemIn, waiting, position, Truth}
 use Rattle.unbounded_demands.specs.Notions as notions
 use Rattle.unbounded_demands.specs.Claims.{Unanswered, CallClaim}
-use Rattle.unbounded_demands.specs.Stories.{Story, Enters, taskOf, isClose, closes, changeOf, actor, known, roomy, queueAt, replyOf, Timing, Now, Stays, timingTo, timingOf, timed, momentOf, placeIn, Leaving, Filling}
+use Rattle.unbounded_demands.specs.Stories.{Story, Enters, taskOf, isClose, closes, changeOf, actor, known, roomy, queueAt, replyOf, Timing, Now, Stays, timingTo, timingOf, timed, momentOf, placeIn, Emptying, Filling}
 use Rattle.unbounded_demands.specs.Demands.{Answered, AtBlocksEnd, YesAtBlocksEnd, Meant}
 use Rattle.unbounded_proof_each_act.proofs.Step.{counted}
 use Rattle.unbounded_proof_demand2.proofs.Logged.{items-more, takers-more}
@@ -147,8 +147,8 @@ pub record Scene (st : Story) (e : Ends) : Type 0 where
   pub count : countOf sizes (e .tail) (e .head) ≡ counted (position (e .tail)) - counted (position (e .head))
   pub small : e .tail .0 + 2 < wide
   -- head's index at a block's end
-  pub gap : position (e .head) % 32 ≡ 31 → (v : ℕ) × Leaving (placeIn v st)
-  pub leaves : (v : ℕ) → Leaving (placeIn v st) → position (e .head) % 32 ≡ 31
+  pub gap : position (e .head) % 32 ≡ 31 → (v : ℕ) × Emptying (placeIn v st)
+  pub leaves : (v : ℕ) → Emptying (placeIn v st) → position (e .head) % 32 ≡ 31
   -- and tail's
   pub fills : position (e .tail) % 32 ≡ 31 → (u : ℕ) × Filling (placeIn u st)
 

@@ -37,7 +37,7 @@ use Rattle.unbounded_machine.specs.History.{event, eventsOf}
 use Rattle.unbounded_demands.specs.Notions.{Pushing, signOf, itemOf, takes, takersOf, LatestIn, ItemIn, waiting, position, Truth}
 use Rattle.unbounded_demands.specs.Notions as notions
 use Rattle.unbounded_demands.specs.Claims.{CallClaim, WrittenIn}
-use Rattle.unbounded_demands.specs.Stories.{Story, taskOf, closes, changeOf, actor, known, queueAt, At, AfterNextTail, heard, momentOf, placeIn, Leaving, Filling}
+use Rattle.unbounded_demands.specs.Stories.{Story, taskOf, closes, changeOf, actor, known, queueAt, At, AfterNextTail, heard, momentOf, placeIn, Emptying, Filling}
 use Rattle.unbounded_demands.specs.Demands.{YesAtBlocksEnd, Changes, OwnClaim}
 use Rattle.unbounded_proof_invariant.proofs.Queue.{Shared}
 use Rattle.unbounded_proof_words.proofs.Words.{half, bit}
@@ -113,11 +113,11 @@ module _ (workers : ℕ) (team : workers ≤ workersMost) where
           gap =
               λ z.
               let g = at-gap (m .ends) (m .blocks) (m .slots) (m .workers) (m .meter) s (r .sim) (ap (λ (n : ℕ). n % 32) (sym head-at) ∙ z) in
-              (g .0, subst Leaving (sym (o .stands (g .0))) (g .1));
+              (g .0, subst Emptying (sym (o .stands (g .0))) (g .1));
           leaves =
               λ v z.
               let y = r .sim .places v in
-              ap (λ (n : ℕ). n % 32) head-at ∙ leaving-gap s v (stood m v) (y .aside) (y .new) (y .seen) (y .at) (y .good .seen) (subst Leaving (o .stands v) z);
+              ap (λ (n : ℕ). n % 32) head-at ∙ leaving-gap s v (stood m v) (y .aside) (y .new) (y .seen) (y .at) (y .good .seen) (subst Emptying (o .stands v) z);
           fills =
               λ z.
               let g = tail-gap (m .ends) (m .blocks) (m .slots) (m .workers) (m .meter) s (r .sim) (ap (λ (n : ℕ). n % 32) (sym tail-at) ∙ z) in

@@ -24,7 +24,7 @@ use Rattle.unbounded_machine.specs.declared.Event.{Event}
 use Rattle.unbounded_demands.specs.Notions.{takersOf, LatestIn, ItemIn, position}
 use Rattle.unbounded_demands.specs.Notions as notions
 use Rattle.unbounded_demands.specs.Claims.{CallClaim}
-use Rattle.unbounded_demands.specs.Stories.{Element, Story, Task, Rests, Starts, Tries, Given, Enters, Entered, Frees, Takes, LoadsHead, Counts, LooksAtTail, changeOf, actor, known, roomy, queueAt, At, AfterNextTail, Timing, Now, timingOf, timed, heard, momentWith, momentOf, placeWith, placeIn, Leaving}
+use Rattle.unbounded_demands.specs.Stories.{Element, Story, Task, Rests, Starts, Tries, Given, Enters, Entered, Frees, Takes, LoadsHead, Counts, LooksAtTail, changeOf, actor, known, roomy, queueAt, At, AfterNextTail, Timing, Now, timingOf, timed, heard, momentWith, momentOf, placeWith, placeIn, Emptying}
 use Rattle.unbounded_proof_each_act.proofs.Step.{counted}
 
 -- ---- moments and places, one element more
@@ -169,7 +169,7 @@ pub record Loaded (st : Story) (w : ℕ) (h : Index) : Type 0 where
   pub own : load .worker ≡ w
   pub loads : load .before ≡ Empty1
   pub begun : known st .each w .begun < length before
-  pub left : (v : ℕ) → Leaving (placeIn v before) → position h % 32 ≡ 31
+  pub left : (v : ℕ) → Emptying (placeIn v before) → position h % 32 ≡ 31
 
 -- something waits at the moment
 pub record SeenSome (st : Story) (w : ℕ) : Type 0 where
@@ -191,7 +191,7 @@ pub record NoneYet (st : Story) (w : ℕ) (h : Index) : Type 0 where
   pub begun : known st .each w .begun < length before
   pub nothing : (n : ℕ) → length before ≤ n → n ≤ length st → queueAt n st .items ≡ []
   pub tails : length (notions.itemsOf (actsIn st)) ≡ counted (position h)
-  pub leaving : position h % 32 ≡ 31 → (v : ℕ) × Leaving (placeIn v before)
+  pub leaving : position h % 32 ≡ 31 → (v : ℕ) × Emptying (placeIn v before)
 
 abbrev pub FreesBy : Story → ℕ → Answer → Type 0
 FreesBy st w Nothing = ⊥

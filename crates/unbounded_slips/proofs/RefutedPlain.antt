@@ -33,7 +33,7 @@ use Rattle.unbounded_machine.specs.Run.{ran}
 use Rattle.unbounded_machine.specs.History.{event}
 use Rattle.unbounded_demands.specs.Notions.{acts, actsOf, takersOf, Sign, Plain, Exchange7, Exchange4, Pops, Pushes, HandsOut, signOf}
 use Rattle.unbounded_demands.specs.Claims.{Writes, writes12, WrittenIn, closedBy}
-use Rattle.unbounded_demands.specs.Stories.{Story, storyOf, known, queueAt, replyOf, Moment, At, AfterNextTail, momentOf, often, placeIn, Leaving, leaving6, leaving7, leaving8, leaving9}
+use Rattle.unbounded_demands.specs.Stories.{Story, storyOf, known, queueAt, replyOf, Moment, At, AfterNextTail, momentOf, often, placeIn, Emptying, leaving6, leaving7, leaving8, leaving9}
 use Rattle.unbounded_demands.specs.Demands.{Answered, AtBlocksEnd}
 use Rattle.unbounded_slips.specs.Slips.{slipped, handsOutAgain, readsEarly, pushDrops, closedAfterClaim, claimsClosed, popsAnother, emptyAfterTaking, takesUnseen, lenNone, emptyYes, closeIdle}
 use Rattle.unbounded_slips.specs.Refuted.{does}
@@ -55,26 +55,26 @@ untrue earlier act a c n its named other (inr o) =
 abbrev asks : Story
 asks = Begun 1 call.IsEmpty ∷ Does (event 1 Empty1 (Empty2 (index 0))) ∷ []
 
-none-leaving : (v : ℕ) (b : Bool) → Leaving (cond b Empty1 (Idle Nothing)) → ⊥
+none-leaving : (v : ℕ) (b : Bool) → Emptying (cond b Empty1 (Idle Nothing)) → ⊥
 none-leaving v true o = absurd (not-first Empty1 refl o)
   where
-    not-first : (p : Place) → p ≡ Empty1 → Leaving p → ⊥
+    not-first : (p : Place) → p ≡ Empty1 → Emptying p → ⊥
     not-first p e leaving6 = let q : _≡_ {A = ℕ} 0 1 = cc in omega arith
     not-first p e leaving7 = let q : _≡_ {A = ℕ} 0 1 = cc in omega arith
     not-first p e leaving8 = let q : _≡_ {A = ℕ} 0 1 = cc in omega arith
     not-first p e leaving9 = let q : _≡_ {A = ℕ} 0 1 = cc in omega arith
 none-leaving v false o = absurd (not-idle (Idle Nothing) refl o)
   where
-    not-idle : (p : Place) → p ≡ Idle Nothing → Leaving p → ⊥
+    not-idle : (p : Place) → p ≡ Idle Nothing → Emptying p → ⊥
     not-idle p e leaving6 = let q : _≡_ {A = ℕ} 0 1 = cc in omega arith
     not-idle p e leaving7 = let q : _≡_ {A = ℕ} 0 1 = cc in omega arith
     not-idle p e leaving8 = let q : _≡_ {A = ℕ} 0 1 = cc in omega arith
     not-idle p e leaving9 = let q : _≡_ {A = ℕ} 0 1 = cc in omega arith
 
-no-end : (before : Story) (load : Event) (since : Story) → asks ≡ before ++ Does load ∷ since → (v : ℕ) → Leaving (placeIn v before) → ⊥
+no-end : (before : Story) (load : Event) (since : Story) → asks ≡ before ++ Does load ∷ since → (v : ℕ) → Emptying (placeIn v before) → ⊥
 unfolding followedFrom
 no-end [] load since e v o = let z : Begun 1 call.IsEmpty ≡ Does load = cons-first e in let q : _≡_ {A = ℕ} 0 1 = cc in omega arith
-no-end (x ∷ []) load since e v o = none-leaving v (eqb v 1) (subst (λ (s : Story). Leaving (placeIn v s)) (sym (ap (λ (y : _). y ∷ []) (cons-first e))) o)
+no-end (x ∷ []) load since e v o = none-leaving v (eqb v 1) (subst (λ (s : Story). Emptying (placeIn v s)) (sym (ap (λ (y : _). y ∷ []) (cons-first e))) o)
 no-end (x ∷ y ∷ before) load since e v o = no-split before (Does load) since (cons-rest (cons-rest e))
 
 unended : (act : Event) (a : Answer) → momentOf (act .worker) (asks ++ Does act ∷ []) ≡ AfterNextTail → Answered asks act a ⊎ AtBlocksEnd asks act a → ⊥

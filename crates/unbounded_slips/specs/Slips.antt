@@ -4,12 +4,12 @@ use mathlib.Core.Bool.{Bool, cond}
 use mathlib.Core.List.{List}
 use mathlib.Core.Path.{_≡_}
 use lib.Dec.{eqb}
-use Rattle.unbounded_words.specs.declared.Pointer.the-variants.{None}
+use Rattle.unbounded_words.specs.declared.Pointer.the-variants.{None, To}
 use Rattle.unbounded_words.specs.Words.{Sizes, sizes, later, same, samePosition, noneOf}
 use Rattle.unbounded_places.specs.declared.Answer.the-variants.{Pushed, Closed, Popped, Empty, Len, Yes, No}
 use Rattle.unbounded_places.specs.declared.Place.the-variants.{Idle, U1, U2, U3, U4, U5, U6, U7, U8, U9, U10, U11, U12, U13, U14, U15, V1, V2, V3, V4, V5, V6, V7, V8, V9, V10, V11, V12, V13, V14, V15, Len1, Len2, Len3, Empty1, Empty2, Full1, Close1, IsClosed1}
 use Rattle.unbounded_acts.specs.declared.Acted.{Acted}
-use Rattle.unbounded_acts.specs.Acts.{leave, tailTo, backTo, READ, stateTo, valueTo, with, claimed, takeOr, readOut, destroyFrom, actOf}
+use Rattle.unbounded_acts.specs.Acts.{leave, tailTo, backTo, READ, stateTo, valueTo, with, newBlock, firstOr, answered, claimed, takeOr, readOut, destroyFrom, actOf}
 use Rattle.unbounded_machine.specs.declared.Machine.{Machine}
 use Rattle.unbounded_machine.specs.Turn.{Table, turnWith}
 use Rattle.unbounded_machine.specs.Run.{ran, runWith}
@@ -114,6 +114,30 @@ skipsReader = 11
 abbrev pub keepsBlock : ℕ
 keepsBlock = 12
 
+-- U3 sets block 0 aside, whichever it took
+abbrev pub asideFirst : ℕ
+asideFirst = 31
+
+-- a lost U5 with nothing set aside takes another block at once
+abbrev pub takesAgain : ℕ
+takesAgain = 32
+
+-- U13 answers and does not set WRITE
+abbrev pub unset : ℕ
+unset = 33
+
+-- U12 writes, and writes again
+abbrev pub writesOn : ℕ
+writesOn = 34
+
+-- V15 stays there
+abbrev pub freesOn : ℕ
+freesOn = 35
+
+-- U14 stays there
+abbrev pub givesOn : ℕ
+givesOn = 36
+
 -- The row of the table, but for this slip.
 abbrev but : ℕ → ℕ → Acted → Acted → Acted
 but n slip wrong right = cond (eqb n slip) wrong right
@@ -123,9 +147,11 @@ abbrev pub actWith : ℕ → Table
 actWith m z e k g s (Idle a) lose = actOf z e k g s (Idle a) lose
 actWith m z e k g s (U1 n x) lose = but m pushDrops (leave e g s (Idle Pushed)) (actOf z e k g s (U1 n x) lose)
 actWith m z e k g s (U2 n t x) lose = actOf z e k g s (U2 n t x) lose
-actWith m z e k g s (U3 t b x) lose = actOf z e k g s (U3 t b x) lose
+actWith m z e k g s (U3 t b x) lose = but m asideFirst (leave e newBlock s (firstOr (To 0) t b x)) (actOf z e k g s (U3 t b x) lose)
 actWith m z e k g s (U4 n t x) lose = actOf z e k g s (U4 n t x) lose
-actWith m z e k g s (U5 n t new x) lose = but m noHeadBlock (cond (noneOf (e .back)) (leave (backTo e new) g s (U7 n t new x)) (actOf z e k g s (U5 n t new x) lose)) (actOf z e k g s (U5 n t new x) lose)
+actWith m z e k g s (U5 n t new x) lose =
+    but m noHeadBlock (cond (noneOf (e .back)) (leave (backTo e new) g s (U7 n t new x)) (actOf z e k g s (U5 n t new x) lose))
+    (but m takesAgain (cond (noneOf (e .back)) (actOf z e k g s (U5 n t new x) lose) (cond (noneOf n) (leave e g s (U4 new t x)) (actOf z e k g s (U5 n t new x) lose))) (actOf z e k g s (U5 n t new x) lose))
 actWith m z e k g s (U6 n t new x) lose = actOf z e k g s (U6 n t new x) lose
 actWith m z e k g s (U7 n t b x) lose =
     but m tailUnmoved (cond (same (e .tail) t) (cond lose (actOf z e k g s (U7 n t b x) lose) (leave e g s (claimed z n t b x))) (actOf z e k g s (U7 n t b x) lose))
@@ -136,9 +162,10 @@ actWith m z e k g s (U9 n t b x) lose = actOf z e k g s (U9 n t b x) lose
 actWith m z e k g s (U10 n t b x) lose = actOf z e k g s (U10 n t b x) lose
 actWith m z e k g s (U11 n t b x) lose = but m untied (leave e g s (U12 None t b x)) (actOf z e k g s (U11 n t b x) lose)
 actWith m z e k g s (U12 n t b x) lose =
-    but m unwritten (leave e g s (U13 n t b)) (but m closedAfterClaim (leave e g (valueTo s x) (Idle (Closed x))) (actOf z e k g s (U12 n t b x) lose))
-actWith m z e k g s (U13 n t b) lose = actOf z e k g s (U13 n t b) lose
-actWith m z e k g s (U14 n a) lose = but m asideKept (leave e g s (Idle a)) (actOf z e k g s (U14 n a) lose)
+    but m unwritten (leave e g s (U13 n t b))
+    (but m closedAfterClaim (leave e g (valueTo s x) (Idle (Closed x))) (but m writesOn (leave e g s (U12 n t b x)) (actOf z e k g s (U12 n t b x) lose)))
+actWith m z e k g s (U13 n t b) lose = but m unset (leave e g s (answered n Pushed)) (actOf z e k g s (U13 n t b) lose)
+actWith m z e k g s (U14 n a) lose = but m asideKept (leave e g s (Idle a)) (but m givesOn (leave e g s (U14 n a)) (actOf z e k g s (U14 n a) lose))
 actWith m z e k g s (U15 n new x) lose = actOf z e k g s (U15 n new x) lose
 actWith m z e k g s V1 lose = actOf z e k g s V1 lose
 actWith m z e k g s (V2 h) lose = actOf z e k g s (V2 h) lose
@@ -157,7 +184,7 @@ actWith m z e k g s (V11 h b) lose = but m popsAnother (leave e g s (readOut z h
 actWith m z e k g s (V12 h b v) lose = but m emptyAfterTaking (leave e g (stateTo s (with READ (s .state))) (Idle Empty)) (actOf z e k g s (V12 h b v) lose)
 actWith m z e k g s (V13 b i v) lose = but m skipsReader (leave e g s (destroyFrom z b (i + 1) v)) (actOf z e k g s (V13 b i v) lose)
 actWith m z e k g s (V14 b i v) lose = actOf z e k g s (V14 b i v) lose
-actWith m z e k g s (V15 b v) lose = but m keepsBlock (leave e g s (Idle (Popped v))) (actOf z e k g s (V15 b v) lose)
+actWith m z e k g s (V15 b v) lose = but m keepsBlock (leave e g s (Idle (Popped v))) (but m freesOn (leave e g s (V15 b v)) (actOf z e k g s (V15 b v) lose))
 actWith m z e k g s Len1 lose = actOf z e k g s Len1 lose
 actWith m z e k g s (Len2 t) lose = actOf z e k g s (Len2 t) lose
 actWith m z e k g s (Len3 t h) lose = but m lenNone (leave e g s (Idle (Len 0))) (actOf z e k g s (Len3 t h) lose)
