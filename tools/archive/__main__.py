@@ -166,7 +166,7 @@ class Run:
         except log.Busy:
             raise Wrong('the same places are being replayed with the same options') from None
         if arguments.resume and not kept.goes_on:
-            print('archive: no such run was interrupted: begun anew', file=sys.stderr)
+            report.say('no such run was interrupted: begun anew')
         total = sum(1 for _ in self.found(lambda *_: None, lambda _: None)) if os.isatty(2) else 0
         progress = report.Progress(total)
         left = self.found(self.troubled, self.left_aside)
@@ -209,15 +209,17 @@ def run(words):
             os.stat(place)
         except OSError as why:
             raise Wrong(f'{report.shown(place)}: {why.strerror}') from None
-    asked = asked_of(arguments)
     for number in signal.SIGINT, signal.SIGTERM, signal.SIGHUP:
         signal.signal(number, interrupted)
+    asked = asked_of(arguments)
     this = Run(arguments)
     try:
         this.whole(asked)
     except Interrupted:
-        print(f'archive: interrupted after {this.counts.files:,} files; --resume goes on', file=sys.stderr)
+        report.say(f'interrupted after {this.counts.files:,} files; --resume goes on')
         raise
+    except workers.Ended:
+        raise Wrong('a process of this run was ended; --resume goes on') from None
     table(arguments, this.counts)
     return this.counts.status
 
@@ -237,11 +239,11 @@ def main():
     try:
         return run([os.fsdecode(word) for word in map(os.fsencode, sys.argv[1:])])
     except Wrong as why:
-        print(f'archive: {why}', file=sys.stderr)
+        report.say(why)
     except BrokenPipeError:
         end_by(signal.SIGPIPE)
     except OSError as why:
-        print(f'archive: {report.shown(why.filename) if why.filename else "standard output"}: {why.strerror}', file=sys.stderr)
+        report.say(f'{report.shown(os.fspath(why.filename)) if why.filename else "standard output"}: {why.strerror}')
     except Interrupted as by:
         end_by(by.args[0])
     return 2

@@ -17,7 +17,7 @@ class Log:
     def __init__(self, folder, run, resume):
         """RUN says which run it is: places, options and program."""
         os.makedirs(folder, exist_ok=True)
-        which = json.dumps([run['places'], run['options']]).encode()
+        which = json.dumps([run['folder'], run['places'], run['options']]).encode()
         self.path = os.path.join(folder, hashlib.sha256(which).hexdigest()[:16] + '.log')
         self.file = open(os.open(self.path, os.O_RDWR | os.O_CREAT | os.O_CLOEXEC, 0o666), 'r+b')
         try:
@@ -39,8 +39,11 @@ class Log:
         self.file.truncate()
 
     def add(self, data):
-        self.file.write(data)
-        self.file.flush()
+        try:
+            self.file.write(data)
+            self.file.flush()
+        except OSError as why:
+            raise OSError(why.errno, why.strerror, self.path) from None
 
     def left_of(self, found, done):
         """Of these files those that are not done: from the first on that is not in the log as it now is. Each line of what is done is handed on."""

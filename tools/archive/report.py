@@ -2,7 +2,6 @@
 
 import json
 import os
-import sys
 import time
 from collections import Counter
 
@@ -62,6 +61,14 @@ def shown(name):
                    for c in (name if isinstance(name, str) else os.fsdecode(name)))
 
 
+def say(text):
+    """A line on standard error, if there is one."""
+    try:
+        os.write(2, f'archive: {text}\n'.encode('utf-8', 'surrogateescape'))
+    except OSError:
+        pass
+
+
 def told_of(told):
     """What is worth a line while the archive is replayed: what differs, and what cannot be read."""
     name = shown(told['file'])
@@ -90,7 +97,7 @@ class Progress:
     """On a terminal: how many, of how many, how fast, and how long it will still take."""
 
     def __init__(self, total):
-        self.total = total if sys.stderr and os.isatty(2) else None
+        self.total = total if os.isatty(2) else None
         self.began = self.last = time.monotonic()
         self.shown = False
 

@@ -10,7 +10,7 @@ import sys
 import runs
 
 LENGTH = struct.Struct('<I')
-AHEAD = 2  # requests that a worker has at once, so that it never waits
+AHEAD = 8  # batches of results that may wait in memory for one that takes long, by worker
 
 
 class Ended(Exception):
@@ -56,7 +56,7 @@ class Worker:
     def __init__(self, asked, others):
         asked_here, self.requests = os.pipe()
         self.results, answered_here = os.pipe()
-        self.waiting = 0
+        self.is_busy = False
         self.process = os.fork()
         if self.process == 0:
             status = 1
@@ -73,14 +73,15 @@ class Worker:
         os.close(answered_here)
 
     def ask(self, number, paths):
+        """Of one that is not busy, and so reads: neither waits for the other to read."""
         write_message(self.requests, (number, paths))
-        self.waiting += 1
+        self.is_busy = True
 
     def answer(self):
         message = read_message(self.results)
         if message is None:
             raise Ended
-        self.waiting -= 1
+        self.is_busy = False
         return message
 
 
@@ -98,13 +99,13 @@ class Crew:
             for worker in self.workers:
                 ready.register(worker.results, selectors.EVENT_READ, worker)
             while True:
-                # what is answered stands in memory until its turn, so nobody goes far ahead
-                while more and (free := [w for w in self.workers if w.waiting < AHEAD]) and len(kept) <= AHEAD * len(self.workers):
-                    number, paths = next(batches, (None, None))
-                    more = number is not None
-                    if more:
-                        min(free, key=lambda worker: worker.waiting).ask(number, paths)
-                if not any(worker.waiting for worker in self.workers):
+                for worker in self.workers:
+                    if more and not worker.is_busy and len(kept) <= AHEAD * len(self.workers):
+                        number, paths = next(batches, (None, None))
+                        more = number is not None
+                        if more:
+                            worker.ask(number, paths)
+                if not any(worker.is_busy for worker in self.workers):
                     return
                 for key, _ in ready.select(0.2):
                     number, results = key.data.answer()
