@@ -1,11 +1,10 @@
 """The program archive: its arguments, and one run from its beginning to its end."""
 
+import gc
 import itertools
 import os
 import signal
-import subprocess
 import sys
-from pathlib import Path
 
 import files
 import log
@@ -13,7 +12,7 @@ import report
 import runs
 import workers
 
-HOME = Path(__file__).resolve().parent.parent.parent
+HOME = os.path.dirname(os.path.dirname(os.path.dirname(os.path.realpath(__file__))))
 HELP = """archive [OPTION..] PLACE..
 archive --sum [FILE..]
 
@@ -30,7 +29,7 @@ compared where they are; names that end in neither .tape, .txt nor .out are left
               record (same, other, none, written), line, recorded and now of the first difference, said; seen: sizes and
               times of file and record. The table goes to standard error
   --sum       the table of lines of JSON, from the files or from standard input
-  --jobs N    so many processes at once; as many as there are processors unless told
+  --jobs N    so many processes at once; one more than there are processors unless told
   --resume    goes on with a run of the same places and options that was interrupted
   --log DIR   where the log of a run is kept while it lasts; target/archive unless told
   --help      prints this
@@ -58,8 +57,8 @@ class Arguments:
     def __init__(self, words):
         self.places, self.options = [], []
         self.record = self.json = self.sum = self.resume = self.help = False
-        self.jobs = len(os.sched_getaffinity(0))
-        self.log = HOME / 'target/archive'
+        self.jobs = len(os.sched_getaffinity(0)) + 1  # while one reads files, another runs
+        self.log = os.path.join(HOME, 'target/archive')
         words = iter(words)
         for word in words:
             if word in ('--record', '--json', '--sum', '--resume', '--help'):
@@ -79,7 +78,7 @@ class Arguments:
         if value is None:
             raise Wrong(f'no use for this argument (see --help): {word}')
         if word == '--log':
-            self.log = Path(value)
+            self.log = value
         elif word in WITH_VALUE:
             self.options += [word, value]
         elif value.isascii() and value.isdigit() and 0 < int(value) <= JOBS_MOST:
@@ -88,20 +87,35 @@ class Arguments:
             raise Wrong(f'no use for this argument (see --help): {value}')
 
 
-def asked_of(arguments):
-    """How replay is run; it is built first where it must be, and asked whether it has a use for the options."""
-    start = subprocess.run([HOME / 'tools/start', 'replay', '--command'], stdout=subprocess.PIPE)
-    if start.returncode:
-        raise SystemExit(start.returncode)
-    command = [os.fsdecode(word) for word in start.stdout.split(b'\0')[:-1]]
-    asked = runs.Asked(command, arguments.options, not {'single', 'unbounded'} & set(arguments.options), arguments.record)
-    program = runs.Program(asked)
-    with runs.InMemory(4) as (given, out, said, told):
-        runs.write_all(given, b'1 1\n')
-        os.lseek(given, 0, os.SEEK_SET)
-        program.start([], given, out, said, told)
-        if program.ended(told) not in (0, 1):
-            raise Wrong(runs.shown(runs.whole(said)).removeprefix('replay: ') or 'replay does not run')
+class Starter:
+    """tools/start, which says how replay is run, and builds it first where it must."""
+
+    def __init__(self):
+        self.told, writer = os.pipe()
+        words = [os.path.join(HOME, 'tools/start'), 'replay', '--command']
+        self.process = os.posix_spawn(words[0], words, os.environ, file_actions=[(os.POSIX_SPAWN_DUP2, writer, 1)])
+        os.close(writer)
+
+    def command(self):
+        with open(self.told, 'rb') as told:
+            words = [os.fsdecode(word) for word in told.read().split(b'\0')[:-1]]
+        status = os.waitstatus_to_exitcode(os.waitpid(self.process, 0)[1])
+        if status:
+            raise SystemExit(abs(status))
+        return words
+
+
+def asked_of(arguments, starter):
+    """How replay is run; it is asked whether it has a use for the options."""
+    asked = runs.Asked(starter.command(), arguments.options, not {'single', 'unbounded'} & set(arguments.options), arguments.record)
+    if asked.options:
+        program = runs.Program(asked)
+        with runs.InMemory(4) as (given, out, said, told):
+            runs.write_all(given, b'1 1\n')
+            os.lseek(given, 0, os.SEEK_SET)
+            program.start([], given, out, said, told)
+            if program.ended(told) not in (0, 1):
+                raise Wrong(runs.shown(runs.whole(said)).removeprefix('replay: ') or 'replay does not run')
     return asked
 
 
@@ -211,7 +225,7 @@ def run(words):
             raise Wrong(f'{report.shown(place)}: {why.strerror}') from None
     for number in signal.SIGINT, signal.SIGTERM, signal.SIGHUP:
         signal.signal(number, interrupted)
-    asked = asked_of(arguments)
+    asked = asked_of(arguments, Starter())
     this = Run(arguments)
     try:
         this.whole(asked)
@@ -249,4 +263,5 @@ def main():
     return 2
 
 
+gc.disable()  # nothing here is a ring of references
 sys.exit(main())

@@ -2,9 +2,9 @@
 the order of the archive. It is there while a run is, and after one that was interrupted."""
 
 import fcntl
-import hashlib
 import json
 import os
+import zlib
 
 import files
 
@@ -18,7 +18,7 @@ class Log:
         """RUN says which run it is: places, options and program."""
         os.makedirs(folder, exist_ok=True)
         which = json.dumps([run['folder'], run['places'], run['options']]).encode()
-        self.path = os.path.join(folder, hashlib.sha256(which).hexdigest()[:16] + '.log')
+        self.path = os.path.join(folder, f'{zlib.crc32(which):08x}{zlib.adler32(which):08x}.log')
         self.file = open(os.open(self.path, os.O_RDWR | os.O_CREAT | os.O_CLOEXEC, 0o666), 'r+b')
         try:
             fcntl.flock(self.file, fcntl.LOCK_EX | fcntl.LOCK_NB)

@@ -10,7 +10,6 @@ import os
 import re
 import signal
 import stat
-import tempfile
 from typing import NamedTuple
 
 import files
@@ -129,8 +128,9 @@ class NewRecord:
     """A record that gets its name when it is whole and lasts, unless one has come there meanwhile."""
 
     def __init__(self, path):
+        import tempfile  # costs as much as a hundred files
         self.path = path + files.RECORD
-        folder, name = os.path.split(self.path)
+        folder = os.path.dirname(self.path)
         self.fd, self.made = tempfile.mkstemp(prefix=b'.archive-', dir=folder or b'.')
 
     def write(self, data):
