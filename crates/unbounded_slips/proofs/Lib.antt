@@ -1,4 +1,4 @@
 pub mod Refuted
 pub mod Faithful
-pub mod Further
 pub mod Whole
+pub mod Further

@@ -1,4 +1,4 @@
 pub mod Slips
 pub mod Refuted
-pub mod Further
 pub mod Whole
+pub mod Further
