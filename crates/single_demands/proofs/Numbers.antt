@@ -21,7 +21,7 @@ use Rattle.single_machine.specs.declared.Did.{Did}
 use Rattle.single_machine.specs.Machine.{placeOf, freshOf, blank, refused, accepted}
 use Rattle.single_machine.specs.Broken.{brokenOf, idleFrom}
 use Rattle.single_machine.specs.Contents.{countIn, contentsRefusal}
-use Rattle.single_machine.specs.Turn.{verdictOf, carried, turn, turnOf, turnOfBy, begun, acted}
+use Rattle.single_machine.specs.Turn.{verdictOf, carried, turn, turnOf, turnOfBy}
 use Rattle.single_machine.specs.Run.{runOf}
 use Rattle.single_machine.proofs.Turns.{single-queue}
 use Rattle.single.specs.Single as face

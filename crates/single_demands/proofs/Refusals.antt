@@ -1,10 +1,10 @@
 -- Demand 1: refusals change nothing, and only one answer meets a promise. (Their numbers: Numbers.antt.)
 use Prim.Native.Nat.{ℕ, _%_, _<_, _≤_}
 use mathlib.Core.Path.{_≡_, refl, sym, _∙_}
-use mathlib.Core.Bool.{Bool, true, false}
+use mathlib.Core.Bool.{true, false}
 use mathlib.Core.List.{List}
 use native.Mathlib.Omega.{arith}
-use lib.Dec.{ltb, eqb}
+use lib.Dec.{ltb}
 use lib.ListN.{length, getD-replicate}
 use borrow.Author.Tests.{ne-eqb, ltb-true}
 use Rattle.queue_entries.specs.Limits.{workersMost, inLimits}
@@ -15,13 +15,13 @@ use Rattle.queue_entries.specs.declared.Verdict.{Verdict}
 use Rattle.queue_entries.specs.declared.Verdict.the-variants.{Refuse, Start, Move}
 use Rattle.queue_schedules.proofs.Schedules.{either, picked, schedule-first, schedule-read, schedule-keeps, schedule-unread, schedule-kept}
 use Rattle.single_places.specs.declared.Place.{Place}
-use Rattle.single_places.specs.Places.{viewOf, beginOf}
+use Rattle.single_places.specs.Places.{beginOf}
 use Rattle.single_machine.specs.declared.Machine.{Machine}
 use Rattle.single_machine.specs.declared.Did.{Did}
 use Rattle.single_machine.specs.Machine.{idler, idlers, placeOf, freshOf, blank, refused, accepted}
 use Rattle.single_machine.specs.Broken.{recordFits, brokenOf}
 use Rattle.single_machine.specs.Contents.{contentsRefusal, written}
-use Rattle.single_machine.specs.Turn.{verdictOf, carried, turn, turnOf, turnOfBy, begun, acted}
+use Rattle.single_machine.specs.Turn.{verdictOf, carried, turn, turnOf, turnOfBy}
 use Rattle.single_machine.specs.Run.{runOf}
 use Rattle.single_machine.proofs.Kept.{Unbroken, unbroken-of, of-unbroken, begun-unbroken, acted-unbroken}
 use Rattle.single_machine.proofs.Turns.{single-queue, refused-kept, accepted-kept, turn-of-kept}

@@ -14,7 +14,7 @@ use Rattle.queue_entries.specs.declared.Verdict.the-variants.{Refuse, Start, Mo
 use Rattle.queue_entries.specs.Entries.{entryOf, entryBut}
 use Rattle.queue_schedules.proofs.Schedules.{either, picked}
 use Rattle.queue_numbers.specs.Numbers.{has}
-use Rattle.queue_numbers.proofs.Among.{within, wider, Sure, begins, acts, act-sure, code-begins, code-acts, schedule-among}
+use Rattle.queue_numbers.proofs.Among.{within, wider, Sure, acts, act-sure, code-begins, code-acts, schedule-among}
 use Rattle.unbounded_words.specs.Words.{sizes}
 use Rattle.unbounded_places.specs.declared.Place.{Place}
 use Rattle.unbounded_places.specs.Places.{viewOf}

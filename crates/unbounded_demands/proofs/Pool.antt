@@ -27,7 +27,7 @@ use Rattle.unbounded_machine.specs.declared.Did.{Did}
 use Rattle.unbounded_machine.specs.Machine.{blockAt, placeOf, refused, accepted}
 use Rattle.unbounded_machine.specs.Broken.{brokenOf}
 use Rattle.unbounded_machine.specs.Turn.{entryHere, verdictOf, lowestFrom, lowestFree, usedBy, takenBy, movedBy, carriedBy, turnBy, turnWith}
-use Rattle.unbounded_demands.specs.Notions.{definition, Asking}
+use Rattle.unbounded_demands.specs.Notions.{definition}
 use Rattle.unbounded_demands.specs.Demands.{LowestFirst, WantsBlock, TwentyThree}
 use Rattle.unbounded_demands.proofs.Blocks.{lowest-most, no-block}
 

@@ -1,19 +1,14 @@
 -- Demand 1: refusals change nothing, and only one answer meets a promise. (Their numbers: Numbers.antt.)
-use Prim.Native.Nat.{ℕ, _+_, _%_, _≤_}
-use mathlib.Core.Path.{_≡_, refl, sym, ap, _∙_}
-use mathlib.Core.Bool.{Bool, true, false, cond}
-use mathlib.Core.List.{List, [], _∷_}
-use mathlib.Core.Logic.{_⊎_, inl, inr}
+use Prim.Native.Nat.{ℕ, _%_}
+use mathlib.Core.Path.{_≡_, refl, sym, _∙_}
+use mathlib.Core.Bool.{Bool, cond}
+use mathlib.Core.List.{List}
 use native.Mathlib.Omega.{arith}
-use lib.Dec.{ltb, eqb}
+use lib.Dec.{ltb}
 use lib.ListN.{length}
 use borrow.Author.Tests.{ne-eqb}
-use Rattle.queue_entries.specs.declared.Finding.{Finding}
-use Rattle.queue_entries.specs.declared.Finding.the-variants.{AllRead, UnreadableAt}
-use Rattle.queue_entries.specs.Schedules.{runBy, searchBy, searched, scheduleBy}
-use Rattle.queue_entries.specs.Limits.{workersMost, meterMost, inLimits}
+use Rattle.queue_entries.specs.Limits.{workersMost, inLimits}
 use Rattle.queue_entries.specs.declared.Order.{Order}
-use Rattle.queue_entries.specs.declared.Order.the-variants.{Begin, Act}
 use Rattle.queue_entries.specs.declared.Entry.{Entry}
 use Rattle.queue_entries.specs.declared.Entry.the-variants.{Unreadable, Asks}
 use Rattle.queue_entries.specs.declared.Verdict.{Verdict}
@@ -28,10 +23,10 @@ use Rattle.unbounded_machine.specs.declared.Machine.{Machine}
 use Rattle.unbounded_machine.specs.declared.Did.{Did}
 use Rattle.unbounded_machine.specs.declared.Ran.{Ran}
 use Rattle.unbounded_machine.specs.Machine.{placeOf, freshOf, blank, refused, accepted}
-use Rattle.unbounded_machine.specs.Broken.{brokenOf, allIdle}
-use Rattle.unbounded_machine.specs.Contents.{countIn, contentsRefusal, written}
+use Rattle.unbounded_machine.specs.Broken.{brokenOf}
+use Rattle.unbounded_machine.specs.Contents.{contentsRefusal, written}
 use Rattle.unbounded_machine.specs.Turn.{entryHere, verdictOf, lowestFree, begun, usedBy, takenBy, movedBy, carriedBy, turnBy, turnWith, turnOf}
-use Rattle.unbounded_machine.specs.Run.{ran, runFrom, runOf}
+use Rattle.unbounded_machine.specs.Run.{ran, runOf}
 use Rattle.unbounded_machine.proofs.Fits.{either}
 use Rattle.unbounded.proofs.Steps.{turn-unchanged}
 use Rattle.unbounded.specs.Unbounded as face

@@ -1,13 +1,13 @@
 -- Who has a block set aside knows of a first block, so U5 finds nothing set aside and U15 is never reached.
-use Prim.Native.Nat.{ℕ, _+_, _*_, _-_, _/_, _%_, _<_, _≤_}
-use mathlib.Core.Path.{_≡_, refl, sym, ap, _∙_, subst}
+use Prim.Native.Nat.{ℕ, _+_, _-_, _<_}
+use mathlib.Core.Path.{_≡_, refl, sym, ap, _∙_}
 use mathlib.Core.Logic.{_≢_}
 use mathlib.Core.Bool.{Bool, true, false, cond, not, true≢false}
-use mathlib.Core.List.{List, [], _∷_, _++_}
+use mathlib.Core.List.{List}
 use native.Mathlib.Omega.{arith}
 use native.Mathlib.Decide.{ℕ-discrete}
-use lib.Dec.{eqb, ltb}
-use lib.ListN.{getD, set, length}
+use lib.Dec.{ltb}
+use lib.ListN.{set, length}
 use borrow.Author.Tests.{ne-eqb}
 use Rattle.queue_entries.specs.declared.Call.{Call}
 use Rattle.queue_entries.specs.declared.Call.the-variants as call
@@ -16,26 +16,26 @@ use Rattle.queue_schedules.proofs.Schedules.{either, picked}
 use Rattle.unbounded_words.specs.declared.Pointer.{Pointer}
 use Rattle.unbounded_words.specs.declared.Pointer.the-variants.{None, To}
 use Rattle.unbounded_words.specs.declared.Index.{Index}
-use Rattle.unbounded_words.specs.Words.{Sizes, sizes, noneOf, pastSlots, lastSlot, markedOf, samePosition, same, later}
+use Rattle.unbounded_words.specs.Words.{sizes, noneOf, pastSlots, lastSlot, markedOf, samePosition, same, later}
 use Rattle.unbounded_places.specs.declared.Slot.{Slot}
 use Rattle.unbounded_places.specs.declared.Block.{Block}
 use Rattle.unbounded_places.specs.declared.Ends.{Ends}
 use Rattle.unbounded_places.specs.declared.Worker.{Worker}
 use Rattle.unbounded_places.specs.declared.Answer.{Answer}
-use Rattle.unbounded_places.specs.declared.Answer.the-variants.{Pushed, Closed, Popped, Empty, PopClosed, Len, Yes, No}
+use Rattle.unbounded_places.specs.declared.Answer.the-variants.{Pushed, Closed, Popped, Len}
 use Rattle.unbounded_places.specs.declared.Place.{Place}
 use Rattle.unbounded_places.specs.declared.Place.the-variants.{Idle, U1, U2, U3, U4, U5, U6, U7, U8, U9, U10, U11, U12, U13, U14, U15, V1, V2, V3, V4, V5, V6, V7, V8, V9, V10, V11, V12, V13, V14, V15, Len1, Len2, Len3, Empty1, Empty2, Full1, Close1, IsClosed1}
 use Rattle.unbounded_places.specs.Places.{viewOf, beginOf}
 use Rattle.unbounded_acts.specs.declared.Acted.{Acted}
-use Rattle.unbounded_acts.specs.Acts.{leave, headTo, frontTo, tailTo, backTo, firstOr, answered, lacksNext, pushFrom, setAside, claimed, takeOr, popFrom, newHead, taken, destroyFrom, readOut, destroyIf, has, READ, WRITE, DESTROY, newBlock, yesNo, actOf}
+use Rattle.unbounded_acts.specs.Acts.{leave, headTo, frontTo, tailTo, backTo, firstOr, answered, lacksNext, pushFrom, setAside, claimed, takeOr, popFrom, newHead, taken, destroyFrom, readOut, destroyIf, has, READ, WRITE, DESTROY, actOf}
 use Rattle.unbounded_machine.specs.declared.Machine.{Machine}
 use Rattle.unbounded_machine.specs.Machine.{blockAt, slotAt}
-use Rattle.unbounded_machine.specs.Turn.{lowestFree, cleared, blockUsed, slotUsed, begun, stored, actedAt, usedBy, takenBy}
+use Rattle.unbounded_machine.specs.Turn.{lowestFree, cleared, blockUsed, slotUsed, begun, stored, actedAt}
 use Rattle.unbounded_proof_invariant.proofs.Queue.{Ptr, Shared}
 use Rattle.unbounded_proof_invariant.proofs.Views.{Seen, SeenOk}
-use Rattle.unbounded_proof_words.proofs.Stands.{placeOf, backOf, endsOf, Stands, idle, u1, u2, u3, u4, u5, u6, u7, u8, u9, u10, u11, u12, u13, u14, u15, v1, v2, v3, v4, v5, v6, v7, v8, v9, v10, v11, v12, v13, v14, v15, len1, len2, len3, empty1, empty2, full1, close1, closed1, Standing, Sim}
+use Rattle.unbounded_proof_words.proofs.Stands.{placeOf, endsOf, Stands, idle, u1, u2, u3, u4, u5, u6, u7, u8, u9, u10, u11, u12, u13, u14, u15, v1, v2, v3, v4, v5, v6, v7, v8, v9, v10, v11, v12, v13, v14, v15, len1, len2, len3, empty1, empty2, full1, close1, closed1, Sim}
 use Rattle.unbounded_proof_words.proofs.Frames.{get-same, get-other}
-use Rattle.unbounded_proof_demand2.proofs.Turns.{stood, Busy, Turned, began, used, took}
+use Rattle.unbounded_proof_demand2.proofs.Turns.{stood, Turned, began, used, took}
 
 -- one set aside, and a first block
 abbrev late : Pointer → Pointer → Bool

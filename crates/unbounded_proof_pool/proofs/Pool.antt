@@ -1,12 +1,10 @@
 -- What is said of the pool under every schedule.
-use Prim.Native.Nat.{ℕ, _+_, _*_, _-_, _/_, _%_, _<_, _≤_}
-use mathlib.Core.Path.{_≡_, refl, sym, ap, _∙_, subst}
+use Prim.Native.Nat.{ℕ, _-_, _/_, _%_}
+use mathlib.Core.Path.{_≡_, sym, ap, _∙_}
 use mathlib.Core.Logic.{_≢_}
-use mathlib.Core.Bool.{Bool, true, false, cond, not, true≢false}
-use mathlib.Core.List.{List, [], _∷_, _++_}
+use mathlib.Core.Bool.{Bool, false, true≢false}
+use mathlib.Core.List.{List, []}
 use native.Mathlib.Omega.{arith}
-use lib.ListN.{length}
-use Rattle.queue_entries.specs.Limits.{workersMost}
 use Rattle.queue_entries.specs.Entries.{entryOf}
 use Rattle.queue_schedules.proofs.Histories.{entries-lead}
 use Rattle.unbounded_words.specs.declared.Pointer.{Pointer}
@@ -14,20 +12,19 @@ use Rattle.unbounded_words.specs.declared.Pointer.the-variants.{None, To}
 use Rattle.unbounded_words.specs.declared.Index.{Index}
 use Rattle.unbounded_words.specs.Words.{sizes, offsetOf}
 use Rattle.unbounded_places.specs.declared.Place.{Place}
-use Rattle.unbounded_places.specs.declared.Place.the-variants.{U15}
 use Rattle.unbounded_acts.specs.Acts.{actOf}
 use Rattle.unbounded_machine.specs.declared.Machine.{Machine}
 use Rattle.unbounded_machine.specs.declared.Event.{Event}
-use Rattle.unbounded_machine.specs.Machine.{idlers, freshOf}
+use Rattle.unbounded_machine.specs.Machine.{freshOf}
 use Rattle.unbounded_machine.specs.History.{eventsOf}
 use Rattle.unbounded_demands.proofs.Refusals.{unbounded-queue}
 use Rattle.unbounded_demands.specs.Notions.{definition, Allowed, machineAfter, actsOf, Reads, read11, PushingIn, in9, in10, in11, in12, in13, PoppingIn, out6, out7, out8, out9, out10, out11, out12, OneSlot}
-use Rattle.unbounded_demands.specs.Demands.{OneAside, OneHandInPool, PoolKept, PoolUnderEverySchedule}
-use Rattle.unbounded_proof_invariant.proofs.Queue.{Ptr, Hand, By, Done, Own, Chain, Shared}
+use Rattle.unbounded_demands.specs.Demands.{OneHandInPool, PoolUnderEverySchedule}
+use Rattle.unbounded_proof_invariant.proofs.Queue.{Ptr, Hand, By, Done, Chain, Shared}
 use Rattle.unbounded_proof_invariant.proofs.Kept.{hand-by-done, chain-number}
 use Rattle.unbounded_proof_invariant.proofs.Views.{Seen, PushIn, PopIn, SeenOk}
 use Rattle.unbounded_proof_words.proofs.Words.{word, offset-word}
-use Rattle.unbounded_proof_words.proofs.Stands.{placeOf, Stands, u9, u10, u11, u12, u13, v6, v7, v8, v9, v10, v11, v12, Standing}
+use Rattle.unbounded_proof_words.proofs.Stands.{Stands, u9, u10, u11, u12, u13, v6, v7, v8, v9, v10, v11, v12, Standing}
 use Rattle.unbounded_proof_words.proofs.Live.{push-live, pop-live}
 use Rattle.unbounded_proof_demand2.proofs.Turns.{stood, turned}
 use Rattle.unbounded_proof_demand2.proofs.Reached.{Reached, turned-reached}

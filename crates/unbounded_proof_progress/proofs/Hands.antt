@@ -1,7 +1,6 @@
 -- Where a worker stands in whose hand the push, or the pop, of a position is, or the first block.
-use Prim.Native.Nat.{ℕ, _+_, _*_, _/_, _%_, _<_, _≤_}
-use mathlib.Core.Path.{_≡_, refl, sym, ap, _∙_, subst}
-use mathlib.Core.Logic.{_≢_}
+use Prim.Native.Nat.{ℕ, _+_, _*_, _/_, _%_, _≤_}
+use mathlib.Core.Path.{_≡_, refl, ap, _∙_, subst}
 use mathlib.Core.Bool.{Bool, true, false}
 use native.Mathlib.Omega.{arith}
 use Rattle.unbounded_words.specs.declared.Pointer.{Pointer}
@@ -9,8 +8,8 @@ use Rattle.unbounded_words.specs.declared.Pointer.the-variants.{To}
 use Rattle.unbounded_words.specs.declared.Index.{Index}
 use Rattle.unbounded_places.specs.declared.Place.{Place}
 use Rattle.unbounded_demands.specs.Notions.{PushingIn, in9, in10, in11, in12, in13, Crossing, cross9, cross10, Tying, tie9, tie10, tie11, Leaving, leave6, leave7, leave8, leave9, Fronting, front6}
-use Rattle.unbounded_proof_invariant.proofs.Queue.{Ptr, none, to, Hand, Open, Done, By, Dest, Walk, Shared, Inv}
-use Rattle.unbounded_proof_invariant.proofs.Kept.{hand-open-done, hand-by-open, hand-by-done, walk-not-wait}
+use Rattle.unbounded_proof_invariant.proofs.Queue.{Ptr, none, to, Hand, Open, Done, By, Walk, Shared, Inv}
+use Rattle.unbounded_proof_invariant.proofs.Kept.{hand-open-done, hand-by-done, walk-not-wait}
 use Rattle.unbounded_proof_invariant.proofs.Views.{Seen, SeenOk}
 use Rattle.unbounded_proof_invariant.proofs.Own.{pushOf, popOf, blockOf, none-not-to}
 use Rattle.unbounded_proof_words.proofs.Words.{word}

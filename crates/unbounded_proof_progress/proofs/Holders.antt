@@ -1,5 +1,5 @@
 -- Whoever waits has a holder.
-use Prim.Native.Nat.{ℕ, _+_, _*_, _-_, _/_, _%_, _<_, _≤_}
+use Prim.Native.Nat.{ℕ, _+_, _*_, _-_, _/_, _%_, _<_}
 use mathlib.Core.Path.{_≡_, refl, sym, ap, _∙_, subst}
 use mathlib.Core.Logic.{_≢_}
 use mathlib.Core.Bool.{Bool, true, false, cond, true≢false}
@@ -13,20 +13,19 @@ use Rattle.unbounded_words.specs.Words.{sizes, offsetOf, numberOf}
 use Rattle.unbounded_places.specs.declared.Slot.{Slot}
 use Rattle.unbounded_places.specs.declared.Block.{Block}
 use Rattle.unbounded_places.specs.declared.Ends.{Ends}
-use Rattle.unbounded_places.specs.declared.Place.{Place}
 use Rattle.unbounded_places.specs.declared.Place.the-variants.{V6, V10}
 use Rattle.unbounded_acts.specs.Acts.{WRITE, has, actOf}
 use Rattle.unbounded_machine.specs.declared.Machine.{Machine}
 use Rattle.unbounded_machine.specs.declared.Event.{Event}
-use Rattle.unbounded_machine.specs.Machine.{slot, blockAt, slotAt, placeOf}
+use Rattle.unbounded_machine.specs.Machine.{slot, blockAt, slotAt}
 use Rattle.unbounded_demands.specs.Notions.{definition, PushingIn, Crossing, Tying, Leaving, Fronting, stateAt, position}
 use Rattle.unbounded_demands.specs.Demands.{Holders}
-use Rattle.unbounded_proof_invariant.proofs.Queue.{Ptr, none, to, Hand, Open, Done, By, Own, Chain, Shared}
+use Rattle.unbounded_proof_invariant.proofs.Queue.{Ptr, Hand, Open, Done, By, Own, Chain, Shared}
 use Rattle.unbounded_proof_invariant.proofs.Kept as kept
 use Rattle.unbounded_proof_invariant.proofs.Views.{Seen, PopIn}
 use Rattle.unbounded_proof_invariant.proofs.Own.{Good}
 use Rattle.unbounded_proof_words.proofs.Words.{bit, word, half, offset-word}
-use Rattle.unbounded_proof_words.proofs.Stands.{ptr, nextOf, endsOf, isDone, readBit, stateOf, HeadRep, SlotRep, Stands, v6, v10, Standing}
+use Rattle.unbounded_proof_words.proofs.Stands.{ptr, nextOf, isDone, readBit, stateOf, HeadRep, SlotRep, Stands, v6, v10, Standing}
 use Rattle.unbounded_proof_words.proofs.Frames.{write-said}
 use Rattle.unbounded_proof_words.proofs.Live.{pop-live}
 use Rattle.unbounded_proof_demand2.proofs.Turns.{stood}

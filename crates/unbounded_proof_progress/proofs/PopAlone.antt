@@ -2,18 +2,15 @@
 use Prim.Native.Nat.{ℕ, suc, _+_, _*_, _-_, _<_, _≤_}
 use mathlib.Core.Path.{_≡_, refl, sym, ap, _∙_, subst}
 use mathlib.Core.Bool.{Bool, true, false, cond, true≢false}
-use mathlib.Core.List.{List, _++_}
+use mathlib.Core.List.{List}
 use native.Mathlib.Omega.{arith}
 use native.Mathlib.Decide.{decLt}
-use lib.Dec.{eqb}
-use lib.ListN.{length, set}
 use Rattle.queue_entries.specs.Limits.{meterMost}
 use Rattle.queue_entries.specs.declared.Order.the-variants.{Act}
 use Rattle.queue_entries.specs.declared.Entry.{Entry}
 use Rattle.queue_entries.specs.declared.Entry.the-variants.{Asks}
 use Rattle.queue_entries.specs.Entries.{entryOf}
 use Rattle.queue_entries.proofs.Pick as pick
-use Rattle.queue_schedules.specs.Alone.{acts}
 use Rattle.queue_schedules.proofs.Alone.{act-entry, Stepped, ends-by}
 use Rattle.unbounded_words.specs.Words.{sizes, noneOf, samePosition, same}
 use Rattle.unbounded_words.specs.Words as words
@@ -28,13 +25,13 @@ use Rattle.unbounded_acts.specs.Acts.{has, READ, actOf}
 use Rattle.unbounded_machine.specs.declared.Machine.{Machine}
 use Rattle.unbounded_machine.specs.declared.Did.{Did}
 use Rattle.unbounded_machine.specs.declared.Event.{Event}
-use Rattle.unbounded_machine.specs.Machine.{slotAt, placeOf, accepted}
+use Rattle.unbounded_machine.specs.Machine.{slotAt, accepted}
 use Rattle.unbounded_machine.specs.Turn.{stored, actedAt, usedBy, movedBy, turnWith}
 use Rattle.unbounded_machine.specs.History.{eventsOf}
 use Rattle.unbounded_demands.proofs.Refusals.{unbounded-queue}
 use Rattle.unbounded_demands.proofs.Blocks.{moves}
 use Rattle.unbounded_demands.specs.Notions.{definition, Allowed, machineAfter, actsOf, Holding, popMost}
-use Rattle.unbounded_demands.specs.Demands.{EndsAlone, PopAlone, PopsEndAlone}
+use Rattle.unbounded_demands.specs.Demands.{EndsAlone, PopsEndAlone}
 use Rattle.unbounded_proof_invariant.proofs.Queue.{Ptr}
 use Rattle.unbounded_proof_invariant.proofs.Views.{Seen}
 use Rattle.unbounded_proof_words.proofs.Stands.{Stands, idle, u1, u2, u3, u4, u5, u6, u7, u8, u9, u10, u11, u12, u13, u14, u15, v1, v2, v3, v4, v5, v6, v7, v8, v9, v10, v11, v12, v13, v14, v15, len1, len2, len3, empty1, empty2, full1, close1, closed1}

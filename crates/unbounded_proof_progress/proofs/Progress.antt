@@ -1,16 +1,15 @@
 -- What is said of progress under every schedule.
-use Prim.Native.Nat.{ℕ, _<_, _≤_}
+use Prim.Native.Nat.{ℕ, _<_}
 use mathlib.Core.Path.{_≡_, sym, _∙_}
 use mathlib.Core.Bool.{true, true≢false}
-use mathlib.Core.List.{List}
 use native.Mathlib.Omega.{arith}
 use native.Mathlib.Decide.{decLt}
 use Rattle.unbounded_words.specs.Words.{sizes}
 use Rattle.unbounded_places.specs.Places.{viewOf}
 use Rattle.unbounded_acts.specs.Acts.{actOf}
 use Rattle.unbounded_machine.specs.declared.Machine.{Machine}
-use Rattle.unbounded_demands.specs.Notions.{definition, Allowed, machineAfter, actsOf}
-use Rattle.unbounded_demands.specs.Demands.{Progress, ProgressUnderEverySchedule}
+use Rattle.unbounded_demands.specs.Notions.{definition, machineAfter, actsOf}
+use Rattle.unbounded_demands.specs.Demands.{ProgressUnderEverySchedule}
 use Rattle.unbounded_proof_demand2.proofs.Turns.{stood}
 use Rattle.unbounded_proof_demand2.proofs.Reached.{Reached}
 use Rattle.unbounded_proof_demand2.proofs.Demand2.{reached, demand2}

@@ -1,11 +1,11 @@
 -- A push that alone is scheduled ends.
 use Prim.Native.Nat.{ℕ, zero, suc, _+_, _*_, _<_, _≤_}
 use mathlib.Core.Path.{_≡_, refl, sym, ap, _∙_, subst}
-use mathlib.Core.Bool.{Bool, true, false, cond, not, true≢false}
+use mathlib.Core.Bool.{Bool, true, false, cond, true≢false}
 use mathlib.Core.List.{List, [], _∷_}
 use native.Mathlib.Omega.{arith}
 use native.Mathlib.Decide.{decLt}
-use lib.ListN.{length, getD, set}
+use lib.ListN.{getD, set}
 use Rattle.queue_entries.specs.Limits.{meterMost}
 use Rattle.queue_entries.specs.Entries.{entryOf}
 use Rattle.queue_entries.proofs.Pick as pick
@@ -30,7 +30,7 @@ use Rattle.unbounded_demands.proofs.Refusals.{unbounded-queue}
 use Rattle.unbounded_demands.proofs.Blocks.{moves}
 use Rattle.unbounded_demands.proofs.Pool.{lowest-first}
 use Rattle.unbounded_demands.specs.Notions.{definition, Allowed, machineAfter, actsOf, Crossing, pushMost}
-use Rattle.unbounded_demands.specs.Demands.{EndsAlone, PushAlone, PushesEndAlone}
+use Rattle.unbounded_demands.specs.Demands.{EndsAlone, PushesEndAlone}
 use Rattle.unbounded_proof_words.proofs.Frames.{get-same, get-other}
 use Rattle.unbounded_proof_demand2.proofs.Turns.{stood, turned}
 use Rattle.unbounded_proof_demand2.proofs.Reached.{Reached, turned-reached}

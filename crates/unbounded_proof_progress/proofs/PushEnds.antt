@@ -7,16 +7,16 @@ use mathlib.Core.List.{List, [], _∷_}
 use native.Mathlib.Omega.{arith}
 use native.Mathlib.Decide.{ℕ-discrete}
 use lib.Dec.{eqb}
-use lib.ListN.{length, getD, set}
+use lib.ListN.{length, set}
 use borrow.Author.Tests.{eq-eqb, ne-eqb, eqb-true, eqb-false}
 use Rattle.queue_entries.specs.declared.Entry.{Entry}
 use Rattle.queue_entries.specs.Entries.{entryOf}
 use Rattle.queue_schedules.specs.Alone.{actBy}
-use Rattle.queue_schedules.proofs.Alone.{Was, others, its-own, its-last, part, Gone, goes}
+use Rattle.queue_schedules.proofs.Alone.{Was, others, its-own, its-last, part, goes}
 use Rattle.unbounded_words.specs.declared.Pointer.{Pointer}
 use Rattle.unbounded_words.specs.declared.Pointer.the-variants.{None, To}
 use Rattle.unbounded_words.specs.declared.Index.{Index}
-use Rattle.unbounded_words.specs.Words.{sizes, noneOf}
+use Rattle.unbounded_words.specs.Words.{sizes}
 use Rattle.unbounded_places.specs.declared.Slot.{Slot}
 use Rattle.unbounded_places.specs.declared.Block.{Block}
 use Rattle.unbounded_places.specs.declared.Ends.{Ends}
@@ -27,15 +27,13 @@ use Rattle.unbounded_places.specs.declared.Place.the-variants.{Idle, U9, U10, U
 use Rattle.unbounded_places.specs.Places.{viewOf, beginOf}
 use Rattle.unbounded_acts.specs.Acts.{leave, answered, actOf}
 use Rattle.unbounded_machine.specs.declared.Machine.{Machine}
-use Rattle.unbounded_machine.specs.declared.Did.{Did}
-use Rattle.unbounded_machine.specs.declared.Ran.{Ran}
-use Rattle.unbounded_machine.specs.Machine.{idler, blockAt, slotAt, placeOf}
+use Rattle.unbounded_machine.specs.Machine.{blockAt, slotAt, placeOf}
 use Rattle.unbounded_machine.specs.Turn.{lowestFree, blockUsed, slotUsed, begun, stored, actedAt, usedBy, takenBy, turnWith}
 use Rattle.unbounded_demands.proofs.Refusals.{unbounded-queue, turn-kept}
 use Rattle.unbounded_demands.specs.Notions.{definition, Pushing, push9, push10, push11, push12, push13, pushLeft}
-use Rattle.unbounded_demands.specs.Demands.{AnswersPushed, PushEnds}
+use Rattle.unbounded_demands.specs.Demands.{PushEnds}
 use Rattle.unbounded_proof_words.proofs.Frames.{get-same, get-other}
-use Rattle.unbounded_proof_demand2.proofs.Turns.{stood, Busy, Turned, began, used, took, turned}
+use Rattle.unbounded_proof_demand2.proofs.Turns.{stood, Turned, began, used, took, turned}
 
 -- with a slot in hand, or at U14 behind it
 data Ending : Place → Type 0 where

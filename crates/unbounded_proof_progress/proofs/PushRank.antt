@@ -1,6 +1,6 @@
 -- A push alone: how many acts it is from its end, by the words as they are, and whether it may still need a block; the number falls with every act. (50 at a
 -- place that is not a push's, and at U15.)
-use Prim.Native.Nat.{ℕ, _+_, _*_, _-_, _/_, _%_, _<_, _≤_}
+use Prim.Native.Nat.{ℕ, _-_, _/_, _%_, _<_, _≤_}
 use mathlib.Core.Path.{_≡_, refl, sym, ap, _∙_, subst}
 use mathlib.Core.Bool.{Bool, true, false, cond, not, true≢false}
 use mathlib.Core.List.{List}
@@ -12,7 +12,7 @@ use Rattle.queue_schedules.proofs.Schedules.{either}
 use Rattle.unbounded_words.specs.declared.Pointer.{Pointer}
 use Rattle.unbounded_words.specs.declared.Pointer.the-variants.{None, To}
 use Rattle.unbounded_words.specs.declared.Index.{Index}
-use Rattle.unbounded_words.specs.Words.{sizes, noneOf, offsetOf, pastSlots, lastSlot, markedOf, same, later}
+use Rattle.unbounded_words.specs.Words.{sizes, noneOf, pastSlots, lastSlot, markedOf, same, later}
 use Rattle.unbounded_places.specs.declared.Slot.{Slot}
 use Rattle.unbounded_places.specs.declared.Block.{Block}
 use Rattle.unbounded_places.specs.declared.Ends.{Ends}
@@ -35,7 +35,7 @@ use Rattle.unbounded_proof_demand2.proofs.Turns.{stood}
 use Rattle.unbounded_proof_demand2.proofs.Reached.{Reached}
 use Rattle.unbounded_proof_pool.proofs.Aside.{fine, late-none, to-some}
 use Rattle.unbounded_proof_progress.proofs.Holders.{tail-is, holders}
-use Rattle.unbounded_proof_progress.proofs.PopRank.{none-is, same-self, same-number, at-gap, mark-same}
+use Rattle.unbounded_proof_progress.proofs.PopRank.{same-self, same-number, at-gap, mark-same}
 
 -- By tests: tail marked, the word is tail's still, no block set aside, tail's block is not there yet, the word's slot is a block's last.
 abbrev pub one : Bool → Bool → ℕ

@@ -1,5 +1,5 @@
 pub mod RefutedPlain
 pub mod Refuted
 pub mod Faithful
-pub mod Further
 pub mod Whole
+pub mod Further

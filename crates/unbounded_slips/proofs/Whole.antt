@@ -1,49 +1,37 @@
 -- Each slip at full size, refuted by computing its schedule, with `Drop`'s walk left shut.
-use Prim.Native.Nat.{ℕ, zero, suc, _+_, _*_, _<_, _≤_}
+use Prim.Native.Nat.{ℕ, suc, _+_}
 use mathlib.Core.Path.{_≡_, refl, sym, ap, _∙_, subst}
-use mathlib.Core.Logic.{_⊎_, inl, inr}
 use mathlib.Core.Bool.{Bool, true, false, cond, not, true≢false}
 use mathlib.Core.List.{List, [], _∷_, _++_}
 use native.Mathlib.Omega.{arith}
 use lib.Dec.{eqb}
-use lib.ListN.{length, getD, replicate}
-use Rattle.queue_numbers.specs.Numbers.{has as among}
-use Rattle.queue_schedules.specs.Alone.{passedBy, ownActsBy}
-use Rattle.queue_schedules.specs.Alone as one-by-one
+use lib.ListN.{getD, replicate}
 use Rattle.queue_entries.specs.Schedules.{runBy, searchBy, scheduleBy, historyBy}
 use Rattle.queue_entries.specs.Entries.{strayOf, orderOf, entryOf, entryBut}
 use Rattle.queue_entries.specs.Limits.{all, inLimits}
-use Rattle.unbounded_words.specs.declared.Index.{Index}
-use Rattle.queue_entries.proofs.Pick.{both-left, both-right}
-use Rattle.unbounded_words.specs.declared.Pointer.{Pointer}
 use Rattle.unbounded_words.specs.declared.Pointer.the-variants.{None, To}
 use Rattle.unbounded_words.specs.Words.{index, pastSlots, lastSlot, markedOf, unmarkedOf, withMark, later, same, samePosition, sameBlock, minus, settled, behind, countOf}
-use Rattle.unbounded_places.specs.declared.Worker.{Worker}
-use Rattle.unbounded_places.specs.declared.Answer.the-variants.{Nothing}
-use Rattle.unbounded_places.specs.declared.Place.{Place}
 use Rattle.unbounded_places.specs.declared.Place.the-variants.{Idle}
 use Rattle.unbounded_places.specs.Places.{viewOf}
 use Rattle.unbounded_acts.specs.Acts.{leave, headTo, frontTo, tailTo, backTo, nextTo, freed, stateTo, valueTo, has, with, firstOr, answered, lacksNext, pushFrom, setAside, claimed, takeOr, popFrom, newHead, taken, nextIndex, destroyFrom, readOut, destroyIf, actOf}
 use Rattle.unbounded_machine.specs.declared.Machine.{Machine}
 use Rattle.unbounded_machine.specs.Machine.{live, freeBlocks, emptySlots, idlers, freshOf, blank, refused, accepted, placeOf, freeBlock, idler}
-use Rattle.unbounded_machine.specs.Drop.{lastFits, without, walkFrom, itemsFrom, walkOf}
+use Rattle.unbounded_machine.specs.Drop.{walkFrom, itemsFrom, walkOf}
 use Rattle.unbounded_machine.specs.Drop as drop
 use Rattle.unbounded_machine.specs.Broken.{recordFits, recordsFit, allIdle, dropFits, brokenIn}
 use Rattle.unbounded_machine.specs.Turn.{entryHere, lowestFrom, lowestFree, clearedFrom, cleared, begun, stored, actedAt, movedBy, turnWith}
 use Rattle.unbounded_machine.specs.Contents.{contentsOf}
 use Rattle.unbounded_machine.specs.Run.{ran}
-use Rattle.unbounded_demands.specs.Notions.{Definition, definition, Allowed, acts, itemsOf, takersOf, takingsOf, freeingsOf, waiting, Fifo, push12, read11}
+use Rattle.unbounded_demands.specs.Notions.{Allowed, acts, itemsOf, takersOf, takingsOf, freeingsOf, waiting, Fifo, push12, read11}
 use Rattle.unbounded_demands.specs.Notions as notions
 use Rattle.unbounded_demands.specs.Demands.{ClaimRule, OnceOut, OneHand, ReadsWritten, NoneFree, AnswersTrue, FreedOnce, TakenChained, ContentsWait}
-use Rattle.unbounded_demands.specs.Runs.{short}
 use Rattle.queue_entries.proofs.Pick as pick
 use Rattle.queue_entries.specs.declared.Entry.the-variants.{Unreadable}
 use Rattle.unbounded_machine.specs.declared.Did.{Did}
 use Rattle.unbounded_machine.specs.declared.Ran.{Ran}
 use Rattle.unbounded_machine.specs.declared.Event.{Event}
-use Rattle.unbounded_machine.specs.declared.Dropped.{Dropped}
 use Rattle.unbounded_machine.specs.Broken.{brokenOf}
-use Rattle.unbounded_machine.specs.Turn.{Table, turnBy}
+use Rattle.unbounded_machine.specs.Turn.{Table}
 use Rattle.unbounded_machine.specs.Machine.{slotAt}
 use Rattle.unbounded_machine.specs.Run.{runWith}
 use Rattle.unbounded_machine.specs.History.{event, historyWith}
@@ -63,7 +51,7 @@ abbrev busyAt : Machine → ℕ → Bool
 busyAt m w = viewOf sizes (placeOf (m .workers) w) .busy
 
 -- the third worker has begun
-abbrev start : Machine
+abbrev pub start : Machine
 start = begun (freshOf sizes 3) 2 Full1
 
 three : Allowed 3
@@ -84,13 +72,13 @@ module _ (table : Table) (s : List ℕ) where
   unfolding historyBy accepted strayOf orderOf entryOf
   past-first = ap (λ (d : Did). cond (eqb (d .refusal) 0) (historyWith (turnWith sizes table) (d .machine) s) []) turn-first
 
-abbrev ends : Trial → Machine
+abbrev pub ends : Trial → Machine
 ends t = runWith (turnWith sizes (actWith (t .slip))) start 1 (t .schedule) .machine
 
 abbrev past : Trial → List Event
 past t = historyWith (turnWith sizes (actWith (t .slip))) start (t .schedule)
 
-machine-is : (t : Trial) → wholeMachine t ≡ ends t
+pub machine-is : (t : Trial) → wholeMachine t ≡ ends t
 machine-is t = ap (λ (r : Ran). r .machine) (run-first (actWith (t .slip)) (t .schedule))
 
 past-is : (t : Trial) → wholePast t ≡ past t
@@ -220,7 +208,7 @@ freed-once f = let q : _≡_ {A = ℕ} 1 2 = f 0 (omega arith) in omega arith
 
 -- ---- beside the table
 -- every block but the last is taken, and worker 0 wants one
-abbrev lastFree : Machine
+abbrev pub lastFree : Machine
 lastFree =
     record {
       ends = start .ends;
@@ -246,7 +234,8 @@ refuted-whole =
       act-by-act = λ a. true≢false (sym (ap (λ (m : Machine). busyAt m 0) (a start [] 0 5 refl refl refl .0)));
       whole-schedules =
           λ w.
-          let q : _≡_ {A = ℕ} 0 1 = ap (λ (r : Ran). r .place) (sym (w 3 three (37 ∷ 0 ∷ []) .0 refl (readable, tt)) ∙ whole-schedules 3 three (37 ∷ 0 ∷ []) .0 refl (readable, tt) ∙ run-first actOf []) in
+          let q : _≡_ {A = ℕ} 0 1 = ap (λ (r : Ran). r .place) (sym (w 3 three (37 ∷ 0 ∷ []) .0 refl (readable, tt))
+          ∙ whole-schedules 3 three (37 ∷ 0 ∷ []) .0 refl (readable, tt) ∙ run-first actOf []) in
           omega arith;
       no-block =
           λ n.

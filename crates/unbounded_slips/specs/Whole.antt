@@ -27,9 +27,9 @@ abbrev pub wholePast : Trial → List Event
 wholePast t = actsOf (whole (t .slip)) 3 (37 ∷ 0 ∷ t .schedule)
 
 -- so many pushes of five acts, and so many pops of six acts, with head marked
-unfoldable pub pushes : ℕ → List ℕ
-pushes zero = []
-pushes (suc n) = does 0 0 5 5 ++ pushes n
+unfoldable pub pushes : ℕ → ℕ → List ℕ
+pushes w zero = []
+pushes w (suc n) = does w 0 5 5 ++ pushes w n
 
 unfoldable pub pops : ℕ → ℕ → List ℕ
 pops w zero = []
@@ -37,7 +37,7 @@ pops w (suc n) = does w 2 0 6 ++ pops w n
 
 -- all slots of a block but its last, and all
 abbrev pub allButLast : List ℕ
-allButLast = does 0 0 5 8 ++ pushes 29
+allButLast = does 0 0 5 8 ++ pushes 0 29
 
 abbrev pub allPushed : List ℕ
 allPushed = allButLast ++ does 0 0 6 9
