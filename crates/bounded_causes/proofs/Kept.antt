@@ -7,7 +7,6 @@ use native.Mathlib.Omega.{arith}
 use native.Mathlib.Numerals.{add-one}
 use lib.Dec.{eqb}
 use lib.ListN.{set}
-use Rattle.queue_entries.specs.Limits.{workersMost}
 use Rattle.queue_entries.proofs.Pick.{along}
 use Rattle.bounded_places.specs.declared.Loss.{Loss}
 use Rattle.bounded_places.specs.declared.Place.{Place}
@@ -19,7 +18,7 @@ use Rattle.bounded_causes.specs.declared.Since.{Since}
 use Rattle.bounded_causes.specs.declared.Watch.{Watch}
 use Rattle.bounded_causes.specs.declared.Watches.{Watches}
 use Rattle.bounded_causes.specs.declared.Causes.{Causes}
-use Rattle.bounded_causes.specs.Causes.{standOf, goesBackOf, claimsTail, claimsHead, deedOf, untouched, sinceWith, ownAct, otherAct, watchWith, watchOf, othersHold, watchedTo, watchedOf, ownIn, otherIn, scheduled, causesOf, namedOf}
+use Rattle.bounded_causes.specs.Causes.{watchedMost, standOf, goesBackOf, claimsTail, claimsHead, deedOf, untouched, sinceWith, ownAct, otherAct, watchWith, watchOf, othersHold, watchedTo, watchedOf, ownIn, otherIn, scheduled, causesOf, namedOf}
 
 pub along-stand : (p q : Place) (r : Stand) → p ≡ q → r ≡ standOf q → r ≡ standOf p
 along-stand = along standOf
@@ -61,11 +60,11 @@ pub watched-more : (n w : ℕ) (others : Bool) (d : Deed) (xs now : List Watch) 
 unfolding watchedTo
 watched-more n w others d xs now x e f = rw (add-one, e, f)
 
-pub watched-all : (n w : ℕ) (others : Bool) (d : Deed) (xs now : List Watch) → n ≤ workersMost → workersMost ≤ n → others ≡ othersHold xs w
+pub watched-all : (n w : ℕ) (others : Bool) (d : Deed) (xs now : List Watch) → n ≤ watchedMost → watchedMost ≤ n → others ≡ othersHold xs w
     → now ≡ watchedTo n w others d xs → now ≡ watchedOf w d xs
 unfolding watchedOf
 watched-all n w others d xs now l g e f =
-    let q : n ≡ workersMost = omega arith in
+    let q : n ≡ watchedMost = omega arith in
     f ∙ rw (q, e)
 
 -- The answer put together.

@@ -4,7 +4,7 @@ use mathlib.Core.Bool.{Bool, true, false, cond, not}
 use mathlib.Core.List.{List}
 use lib.Dec.{ltb, eqb}
 use lib.ListN.{set, getD, replicate}
-use Rattle.queue_entries.specs.Limits.{workersMost, all}
+use Rattle.queue_entries.specs.Limits.{all}
 use Rattle.bounded_places.specs.declared.Answer.{Answer}
 use Rattle.bounded_places.specs.declared.Answer.the-variants.{Nothing, Pushed, Full, Closed, Displaced, Popped, Empty, PopClosed, Len, Yes, No}
 use Rattle.bounded_places.specs.declared.Loss.{Loss}
@@ -141,16 +141,20 @@ watchWith own others d x = cond own (ownAct others d x) (otherAct d x)
 abbrev pub unwatched : Watch
 unwatched = record { word = untouched; stamp = untouched; others = false; hand = false }
 
+-- So many workers are watched: as many as can be lent (document 02, item 11).
+abbrev pub watchedMost : ℕ
+watchedMost = 64
+
 -- before the first act
 abbrev pub start : Watches
-start = record { each = replicate workersMost unwatched }
+start = record { each = replicate watchedMost unwatched }
 
 abbrev pub watchOf : List Watch → ℕ → Watch
 watchOf xs w = getD xs w unwatched
 
 -- A worker other than w has a slot in hand: its latest act left it there.
 unfoldable pub othersHold : List Watch → ℕ → Bool
-othersHold xs w = not (all workersMost 0 (λ (i : ℕ). cond (eqb i w) true (not (watchOf xs i .hand))))
+othersHold xs w = not (all watchedMost 0 (λ (i : ℕ). cond (eqb i w) true (not (watchOf xs i .hand))))
 
 -- So many of them, after an act of worker w.
 unfoldable pub watchedTo : ℕ → ℕ → Bool → Deed → List Watch → List Watch
@@ -158,7 +162,7 @@ watchedTo zero w others d xs = xs
 watchedTo (suc n) w others d xs = set (watchedTo n w others d xs) n (watchWith (eqb n w) others d (watchOf xs n))
 
 unfoldable pub watchedOf : ℕ → Deed → List Watch → List Watch
-watchedOf w d xs = watchedTo workersMost w (othersHold xs w) d xs
+watchedOf w d xs = watchedTo watchedMost w (othersHold xs w) d xs
 
 -- ---- the causes
 

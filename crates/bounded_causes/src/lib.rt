@@ -7,6 +7,9 @@ use bounded_places::Answer;
 use bounded_places::Loss;
 use bounded_places::Place;
 
+// So many workers are watched: as many as can be lent (document 02, item 11).
+pub const WATCHED: usize = 64;
+
 // What going back asks of a place.
 pub struct Stand {
     // the call's own end
@@ -57,7 +60,7 @@ pub struct Watch {
 }
 
 pub struct Watches {
-    pub each: [Watch; queue_entries::WORKERS],
+    pub each: [Watch; WATCHED],
 }
 
 pub struct Causes {
@@ -294,14 +297,14 @@ pub fn start() -> Watches
         stamp: none,
         others: false,
         hand: false,
-    }; queue_entries::WORKERS];
+    }; WATCHED];
     Watches { each: each }
 }
 
-fn watch_of(xs: [Watch; queue_entries::WORKERS], w: u64) -> Watch
+fn watch_of(xs: [Watch; WATCHED], w: u64) -> Watch
     ensures { λ r. ⌜ r ≡ watchOf xs w ⌝ }
 {
-    if w < queue_entries::WORKERS as u64 {
+    if w < WATCHED as u64 {
         return xs[w as usize];
     }
     let none = Since {
@@ -317,11 +320,11 @@ fn watch_of(xs: [Watch; queue_entries::WORKERS], w: u64) -> Watch
     }
 }
 
-fn others_hold(xs: [Watch; queue_entries::WORKERS], w: u64) -> bool
+fn others_hold(xs: [Watch; WATCHED], w: u64) -> bool
     ensures { λ r. ⌜ r ≡ othersHold xs w ⌝ }
 {
     let mut i = 0;
-    while i < queue_entries::WORKERS {
+    while i < WATCHED {
         let x = xs[i];
         if pick(i as u64 == w, true, !x.hand) {
             i += 1;
@@ -332,17 +335,13 @@ fn others_hold(xs: [Watch; queue_entries::WORKERS], w: u64) -> bool
     false
 }
 
-fn watch_all(
-    xs: [Watch; queue_entries::WORKERS],
-    w: u64,
-    d: Deed,
-) -> [Watch; queue_entries::WORKERS]
+fn watch_all(xs: [Watch; WATCHED], w: u64, d: Deed) -> [Watch; WATCHED]
     ensures { λ r. ⌜ r ≡ watchedOf w d xs ⌝ }
 {
     let others = others_hold(xs, w);
     let mut now = xs;
     let mut i = 0;
-    while i < queue_entries::WORKERS {
+    while i < WATCHED {
         let x = xs[i];
         now[i] = watch_with(i as u64 == w, others, d, x);
         i += 1;

@@ -9,3 +9,5 @@ pub mod Retries
 pub mod Narrow
 pub mod Window
 pub mod Walkings
+pub mod Mixtures
+pub mod EachNumber

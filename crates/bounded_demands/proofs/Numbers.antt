@@ -131,11 +131,14 @@ module _ (bits : Width) (m : Machine) (a b : ℕ) where
       go true l = wider begins entries (turnAt bits m a b .refusal) refl (turn-begin l)
       go false l = wider acts entries (turnAt bits m a b .refusal) refl (turn-act l)
 
+  pub turned-among : has (0 ∷ 3 ∷ 4 ∷ 5 ∷ 6 ∷ 7 ∷ 8 ∷ 9 ∷ []) (turnAt bits m a b .refusal) ≡ true
+  unfolding has within
+  turned-among = wider entries (0 ∷ 3 ∷ 4 ∷ 5 ∷ 6 ∷ 7 ∷ 8 ∷ 9 ∷ []) (turnAt bits m a b .refusal) refl turn-any
+
   pub step-among : has (0 ∷ 3 ∷ 4 ∷ 5 ∷ 6 ∷ 7 ∷ 8 ∷ 9 ∷ []) (stepOfBy (actOf bits) m a b .refusal) ≡ true
-  unfolding stepOfBy has within refused
+  unfolding stepOfBy has refused
   step-among =
-      picked (λ (d : Did). has (0 ∷ 3 ∷ 4 ∷ 5 ∷ 6 ∷ 7 ∷ 8 ∷ 9 ∷ []) (d .refusal) ≡ true) (brokenOf m) (refused 6 m) (turnAt bits m a b) refl
-      (wider entries (0 ∷ 3 ∷ 4 ∷ 5 ∷ 6 ∷ 7 ∷ 8 ∷ 9 ∷ []) (turnAt bits m a b .refusal) refl turn-any)
+      picked (λ (d : Did). has (0 ∷ 3 ∷ 4 ∷ 5 ∷ 6 ∷ 7 ∷ 8 ∷ 9 ∷ []) (d .refusal) ≡ true) (brokenOf m) (refused 6 m) (turnAt bits m a b) refl turned-among
 
   pub begin-among : has (0 ∷ 3 ∷ 4 ∷ 6 ∷ 9 ∷ []) (beginOfBy (actOf bits) m a b .refusal) ≡ true
   unfolding beginOfBy has within refused
@@ -162,15 +165,20 @@ from-among bits m i (a ∷ b ∷ s) =
     picked (λ (r : Ran). has runs (r .refusal) ≡ true) (eqb (turnAt bits m a b .refusal) 0) (runAt bits (turnAt bits m a b .machine) (i + 1) s) (ran (turnAt bits m a b .refusal) i m)
     (from-among bits (turnAt bits m a b .machine) (i + 1) s) (wider entries runs (turnAt bits m a b .refusal) refl (turn-any bits m a b))
 
-pub run-among : (bits : Width) (m : Machine) (s : List ℕ) → has runs (runOfBy (actOf bits) m s .refusal) ≡ true
+-- of a machine that is broken by any rule
+pub schedule-among : (bits : Width) (broken : Machine → Bool) (m : Machine) (s : List ℕ)
+    → has runs (scheduleBy (λ (d : Did). d .refusal) (λ (d : Did). d .machine) (turnAt bits) ran broken entryOf m s .refusal) ≡ true
 unfolding scheduleBy ran has
-run-among bits m s =
-    picked (λ (r : Ran). has runs (r .refusal) ≡ true) (brokenOf m) (ran 6 0 m) _ refl
+schedule-among bits broken m s =
+    picked (λ (r : Ran). has runs (r .refusal) ≡ true) (broken m) (ran 6 0 m) _ refl
     (picked (λ (r : Ran). has runs (r .refusal) ≡ true) (eqb (length s % 2) 1) (ran 11 0 m) _ refl (found (searchBy entryOf 0 s)))
   where
     found : (f : Finding) → has runs (searched (λ (d : Did). d .refusal) (λ (d : Did). d .machine) (turnAt bits) ran m s f .refusal) ≡ true
     found AllRead = from-among bits m 0 s
     found (UnreadableAt k) = refl
+
+pub run-among : (bits : Width) (m : Machine) (s : List ℕ) → has runs (runOfBy (actOf bits) m s .refusal) ≡ true
+run-among bits = schedule-among bits brokenOf
 
 -- ---- 9 is the refusal of two words that can't be read alone
 carried-low : (bits : Width) (m : Machine) (w : ℕ) (p : Place) (v : Verdict) → Sense (m .meter) (viewOf p .busy) v → carried bits m w p v .refusal ≤ 8

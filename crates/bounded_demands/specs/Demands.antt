@@ -39,7 +39,7 @@ use Rattle.bounded_machine.specs.declared.Event.{Event}
 use Rattle.bounded_machine.specs.declared.Moved.{Moved}
 use Rattle.bounded_machine.specs.declared.Moved.the-variants.{Neither, Tail}
 use Rattle.bounded_machine.specs.declared.Tally.{Tally}
-use Rattle.bounded_machine.specs.Machine.{freshOf, recordOf, placeOf, blank, freshWith}
+use Rattle.bounded_machine.specs.Machine.{freshOf, recordOf, placeOf, blank, freshWith, idler}
 use Rattle.bounded_machine.specs.Broken.{brokenOf, allIdle, brokenWith}
 use Rattle.bounded_machine.specs.Contents.{countIn, contentsOf, contentsRefusal, written, capacityRefusal, capacityOf}
 use Rattle.bounded_machine.specs.Turn.{byWords, bySchedule}
@@ -65,13 +65,13 @@ use Rattle.bounded_walkers.specs.Walkers.{walkOf}
 use Rattle.bounded_walks.specs.declared.Sized.{Sized}
 use Rattle.bounded_walks.specs.declared.Sized.the-variants.{Sequences}
 use Rattle.bounded_walks.specs.Walks.{walkRefusal, walkTold, listed, sizeOf}
-use Rattle.bounded_demands.specs.Notions.{Tried, entriesOf, Face, Definition, ofWidth, Allowed, machineAfter, actsOf, Acts, acts, InHand, HandsOut, Reads, Truth, itemsOf, takersOf, LatestIn, ItemIn, WrittenIn, CallClaim, tally, waiting, stock, unreadBy, lesser, Exchanges, lostIn, struck, Fifo, Words, Plain, since, turnLength, windowLength, KeepsWindow, rounds, sleepingPush, sleepingPop, valueAt, queueAnswer, LenAnswers, mostOf, OtherHand, passed, ownActs, LetsGo, has, ClosesYes, NoClaims, ClaimsOn, withRecords, AllowedWith}
+use Rattle.bounded_demands.specs.Notions.{Tried, entriesOf, Face, Definition, ofWidth, Allowed, machineAfter, actsOf, Acts, acts, InHand, HandsOut, Reads, Truth, itemsOf, takersOf, LatestIn, ItemIn, WrittenIn, CallClaim, tally, waiting, stock, unreadBy, lesser, Exchanges, lostIn, struck, Fifo, Words, Plain, since, turnLength, windowLength, KeepsWindow, rounds, sleepingPush, sleepingPop, valueAt, queueAnswer, LenAnswers, mostOf, OtherHand, passed, ownActs, LetsGo, has, ClosesYes, NoClaims, ClaimsOn, withRecords, AllowedWith, Asking, leftByAll, takenByAll, Promises, freshIn, pushingIn, stockedIn}
 use Rattle.bounded.specs.Bounded.{makeOf, stepOf}
 use Rattle.bounded_parts.specs.declared.Metered.{Metered}
-use Rattle.bounded_parts.specs.Parts.{meteredOf, Filled, filled}
-use Rattle.bounded_lent.specs.Lent.{Lent, Gone}
+use Rattle.bounded_parts.specs.Parts.{recordsMost, meteredOf, Filled, filled, report}
+use Rattle.bounded_lent.specs.Lent.{Lent, Gone, gone}
 use Rattle.bounded_demands.specs.Stories.{Story, storyOf, oneStep, OnlySuch, twoCloses, known, queueAt, changeOf, actor, replyOf, putBy, takenBy, givenBack, itemAt, At, momentOf, momentNamed, inStory}
-use Rattle.bounded_demands.specs.Lending.{Lending, Promise, holding, holds-did, holds-ran, steps, heldIn, actsLent}
+use Rattle.bounded_demands.specs.Lending.{Lending, Promise, promised, holding, holds-did, holds-ran, steps, heldIn, actsLent, refusalOf, stepByStep, Doing, leftLent, allTakenLent, stepOn, runOn, freshLent, pushingLent, stockedLent, noneLent, spentLent}
 use Rattle.bounded_demands.specs.Foretold.{foretold, Telling, toldIn, tellings, asForetold}
 use Rattle.bounded_demands.specs.Eight.{closedF, caseF}
 use Rattle.bounded_demands.specs.Attained.{Case, seenIn, attained, exactly}
@@ -270,6 +270,38 @@ pub record OnlyOneCount : Type 0 where
   pub moments-kept : (capacity : ℕ) (x y : Moments) → x ≡ moments.start capacity → y ≡ moments.start capacity → x ≡ y
   pub moments-begun : (ms : Moments) (x y : Moments) → x ≡ moments.begunOf ms → y ≡ moments.begunOf ms → x ≡ y
   pub moment-named : (ms : Moments) (w : ℕ) (p q : Place) (x y : NamedMoment) → x ≡ moments.namedOf ms w p q → y ≡ moments.namedOf ms w p q → x ≡ y
+
+-- The same of any promises, so that it can be said of one with a slip.
+pub record OnlyOneMeets {M D R : Type 0} (p : Promises M D R) : Type 0 where
+  pub make : (capacity workers edition : ℕ) (x y : D) → p .make capacity workers edition x → p .make capacity workers edition y → x ≡ y
+  pub step : (m : M) (first second : ℕ) (x y : D) → p .step m first second x → p .step m first second y → x ≡ y
+  pub begin : (m : M) (first second : ℕ) (x y : D) → p .begin m first second x → p .begin m first second y → x ≡ y
+  pub act : (m : M) (first second : ℕ) (x y : D) → p .act m first second x → p .act m first second y → x ≡ y
+  pub run : (m : M) (s : List ℕ) (x y : R) → p .run m s x → p .run m s y → x ≡ y
+  pub contents : (m : M) (before : List ℕ) (x y : Told) (a b : List ℕ) → p .contents m before x a → p .contents m before y b → (x ≡ y) × (a ≡ b)
+  pub capacity : (m : M) (x y : Told) → p .capacity m x → p .capacity m y → x ≡ y
+  pub broken : (m : M) (x y : Bool) → p .broken m x → p .broken m y → x ≡ y
+
+-- Each number of `Numbered` is given, by the machines named here; `spent` has a push begun and its meter at the end.
+pub record EachNumber {M D R : Type 0} (f : Face M D R) (spent : M) : Type 0 where
+  pub make : map (f .refusal) (f .make 1 1 1 ∷ f .make 0 1 1 ∷ f .make 1 0 1 ∷ f .make 1 1 0 ∷ []) ≡ 0 ∷ 1 ∷ 2 ∷ 18 ∷ []
+  pub step :
+      map (f .refusal)
+      (f .step (freshIn f) 0 5 ∷ f .step (freshIn f) 16 5 ∷ f .step (pushingIn f) 0 5 ∷ f .step (freshIn f) 8 0 ∷ f .step (f .blank) 0 5 ∷ f .step spent 8 0 ∷ f .step (pushingIn f) 9 0
+      ∷ f .step (freshIn f) 10 0 ∷ [])
+      ≡ 0 ∷ 3 ∷ 4 ∷ 5 ∷ 6 ∷ 7 ∷ 8 ∷ 9 ∷ []
+  pub begin : map (f .refusal) (f .begin (freshIn f) 0 5 ∷ f .begin (freshIn f) 16 5 ∷ f .begin (pushingIn f) 0 5 ∷ f .begin (f .blank) 0 5 ∷ f .begin (freshIn f) 8 0 ∷ []) ≡ 0 ∷ 3 ∷ 4 ∷ 6 ∷ 9 ∷ []
+  pub act :
+      map (f .refusal)
+      (f .act (pushingIn f) 8 0 ∷ f .act (pushingIn f) 24 0 ∷ f .act (freshIn f) 8 0 ∷ f .act (f .blank) 8 0 ∷ f .act spent 8 0 ∷ f .act (pushingIn f) 9 0 ∷ f .act (freshIn f) 0 5 ∷ [])
+      ≡ 0 ∷ 3 ∷ 5 ∷ 6 ∷ 7 ∷ 8 ∷ 9 ∷ []
+  pub run :
+      map (f .refusalIn)
+      (f .run (freshIn f) [] ∷ f .run (freshIn f) (16 ∷ 5 ∷ []) ∷ f .run (pushingIn f) (0 ∷ 5 ∷ []) ∷ f .run (freshIn f) (8 ∷ 0 ∷ []) ∷ f .run (f .blank) [] ∷ f .run spent (8 ∷ 0 ∷ [])
+      ∷ f .run (pushingIn f) (9 ∷ 0 ∷ []) ∷ f .run (freshIn f) (10 ∷ 0 ∷ []) ∷ f .run (freshIn f) (0 ∷ []) ∷ [])
+      ≡ 0 ∷ 3 ∷ 4 ∷ 5 ∷ 6 ∷ 7 ∷ 8 ∷ 9 ∷ 11 ∷ []
+  pub contents : map (λ (m : M). contentsRefusal (f .wide m) 0) (freshIn f ∷ pushingIn f ∷ f .blank ∷ stockedIn f ∷ []) ≡ 0 ∷ 4 ∷ 6 ∷ 10 ∷ []
+  pub capacity : map (λ (m : M). capacityRefusal (f .wide m)) (freshIn f ∷ f .blank ∷ []) ≡ 0 ∷ 6 ∷ []
 
 -- Demand 1 of a face.
 pub record Demand1 {M D R : Type 0} (f : Face M D R) : Type 0 where
@@ -626,6 +658,27 @@ pub record KeptAsSaid : Type 0 where
   pub more : (h : List Event) (e : Event) → watches (h ++ e ∷ []) ≡ namedOf (watches h) (e .worker) (e .before) (e .after) (e .loss) .watches
   pub so : (h : List Event) (w : ℕ) → w < workersMost → Kept h w
 
+-- The same of so many workers as are lent.
+abbrev pub KeptOf : ℕ → Type 0
+KeptOf many = (h : List Event) (w : ℕ) → w < many → Kept h w
+
+-- All that is said of retries, of one history;
+pub record Retried (name : List Event → Event → Causes) (h : List Event) : Type 0 where
+  pub caused : RetriesCaused name h
+  pub len : LenByOwnEnd name h
+  pub ways : WaysBack h
+  pub once : BackOnce h
+
+-- under every schedule of 64 bits, with any number of records (document 02, item 11) and up to 64 workers; and under every schedule that keeps the window.
+abbrev pub RetriesUnderEverySchedule : Definition → (List Event → Event → Causes) → Type 0
+RetriesUnderEverySchedule d name =
+    (capacity workers edition : ℕ) → AllowedWith (d .records) capacity workers edition → workers ≤ recordsMost → (s : List ℕ) → Retried name (actsOf d capacity workers edition s)
+
+abbrev pub RetriesInWindow : Definition → (List Event → Event → Causes) → Type 0
+RetriesInWindow d name =
+    (capacity workers edition : ℕ) → AllowedWith (d .records) capacity workers edition → workers ≤ recordsMost → (s : List ℕ)
+    → KeepsWindow d (freshWith (d .records) capacity workers edition) [] s → Retried name (actsOf d capacity workers edition s)
+
 -- ==== Words that wrap (document 02, item 14). Of a schedule that keeps the window, all that is said above of every schedule of 64 bits, but that nothing
 -- wraps.
 
@@ -758,3 +811,106 @@ pub record SixtyFourRecords (d : Lending) : Type 0 where
   pub one : (ys : List Worker) → length ys ≡ 1 → d .make ys 1 1 .answer ≡ 0
   pub most : (ys : List Worker) → length ys ≡ 64 → d .make ys 1 1 .answer ≡ 0
   pub more : (ys : List Worker) → length ys ≡ 65 → d .make ys 1 1 .answer ≡ 2
+
+-- Demand 1 of this face, of any number of records. A refused call changes nothing, in the ring, the records or a lent buffer.
+pub record LentRefused (d : Lending) : Type 0 where
+  -- refusals 1, 2 and 18 return the blank ring
+  pub make : (ys : List Worker) (capacity edition : ℕ) → (d .make ys capacity edition .answer ≡ 0 → ⊥)
+      → (d .make ys capacity edition .ring ≡ meteredOf blank) × (d .make ys capacity edition .records ≡ ys)
+  pub step : (l : Metered) (ys : List Worker) (first second : ℕ) → (d .step l ys first second .answer ≡ 0 → ⊥)
+      → (d .step l ys first second .ring ≡ l) × (d .step l ys first second .records ≡ ys)
+  -- a schedule that is refused at a place leaves what the entries before that place leave
+  pub run : (l : Metered) (ys : List Worker) (s : List ℕ) → (d .run l ys s .report .refusal ≡ 0 → ⊥) → (d .run l ys s .report .refusal ≡ 9 → ⊥)
+      → (d .run l ys s .ring ≡ d .run l ys (take (2 * d .run l ys s .report .place) s) .ring)
+      × (d .run l ys s .records ≡ d .run l ys (take (2 * d .run l ys s .report .place) s) .records)
+  -- but one with an entry that can't be read leaves all as it was
+  pub unread : (l : Metered) (ys : List Worker) (s : List ℕ) → d .run l ys s .report .refusal ≡ 9 → (d .run l ys s .ring ≡ l) × (d .run l ys s .records ≡ ys)
+  pub contents : (l : Metered) (ys : List Worker) (buffer : List ℕ) → (refusalOf (d .contents l ys buffer .answer) ≡ 0 → ⊥) → d .contents l ys buffer .buffer ≡ buffer
+
+-- The refusals that each function can give; 0 is none.
+pub record LentNumbered (d : Lending) : Type 0 where
+  pub make : (ys : List Worker) (capacity edition : ℕ) → has (0 ∷ 1 ∷ 2 ∷ 18 ∷ []) (d .make ys capacity edition .answer) ≡ true
+  pub step : (l : Metered) (ys : List Worker) (first second : ℕ) → has (0 ∷ 3 ∷ 4 ∷ 5 ∷ 6 ∷ 7 ∷ 8 ∷ 9 ∷ []) (d .step l ys first second .answer) ≡ true
+  pub run : (l : Metered) (ys : List Worker) (s : List ℕ) → has (0 ∷ 3 ∷ 4 ∷ 5 ∷ 6 ∷ 7 ∷ 8 ∷ 9 ∷ 11 ∷ []) (d .run l ys s .report .refusal) ≡ true
+  pub contents : (l : Metered) (ys : List Worker) (buffer : List ℕ) → has (0 ∷ 4 ∷ 6 ∷ 10 ∷ []) (refusalOf (d .contents l ys buffer .answer)) ≡ true
+  pub capacity : (l : Metered) (ys : List Worker) → has (0 ∷ 6 ∷ []) (refusalOf (d .capacity l ys)) ≡ true
+
+-- Each of them is given, by the rings and records named here.
+pub record LentEachNumber (d : Lending) : Type 0 where
+  pub make : map (λ (x : Lent). x .answer) (d .make (idler ∷ []) 1 1 ∷ d .make (idler ∷ []) 0 1 ∷ d .make [] 1 1 ∷ d .make (idler ∷ []) 1 0 ∷ []) ≡ 0 ∷ 1 ∷ 2 ∷ 18 ∷ []
+  pub step :
+      map (λ (x : Lent). x .answer)
+      (stepOn d (freshLent d) 0 5 ∷ stepOn d (freshLent d) 16 5 ∷ stepOn d (pushingLent d) 0 5 ∷ stepOn d (freshLent d) 8 0 ∷ stepOn d (noneLent d) 0 5 ∷ stepOn d (spentLent d) 8 0
+      ∷ stepOn d (pushingLent d) 9 0 ∷ stepOn d (freshLent d) 10 0 ∷ [])
+      ≡ 0 ∷ 3 ∷ 4 ∷ 5 ∷ 6 ∷ 7 ∷ 8 ∷ 9 ∷ []
+  pub run :
+      map (λ (g : Gone). g .report .refusal)
+      (runOn d (freshLent d) [] ∷ runOn d (freshLent d) (16 ∷ 5 ∷ []) ∷ runOn d (pushingLent d) (0 ∷ 5 ∷ []) ∷ runOn d (freshLent d) (8 ∷ 0 ∷ []) ∷ runOn d (noneLent d) []
+      ∷ runOn d (spentLent d) (8 ∷ 0 ∷ []) ∷ runOn d (pushingLent d) (9 ∷ 0 ∷ []) ∷ runOn d (freshLent d) (10 ∷ 0 ∷ []) ∷ runOn d (freshLent d) (0 ∷ []) ∷ [])
+      ≡ 0 ∷ 3 ∷ 4 ∷ 5 ∷ 6 ∷ 7 ∷ 8 ∷ 9 ∷ 11 ∷ []
+  pub contents :
+      map (λ (x : Lent). refusalOf (d .contents (x .ring) (x .records) [] .answer)) (freshLent d ∷ pushingLent d ∷ noneLent d ∷ stockedLent d ∷ []) ≡ 0 ∷ 4 ∷ 6 ∷ 10 ∷ []
+  pub capacity : map (λ (x : Lent). refusalOf (d .capacity (x .ring) (x .records))) (freshLent d ∷ noneLent d ∷ []) ≡ 0 ∷ 6 ∷ []
+
+-- The list is checked first; one that can be read is run step by step.
+pub record LentListFirst (d : Lending) : Type 0 where
+  pub stops : (l : Metered) (ys : List Worker) (before : List ℕ) (k first second : ℕ) (rest : List ℕ) → d .broken l ys ≡ false → length (before ++ first ∷ second ∷ rest) % 2 ≡ 0
+      → length before ≡ 2 * k → Readable entryOf before → entryOf first second ≡ Unreadable → d .run l ys (before ++ first ∷ second ∷ rest) ≡ gone (report 9 k) l ys
+  pub runs : (l : Metered) (ys : List Worker) (s : List ℕ) → d .broken l ys ≡ false → length s % 2 ≡ 0 → Readable entryOf s → d .run l ys s ≡ stepByStep d l ys s
+
+-- Nothing that is done to what is not broken breaks it, and what is made is not.
+pub record LentStaysUnbroken (d : Lending) : Type 0 where
+  pub step : LentUnbroken d
+  pub run : (l : Metered) (ys : List Worker) (s : List ℕ) → d .broken l ys ≡ false → d .broken (d .run l ys s .ring) (d .run l ys s .records) ≡ false
+  pub made : (ys : List Worker) (capacity edition : ℕ) → d .make ys capacity edition .answer ≡ 0
+      → d .broken (d .make ys capacity edition .ring) (d .make ys capacity edition .records) ≡ false
+
+pub record LentDemand1 (d : Lending) : Type 0 where
+  pub refused-unchanged : LentRefused d
+  pub numbered : LentNumbered d
+  pub list-first : LentListFirst d
+  pub stays-unbroken : LentStaysUnbroken d
+  pub only-one : OnlyOneLent (promised d)
+
+-- ==== Calls in any mixture. Of the entries s, all that is said above of every schedule that keeps the window,
+pub record ThroughoutInWindow (d : Definition) (capacity workers edition : ℕ) (s : List ℕ) : Type 0 where
+  -- demands 2 and 3, stock, losses, a close that holds
+  pub within : Within d capacity workers edition s
+  -- what an answer means
+  pub plain : PlainThroughout capacity edition (machineAfter d capacity workers edition s) (actsOf d capacity workers edition s) (storyOf d capacity workers edition s)
+  pub one-step : OnlySuch (oneStep edition) (storyOf d capacity workers edition s) → OneByOne capacity edition (storyOf d capacity workers edition s)
+  -- why calls go back
+  pub retries : workers ≤ recordsMost → Retried causesIn (actsOf d capacity workers edition s)
+
+-- and of every schedule of 64 bits.
+pub record Throughout (d : Definition) (capacity workers edition : ℕ) (s : List ℕ) : Type 0 where
+  pub in-window : ThroughoutInWindow d capacity workers edition s
+  pub len : (w n : ℕ) → LenAnswers d capacity workers edition s w n → n ≡ untakenOf (tally (actsOf d capacity workers edition s))
+
+-- The machine m, whatever calls led to it, is where the entries s lead, each of them accepted.
+pub record AsOneSchedule (d : Definition) (capacity workers edition : ℕ) (m : Machine) (s : List ℕ) : Type 0 where
+  pub accepted : d .run (freshWith (d .records) capacity workers edition) 0 s .refusal ≡ 0
+  pub machine : machineAfter d capacity workers edition s ≡ m
+
+-- Lent ring and records: a making, and then steps and schedules in any mixture, each on what the last one left. They are one schedule, of the entries that were accepted (refused
+-- ones are passed over), and so all of this holds of them, for every number of records that making accepts.
+abbrev pub LentMixed : Lending → Type 0
+LentMixed d =
+    (ys : List Worker) (capacity edition : ℕ) → d .make ys capacity edition .answer ≡ 0 → (doings : List Doing)
+    → AsOneSchedule (withRecords (length ys) SixtyFour) capacity (length ys) edition (heldIn (leftLent d (d .make ys capacity edition) doings)) (allTakenLent d (d .make ys capacity edition) doings)
+    × Throughout (withRecords (length ys) SixtyFour) capacity (length ys) edition (allTakenLent d (d .make ys capacity edition) doings)
+
+-- The machine that holds its records: a making, and then step, begin, act and run of a face in any mixture; refused ones are passed over. Of 64 bits all of this holds of them; of
+-- sixteen, if the accepted entries keep the window.
+abbrev pub Mixed : {M D R : Type 0} → Face M D R → Definition → Type 0
+Mixed f d =
+    (capacity workers edition : ℕ) → f .refusal (f .make capacity workers edition) ≡ 0 → (askings : List Asking)
+    → AsOneSchedule d capacity workers edition (f .wide (leftByAll f (f .left (f .make capacity workers edition)) askings)) (takenByAll f (f .left (f .make capacity workers edition)) askings)
+    × Throughout d capacity workers edition (takenByAll f (f .left (f .make capacity workers edition)) askings)
+
+abbrev pub MixedInWindow : {M D R : Type 0} → Face M D R → Definition → Type 0
+MixedInWindow f d =
+    (capacity workers edition : ℕ) → f .refusal (f .make capacity workers edition) ≡ 0 → (askings : List Asking)
+    → AsOneSchedule d capacity workers edition (f .wide (leftByAll f (f .left (f .make capacity workers edition)) askings)) (takenByAll f (f .left (f .make capacity workers edition)) askings)
+    × (KeepsWindow d (freshWith (d .records) capacity workers edition) [] (takenByAll f (f .left (f .make capacity workers edition)) askings)
+    → ThroughoutInWindow d capacity workers edition (takenByAll f (f .left (f .make capacity workers edition)) askings))

@@ -6,20 +6,23 @@ use mathlib.Core.Path.{_≡_}
 use mathlib.Core.List.{List, [], _∷_, _++_}
 use lib.Dec.{eqb}
 use lib.ListN.{length}
-use Rattle.queue_entries.specs.Limits.{workersMost}
+use Rattle.queue_entries.specs.Limits.{workersMost, meterMost}
 use Rattle.queue_entries.specs.Entries.{entryOf}
+use Rattle.queue_entries.specs.Schedules.{searchBy, runBy}
 use Rattle.queue_entries.specs.declared.Told.{Told}
+use Rattle.queue_entries.specs.declared.Told.the-variants.{Number, Refused}
 use Rattle.bounded_words.specs.declared.Width.the-variants.{SixtyFour}
 use Rattle.bounded_places.specs.declared.Worker.{Worker}
 use Rattle.bounded_machine.specs.declared.Machine.{Machine}
 use Rattle.bounded_machine.specs.declared.Did.{Did}
 use Rattle.bounded_machine.specs.declared.Ran.{Ran}
 use Rattle.bounded_machine.specs.declared.Event.{Event}
-use Rattle.bounded_machine.specs.Machine.{machineOf, idlers}
+use Rattle.bounded_machine.specs.Machine.{machineOf, idler, idlers}
 use Rattle.bounded_machine.specs.History.{eventsOf}
 use Rattle.bounded_parts.specs.declared.Metered.{Metered}
-use Rattle.bounded_parts.specs.Parts.{Filled}
-use Rattle.bounded_lent.specs.Lent.{held, brokenLent, Lent, stepLent, Gone, runLent, makeLent, capacityLent, contentsLent}
+use Rattle.bounded_parts.specs.Parts.{Filled, report}
+use Rattle.bounded_lent.specs.Lent.{held, brokenLent, Lent, lent, stepLent, Gone, gone, runLent, makeLent, capacityLent, contentsLent}
+use Rattle.bounded_demands.specs.Notions.{ranOf, entryUnless, acts}
 
 -- What each function of the lent face answers, with the ring, the records and the buffer as they are then.
 pub record Lending : Type 0 where
@@ -82,3 +85,59 @@ actsLent d x (first ∷ second ∷ rest) =
     cond (eqb (d .step (x .ring) (x .records) first second .answer) 0)
     (eventsOf SixtyFour (heldIn x) (entryOf first second) (heldIn (d .step (x .ring) (x .records) first second)) ++ actsLent d (d .step (x .ring) (x .records) first second) rest)
     (actsLent d (d .step (x .ring) (x .records) first second) rest)
+
+-- The refusal of an answer that may be a number; 0 is none.
+abbrev pub refusalOf : Told → ℕ
+refusalOf (Number n) = 0
+refusalOf (Refused n) = n
+
+-- The entries of a schedule as steps, one after another, stopping at the first refusal.
+abbrev pub stepByStep : Lending → Metered → List Worker → List ℕ → Gone
+stepByStep d l ys s =
+    runBy (λ (x : Lent). x .answer) (λ (x : Lent). (x .ring, x .records)) (λ (p : Metered × List Worker) (first second : ℕ). d .step (p .0) (p .1) first second)
+    (λ (number place : ℕ) (p : Metered × List Worker). gone (report number place) (p .0) (p .1)) (l, ys) 0 s
+
+-- ---- what a host does with a ring and records that nobody else writes
+pub data Doing : Type 0 where
+  stepping : ℕ → ℕ → Doing
+  running : List ℕ → Doing
+
+abbrev pub doneLent : Lending → Lent → Doing → Lent
+doneLent d x (stepping first second) = d .step (x .ring) (x .records) first second
+doneLent d x (running s) =
+    lent (d .run (x .ring) (x .records) s .report .refusal) (d .run (x .ring) (x .records) s .ring) (d .run (x .ring) (x .records) s .records)
+
+unfoldable pub leftLent : Lending → Lent → List Doing → Lent
+leftLent d x [] = x
+leftLent d x (y ∷ rest) = leftLent d (doneLent d x y) rest
+
+-- The entries of it that were accepted; refused ones are passed over.
+abbrev pub takenLent : Lending → Lent → Doing → List ℕ
+takenLent d x (stepping first second) = entryUnless (d .step (x .ring) (x .records) first second .answer) first second
+takenLent d x (running s) = ranOf (searchBy entryOf 0 s) (d .run (x .ring) (x .records) s .report .place) s
+
+unfoldable pub allTakenLent : Lending → Lent → List Doing → List ℕ
+allTakenLent d x [] = []
+allTakenLent d x (y ∷ rest) = takenLent d x y ++ allTakenLent d (doneLent d x y) rest
+
+-- ---- rings of one slot with one record: fresh, with a push begun, with that item in, without the record (which is broken), and with a push begun at the meter's end
+abbrev pub stepOn : Lending → Lent → ℕ → ℕ → Lent
+stepOn d x first second = d .step (x .ring) (x .records) first second
+
+abbrev pub runOn : Lending → Lent → List ℕ → Gone
+runOn d x s = d .run (x .ring) (x .records) s
+
+abbrev pub freshLent : Lending → Lent
+freshLent d = d .make (idler ∷ []) 1 1
+
+abbrev pub pushingLent : Lending → Lent
+pushingLent d = stepOn d (freshLent d) 0 5
+
+abbrev pub stockedLent : Lending → Lent
+stockedLent d = lent 0 (runOn d (freshLent d) (0 ∷ 5 ∷ acts 0 5) .ring) (runOn d (freshLent d) (0 ∷ 5 ∷ acts 0 5) .records)
+
+abbrev pub noneLent : Lending → Lent
+noneLent d = lent 0 (freshLent d .ring) []
+
+abbrev pub spentLent : Lending → Lent
+spentLent d = lent 0 (record { ring = pushingLent d .ring .ring; meter = meterMost }) (pushingLent d .records)

@@ -6,14 +6,19 @@ use mathlib.Core.List.{List, [], _∷_, _++_, map}
 use mathlib.Core.Path.{_≡_}
 use mathlib.Core.Logic.{_≢_}
 use lib.Dec.{eqb, leb}
-use lib.ListN.{length, getD, drop}
-use Rattle.queue_entries.specs.Limits.{workersMost}
+use lib.ListN.{length, getD, drop, take}
+use Rattle.queue_entries.specs.Limits.{workersMost, meterMost}
 use Rattle.queue_entries.specs.declared.Call.{Call}
 use Rattle.queue_entries.specs.declared.Call.the-variants as call
 use Rattle.queue_entries.specs.declared.Order.the-variants.{Begin, Act}
 use Rattle.queue_entries.specs.declared.Entry.{Entry}
 use Rattle.queue_entries.specs.declared.Entry.the-variants.{Unreadable, Asks}
+use Rattle.queue_entries.specs.declared.Finding.{Finding}
+use Rattle.queue_entries.specs.declared.Told.{Told}
+use Rattle.queue_entries.specs.Told.{told}
+use Rattle.queue_entries.specs.declared.Finding.the-variants.{AllRead, UnreadableAt}
 use Rattle.queue_entries.specs.Entries.{entryOf}
+use Rattle.queue_entries.specs.Schedules.{searchBy}
 use Rattle.queue_walks.specs.Meaning.{Goes}
 use Rattle.bounded_words.specs.declared.Stamp.{Stamp}
 use Rattle.bounded_words.specs.declared.Fixed.{Fixed}
@@ -41,7 +46,8 @@ use Rattle.bounded_machine.specs.declared.Moved.{Moved}
 use Rattle.bounded_machine.specs.declared.Moved.the-variants.{Neither, Tail, Head}
 use Rattle.bounded_machine.specs.declared.Tally.{Tally}
 use Rattle.bounded_machine.specs.Machine.{slot, machineOf, freshOf, blank, placeOf, accepted, freshWith}
-use Rattle.bounded_machine.specs.Broken.{allIdle}
+use Rattle.bounded_machine.specs.Broken.{allIdle, brokenOf}
+use Rattle.bounded_machine.specs.Contents.{countIn, contentsRefusal, written, capacityOf}
 use Rattle.bounded_machine.specs.Turn.{Table, beginner, turnOfBy, turnOf}
 use Rattle.bounded_machine.specs.Run.{ran, runWith, runAt, runFrom, runOf}
 use Rattle.bounded_machine.specs.History.{historyWith, movedOf, untallied, tallyOf, stockOf}
@@ -118,6 +124,31 @@ sixteen =
       entries = λ m s. narrowedRan (runAt Sixteen (widened m) 0 s);
     }
 
+-- Which answers meet the promise of each function of a face.
+pub record Promises (M D R : Type 0) : Type 1 where
+  pub make : ℕ → ℕ → ℕ → D → Type 0
+  pub step : M → ℕ → ℕ → D → Type 0
+  pub begin : M → ℕ → ℕ → D → Type 0
+  pub act : M → ℕ → ℕ → D → Type 0
+  pub run : M → List ℕ → R → Type 0
+  -- the answer, and the buffer after it
+  pub contents : M → List ℕ → Told → List ℕ → Type 0
+  pub capacity : M → Told → Type 0
+  pub broken : M → Bool → Type 0
+
+-- Those that the functions of the face make.
+abbrev pub promisesOf : {M D R : Type 0} → Face M D R → Promises M D R
+promisesOf f = record {
+  make = λ capacity workers edition x. x ≡ f .make capacity workers edition;
+  step = λ m first second x. x ≡ f .step m first second;
+  begin = λ m first second x. x ≡ f .begin m first second;
+  act = λ m first second x. x ≡ f .act m first second;
+  run = λ m s x. x ≡ f .run m s;
+  contents = λ m before x a. (x ≡ told (contentsRefusal (f .wide m) (length before)) (countIn (f .wide m))) × (a ≡ written (f .wide m) before);
+  capacity = λ m x. x ≡ capacityOf (f .wide m);
+  broken = λ m x. x ≡ brokenOf (f .wide m);
+}
+
 -- ---- definitions and schedules
 
 -- What a definition of the machine says: what an entry makes of a machine, what the entries of a schedule make of it up to the
@@ -169,6 +200,44 @@ machineAfter d capacity workers edition s = d .run (freshWith (d .records) capac
 abbrev pub actsOf : Definition → ℕ → ℕ → ℕ → List ℕ → List Event
 actsOf d capacity workers edition s = d .history (freshWith (d .records) capacity workers edition) s
 
+-- The entries of a schedule that were run: those before the refused one; none where one can't be read.
+abbrev pub ranOf : Finding → ℕ → List ℕ → List ℕ
+ranOf AllRead place s = take (2 * place) s
+ranOf (UnreadableAt at) place s = []
+
+-- An entry, unless it was refused.
+abbrev pub entryUnless : ℕ → ℕ → ℕ → List ℕ
+entryUnless refusal first second = cond (eqb refusal 0) (first ∷ second ∷ []) []
+
+-- What a host asks of a face: an entry, by one of the three functions that take one, or a schedule. What it leaves, and the entries of it that were accepted.
+pub data Asking : Type 0 where
+  by-step : ℕ → ℕ → Asking
+  by-begin : ℕ → ℕ → Asking
+  by-act : ℕ → ℕ → Asking
+  by-run : List ℕ → Asking
+
+module _ {M D R : Type 0} (f : Face M D R) where
+  abbrev pub leftBy : M → Asking → M
+  leftBy m (by-step first second) = f .left (f .step m first second)
+  leftBy m (by-begin first second) = f .left (f .begin m first second)
+  leftBy m (by-act first second) = f .left (f .act m first second)
+  leftBy m (by-run s) = f .leftIn (f .run m s)
+
+  abbrev pub takenBy : M → Asking → List ℕ
+  takenBy m (by-step first second) = entryUnless (f .refusal (f .step m first second)) first second
+  takenBy m (by-begin first second) = entryUnless (f .refusal (f .begin m first second)) first second
+  takenBy m (by-act first second) = entryUnless (f .refusal (f .act m first second)) first second
+  takenBy m (by-run s) = ranOf (searchBy entryOf 0 s) (f .placeIn (f .run m s)) s
+
+  -- One after another, each on what the last one left.
+  unfoldable pub leftByAll : M → List Asking → M
+  leftByAll m [] = m
+  leftByAll m (y ∷ rest) = leftByAll (leftBy m y) rest
+
+  unfoldable pub takenByAll : M → List Asking → List ℕ
+  takenByAll m [] = []
+  takenByAll m (y ∷ rest) = takenBy m y ++ takenByAll (leftBy m y) rest
+
 -- A number of this list.
 unfoldable pub has : List ℕ → ℕ → Bool
 has [] n = false
@@ -186,6 +255,21 @@ pub record Acts (d : Definition) (m : Machine) (w : ℕ) (next : Machine) : Type
 unfoldable pub acts : ℕ → ℕ → List ℕ
 acts worker zero = []
 acts worker (suc n) = (16 * worker + 8) ∷ 0 ∷ acts worker n
+
+-- Three machines of one slot and one worker: fresh, with a push begun, and with that item in.
+module _ {M D R : Type 0} (f : Face M D R) where
+  abbrev pub freshIn : M
+  freshIn = f .left (f .make 1 1 1)
+
+  abbrev pub pushingIn : M
+  pushingIn = f .left (f .step freshIn 0 5)
+
+  abbrev pub stockedIn : M
+  stockedIn = f .leftIn (f .run freshIn (0 ∷ 5 ∷ acts 0 5))
+
+-- The same machine at the meter's end.
+abbrev pub atTheEnd : Machine → Machine
+atTheEnd m = machineOf (m .ring .fixed) (m .ring .ends) (m .ring .slots) (m .workers) (m .count) meterMost
 
 -- ---- hands and places
 

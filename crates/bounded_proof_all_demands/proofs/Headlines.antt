@@ -3,13 +3,15 @@
 use Rattle.queue_entries.specs.Limits.{workersMost}
 use Rattle.bounded_words.specs.declared.Width.the-variants.{Sixteen, SixtyFour}
 use Rattle.bounded_machine.specs.History.{lossAt}
-use Rattle.bounded_demands.specs.Notions.{sixtyFour, sixteen, withRecords, ofWidth, document01, stock}
+use Rattle.bounded_widths.specs.Widths.{narrowed}
+use Rattle.bounded_demands.specs.Notions.{sixtyFour, sixteen, promisesOf, pushingIn, atTheEnd, withRecords, ofWidth, document01, stock}
 use Rattle.bounded_parts.specs.Parts.{recordsMost}
-use Rattle.bounded_demands.specs.Demands.{Demand1, OnlyOneCount, UnderEverySchedule, NothingWraps, ActByAct, WholeSchedules, LenTrue, ScheduledAlone, Attained, AsForetold, StockUnderEverySchedule, MostStock, EndsTold, LossesUnderEverySchedule, CountsAside, CloseHolds, ClosedIsLast, CaseF, WithinTheWindow, AloneKeeps, RoundsClaim, NotIdle, WindowLengths, SameNumbers, AsHeld, OnlyTheActing, LentUnbroken, OnlyOneLent, LentThroughout, SixtyFourRecords}
+use Rattle.bounded_demands.specs.Demands.{Demand1, OnlyOneCount, UnderEverySchedule, NothingWraps, ActByAct, WholeSchedules, LenTrue, ScheduledAlone, Attained, AsForetold, StockUnderEverySchedule, MostStock, EndsTold, LossesUnderEverySchedule, CountsAside, CloseHolds, ClosedIsLast, CaseF, WithinTheWindow, AloneKeeps, RoundsClaim, NotIdle, WindowLengths, SameNumbers, AsHeld, OnlyTheActing, LentUnbroken, OnlyOneLent, LentThroughout, SixtyFourRecords, LentDemand1, LentEachNumber, LentMixed, Mixed, MixedInWindow, OnlyOneMeets, EachNumber}
 use Rattle.bounded_demands.specs.Eight.{EightRuns}
 use Rattle.bounded_demands.specs.Lending.{item11, promised}
 use Rattle.bounded_demands.proofs.Refusals.{demand1, only-one-count}
 use Rattle.bounded_demands.proofs.Narrow.{narrow-demand1}
+use Rattle.bounded_demands.proofs.EachNumber.{only-one-meets, each-number, each-number-narrow}
 use Rattle.bounded_demands.proofs.Window.{window-lengths}
 use Rattle.bounded_demands.proofs.Attained.{numbers-attained}
 use Rattle.bounded_demands.proofs.Foretold.{as-foretold}
@@ -30,12 +32,16 @@ use Rattle.bounded_proof_demand3.proofs.Demand3.{demand3, within-the-window}
 use Rattle.bounded_proof_lent.proofs.Padded.{as-held, sixty-four-records}
 use Rattle.bounded_proof_lent.proofs.Acting.{only-the-acting, only-one-lent}
 use Rattle.bounded_proof_lent.proofs.Throughout.{lent-throughout, lent-unbroken-still}
+use Rattle.bounded_proof_lent.proofs.Refusals.{lent-demand1}
+use Rattle.bounded_proof_lent.proofs.EachNumber.{lent-each-number}
+use Rattle.bounded_proof_lent.proofs.Mixed.{lent-mixed}
+use Rattle.bounded_proof_all_demands.proofs.Mixed.{any-mixture, any-mixture-in-window}
 use Rattle.bounded_demands.specs.Notions.{causesIn}
-use Rattle.bounded_demands.specs.Demands.{EveryRetryHasACause, EightWaysBack, EachNeeded, AloneBackOnce, KeptAsSaid}
+use Rattle.bounded_demands.specs.Demands.{EveryRetryHasACause, EightWaysBack, EachNeeded, AloneBackOnce, KeptAsSaid, KeptOf, RetriesUnderEverySchedule, RetriesInWindow}
 use Rattle.bounded_demands.proofs.Retries.{each-needed}
 use Rattle.bounded_proof_causes.proofs.Causes.{every-retry, eight-ways}
-use Rattle.bounded_proof_causes.proofs.Alone.{alone-back-once}
-use Rattle.bounded_proof_causes.proofs.Said.{kept-as-said}
+use Rattle.bounded_proof_causes.proofs.Alone.{alone-back-once, retries-always, retries-in-window}
+use Rattle.bounded_proof_causes.proofs.Said.{kept-as-said, kept-of-records}
 use Rattle.bounded_walkers.specs.Walkers.{walkOf}
 use Rattle.bounded_demands.specs.Demands.{WalksAll, WalkTold, WalksCounted}
 use Rattle.bounded_demands.proofs.Walkings.{walks-counted}
@@ -58,6 +64,12 @@ lent-answers-mean = (answers-plain recordsMost, one-step recordsMost)
 -- `requires`); a refused step changes nothing; only one answer meets a promise.
 pub demand-1 : Demand1 sixtyFour × Demand1 sixteen × OnlyOneCount
 demand-1 = (demand1, narrow-demand1, only-one-count)
+
+-- Each number of it is given; and only one answer meets the promises as they are made.
+pub demand-1-exact :
+    EachNumber sixtyFour (atTheEnd (pushingIn sixtyFour)) × EachNumber sixteen (narrowed (atTheEnd (pushingIn sixtyFour)))
+    × OnlyOneMeets (promisesOf sixtyFour) × OnlyOneMeets (promisesOf sixteen)
+demand-1-exact = (each-number, each-number-narrow, only-one-meets sixtyFour, only-one-meets sixteen)
 
 -- 2. Under every schedule from a fresh machine: each act is the one action of document 01; the claim rule; no slot in two hands;
 -- Empty, Full and Closed true at the act that decided them; claims not taken and contents.
@@ -89,6 +101,10 @@ close-that-holds = (close-holds workersMost, closed-is-last workersMost, case-f)
 pub retries-caused : EveryRetryHasACause document01 causesIn × EightWaysBack document01 × EachNeeded causesIn 1 × EachNeeded causesIn 2 × AloneBackOnce document01 × KeptAsSaid
 retries-caused = (every-retry, eight-ways, each-needed .0, each-needed .1, alone-back-once, kept-as-said)
 
+-- The same with as many records as are lent, up to 64; and of sixteen bits within the window.
+pub retries-caused-anywhere : RetriesUnderEverySchedule (withRecords recordsMost SixtyFour) causesIn × RetriesInWindow (ofWidth Sixteen) causesIn × KeptOf recordsMost
+retries-caused-anywhere = (retries-always recordsMost, retries-in-window Sixteen workersMost, kept-of-records)
+
 -- Words that wrap: of sixteen bits, as long as the window is kept, all of demands 2 and 3 with stock, losses and closing; and what needs no window.
 pub sixteen-bits : WithinTheWindow (ofWidth Sixteen) × ActByAct (ofWidth Sixteen) × WholeSchedules (ofWidth Sixteen) × EndsTold Sixteen (lossAt Sixteen) × CountsAside (ofWidth Sixteen) × SameNumbers
 sixteen-bits = (within-the-window Sixteen workersMost, act-by-act Sixteen, whole-schedules Sixteen, ends-told Sixteen, counts-aside Sixteen, same-numbers)
@@ -104,3 +120,14 @@ every-sequence = (walks-all, walk-told, walks-counted)
 -- Records in the host's memory: up to 16 of them as the machine that holds them; in a step only the acting record changes; demands 2 and 3 for every number of records, lent throughout; case H of this machine.
 pub records-lent : AsHeld item11 × OnlyTheActing item11 × LentUnbroken item11 × OnlyOneLent (promised item11) × LentThroughout item11 × SixtyFourRecords item11
 records-lent = (as-held, only-the-acting, lent-unbroken-still, only-one-lent, lent-throughout, sixty-four-records)
+
+-- The same face, of any number of records: demand 1, each number given; and steps and schedules in any mixture, with all that is said of one schedule.
+pub records-lent-1 : LentDemand1 item11 × LentEachNumber item11
+records-lent-1 = (lent-demand1, lent-each-number)
+
+pub lent-in-any-mixture : LentMixed item11
+lent-in-any-mixture = lent-mixed
+
+-- Step, begin, act and run of the machine that holds its records, in any mixture: of 64 bits, and of sixteen within the window.
+pub in-any-mixture : Mixed sixtyFour document01 × MixedInWindow sixteen (ofWidth Sixteen)
+in-any-mixture = (any-mixture, any-mixture-in-window)

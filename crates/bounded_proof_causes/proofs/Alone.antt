@@ -17,14 +17,14 @@ use Rattle.bounded_places.specs.declared.Worker.{Worker}
 use Rattle.bounded_places.specs.Places.{viewOf, beginOf}
 use Rattle.bounded_machine.specs.declared.Machine.{Machine}
 use Rattle.bounded_machine.specs.declared.Event.{Event}
-use Rattle.bounded_machine.specs.Machine.{idler, freshOf}
+use Rattle.bounded_machine.specs.Machine.{idler, freshWith}
 use Rattle.bounded_machine.specs.Turn.{beginner, begun}
 use Rattle.bounded_machine.specs.History.{lossAt}
 use Rattle.bounded_machine.proofs.Kept.{placed}
 use Rattle.bounded_causes.specs.declared.Watch.{Watch}
-use Rattle.bounded_causes.specs.Causes.{standOf, goesBackOf, watchOf, othersHold}
-use Rattle.bounded_demands.specs.Notions.{document01, InWindow, goesBack, otherHand, Alone, goingsBack}
-use Rattle.bounded_demands.specs.Demands.{BackOnce, AloneBackOnce}
+use Rattle.bounded_causes.specs.Causes.{watchedMost, standOf, goesBackOf, watchOf, othersHold}
+use Rattle.bounded_demands.specs.Notions.{withRecords, document01, AllowedWith, KeepsWindow, actsOf, InWindow, goesBack, otherHand, Alone, goingsBack, causesIn}
+use Rattle.bounded_demands.specs.Demands.{BackOnce, AloneBackOnce, RetriesUnderEverySchedule, RetriesInWindow}
 use Rattle.bounded_proof_each_act.proofs.Sight.{look, Recent}
 use Rattle.bounded_proof_demand2.proofs.Turns.{Turned, began, did, stood}
 use Rattle.bounded_proof_demand2.proofs.Pictured.{Base}
@@ -33,7 +33,7 @@ use Rattle.bounded_proof_demand2.proofs.Always.{always}
 use Rattle.bounded_proof_causes.proofs.Rows.{Clean, begin-clean}
 use Rattle.bounded_proof_causes.proofs.Folds.{others-stay}
 use Rattle.bounded_proof_causes.proofs.Causes as causes
-use Rattle.bounded_proof_causes.proofs.Causes.{kept, Causing, causing-kept, fresh-causing}
+use Rattle.bounded_proof_causes.proofs.Causes.{kept, Causing, causing-kept, fresh-causing, few-held}
 
 -- ---- lists that grow at their end
 
@@ -83,7 +83,7 @@ no-acts : (m : Machine) (h : List Event) (w : ℕ) → otherHand w h ≡ false �
 unfolding goingsBack
 no-acts m h w free = (free, omega arith, λ k. absurd (omega arith))
 
-module _ (bits : Width) (c n workers : ℕ) (base : Base bits c n workers) (team : workers ≤ workersMost) where
+module _ (bits : Width) (c n workers : ℕ) (base : Base bits c n workers) (team : workers ≤ watchedMost) where
   record Once (m : Machine) (h : List Event) : Type 0 where
     pub causing : Causing bits c n workers base team m h
     pub soles : Soles m h
@@ -167,15 +167,17 @@ module _ (bits : Width) (c n workers : ℕ) (base : Base bits c n workers) (team
         once = once-next m h o w l lose busy young;
       }
 
-pub alone-back-once : AloneBackOnce document01
+-- every schedule that keeps the window
+back-once : (bits : Width) (records capacity workers edition : ℕ) (a : AllowedWith records capacity workers edition) (team : workers ≤ watchedMost) (s : List ℕ)
+    → KeepsWindow (withRecords records bits) (freshWith records capacity workers edition) [] s → BackOnce (actsOf (withRecords records bits) capacity workers edition s)
 unfolding goingsBack
-alone-back-once capacity workers edition a s =
-    let n = lapsOf SixtyFour capacity in
-    let base = base-of SixtyFour workersMost capacity workers edition a in
-    let m = freshOf capacity workers edition in
-    along SixtyFour (InWindow SixtyFour) (Once SixtyFour capacity n workers base (a .worker-most)) (once-kept SixtyFour capacity n workers base (a .worker-most)) s m [] 0 (always workersMost capacity workers edition a s)
+back-once bits records capacity workers edition a team s keeps =
+    let n = lapsOf bits capacity in
+    let base = base-of bits records capacity workers edition a in
+    let m = freshWith records capacity workers edition in
+    along bits (InWindow bits) (Once bits capacity n workers base team) (once-kept bits capacity n workers base team) s m [] 0 keeps
     (record {
-      causing = fresh-causing SixtyFour capacity workers edition a;
+      causing = fresh-causing bits records capacity workers edition a team;
       soles = λ earlier alone w e b free.
           let z = nil-both earlier alone e in
           subst (Sole m [] w) (sym (z .1)) (no-acts m [] w (subst (λ (y : List Event). otherHand w y ≡ false) (z .0) free));
@@ -184,3 +186,15 @@ alone-back-once capacity workers edition a s =
           subst (λ (y : List Event). goingsBack y ≤ 1) (sym (z .1)) (omega arith);
     })
     .once
+
+pub alone-back-once : AloneBackOnce document01
+alone-back-once capacity workers edition a s = back-once SixtyFour workersMost capacity workers edition a (few-held capacity workers edition a) s (always workersMost capacity workers edition a s)
+
+-- ---- all that is said of retries
+pub retries-in-window : (bits : Width) (records : ℕ) → RetriesInWindow (withRecords records bits) causesIn
+retries-in-window bits records capacity workers edition a team s keeps =
+    let o = causes.reached-causing bits records capacity workers edition a team s keeps in
+    record { caused = o .caused; len = o .lens; ways = o .ways; once = back-once bits records capacity workers edition a team s keeps }
+
+pub retries-always : (records : ℕ) → RetriesUnderEverySchedule (withRecords records SixtyFour) causesIn
+retries-always records capacity workers edition a team s = retries-in-window SixtyFour records capacity workers edition a team s (always records capacity workers edition a s)

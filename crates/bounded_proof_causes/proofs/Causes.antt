@@ -26,15 +26,15 @@ use Rattle.bounded_places.specs.Places.{viewOf, beginOf}
 use Rattle.bounded_acts.specs.declared.Acted.{Acted}
 use Rattle.bounded_machine.specs.declared.Machine.{Machine}
 use Rattle.bounded_machine.specs.declared.Event.{Event}
-use Rattle.bounded_machine.specs.Machine.{slot, idler, freshOf}
+use Rattle.bounded_machine.specs.Machine.{slot, idler, freshWith}
 use Rattle.bounded_machine.specs.Turn.{spotOf, beginner, recordAfter, begun, stored, acted, actedBy}
 use Rattle.bounded_machine.specs.History.{movedOf, lossAt}
 use Rattle.bounded_machine.proofs.Kept.{few-workers}
 use Rattle.bounded_causes.specs.declared.Deed.{Deed}
 use Rattle.bounded_causes.specs.declared.Watch.{Watch}
 use Rattle.bounded_causes.specs.declared.Watches.{Watches}
-use Rattle.bounded_causes.specs.Causes.{standOf, goesBackOf, claimsTail, deedOf, ownAct, otherAct, unwatched, start, watchOf, othersHold, watchedOf, causesOf, namedOf}
-use Rattle.bounded_demands.specs.Notions.{ofWidth, document01, Allowed, KeepsWindow, InWindow, machineAfter, actsOf, goesBack, WayBack, watchesFrom, watches, causesIn, Caused, by-schedule, by-own-end, by-other-end, by-hand}
+use Rattle.bounded_causes.specs.Causes.{watchedMost, standOf, goesBackOf, claimsTail, deedOf, ownAct, otherAct, unwatched, start, watchOf, othersHold, watchedOf, causesOf, namedOf}
+use Rattle.bounded_demands.specs.Notions.{withRecords, document01, AllowedWith, Allowed, KeepsWindow, InWindow, machineAfter, actsOf, goesBack, WayBack, watchesFrom, watches, causesIn, Caused, by-schedule, by-own-end, by-other-end, by-hand}
 use Rattle.bounded_demands.specs.Retries.{onlyOwn}
 use Rattle.bounded_demands.specs.Demands.{RetriesCaused, LenByOwnEnd, EveryRetryHasACause, WaysBack, EightWaysBack}
 use Rattle.bounded_proof_invariant.proofs.Ring.{Mine, Shared}
@@ -77,12 +77,12 @@ len-only t u x y l (by-hand h) = absurd (true≢false (sym h))
 abbrev pub kept : List Event → List Watch
 kept h = watches h .each
 
-module _ (bits : Width) (c n workers : ℕ) (base : Base bits c n workers) (team : workers ≤ workersMost) where
+module _ (bits : Width) (c n workers : ℕ) (base : Base bits c n workers) (team : workers ≤ watchedMost) where
   pub record Causing (m : Machine) (h : List Event) : Type 0 where
     pub behind : Reached c n workers m h
-    pub long : length (kept h) ≡ workersMost
-    pub hands : (v : ℕ) → v < workersMost → watchOf (kept h) v .hand ≡ standOf (stood m v) .hand
-    pub knows : (v : ℕ) → v < workersMost → Knows bits (m .ring .fixed) (m .ring .ends) (watchOf (kept h) v) (stood m v)
+    pub long : length (kept h) ≡ watchedMost
+    pub hands : (v : ℕ) → v < watchedMost → watchOf (kept h) v .hand ≡ standOf (stood m v) .hand
+    pub knows : (v : ℕ) → v < watchedMost → Knows bits (m .ring .fixed) (m .ring .ends) (watchOf (kept h) v) (stood m v)
     pub ways : WaysBack h
     pub caused : RetriesCaused causesIn h
     pub lens : LenByOwnEnd causesIn h
@@ -97,21 +97,21 @@ module _ (bits : Width) (c n workers : ℕ) (base : Base bits c n workers) (team
     pub seat : w < length (m .workers)
     seat = omega (arith, pic .workers-long, few-workers m (pic .unbroken))
 
-    pub few : w < workersMost
+    pub few : w < watchedMost
     few = omega (arith, pic .count, team)
 
     -- a call begun
     module _ (q : Call) (idle : viewOf (stood m w) .busy ≡ false) where
-      begun-hands : (v : ℕ) → v < workersMost → watchOf (kept h) v .hand ≡ standOf (stood (begun m w (beginOf q)) v) .hand
+      begun-hands : (v : ℕ) → v < watchedMost → watchOf (kept h) v .hand ≡ standOf (stood (begun m w (beginOf q)) v) .hand
       unfolding begun
       begun-hands =
-          placed-else (m .workers) w (beginner (beginOf q)) idler (λ (v : ℕ) (z : Worker). v < workersMost → watchOf (kept h) v .hand ≡ standOf (z .place) .hand) seat
+          placed-else (m .workers) w (beginner (beginOf q)) idler (λ (v : ℕ) (z : Worker). v < watchedMost → watchOf (kept h) v .hand ≡ standOf (z .place) .hand) seat
           (λ b. o .hands w b ∙ idle-hand (stood m w) idle ∙ sym (begin-hand q)) (λ v ne. o .hands v)
 
-      begun-knows : (v : ℕ) → v < workersMost → Knows bits (m .ring .fixed) (m .ring .ends) (watchOf (kept h) v) (stood (begun m w (beginOf q)) v)
+      begun-knows : (v : ℕ) → v < watchedMost → Knows bits (m .ring .fixed) (m .ring .ends) (watchOf (kept h) v) (stood (begun m w (beginOf q)) v)
       unfolding begun
       begun-knows =
-          placed-else (m .workers) w (beginner (beginOf q)) idler (λ (v : ℕ) (z : Worker). v < workersMost → Knows bits (m .ring .fixed) (m .ring .ends) (watchOf (kept h) v) (z .place)) seat
+          placed-else (m .workers) w (beginner (beginOf q)) idler (λ (v : ℕ) (z : Worker). v < watchedMost → Knows bits (m .ring .fixed) (m .ring .ends) (watchOf (kept h) v) (z .place)) seat
           (λ b. begin-knows bits (m .ring .fixed) (m .ring .ends) (watchOf (kept h) w) q) (λ v ne. o .knows v)
 
       begun-causing : (en : Entry) → Reached c n workers (begun m w (beginOf q)) (h ++ []) → Causing (begun m w (beginOf q)) (h ++ [])
@@ -168,7 +168,7 @@ module _ (bits : Width) (c n workers : ℕ) (base : Base bits c n workers) (team
           go v mine (no ne) =
               let hand = pic .back at small v mine in
               let count : v < m .count = busy-counted c n workers ring m pic v (hand-busy c (markOf c) at (stood m v) hand) in
-              let low : v < workersMost = omega (arith, pic .count, team) in
+              let low : v < watchedMost = omega (arith, pic .count, team) in
               true≢false (sym (hand-stands c (markOf c) at (stood m v) hand) ∙ sym (o .hands v low) ∙ others-free (kept h) w none v low ne)
 
       -- the slot of the act is that of the word's claim
@@ -216,7 +216,7 @@ module _ (bits : Width) (c n workers : ℕ) (base : Base bits c n workers) (team
       pub own-next : watchOf (kept (h ++ new ∷ [])) w ≡ now
       own-next = ap (λ (xs : List Watch). watchOf xs w) kept-next ∙ watched-own w deed (kept h) (o .long) few
 
-      else-next : (v : ℕ) → v < workersMost → v ≢ w → watchOf (kept (h ++ new ∷ [])) v ≡ otherAct deed (watchOf (kept h) v)
+      else-next : (v : ℕ) → v < watchedMost → v ≢ w → watchOf (kept (h ++ new ∷ [])) v ≡ otherAct deed (watchOf (kept h) v)
       else-next v low ne = ap (λ (xs : List Watch). watchOf xs v) kept-next ∙ watched-else w deed (kept h) (o .long) v low ne
 
       -- the unmarked tail stays where tail is not claimed
@@ -234,18 +234,18 @@ module _ (bits : Width) (c n workers : ℕ) (base : Base bits c n workers) (team
           ∙ ap (λ (u : Ends). unmarkedOf f (u .tail)) (sym (pic .ends))
           ∙ ap (λ (f : Fixed). unmarkedOf f (m .ring .ends .tail)) (sym (pic .rule))
 
-      hands-next : (v : ℕ) → v < workersMost → watchOf (kept (h ++ new ∷ [])) v .hand ≡ standOf (stood next v) .hand
+      hands-next : (v : ℕ) → v < watchedMost → watchOf (kept (h ++ new ∷ [])) v .hand ≡ standOf (stood next v) .hand
       unfolding actedBy stored recordAfter deedOf ownAct otherAct
       hands-next =
           placed-else (m .workers) w (new-record bits c n workers base ring m pic w l lose busy) idler
-          (λ (v : ℕ) (z : Worker). v < workersMost → watchOf (kept (h ++ new ∷ [])) v .hand ≡ standOf (z .place) .hand) seat
+          (λ (v : ℕ) (z : Worker). v < watchedMost → watchOf (kept (h ++ new ∷ [])) v .hand ≡ standOf (z .place) .hand) seat
           (λ b. ap (λ (y : Watch). y .hand) own-next) (λ v ne b. ap (λ (y : Watch). y .hand) (else-next v b ne) ∙ o .hands v b)
 
-      knows-next : (v : ℕ) → v < workersMost → Knows bits (next .ring .fixed) (next .ring .ends) (watchOf (kept (h ++ new ∷ [])) v) (stood next v)
+      knows-next : (v : ℕ) → v < watchedMost → Knows bits (next .ring .fixed) (next .ring .ends) (watchOf (kept (h ++ new ∷ [])) v) (stood next v)
       unfolding actedBy stored recordAfter deedOf
       knows-next =
           placed-else (m .workers) w (new-record bits c n workers base ring m pic w l lose busy) idler
-          (λ (v : ℕ) (z : Worker). v < workersMost → Knows bits (m .ring .fixed) (does .ends) (watchOf (kept (h ++ new ∷ [])) v) (z .place)) seat
+          (λ (v : ℕ) (z : Worker). v < watchedMost → Knows bits (m .ring .fixed) (does .ends) (watchOf (kept (h ++ new ∷ [])) v) (z .place)) seat
           (λ b. subst (λ (y : Watch). Knows bits (m .ring .fixed) (does .ends) y (does .place)) (sym own-next) (its-row .knows))
           (λ v ne b. subst (λ (y : Watch). Knows bits (m .ring .fixed) (does .ends) y (stood m v)) (sym (else-next v b ne))
           (knows-else bits (m .ring .fixed) (m .ring .ends) (does .ends) deed (watchOf (kept h) v) (its-row .tail) (its-row .head) bare (stood m v) (o .knows v b)))
@@ -312,37 +312,47 @@ module _ (bits : Width) (c n workers : ℕ) (base : Base bits c n workers) (team
       acted-causing m h o w l lose busy (recent-in bits c n workers base m h (o .behind) window w)
       (entered-in bits c n workers base m h en next acts (o .behind) window (did w lose l busy early))
 
-pub fresh-causing : (bits : Width) (capacity workers edition : ℕ) (a : Allowed capacity workers edition)
-    → Causing bits capacity (lapsOf bits capacity) workers (base-of bits workersMost capacity workers edition a) (a .worker-most) (freshOf capacity workers edition) []
+pub fresh-causing : (bits : Width) (records capacity workers edition : ℕ) (a : AllowedWith records capacity workers edition) (team : workers ≤ watchedMost)
+    → Causing bits capacity (lapsOf bits capacity) workers (base-of bits records capacity workers edition a) team (freshWith records capacity workers edition) []
 unfolding watchesFrom
-fresh-causing bits capacity workers edition a =
+fresh-causing bits records capacity workers edition a team =
+    let m = freshWith records capacity workers edition in
     record {
-      behind = fresh-reached bits workersMost capacity workers edition a;
-      long = length-replicate workersMost unwatched;
-      hands = λ v b. ap (λ (y : Watch). y .hand) (same-at workersMost v unwatched) ∙ sym (ap (λ (z : Worker). standOf (z .place) .hand) (fresh-record workersMost capacity workers edition v));
+      behind = fresh-reached bits records capacity workers edition a;
+      long = length-replicate watchedMost unwatched;
+      hands = λ v b. ap (λ (y : Watch). y .hand) (same-at watchedMost v unwatched) ∙ sym (ap (λ (z : Worker). standOf (z .place) .hand) (fresh-record records capacity workers edition v));
       knows =
           λ v b.
-          subst (λ (z : Worker). Knows bits (freshOf capacity workers edition .ring .fixed) (freshOf capacity workers edition .ring .ends) (watchOf (kept []) v) (z .place))
-          (sym (fresh-record workersMost capacity workers edition v)) tt;
+          subst (λ (z : Worker). Knows bits (m .ring .fixed) (m .ring .ends) (watchOf (kept []) v) (z .place)) (sym (fresh-record records capacity workers edition v)) tt;
       ways = λ earlier later act e. absurd (nil-split earlier act later e);
       caused = λ earlier later act e. absurd (nil-split earlier act later e);
       lens = λ earlier later act t u e. absurd (nil-split earlier act later e);
     }
 
 -- every schedule that keeps the window
-reached-causing : (bits : Width) (capacity workers edition : ℕ) (a : Allowed capacity workers edition) (s : List ℕ)
-    → KeepsWindow (ofWidth bits) (freshOf capacity workers edition) [] s
-    → Causing bits capacity (lapsOf bits capacity) workers (base-of bits workersMost capacity workers edition a) (a .worker-most) (machineAfter (ofWidth bits) capacity workers edition s)
-    (actsOf (ofWidth bits) capacity workers edition s)
-reached-causing bits capacity workers edition a s keeps =
+pub reached-causing : (bits : Width) (records capacity workers edition : ℕ) (a : AllowedWith records capacity workers edition) (team : workers ≤ watchedMost) (s : List ℕ)
+    → KeepsWindow (withRecords records bits) (freshWith records capacity workers edition) [] s
+    → Causing bits capacity (lapsOf bits capacity) workers (base-of bits records capacity workers edition a) team (machineAfter (withRecords records bits) capacity workers edition s)
+    (actsOf (withRecords records bits) capacity workers edition s)
+reached-causing bits records capacity workers edition a team s keeps =
     let n = lapsOf bits capacity in
-    let base = base-of bits workersMost capacity workers edition a in
-    along bits (InWindow bits) (Causing bits capacity n workers base (a .worker-most)) (causing-kept bits capacity n workers base (a .worker-most)) s (freshOf capacity workers edition) [] 0 keeps
-    (fresh-causing bits capacity workers edition a)
+    let base = base-of bits records capacity workers edition a in
+    along bits (InWindow bits) (Causing bits capacity n workers base team) (causing-kept bits capacity n workers base team) s (freshWith records capacity workers edition) [] 0 keeps
+    (fresh-causing bits records capacity workers edition a team)
 
--- of 64 bits every schedule
+-- of 64 bits every schedule, of the machine that holds its sixteen records
+pub few-held : (capacity workers edition : ℕ) → Allowed capacity workers edition → workers ≤ watchedMost
+few-held capacity workers edition a = omega (arith, a .worker-most)
+
+sixteen-records : (capacity workers edition : ℕ) (a : Allowed capacity workers edition) (s : List ℕ)
+    → Causing SixtyFour capacity (lapsOf SixtyFour capacity) workers (base-of SixtyFour workersMost capacity workers edition a) (few-held capacity workers edition a)
+    (machineAfter document01 capacity workers edition s)
+    (actsOf document01 capacity workers edition s)
+sixteen-records capacity workers edition a s =
+    reached-causing SixtyFour workersMost capacity workers edition a (few-held capacity workers edition a) s (always workersMost capacity workers edition a s)
+
 pub every-retry : EveryRetryHasACause document01 causesIn
-every-retry capacity workers edition a s = let o = reached-causing SixtyFour capacity workers edition a s (always workersMost capacity workers edition a s) in (o .caused, o .lens)
+every-retry capacity workers edition a s = let o = sixteen-records capacity workers edition a s in (o .caused, o .lens)
 
 pub eight-ways : EightWaysBack document01
-eight-ways capacity workers edition a s = reached-causing SixtyFour capacity workers edition a s (always workersMost capacity workers edition a s) .ways
+eight-ways capacity workers edition a s = sixteen-records capacity workers edition a s .ways

@@ -10,13 +10,13 @@ use lib.Dec.{eqb}
 use lib.ListN.{length, getD, set, replicate, length-set}
 use lib.Seq.{getD-set-same, getD-set-other}
 use borrow.Author.Tests.{eq-eqb, ne-eqb}
-use Rattle.queue_entries.specs.Limits.{workersMost, all}
+use Rattle.queue_entries.specs.Limits.{all}
 use Rattle.bounded_machine.specs.declared.Event.{Event}
 use Rattle.bounded_machine.proofs.Kept.{every, all-of}
 use Rattle.bounded_causes.specs.declared.Deed.{Deed}
 use Rattle.bounded_causes.specs.declared.Watch.{Watch}
 use Rattle.bounded_causes.specs.declared.Watches.{Watches}
-use Rattle.bounded_causes.specs.Causes.{ownAct, otherAct, watchWith, unwatched, watchOf, othersHold, watchedTo, watchedOf, namedOf}
+use Rattle.bounded_causes.specs.Causes.{watchedMost, ownAct, otherAct, watchWith, unwatched, watchOf, othersHold, watchedTo, watchedOf, namedOf}
 use Rattle.bounded_demands.specs.Notions.{watchesFrom}
 
 -- what holds of the element that was set and of every other holds of all
@@ -58,9 +58,9 @@ module _ (w : ℕ) (others : Bool) (d : Deed) (xs : List Watch) where
       go rest (no ne) = getD-set-other (watchedTo n w others d xs) n i (watchWith (eqb n w) others d (watchOf xs n)) unwatched ne ∙ rest (omega arith)
 
 -- another's hand is one of these
-pub others-free : (xs : List Watch) (w : ℕ) → othersHold xs w ≡ false → (v : ℕ) → v < workersMost → v ≢ w → watchOf xs v .hand ≡ false
+pub others-free : (xs : List Watch) (w : ℕ) → othersHold xs w ≡ false → (v : ℕ) → v < watchedMost → v ≢ w → watchOf xs v .hand ≡ false
 unfolding othersHold
-others-free xs w none v few ne = free (watchOf xs v .hand) (sym (simp (ne-eqb v w ne)) ∙ every workersMost 0 test (passed (all workersMost 0 test) none) v (omega arith) (omega arith))
+others-free xs w none v few ne = free (watchOf xs v .hand) (sym (simp (ne-eqb v w ne)) ∙ every watchedMost 0 test (passed (all watchedMost 0 test) none) v (omega arith) (omega arith))
   where
     test : ℕ → Bool
     test i = cond (eqb i w) true (not (watchOf xs i .hand))
@@ -73,24 +73,24 @@ others-free xs w none v few ne = free (watchOf xs v .hand) (sym (simp (ne-eqb v 
     free true h = absurd (true≢false (sym h))
     free false h = refl
 
-module _ (w : ℕ) (d : Deed) (xs : List Watch) (long : length xs ≡ workersMost) where
-  pub watched-long : length (watchedOf w d xs) ≡ workersMost
+module _ (w : ℕ) (d : Deed) (xs : List Watch) (long : length xs ≡ watchedMost) where
+  pub watched-long : length (watchedOf w d xs) ≡ watchedMost
   unfolding watchedOf
-  watched-long = to-long w (othersHold xs w) d xs workersMost ∙ long
+  watched-long = to-long w (othersHold xs w) d xs watchedMost ∙ long
 
-  pub watched-own : w < workersMost → watchOf (watchedOf w d xs) w ≡ ownAct (othersHold xs w) d (watchOf xs w)
+  pub watched-own : w < watchedMost → watchOf (watchedOf w d xs) w ≡ ownAct (othersHold xs w) d (watchOf xs w)
   unfolding watchedOf
-  watched-own few = to-at w (othersHold xs w) d xs workersMost w (omega arith) few ∙ simp (eq-eqb w w refl)
+  watched-own few = to-at w (othersHold xs w) d xs watchedMost w (omega arith) few ∙ simp (eq-eqb w w refl)
 
-  pub watched-else : (v : ℕ) → v < workersMost → v ≢ w → watchOf (watchedOf w d xs) v ≡ otherAct d (watchOf xs v)
+  pub watched-else : (v : ℕ) → v < watchedMost → v ≢ w → watchOf (watchedOf w d xs) v ≡ otherAct d (watchOf xs v)
   unfolding watchedOf
-  watched-else v few ne = to-at w (othersHold xs w) d xs workersMost v (omega arith) few ∙ simp (ne-eqb v w ne)
+  watched-else v few ne = to-at w (othersHold xs w) d xs watchedMost v (omega arith) few ∙ simp (ne-eqb v w ne)
 
   -- an act of w leaves the others' hands
   pub others-stay : othersHold xs w ≡ false → othersHold (watchedOf w d xs) w ≡ false
   unfolding othersHold otherAct
-  others-stay none = ap not (all-of workersMost 0 (λ (i : ℕ). cond (eqb i w) true (not (watchOf (watchedOf w d xs) i .hand))) (λ i l g. each i (omega arith) (ℕ-discrete i w)))
+  others-stay none = ap not (all-of watchedMost 0 (λ (i : ℕ). cond (eqb i w) true (not (watchOf (watchedOf w d xs) i .hand))) (λ i l g. each i (omega arith) (ℕ-discrete i w)))
     where
-      each : (i : ℕ) → i < workersMost → Dec (i ≡ w) → cond (eqb i w) true (not (watchOf (watchedOf w d xs) i .hand)) ≡ true
+      each : (i : ℕ) → i < watchedMost → Dec (i ≡ w) → cond (eqb i w) true (not (watchOf (watchedOf w d xs) i .hand)) ≡ true
       each i few (yes e) = simp (eq-eqb i w e)
       each i few (no ne) = simp (ne-eqb i w ne) (ap (λ (x : Watch). not (x .hand)) (watched-else i few ne) ∙ ap not (others-free xs w none i few ne))

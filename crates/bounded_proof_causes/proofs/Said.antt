@@ -2,21 +2,22 @@
 use mathlib.Core.Path.{_≡_, refl, sym, ap, _∙_, subst}
 use mathlib.Core.Logic.{_≢_, _⊎_, inl, inr}
 use mathlib.Core.Bool.{Bool, true, false, cond, true≢false}
+use native.Mathlib.Omega.{arith}
 use mathlib.Core.List.{List, [], _∷_, _++_, append-assoc, append-nil}
 use Prim.Native.Nat.{ℕ, _<_}
 use native.Mathlib.Decide.{ℕ-discrete}
 use lib.Dec.{eqb}
 use lib.ListN.{length, length-replicate}
 use borrow.Author.Tests.{eq-eqb, ne-eqb}
-use Rattle.queue_entries.specs.Limits.{workersMost}
 use Rattle.bounded_machine.specs.declared.Event.{Event}
 use Rattle.bounded_causes.specs.declared.Deed.{Deed}
 use Rattle.bounded_causes.specs.declared.Since.{Since}
 use Rattle.bounded_causes.specs.declared.Watch.{Watch}
 use Rattle.bounded_causes.specs.declared.Watches.{Watches}
-use Rattle.bounded_causes.specs.Causes.{untouched, sinceWith, ownAct, otherAct, unwatched, start, watchOf, othersHold, watchedOf, namedOf}
+use Rattle.bounded_causes.specs.Causes.{watchedMost, untouched, sinceWith, ownAct, otherAct, unwatched, start, watchOf, othersHold, watchedOf, namedOf}
 use Rattle.bounded_demands.specs.Notions.{watchesFrom, watches, otherHand, deed, NoneBy, DoneSince, LatestBy, Tells}
-use Rattle.bounded_demands.specs.Demands.{Kept, KeptAsSaid}
+use Rattle.bounded_parts.specs.Parts.{recordsMost}
+use Rattle.bounded_demands.specs.Demands.{Kept, KeptAsSaid, KeptOf}
 use Rattle.bounded_proof_demand2.proofs.Lists.{Last, Earlier, split-end}
 use Rattle.bounded_proof_demand2.proofs.Reached.{nil-split}
 use Rattle.bounded_proof_causes.proofs.Folds.{same-at, watches-end, watched-long, watched-own, watched-else}
@@ -176,7 +177,7 @@ own-kept : (o : Bool) (d : Deed) (x : Watch)
 unfolding ownAct
 own-kept o d x = rw (own-bits (d .word) d (x .word), own-bits (d .stamp) d (x .stamp))
 
-kept-more : (w : ℕ) → w < workersMost → (h : List Event) (e : Event) → length (watches h .each) ≡ workersMost → watchOf (watches (h ++ e ∷ []) .each) w ≡ bits w e (watches h .each)
+kept-more : (w : ℕ) → w < watchedMost → (h : List Event) (e : Event) → length (watches h .each) ≡ watchedMost → watchOf (watches (h ++ e ∷ []) .each) w ≡ bits w e (watches h .each)
 unfolding namedOf otherAct sinceWith
 kept-more w few h e long = ap (λ (ws : Watches). watchOf (ws .each) w) (watches-end start h e) ∙ go (ℕ-discrete (e .worker) w)
   where
@@ -191,9 +192,9 @@ itself : (b : Bool) → Tells b (b ≡ true)
 itself b = (λ h. h, λ h. h)
 
 abbrev Said : ℕ → List Event → Type 0
-Said w h = (length (watches h .each) ≡ workersMost) × Kept h w
+Said w h = (length (watches h .each) ≡ watchedMost) × Kept h w
 
-module _ (w : ℕ) (few : w < workersMost) where
+module _ (w : ℕ) (few : w < watchedMost) where
   said-more : (h : List Event) (e : Event) → Said w h → Said w (h ++ e ∷ [])
   unfolding namedOf
   said-more h e (long, k) =
@@ -229,8 +230,8 @@ module _ (w : ℕ) (few : w < workersMost) where
   said-none : Said w []
   unfolding watchesFrom
   said-none =
-      let q : watchOf (watches [] .each) w ≡ unwatched = same-at workersMost w unwatched in (
-        length-replicate workersMost unwatched,
+      let q : watchOf (watches [] .each) w ≡ unwatched = same-at watchedMost w unwatched in (
+        length-replicate watchedMost unwatched,
         record {
           word-tail = subst (λ (y : Watch). Tells (y .word .tail) (DoneSince (λ (d : Deed). d .tail) (λ (d : Deed). d .word) w [])) (sym q) (no-since (λ (d : Deed). d .tail) (λ (d : Deed). d .word));
           word-head = subst (λ (y : Watch). Tells (y .word .head) (DoneSince (λ (d : Deed). d .head) (λ (d : Deed). d .word) w [])) (sym q) (no-since (λ (d : Deed). d .head) (λ (d : Deed). d .word));
@@ -246,5 +247,8 @@ module _ (w : ℕ) (few : w < workersMost) where
         },
       )
 
+pub kept-of-records : KeptOf recordsMost
+kept-of-records h w few = grow (Said w) (said-more w few) h [] (said-none w few) .1
+
 pub kept-as-said : KeptAsSaid
-kept-as-said = record { more = λ h e. watches-end start h e; so = λ h w few. grow (Said w) (said-more w few) h [] (said-none w few) .1 }
+kept-as-said = record { more = λ h e. watches-end start h e; so = λ h w few. kept-of-records h w (omega arith) }

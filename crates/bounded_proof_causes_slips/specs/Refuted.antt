@@ -1,10 +1,11 @@
 -- Which statement refuses which slip, at which schedule (crates/bounded_demands/specs/Retries.antt).
 use mathlib.Core.List.{List, _++_}
+use Rattle.bounded_words.specs.declared.Width.the-variants.{Sixteen, SixtyFour}
 use Rattle.bounded_machine.specs.declared.Event.{Event}
-use Rattle.bounded_demands.specs.Notions.{document01, actsOf}
+use Rattle.bounded_demands.specs.Notions.{withRecords, ofWidth, document01, actsOf}
 use Rattle.bounded_demands.specs.Retries.{Retry, failedPush, latePush, emptiedPush, earlyPop, besideAPop, closedLen, does, onlyHand}
-use Rattle.bounded_demands.specs.Demands.{RetriesCaused, LenByOwnEnd, EachNeeded}
-use Rattle.bounded_proof_causes_slips.specs.Slips.{noSchedule, noOwnEnd, noOtherEnd, noHand, sinceBegin, handNow, lenWithStamps, markUnseen, loadBefore, nameWith}
+use Rattle.bounded_demands.specs.Demands.{RetriesCaused, LenByOwnEnd, EachNeeded, RetriesUnderEverySchedule, RetriesInWindow, KeptOf}
+use Rattle.bounded_proof_causes_slips.specs.Slips.{noSchedule, noOwnEnd, noOtherEnd, noHand, sinceBegin, handNow, lenWithStamps, markUnseen, loadBefore, firstSixteen, nameWith}
 
 abbrev pub past : Retry → List Event
 past r = actsOf document01 (r .capacity) 2 1 (r .schedule)
@@ -26,3 +27,7 @@ pub record Refuted : Type 0 where
   pub len-stamps : LenByOwnEnd (nameWith lenWithStamps) (past closedLen) → ⊥
   pub mark-unseen : RetriesCaused (nameWith markUnseen) (past closedLen) → ⊥
   pub load-before : RetriesCaused (nameWith loadBefore) (past besideAForce) → ⊥
+  -- of 17 records; of sixteen bits; and of one worker more than are kept
+  pub records : RetriesUnderEverySchedule (withRecords 17 SixtyFour) (nameWith firstSixteen) → ⊥
+  pub in-window : RetriesInWindow (ofWidth Sixteen) (nameWith noSchedule) → ⊥
+  pub kept : KeptOf 65 → ⊥

@@ -3,14 +3,17 @@ use Prim.Native.Nat.{ℕ}
 use mathlib.Core.Bool.{Bool, false, cond}
 use mathlib.Core.List.{List, [], _∷_}
 use mathlib.Core.Path.{_≡_}
-use lib.Dec.{eqb}
+use lib.Dec.{eqb, ltb}
+use Rattle.queue_entries.specs.Limits.{workersMost}
+use Rattle.bounded_words.specs.declared.Width.the-variants.{Sixteen, SixtyFour}
 use Rattle.bounded_machine.specs.declared.Event.{Event}
 use Rattle.bounded_machine.specs.History.{movedOf}
 use Rattle.bounded_causes.specs.declared.Since.{Since}
 use Rattle.bounded_causes.specs.declared.Causes.{Causes}
 use Rattle.bounded_causes.specs.Causes.{standOf, deedOf, untouched, sinceWith, watchOf, ownIn, otherIn, causesOf}
-use Rattle.bounded_demands.specs.Notions.{document01, watches, causesIn, otherHand}
-use Rattle.bounded_demands.specs.Demands.{EveryRetryHasACause, EachNeeded}
+use Rattle.bounded_parts.specs.Parts.{recordsMost}
+use Rattle.bounded_demands.specs.Notions.{ofWidth, withRecords, document01, watches, causesIn, otherHand}
+use Rattle.bounded_demands.specs.Demands.{EveryRetryHasACause, EachNeeded, RetriesUnderEverySchedule, RetriesInWindow}
 
 abbrev pub none : ℕ
 none = 0
@@ -48,6 +51,10 @@ markUnseen = 8
 abbrev pub loadBefore : ℕ
 loadBefore = 9
 
+-- of workers past the sixteenth nothing is kept
+abbrev pub firstSixteen : ℕ
+firstSixteen = 10
+
 -- What was done to the ends since w's last answer.
 unfoldable pub sinceAnswer : ℕ → Since → List Event → Since
 sinceAnswer w s [] = s
@@ -78,7 +85,8 @@ amiss n earlier act k =
     (cond (eqb n markUnseen) (causes (k .schedule) (ownIn (standOf (act .before) .end) (unmarked (watchOf (watches earlier .each) (act .worker) .word))) (k .other) (k .hand))
     (cond (eqb n loadBefore)
     (causesOf (standOf (act .before)) (watchOf (watches earlier .each) (act .worker)) (watchOf (watches earlier .each) (act .worker)) (act .loss))
-    k))))))))
+    (cond (eqb n firstSixteen) (cond (ltb (act .worker) workersMost) k (causes false false false false))
+    k)))))))))
 
 abbrev pub nameWith : ℕ → List Event → Event → Causes
 nameWith n earlier act = amiss n earlier act (causesIn earlier act)
@@ -96,4 +104,5 @@ abbrev pub Faithful : Type 0
 Faithful = given ≡ causesIn
 
 abbrev pub Stands : Type 0
-Stands = EveryRetryHasACause document01 given × EachNeeded given 1 × EachNeeded given 2
+Stands =
+    EveryRetryHasACause document01 given × EachNeeded given 1 × EachNeeded given 2 × RetriesUnderEverySchedule (withRecords recordsMost SixtyFour) given × RetriesInWindow (ofWidth Sixteen) given

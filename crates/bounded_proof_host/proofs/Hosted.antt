@@ -1,31 +1,28 @@
 -- The statements over words, from those over a lent ring and lent records.
-use Prim.Native.Nat.{ℕ, zero, suc, _+_, _-_, _*_, _/_, _%_, _≤_}
+use Prim.Native.Nat.{ℕ, _/_, _%_, _≤_}
 use mathlib.Core.Path.{_≡_, refl, sym, ap, _∙_, subst}
 use mathlib.Core.Bool.{Bool, true, false, cond, true≢false}
 use mathlib.Core.List.{List, [], _∷_, _++_}
 use native.Mathlib.Omega.{arith}
 use lib.Dec.{eqb, ltb}
-use lib.ListN.{length, take, length-set, length-replicate}
+use lib.ListN.{length, length-set, length-replicate}
 use borrow.Author.Tests.{eqb-true, eqb-false}
 use Rattle.queue_entries.specs.Limits.{workersMost}
 use Rattle.queue_entries.specs.declared.Entry.{Entry}
 use Rattle.queue_entries.specs.declared.Entry.the-variants.{Unreadable, Asks}
 use Rattle.queue_entries.specs.declared.Verdict.{Verdict}
 use Rattle.queue_entries.specs.declared.Verdict.the-variants.{Refuse, Start, Move}
-use Rattle.queue_entries.specs.declared.Finding.{Finding}
-use Rattle.queue_entries.specs.declared.Finding.the-variants.{AllRead, UnreadableAt}
 use Rattle.queue_entries.specs.Entries.{entryOf}
-use Rattle.queue_entries.specs.Schedules.{runBy, searchBy, searched, scheduleBy}
+use Rattle.queue_entries.specs.Schedules.{searchBy}
 use Rattle.bounded_words.specs.Limits.{slotsMost}
 use Rattle.bounded_words.specs.declared.Width.the-variants.{SixtyFour}
 use Rattle.bounded_places.specs.declared.Worker.{Worker}
 use Rattle.bounded_machine.specs.declared.Machine.{Machine}
 use Rattle.bounded_machine.specs.declared.Did.{Did}
-use Rattle.bounded_machine.specs.declared.Ran.{Ran}
 use Rattle.bounded_machine.specs.declared.Event.{Event}
 use Rattle.bounded_machine.specs.Machine.{slot, recordOf, placeOf, freshWith, blank, refused, accepted, emptySlots}
 use Rattle.bounded_machine.specs.Turn.{verdictOf, begun, stored, actedBy, carried, turn, turnOf, turnOfBy}
-use Rattle.bounded_machine.specs.Run.{ran, runOf, runAt}
+use Rattle.bounded_machine.specs.Run.{runOf}
 use Rattle.bounded_machine.specs.History.{eventsOf}
 use Rattle.bounded_machine.proofs.Kept.{either}
 use Rattle.bounded.specs.Bounded.{stepOf}
@@ -33,8 +30,6 @@ use Rattle.bounded_parts.specs.declared.Metered.{Metered}
 use Rattle.bounded_parts.specs.declared.Report.{Report}
 use Rattle.bounded_parts.specs.Parts.{makeRefusal, meteredOf, report, capacityTold}
 use Rattle.bounded_lent.specs.Lent.{held, brokenLent, Lent, lent, lentOf, turnLent, stepLent, Gone, gone, goneOf, runLent, makeLent}
-use Rattle.bounded_lent.proofs.Turning.{step-refused, step-turned}
-use Rattle.bounded_lent.proofs.Running.{turned-whole, held-again, unchanged}
 use Rattle.bounded_rows.specs.Rows.{Words, wordsOf, meteredIn, recordsIn, shaped, stand, After, after, afterOf}
 use Rattle.bounded_rows.proofs.Standing.{Standing, standing, same-words, same-ring, same-records, written-stand}
 use Rattle.bounded_rows.proofs.Lists.{many-slots}
@@ -42,14 +37,18 @@ use Rattle.bounded_slices.specs.Slices.{brokenWords}
 use Rattle.bounded_host.specs.declared.Reply.{Reply}
 use Rattle.bounded_host.specs.Host.{reply, madeFrom, makeWords, stepWords, Ended, ended, endedOf, runWords, capacityWords, listed, contentsWords}
 use Rattle.bounded_host.proofs.Running.{judged-six}
-use Rattle.bounded_demands.specs.Notions.{withRecords}
-use Rattle.bounded_demands.specs.Lending.{item11, steps, heldIn, actsLent, holding, holds-did, holds-ran}
+use Rattle.bounded_demands.specs.Notions.{withRecords, ranOf}
+use Rattle.bounded_demands.specs.Lending.{item11, steps, heldIn, actsLent, holding, holds-did, holds-ran, Doing, stepping, running}
 use Rattle.bounded_demands.specs.Demands.{Demand2, Demand3, AsHeld, OnlyTheActing}
+use Rattle.bounded_demands.proofs.Refusals.{ring-queue}
+use Rattle.bounded_demands.proofs.Mixtures.{schedule-goes}
 use Rattle.bounded_proof_demand2.proofs.Reached.{fresh-long}
 use Rattle.bounded_proof_lent.proofs.Padded.{as-held}
 use Rattle.bounded_proof_lent.proofs.Acting.{only-the-acting}
 use Rattle.bounded_proof_lent.proofs.Throughout.{lent-throughout, lent-unbroken-still, sound-fresh}
-use Rattle.bounded_proof_host.specs.Hosted.{Hosting, face, heldWords, OneToOne, Malformed, RefusedWords, OnlyTheActingWords, AsHeldWords, Doing, stepping, running, doneBy, leftBy, ranOf, entriesOf, entriesBy, actsWords, HostedThroughout}
+use Rattle.bounded_proof_lent.proofs.Refusals.{ranLent}
+use Rattle.bounded_proof_lent.proofs.Mixed.{goes-steps}
+use Rattle.bounded_proof_host.specs.Hosted.{Hosting, face, heldWords, OneToOne, Malformed, RefusedWords, OnlyTheActingWords, AsHeldWords, doneBy, leftBy, entriesOf, entriesBy, actsWords, HostedThroughout}
 
 pub one-to-one : OneToOne stand
 one-to-one = record {
@@ -227,121 +226,22 @@ led (first ∷ second ∷ rest) w s = go (led rest (stepWords w first second .wo
     }
 
 -- ---- a schedule is the steps of the entries that were run
--- from a machine that is not broken, to its end or to the first refusal
-went-on : (s : List ℕ) (l : Metered) (ys : List Worker) → brokenLent l ys ≡ false → (place : ℕ)
-    → (place ≤ runAt SixtyFour (held l ys) place s .place) × (heldIn (steps item11 (lent 0 l ys) (take (2 * (runAt SixtyFour (held l ys) place s .place - place)) s)) ≡ runAt SixtyFour (held l ys) place s .machine)
-unfolding runBy ran steps
-went-on [] l ys sound place = (omega arith, none)
-  where
-    none : heldIn (steps item11 (lent 0 l ys) (take (2 * (place - place)) [])) ≡ held l ys
-    none = ap (λ (k : ℕ). heldIn (steps item11 (lent 0 l ys) (take {A = ℕ} k []))) nought
-      where
-        nought : 2 * (place - place) ≡ 0
-        nought = omega arith
-went-on (first ∷ []) l ys sound place = (omega arith, none)
-  where
-    none : heldIn (steps item11 (lent 0 l ys) (take (2 * (place - place)) (first ∷ []))) ≡ held l ys
-    none = ap (λ (k : ℕ). heldIn (steps item11 (lent 0 l ys) (take k (first ∷ [])))) nought
-      where
-        nought : 2 * (place - place) ≡ 0
-        nought = omega arith
-went-on (first ∷ second ∷ rest) l ys sound place =
-    go (eqb (turnOf (held l ys) first second .refusal) 0) refl
-    (went-on rest (stepLent l ys first second .ring) (stepLent l ys first second .records) (lent-unbroken-still l ys first second sound) (place + 1))
-  where
-    x : Lent
-    x = stepLent l ys first second
-
-    did : Did
-    did = turnOf (held l ys) first second
-
-    x-is : x ≡ lentOf did
-    x-is = sym (step-turned l ys first second sound)
-
-    held-is : held (x .ring) (x .records) ≡ did .machine
-    held-is =
-        let whole = turned-whole (length ys) (held l ys) (refl, refl) first second in
-        ap heldIn x-is ∙ held-again (did .machine) (whole .1 ∙ sym (whole .0))
-
-    after-it : Ran
-    after-it = runAt SixtyFour (held (x .ring) (x .records)) (place + 1) rest
-
-    Goal : Ran → Type 0
-    Goal r = (place ≤ r .place) × (heldIn (steps item11 (lent 0 l ys) (take (2 * (r .place - place)) (first ∷ second ∷ rest))) ≡ r .machine)
-
-    two-more : (k : ℕ) → place + 1 ≤ k → 2 * (k - place) ≡ suc (suc (2 * (k - (place + 1))))
-    two-more k h = omega (arith, h)
-
-    go : (b : Bool) → eqb (did .refusal) 0 ≡ b → (place + 1 ≤ after-it .place) × (heldIn (steps item11 (lent 0 (x .ring) (x .records)) (take (2 * (after-it .place - (place + 1))) rest)) ≡ after-it .machine)
-        → Goal (cond (eqb (did .refusal) 0) (runAt SixtyFour (did .machine) (place + 1) rest) (ran (did .refusal) place (held l ys)))
-    go true e more =
-        subst Goal (ap (λ (m : Machine). runAt SixtyFour m (place + 1) rest) held-is ∙ sym (ap (λ (b : Bool). cond b (runAt SixtyFour (did .machine) (place + 1) rest) (ran (did .refusal) place (held l ys))) e)) (
-          omega (arith, more .0),
-          ap (λ (k : ℕ). heldIn (steps item11 (lent 0 l ys) (take k (first ∷ second ∷ rest)))) (two-more (after-it .place) (more .0)) ∙ steps-any (x .answer) 0 (x .ring) (x .records) (take (2 * (after-it .place - (place + 1))) rest) ∙ more .1,
-        )
-    go false e more =
-        subst Goal (sym (ap (λ (b : Bool). cond b (runAt SixtyFour (did .machine) (place + 1) rest) (ran (did .refusal) place (held l ys))) e))
-        (omega arith, ap (λ (k : ℕ). heldIn (steps item11 (lent 0 l ys) (take k (first ∷ second ∷ rest)))) (nought place))
-      where
-        nought : (p : ℕ) → 2 * (p - p) ≡ 0
-        nought p = omega arith
-
--- the entries of a schedule that were run
-module _ (l : Metered) (ys : List Worker) (sound : brokenLent l ys ≡ false) (s : List ℕ) where
-  abbrev Reported : Ran → List ℕ → Type 0
-  Reported r e = (heldIn (steps item11 (lent 0 l ys) e) ≡ r .machine) × (length e % 2 ≡ 0)
-
-  even-take : (k : ℕ) (e : List ℕ) → length e % 2 ≡ 0 → length (take (2 * k) e) % 2 ≡ 0
-  even-take zero e h = refl
-  even-take (suc k) [] h = ap (λ (n : ℕ). length (take {A = ℕ} n []) % 2) (two-more k)
-    where
-      two-more : (k : ℕ) → 2 * suc k ≡ suc (suc (2 * k))
-      two-more k = omega arith
-  even-take (suc k) (a ∷ []) h = absurd (omega (arith, h))
-  even-take (suc k) (a ∷ b ∷ e) h = ap (λ (n : ℕ). length (take n (a ∷ b ∷ e)) % 2) (two-more k) ∙ two-less (length (take (2 * k) e)) (even-take k e (omega (arith, h)))
-    where
-      two-more : (k : ℕ) → 2 * suc k ≡ suc (suc (2 * k))
-      two-more k = omega arith
-
-      two-less : (n : ℕ) → n % 2 ≡ 0 → suc (suc n) % 2 ≡ 0
-      two-less n h = omega (arith, h)
-
-  scheduled : Reported (scheduleBy (λ (d : Did). d .refusal) (λ (d : Did). d .machine) turnOf ran (λ (m : Machine). brokenLent l ys) entryOf (held l ys) s)
-      (ranOf (searchBy entryOf 0 s) (scheduleBy (λ (d : Did). d .refusal) (λ (d : Did). d .machine) turnOf ran (λ (m : Machine). brokenLent l ys) entryOf (held l ys) s .place) s)
-  unfolding scheduleBy ran steps
-  scheduled = go (brokenLent l ys) sound (eqb (length s % 2) 1) refl (searchBy entryOf 0 s)
-    where
-      by-tests : Bool → Bool → Finding → Ran
-      by-tests b o f = cond b (ran 6 0 (held l ys)) (cond o (ran 11 0 (held l ys)) (searched (λ (d : Did). d .refusal) (λ (d : Did). d .machine) turnOf ran (held l ys) s f))
-
-      even : eqb (length s % 2) 1 ≡ false → length s % 2 ≡ 0
-      even o = let ne = eqb-false (length s % 2) 1 o in even-so (length s % 2) refl ne
-        where
-          even-so : (r : ℕ) → length s % 2 ≡ r → (length s % 2 ≡ 1 → ⊥) → length s % 2 ≡ 0
-          even-so r h ne = omega (arith, ne)
-
-      from-start : (r : Ran) → heldIn (steps item11 (lent 0 l ys) (take (2 * (r .place - 0)) s)) ≡ r .machine → heldIn (steps item11 (lent 0 l ys) (take (2 * r .place) s)) ≡ r .machine
-      from-start r h = ap (λ (k : ℕ). heldIn (steps item11 (lent 0 l ys) (take (2 * k) s))) same ∙ h
-        where
-          same : r .place ≡ r .place - 0
-          same = omega arith
-
-      go : (b : Bool) → b ≡ false → (o : Bool) → eqb (length s % 2) 1 ≡ o → (f : Finding) → Reported (by-tests b o f) (ranOf f (by-tests b o f .place) s)
-      go true eb o eo f = absurd (true≢false eb)
-      go false eb true eo AllRead = (refl, refl)
-      go false eb true eo (UnreadableAt p) = (refl, refl)
-      go false eb false eo (UnreadableAt p) = (refl, refl)
-      go false eb false eo AllRead = (from-start (runAt SixtyFour (held l ys) 0 s) (went-on s l ys sound 0 .1), even-take (runAt SixtyFour (held l ys) 0 s .place) s (even eo))
+scheduled : (l : Metered) (ys : List Worker) → brokenLent l ys ≡ false → (s : List ℕ)
+    → (heldIn (steps item11 (lent 0 l ys) (ranOf (searchBy entryOf 0 s) (ranLent l ys s .place) s)) ≡ ranLent l ys s .machine)
+    × (length (ranOf (searchBy entryOf 0 s) (ranLent l ys s .place) s) % 2 ≡ 0)
+scheduled l ys sound s =
+    goes-steps (ranOf (searchBy entryOf 0 s) (ranLent l ys s .place) s) (lent 0 l ys) (ranLent l ys s .machine) sound
+    (schedule-goes (ring-queue SixtyFour) (λ (m : Machine). brokenLent l ys) (held l ys) s)
 
 module _ (w : Words) (st : stand w ≡ true) (sound : brokenLent (meteredIn w) (recordsIn (w .records)) ≡ false) (s : List ℕ) where
   abbrev entries : List ℕ
   entries = entriesOf face w (running s)
 
-  number-is : runWords w s .answer .number ≡ scheduleBy (λ (d : Did). d .refusal) (λ (d : Did). d .machine) turnOf ran (λ (m : Machine). brokenLent (meteredIn w) (recordsIn (w .records))) entryOf (heldWords w) s .place
+  number-is : runWords w s .answer .number ≡ ranLent (meteredIn w) (recordsIn (w .records)) s .place
   unfolding runLent
   number-is = ap (λ (x : Ended). x .answer .number) (run-is w st s)
 
-  ran-is : heldIn (steps item11 (lentIn w) entries) ≡ scheduleBy (λ (d : Did). d .refusal) (λ (d : Did). d .machine) turnOf ran (λ (m : Machine). brokenLent (meteredIn w) (recordsIn (w .records))) entryOf (heldWords w) s .machine
+  ran-is : heldIn (steps item11 (lentIn w) entries) ≡ ranLent (meteredIn w) (recordsIn (w .records)) s .machine
   ran-is = ap (λ (k : ℕ). heldIn (steps item11 (lentIn w) (ranOf (searchBy entryOf 0 s) k s))) number-is ∙ scheduled (meteredIn w) (recordsIn (w .records)) sound s .0
 
   run-even : length entries % 2 ≡ 0
@@ -354,7 +254,7 @@ module _ (w : Words) (st : stand w ≡ true) (sound : brokenLent (meteredIn w) (
       ∙ (λ i. wordsOf (meteredOf (q i)) (q i .workers))
       ∙ same-words (stepsWords w entries) (standing (stepsWords w entries) (led entries w st .stands))
     where
-      q : scheduleBy (λ (d : Did). d .refusal) (λ (d : Did). d .machine) turnOf ran (λ (m : Machine). brokenLent (meteredIn w) (recordsIn (w .records))) entryOf (heldWords w) s .machine ≡ heldWords (stepsWords w entries)
+      q : ranLent (meteredIn w) (recordsIn (w .records)) s .machine ≡ heldWords (stepsWords w entries)
       q = sym ran-is ∙ sym (led entries w st .machine)
 
 refused-run : (w : Words) (s : List ℕ) → ranOf (searchBy entryOf 0 s) (runWords w s .answer .number) s ≡ [] → runWords w s .words ≡ w

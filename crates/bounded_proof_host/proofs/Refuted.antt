@@ -25,7 +25,8 @@ use Rattle.bounded_codes.specs.Codes.{triple, placeIn, standsFor}
 use Rattle.bounded_rows.specs.Rows.{Words, words, headOf, slotsOf, recordsOf, wordsOf, fixedIn, endsIn, slotsIn, recordsIn, shaped, placed, stand, After}
 use Rattle.bounded_slices.specs.Slices.{brokenWords}
 use Rattle.bounded_host.specs.Host.{makeWords, stepWords, runWords}
-use Rattle.bounded_proof_host.specs.Hosted.{Malformed, RefusedWords, OnlyTheActingWords, AsHeldWords, HostedThroughout, running, leftBy, entriesBy, actsWords}
+use Rattle.bounded_demands.specs.Lending.{running}
+use Rattle.bounded_proof_host.specs.Hosted.{Malformed, RefusedWords, OnlyTheActingWords, AsHeldWords, HostedThroughout, leftBy, entriesBy, actsWords}
 use Rattle.bounded_proof_host.specs.Slips.{Faithful, Stands, Refuted}
 use Rattle.bounded_proof_host.proofs.Hosted.{one-to-one, malformed, refused-words, only-the-acting-words, as-held-words, hosted-throughout}
 

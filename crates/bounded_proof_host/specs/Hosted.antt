@@ -1,16 +1,14 @@
 -- What is said of words in a host's memory and of the functions that it calls on them (crate bounded_host).
 -- The statements are over a definition of the face (`Hosting`) and of which words stand for something, so that they can be said of one with a slip.
-use Prim.Native.Nat.{ℕ, _*_, _/_, _≤_}
+use Prim.Native.Nat.{ℕ, _/_, _≤_}
 use mathlib.Core.Path.{_≡_}
 use mathlib.Core.Bool.{Bool, true, false, cond}
 use mathlib.Core.List.{List, [], _∷_, _++_}
 use lib.Dec.{eqb}
-use lib.ListN.{length, take}
+use lib.ListN.{length}
 use Rattle.queue_entries.specs.Limits.{workersMost}
 use Rattle.queue_entries.specs.Entries.{entryOf}
 use Rattle.queue_entries.specs.Schedules.{searchBy}
-use Rattle.queue_entries.specs.declared.Finding.{Finding}
-use Rattle.queue_entries.specs.declared.Finding.the-variants.{AllRead, UnreadableAt}
 use Rattle.bounded_words.specs.Limits.{slotsMost}
 use Rattle.bounded_words.specs.declared.Width.the-variants.{SixtyFour}
 use Rattle.bounded_places.specs.declared.Worker.{Worker}
@@ -27,8 +25,8 @@ use Rattle.bounded_rows.specs.Rows.{Words, wordsOf, meteredIn, recordsIn, stand
 use Rattle.bounded_slices.specs.Slices.{brokenWords}
 use Rattle.bounded_host.specs.declared.Reply.{Reply}
 use Rattle.bounded_host.specs.Host.{reply, makeWords, stepWords, Ended, ended, runWords, capacityWords, Listed, listed, contentsWords}
-use Rattle.bounded_demands.specs.Notions.{withRecords}
-use Rattle.bounded_demands.specs.Lending.{holding, holds-did, holds-ran}
+use Rattle.bounded_demands.specs.Notions.{withRecords, ranOf}
+use Rattle.bounded_demands.specs.Lending.{holding, holds-did, holds-ran, Doing, stepping, running}
 use Rattle.bounded_demands.specs.Demands.{Demand2, Demand3}
 
 -- What each function of the face answers, with the words and the buffer as they are then.
@@ -78,10 +76,6 @@ pub record AsHeldWords (d : Hosting) : Type 0 where
       → holds-ran (gone (report (d .run w s .answer .refusal) (d .run w s .answer .number)) (meteredIn (d .run w s .words)) (recordsIn (d .run w s .words .records))) ≡ runOf (holding (meteredIn w) (recordsIn (w .records))) s
 
 -- ---- what a host does with words that nobody else writes
-pub data Doing : Type 0 where
-  stepping : ℕ → ℕ → Doing
-  running : List ℕ → Doing
-
 abbrev pub doneBy : Hosting → Words → Doing → Words
 doneBy d w (stepping first second) = d .step w first second .words
 doneBy d w (running s) = d .run w s .words
@@ -89,11 +83,6 @@ doneBy d w (running s) = d .run w s .words
 unfoldable pub leftBy : Hosting → Words → List Doing → Words
 leftBy d w [] = w
 leftBy d w (x ∷ rest) = leftBy d (doneBy d w x) rest
-
--- the entries of a schedule that were run: those before the refused one; none where one can't be read
-abbrev pub ranOf : Finding → ℕ → List ℕ → List ℕ
-ranOf AllRead place s = take (2 * place) s
-ranOf (UnreadableAt at) place s = []
 
 -- A refused call changes no word; of a schedule, if no entry of it was run: the whole was refused, or its first entry.
 pub record RefusedWords (d : Hosting) : Type 0 where

@@ -320,7 +320,7 @@ as-held =
     }
 
 -- making's answer is its refusal
-answer-is : (ys : List Worker) (capacity edition : ℕ) → makeLent ys capacity edition .answer ≡ makeRefusal (length ys) capacity edition
+pub answer-is : (ys : List Worker) (capacity edition : ℕ) → makeLent ys capacity edition .answer ≡ makeRefusal (length ys) capacity edition
 unfolding makeLent accepted
 answer-is ys capacity edition = go (eqb (makeRefusal (length ys) capacity edition) 0) refl
   where

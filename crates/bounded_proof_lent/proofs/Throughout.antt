@@ -44,32 +44,37 @@ taken x (first ∷ second ∷ rest) =
     cond (eqb (stepLent (x .ring) (x .records) first second .answer) 0) (first ∷ second ∷ taken (stepLent (x .ring) (x .records) first second) rest)
     (taken (stepLent (x .ring) (x .records) first second) rest)
 
+-- a machine that is not broken is not broken as a ring and records
+pub sound-of : (n : ℕ) (m : Machine) → Whole n m → leb n recordsMost ≡ true → UnbrokenWith n m → brokenLent (meteredOf m) (m .workers) ≡ false
+sound-of n m u few o =
+    lent-unbroken (meteredOf m) (m .workers) (ap (λ (k : ℕ). leb k recordsMost) (u .0) ∙ few)
+    (subst (λ (k : ℕ). UnbrokenWith k (held (meteredOf m) (m .workers))) (sym (u .0)) (subst (UnbrokenWith n) (sym (held-again m (u .1 ∙ sym (u .0)))) o))
+
 -- ---- one step on what is not broken
 module _ (x : Lent) (sound : brokenLent (x .ring) (x .records) ≡ false) (first second : ℕ) where
-  abbrev next : Lent
+  abbrev pub next : Lent
   next = stepLent (x .ring) (x .records) first second
 
-  abbrev did : Did
+  abbrev pub did : Did
   did = turnOf (heldIn x) first second
 
-  next-is : next ≡ lentOf did
+  pub next-is : next ≡ lentOf did
   next-is = sym (step-turned (x .ring) (x .records) first second sound)
 
   whole-now : Whole (length (x .records)) (did .machine)
   whole-now = turned-whole (length (x .records)) (heldIn x) (refl, refl) first second
 
-  held-next : heldIn next ≡ did .machine
+  pub held-next : heldIn next ≡ did .machine
   held-next = ap heldIn next-is ∙ held-again (did .machine) (whole-now .1 ∙ sym (whole-now .0))
 
-  sound-next : brokenLent (next .ring) (next .records) ≡ false
+  pub sound-next : brokenLent (next .ring) (next .records) ≡ false
   sound-next =
       subst (λ (z : Lent). brokenLent (z .ring) (z .records) ≡ false) (sym next-is)
-      (lent-unbroken (meteredOf (did .machine)) (did .machine .workers) (ap (λ (k : ℕ). leb k recordsMost) (whole-now .0) ∙ few-lent (x .ring) (x .records) sound)
-      (subst (λ (k : ℕ). UnbrokenWith k (held (meteredOf (did .machine)) (did .machine .workers))) (sym (whole-now .0))
-      (subst (UnbrokenWith (length (x .records))) (sym (held-again (did .machine) (whole-now .1 ∙ sym (whole-now .0)))) (turn-of-unbroken SixtyFour (heldIn x) (unbroken-lent (x .ring) (x .records) sound) first second))))
+      (sound-of (length (x .records)) (did .machine) whole-now (few-lent (x .ring) (x .records) sound)
+      (turn-of-unbroken SixtyFour (heldIn x) (unbroken-lent (x .ring) (x .records) sound) first second))
 
   -- refused: what was found
-  stays : eqb (next .answer) 0 ≡ false → heldIn next ≡ heldIn x
+  pub stays : eqb (next .answer) 0 ≡ false → heldIn next ≡ heldIn x
   stays h = held-next ∙ unchanged (heldIn x) first second (ap (λ (z : Lent). eqb (z .answer) 0) (sym next-is) ∙ h)
 
 -- ---- all of them
@@ -147,7 +152,7 @@ module _ (ys : List Worker) (capacity edition : ℕ) (made : makeLent ys capacit
       go true ea false eb c ec h = absurd (omega arith)
       go false ea b eb c ec h = absurd (omega arith)
 
-  allowed : AllowedWith n capacity n edition
+  pub allowed : AllowedWith n capacity n edition
   allowed =
       record {
         slot-some = limit-some capacity slotsMost true (sym (passed .slots)) refl;
@@ -166,18 +171,16 @@ module _ (ys : List Worker) (capacity edition : ℕ) (made : makeLent ys capacit
   unfolding freshWith idlers
   fresh-whole = (length-replicate n idler, refl)
 
-  held-fresh : heldIn (makeLent ys capacity edition) ≡ freshWith n capacity n edition
+  pub held-fresh : heldIn (makeLent ys capacity edition) ≡ freshWith n capacity n edition
   unfolding accepted
   held-fresh = ap heldIn made-is ∙ held-again (freshWith n capacity n edition) (fresh-whole .1 ∙ sym (fresh-whole .0))
 
   pub sound-fresh : brokenLent (makeLent ys capacity edition .ring) (makeLent ys capacity edition .records) ≡ false
   unfolding accepted
   sound-fresh =
-      let F = freshWith n capacity n edition in
       subst (λ (z : Lent). brokenLent (z .ring) (z .records) ≡ false) (sym made-is)
-      (lent-unbroken (meteredOf F) (F .workers) (ap (λ (k : ℕ). leb k recordsMost) (fresh-whole .0) ∙ le-leb n recordsMost (limit-most n recordsMost true (sym (passed .count)) refl))
-      (subst (λ (k : ℕ). UnbrokenWith k (held (meteredOf F) (F .workers))) (sym (fresh-whole .0))
-      (subst (UnbrokenWith n) (sym (held-again F (fresh-whole .1 ∙ sym (fresh-whole .0)))) (fresh-unbroken n capacity n edition (passed .slots) (limit-own n (passed .count)) (passed .ed)))))
+      (sound-of n (freshWith n capacity n edition) fresh-whole (le-leb n recordsMost (limit-most n recordsMost true (sym (passed .count)) refl))
+      (fresh-unbroken n capacity n edition (passed .slots) (limit-own n (passed .count)) (passed .ed)))
     where
       limit-own : (k : ℕ) → inLimits k recordsMost ≡ true → inLimits k k ≡ true
       limit-own k h = limits-true k k (limit-some k recordsMost true (sym h) refl) (omega arith)

@@ -9,9 +9,10 @@ use Rattle.bounded_places.specs.declared.Worker.{Worker}
 use Rattle.bounded_machine.specs.Machine.{machineOf, recordOf, idler, freshWith, accepted}
 use Rattle.bounded_machine.specs.Turn.{turnOf}
 use Rattle.bounded_parts.specs.declared.Metered.{Metered}
-use Rattle.bounded_lent.specs.Lent.{brokenLent, Lent, lent, lentOf, stepLent, runLent, makeLent, capacityLent, contentsLent}
-use Rattle.bounded_demands.specs.Lending.{Lending, item11, Promise, promised}
-use Rattle.bounded_demands.specs.Demands.{AsHeld, OnlyTheActing, LentUnbroken, OnlyOneLent, LentThroughout, SixtyFourRecords}
+use Rattle.bounded_parts.specs.Parts.{report, Filled, filled}
+use Rattle.bounded_lent.specs.Lent.{brokenLent, Lent, lent, lentOf, stepLent, Gone, gone, runLent, makeLent, capacityLent, contentsLent}
+use Rattle.bounded_demands.specs.Lending.{Lending, item11, Promise, promised, refusalOf, stepByStep}
+use Rattle.bounded_demands.specs.Demands.{AsHeld, OnlyTheActing, LentUnbroken, OnlyOneLent, LentThroughout, SixtyFourRecords, LentDemand1, LentEachNumber, LentMixed}
 
 abbrev pub none : ℕ
 none = 0
@@ -44,6 +45,26 @@ refusedIdles = 6
 abbrev pub recordsOpen : ℕ
 recordsOpen = 7
 
+-- a refused schedule is undone: it leaves all as it was
+abbrev pub refusedUndone : ℕ
+refusedUndone = 8
+
+-- a schedule with half an entry at its end is refused by 12
+abbrev pub oddByTwelve : ℕ
+oddByTwelve = 9
+
+-- a schedule is run up to the entry that can't be read
+abbrev pub unsearched : ℕ
+unsearched = 10
+
+-- a schedule is told as run, and is not
+abbrev pub notRun : ℕ
+notRun = 11
+
+-- refused contents write a 7 at the buffer's start
+abbrev pub refusedWrites : ℕ
+refusedWrites = 12
+
 abbrev withMeter : ℕ → Lent → Lent
 withMeter k x = lent (x .answer) (record { ring = x .ring .ring; meter = k }) (x .records)
 
@@ -68,8 +89,25 @@ makeWith n ys capacity edition =
     (cond (eqb n refusedIdles) (cond (eqb (makeLent ys capacity edition .answer) 0) (makeLent ys capacity edition) (withRecords (set ys 0 idler) (makeLent ys capacity edition)))
     (makeLent ys capacity edition))
 
+-- With slip number n: what a schedule leaves.
+abbrev runWith : ℕ → Metered → List Worker → List ℕ → Gone
+runWith n l ys s =
+    cond (eqb n meterStays) (gone (runLent l ys s .report) (record { ring = runLent l ys s .ring .ring; meter = l .meter }) (runLent l ys s .records))
+    (cond (eqb n refusedUndone) (cond (eqb (runLent l ys s .report .refusal) 0) (runLent l ys s) (gone (runLent l ys s .report) l ys))
+    (cond (eqb n oddByTwelve) (cond (eqb (runLent l ys s .report .refusal) 11) (gone (report 12 0) l ys) (runLent l ys s))
+    (cond (eqb n unsearched) (stepByStep item11 l ys s)
+    (cond (eqb n notRun) (gone (runLent l ys s .report) l ys)
+    (runLent l ys s)))))
+
+-- With slip number n: what contents leave.
+abbrev contentsWith : ℕ → Metered → List Worker → List ℕ → Filled
+contentsWith n l ys buffer =
+    cond (eqb n refusedWrites)
+    (cond (eqb (refusalOf (contentsLent l ys buffer .answer)) 0) (contentsLent l ys buffer) (filled (contentsLent l ys buffer .answer) (set buffer 0 7)))
+    (contentsLent l ys buffer)
+
 abbrev pub lendingWith : ℕ → Lending
-lendingWith n = record { broken = brokenLent; make = makeWith n; step = stepWith n; run = runLent; capacity = capacityLent; contents = contentsLent }
+lendingWith n = record { broken = brokenLent; make = makeWith n; step = stepWith n; run = runWith n; capacity = capacityLent; contents = contentsWith n }
 
 -- With slip number n: which answers of a step meet its promise.
 abbrev metBy : ℕ → Lent → Lent → Type 0
@@ -103,4 +141,4 @@ pub record Faithful : Type 1 where
   pub promise : givenPromise ≡ promised item11
 
 abbrev pub Stands : Type 0
-Stands = AsHeld given × OnlyTheActing given × LentUnbroken given × OnlyOneLent givenPromise × LentThroughout given × SixtyFourRecords given
+Stands = AsHeld given × OnlyTheActing given × LentUnbroken given × OnlyOneLent givenPromise × LentThroughout given × SixtyFourRecords given × LentDemand1 given × LentEachNumber given × LentMixed given

@@ -1,23 +1,31 @@
-// Document 01's eight runs, A to H, on the compiled code. The file `stdout` is written from the documents.
-use bounded_machine::Machine;
-use bounded_machine::Ran;
+// Document 01's eight runs, A to H, on the compiled code. The file `stdout` is written from the documents. Cases are rows (text_cases):
+//
+//     A C         the constants of a ring of capacity C
+//     B F S ..    a schedule on a ring of capacity 2
+//     o C W E     a machine of capacity C, with W workers, of edition E
+//     c W K I N   worker W begins the call of code K with the item I, and does N acts; with code 8 it begins none
+//     d W K I N   the same, told in its first line alone
+//     H C W       a making
 use bounded_machine::Tally;
 use bounded_places::Place;
+use bounded_text_faces::STEP;
+use bounded_text_words::WORDS;
 use bounded_words::Claim;
+use text_cases::nth;
 
 // A machine under way, with what is counted from its history and the acts of the last call.
 struct Scene {
-    machine: Machine,
+    words: [u64; WORDS],
     tally: Tally,
     acts: u64,
     refusal: u64,
 }
 
 fn opened(capacity: u64, workers: u64, edition: u64) -> Scene {
-    let made = bounded::make(capacity, workers, edition);
-    let m = made.machine;
+    let made = bounded_text_faces::make(capacity, workers, edition);
+    let m = made.words;
     Scene {
-        machine: m,
+        words: m,
         tally: Tally {
             tail: Claim(0),
             head: Claim(0),
@@ -28,24 +36,30 @@ fn opened(capacity: u64, workers: u64, edition: u64) -> Scene {
     }
 }
 
-// The tally after an entry, whose worker stood at this place: counted on where it was an act.
-fn counted(before: Tally, stood: Place, m: Machine, first: u64) -> Tally {
+fn place_of(m: [u64; WORDS], w: u64) -> Place {
+    let code = bounded_text_words::record(m, w, 0);
+    let first = bounded_text_words::record(m, w, 1);
+    bounded_codes::place_in(code, first, bounded_text_words::record(m, w, 2))
+}
+
+// The tally after an entry: counted on where it was an act.
+fn counted(t: Tally, before: [u64; WORDS], after: [u64; WORDS], first: u64) -> Tally {
     if first % 16 < 8 {
-        return before;
+        return t;
     }
-    bounded_stock::tally(before, stood, bounded_text_machine::place_of(m, first / 16))
+    bounded_stock::tally(t, place_of(before, first / 16), place_of(after, first / 16))
 }
 
 fn entry(s: Scene, first: u64, second: u64, acts: u64) -> Scene {
-    let stood = bounded_text_machine::place_of(s.machine, first / 16);
-    let did = bounded::step(s.machine, first, second);
-    let tally = counted(s.tally, stood, did.machine, first);
-    let after = did.machine;
+    let before = s.words;
+    let left = bounded_text_faces::enter(STEP, before, first, second);
+    let after = left.words;
+    let tally = counted(s.tally, before, after, first);
     Scene {
-        machine: after,
+        words: after,
         tally: tally,
         acts: acts,
-        refusal: did.refusal,
+        refusal: left.refusal,
     }
 }
 
@@ -64,7 +78,6 @@ fn go_on(s: Scene, worker: u64, acts: u64) -> Scene {
     now
 }
 
-// A call begun, by its code, and as many of its acts; the code of an act begins none.
 fn call(s: Scene, worker: u64, code: u64, item: u64, acts: u64) -> Scene {
     if code == 8 {
         return go_on(s, worker, acts);
@@ -72,39 +85,14 @@ fn call(s: Scene, worker: u64, code: u64, item: u64, acts: u64) -> Scene {
     go_on(entry(s, word(worker, code), item, 0), worker, acts)
 }
 
-// The n-th call of the runs from B to G: its worker, code, item and acts.
-fn part(n: usize, which: usize) -> u64 {
-    let calls = b"0055 \
-        0065 0205 0075 0083 \
-        0186 \
-        0601 0091 0205 0205 0203 \
-        0075 0182 1601 0804 1701 \
-        0075 0183 1303 1402 1200 1801 1801 ";
-    let at = 5 * (n % 32) + which % 4;
-    if at < calls.len() {
-        return (calls[at] % 16) as u64;
-    }
-    0
-}
-
-fn label(out: &mut [u8], n: usize, acts: u64, refusal: u64) -> usize {
-    let labels = b"B push 5|\
-        C push 6|C pop|C push 7|C push 8|\
-        D force_push 8|\
-        E close|E push 9|E pop|E pop|E pop|\
-        F push 7|F force_push 8, P1 and P2|F close|F force_push 8, to its end|F is_closed|\
-        G push 7|G force_push 8, before F7|G len|G is_empty|G pop begun|G pop|G pop|";
-    let none = [0u64; 0];
-    let p = text_output::nth(out, 0, labels, n, &none);
-    text_output::form(out, p, b": # acts, refusal #, ", &[acts, refusal])
-}
-
 // LABEL: ACTS acts, refusal R, h=H t=T m=M wN=PLACE
-fn say(n: usize, s: Scene, worker: u64) {
+fn say(label: &[u8], s: Scene, worker: u64) {
     let mut out = [0u8; 512];
-    let p = label(&mut out, n, s.acts, s.refusal);
-    let q = bounded_text_machine::text::standing(&mut out, p, worker, s.machine);
-    text_output::end(&mut out, q);
+    let p = text_output::text(&mut out, 0, label);
+    let q = text_output::form(&mut out, p, b": # acts, refusal #, ", &[s.acts, s.refusal]);
+    let m = s.words;
+    let r = bounded_text_words::text::standing(&mut out, q, worker, m);
+    text_output::end(&mut out, r);
 }
 
 fn say_claims(t: Tally) {
@@ -114,96 +102,157 @@ fn say_claims(t: Tally) {
     text_output::say(b"tail claims=# head claims=# stock=#\n", &claims);
 }
 
-// All of a scene; its first line alone while G's pop is under way.
-fn tell(n: usize, s: Scene, worker: u64) {
-    say(n, s, worker);
-    if n < 20 {
-        bounded_text_answers::entry::slots(s.machine);
-        say_claims(s.tally);
+fn called(s: Scene, n: &[u64], label: &[u8], all: bool) -> Scene {
+    let after = call(s, nth(n, 0), nth(n, 1), nth(n, 2), nth(n, 3));
+    say(label, after, nth(n, 0));
+    if all {
+        let m = after.words;
+        bounded_text_answers::entry::slots(m);
+        say_claims(after.tally);
     }
-}
-
-fn turn(s: Scene, n: usize) -> Scene {
-    let after = call(s, part(n, 0), part(n, 1), part(n, 2), part(n, 3));
-    tell(n, after, part(n, 0));
     after
 }
 
-// The calls from one number up to another.
-fn play(begin: Scene, from: usize, to: usize) {
-    let mut s = begin;
-    let mut n = from;
-    while n < to {
-        s = turn(s, n);
-        n += 1;
-    }
-}
-
 fn constants(capacity: u64) {
-    let made = bounded::make(capacity, 1, 1);
-    let n = bounded_text_machine::numbers(made.machine);
-    text_output::say(b"A capacity #: mark and lap # #\n", &[capacity, n[4], n[5]]);
+    let made = bounded_text_faces::make(capacity, 1, 1);
+    let m = made.words;
+    let numbers = [
+        capacity,
+        m[bounded_text_words::MARK],
+        m[bounded_text_words::LAP],
+    ];
+    text_output::say(b"A capacity #: mark and lap # #\n", &numbers);
 }
 
-fn run_a() {
-    constants(1);
-    constants(2);
-    constants(3);
-    constants(4);
-    constants(255);
-    constants(256);
-    constants(1024);
-}
-
-// lost=D,S, of worker 0 (document 02, item 8)
-fn say_lost(out: &mut [u8], at: usize, m: Machine) -> usize {
-    let workers = m.workers;
-    let r = workers[0];
-    text_output::form(out, at, b" lost=#,#", &[r.differed, r.failed])
-}
-
-fn say_ran(r: Ran) {
+// By the document's own words, as one schedule; with lost=D,S, of worker 0 (document 02, item 8).
+fn whole(schedule: &[u64]) {
     let mut out = [0u8; 512];
+    let made = bounded_text_faces::make(2, 1, 1);
+    let fresh = made.words;
+    let left = bounded_text_faces::run(fresh, schedule);
+    let m = left.words;
     let p = text_output::text(&mut out, 0, b"B as one schedule: ");
-    let q = bounded_text_machine::text::entry(&mut out, p, r.place, r.refusal, 0, r.machine);
-    let s = say_lost(&mut out, q, r.machine);
-    text_output::end(&mut out, s);
-    bounded_text_answers::entry::slots(r.machine);
-}
-
-// B by the document's own words, as one schedule.
-fn run_b_whole() {
-    let made = bounded::make(2, 1, 1);
-    let words_of = [0, 5, 8, 0, 8, 0, 8, 0, 8, 0, 8, 0];
-    say_ran(bounded::run(made.machine, &words_of));
+    let q = bounded_text_words::text::entry(&mut out, p, left.place, left.refusal, 0, m);
+    let lost = [
+        bounded_text_words::record(m, 0, 3),
+        bounded_text_words::record(m, 0, 4),
+    ];
+    let r = text_output::form(&mut out, q, b" lost=#,#", &lost);
+    text_output::end(&mut out, r);
+    bounded_text_answers::entry::slots(m);
 }
 
 // H CAPACITY WORKERS: REFUSAL, and the numbers of workers and slots that came of it.
 fn making(capacity: u64, workers: u64) {
-    let made = bounded::make(capacity, workers, 1);
-    let n = bounded_text_machine::numbers(made.machine);
-    let numbers = [capacity, workers, made.refusal, n[3], n[6]];
+    let made = bounded_text_faces::make(capacity, workers, 1);
+    let m = made.words;
+    let numbers = [
+        capacity,
+        workers,
+        made.refusal,
+        m[bounded_text_words::CAPACITY],
+        m[bounded_text_words::COUNT],
+    ];
     text_output::say(b"H make # #: # capacity=# workers=#\n", &numbers);
 }
 
-fn run_h() {
-    making(0, 1);
-    making(1025, 1);
-    making(1, 1);
-    making(1024, 1);
-    making(1, 0);
-    making(1, 17);
-    making(1, 1);
-    making(1, 16);
+// The rows that need no scene.
+fn tell(letter: u8, n: &[u64]) {
+    match letter {
+        b'A' => constants(nth(n, 0)),
+        b'B' => whole(n),
+        b'H' => making(nth(n, 0), nth(n, 1)),
+        _ => {}
+    }
+}
+
+fn after(s: Scene, letter: u8, n: &[u64], label: &[u8]) -> Scene {
+    match letter {
+        b'o' => opened(nth(n, 0), nth(n, 1), nth(n, 2)),
+        b'c' => called(s, n, label, true),
+        b'd' => called(s, n, label, false),
+        _ => s,
+    }
+}
+
+fn turn(s: Scene, cases: &[u8], at: usize) -> Scene {
+    let mut list = [0u64; text_cases::NUMBERS];
+    let count = text_cases::numbers(cases, at, &mut list);
+    let letter = text_cases::letter(cases, at);
+    let n = text_cases::first(&list, count);
+    tell(letter, n);
+    after(s, letter, n, text_cases::label(cases, at))
+}
+
+fn play(begin: Scene, cases: &[u8]) {
+    let mut s = begin;
+    let mut at = 0;
+    let mut turns = cases.len();
+    while turns > 0 && at < cases.len() {
+        s = turn(s, cases, at);
+        at = text_cases::next(cases, at);
+        turns -= 1;
+    }
+}
+
+fn run_f(edition: u64) {
+    play(
+        opened(1, 2, edition),
+        b"c 0 0 7 5 |F push 7\n\
+        c 0 1 8 2 |F force_push 8, P1 and P2\n\
+        c 1 6 0 1 |F close\n\
+        c 0 8 0 4 |F force_push 8, to its end\n\
+        c 1 7 0 1 |F is_closed\n",
+    );
 }
 
 fn main() {
-    run_a();
-    run_b_whole();
-    play(opened(2, 1, 1), 0, 11);
-    play(opened(1, 2, 1), 11, 16);
+    let none = opened(0, 0, 0);
+    play(
+        none,
+        b"A 1 |\n\
+        A 2 |\n\
+        A 3 |\n\
+        A 4 |\n\
+        A 255 |\n\
+        A 256 |\n\
+        A 1024 |\n\
+        B 0 5 8 0 8 0 8 0 8 0 8 0 |\n\
+        o 2 1 1 |\n\
+        c 0 0 5 5 |B push 5\n\
+        c 0 0 6 5 |C push 6\n\
+        c 0 2 0 5 |C pop\n\
+        c 0 0 7 5 |C push 7\n\
+        c 0 0 8 3 |C push 8\n\
+        c 0 1 8 6 |D force_push 8\n\
+        c 0 6 0 1 |E close\n\
+        c 0 0 9 1 |E push 9\n\
+        c 0 2 0 5 |E pop\n\
+        c 0 2 0 5 |E pop\n\
+        c 0 2 0 3 |E pop\n",
+    );
+    run_f(1);
     text_output::say(b"F in edition 2:\n", &[]);
-    play(opened(1, 2, 2), 11, 16);
-    play(opened(1, 2, 1), 16, 23);
-    run_h();
+    run_f(2);
+    play(
+        opened(1, 2, 1),
+        b"c 0 0 7 5 |G push 7\n\
+        c 0 1 8 3 |G force_push 8, before F7\n\
+        c 1 3 0 3 |G len\n\
+        c 1 4 0 2 |G is_empty\n\
+        d 1 2 0 0 |G pop begun\n\
+        d 1 8 0 1 |G pop\n\
+        d 1 8 0 1 |G pop\n",
+    );
+    play(
+        none,
+        b"H 0 1 |\n\
+        H 1025 1 |\n\
+        H 1 1 |\n\
+        H 1024 1 |\n\
+        H 1 0 |\n\
+        H 1 17 |\n\
+        H 1 1 |\n\
+        H 1 16 |\n",
+    );
 }

@@ -1,20 +1,26 @@
 // Demand 3's numbers on the compiled code: schedules that leave worker 0 where its call, alone, needs exactly so many acts.
 // The numbers of `stdout` are document 01's.
-use bounded_machine::Machine;
+use bounded_text_faces::Left;
+use bounded_text_faces::STEP;
+use bounded_text_words::WORDS;
 
-fn busy(m: Machine) -> bool {
-    let v = bounded_places::view_of(bounded_text_machine::place_of(m, 0));
-    v.busy
+// By the code of its place: 0 to 10 are those of idle workers.
+fn busy(m: [u64; WORDS]) -> bool {
+    10 < bounded_text_words::record(m, 0, 0)
 }
 
 // Acts of worker 0 alone until it is idle; at most 9 are tried.
-fn needed(m: Machine) -> u64 {
-    let mut now = m;
+fn needed(m: [u64; WORDS]) -> u64 {
+    let mut now = Left {
+        refusal: 0,
+        place: 0,
+        words: m,
+    };
     let mut n = 0;
     while n < 9 {
-        if busy(now) {
-            let did = bounded::step(now, 8, 0);
-            now = did.machine;
+        let words = now.words;
+        if busy(words) {
+            now = bounded_text_faces::enter(STEP, words, 8, 0);
             n += 1;
         } else {
             return n;
@@ -24,20 +30,23 @@ fn needed(m: Machine) -> u64 {
 }
 
 // CALL at PLACE: ACTS
-fn tell(call: &[u8], m: Machine) {
+fn tell(call: &[u8], m: [u64; WORDS]) {
     let mut out = [0u8; 512];
     let n = needed(m);
     let p = text_output::text(&mut out, 0, call);
-    let q = bounded_text_places::text::place(&mut out, p, bounded_text_machine::place_of(m, 0));
+    let q = bounded_text_words::text::place(&mut out, p, 0, m);
     let r = text_output::form(&mut out, q, b": #", &[n]);
     text_output::end(&mut out, r);
 }
 
 fn say(call: &[u8], capacity: u64, schedule: &[u64]) {
-    let made = bounded::make(capacity, 2, 1);
-    let r = bounded::run(made.machine, schedule);
-    tell(call, r.machine);
+    let made = bounded_text_faces::make(capacity, 2, 1);
+    let fresh = made.words;
+    let left = bounded_text_faces::run(fresh, schedule);
+    let m = left.words;
+    tell(call, m);
 }
+
 // A word of tail that another push has put out of date.
 fn pushes() {
     say(

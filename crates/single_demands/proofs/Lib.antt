@@ -1,3 +1,4 @@
 pub mod Refusals
+pub mod Numbers
 pub mod Attained
 pub mod Runs

@@ -1,10 +1,10 @@
--- Demand 1: refusals are numbered and change nothing, and only one answer meets a promise.
+-- Demand 1: refusals change nothing, and only one answer meets a promise. (Their numbers: Numbers.antt.)
 use Prim.Native.Nat.{ℕ, _%_, _<_, _≤_}
 use mathlib.Core.Path.{_≡_, refl, sym, _∙_}
-use mathlib.Core.Bool.{Bool, true, false}
+use mathlib.Core.Bool.{true, false}
 use mathlib.Core.List.{List}
 use native.Mathlib.Omega.{arith}
-use lib.Dec.{ltb, eqb}
+use lib.Dec.{ltb}
 use lib.ListN.{length, getD-replicate}
 use borrow.Author.Tests.{ne-eqb, ltb-true}
 use Rattle.queue_entries.specs.Limits.{workersMost, inLimits}
@@ -13,21 +13,20 @@ use Rattle.queue_entries.specs.declared.Entry.the-variants.{Unreadable, Asks}
 use Rattle.queue_entries.specs.Entries.{entryOf}
 use Rattle.queue_entries.specs.declared.Verdict.{Verdict}
 use Rattle.queue_entries.specs.declared.Verdict.the-variants.{Refuse, Start, Move}
-use Rattle.queue_schedules.proofs.Schedules.{either, picked, schedule-first, schedule-read, schedule-low, schedule-keeps, schedule-unread, schedule-kept}
-use Rattle.queue_schedules.proofs.Verdicts.{Sense, sense}
+use Rattle.queue_schedules.proofs.Schedules.{either, picked, schedule-first, schedule-read, schedule-keeps, schedule-unread, schedule-kept}
 use Rattle.single_places.specs.declared.Place.{Place}
-use Rattle.single_places.specs.Places.{viewOf, beginOf}
+use Rattle.single_places.specs.Places.{beginOf}
 use Rattle.single_machine.specs.declared.Machine.{Machine}
 use Rattle.single_machine.specs.declared.Did.{Did}
 use Rattle.single_machine.specs.Machine.{idler, idlers, placeOf, freshOf, blank, refused, accepted}
-use Rattle.single_machine.specs.Broken.{recordFits, brokenOf, idleFrom}
-use Rattle.single_machine.specs.Contents.{countIn, contentsRefusal, written}
-use Rattle.single_machine.specs.Turn.{verdictOf, carried, turn, turnOf, turnOfBy, begun, acted}
+use Rattle.single_machine.specs.Broken.{recordFits, brokenOf}
+use Rattle.single_machine.specs.Contents.{contentsRefusal, written}
+use Rattle.single_machine.specs.Turn.{verdictOf, carried, turn, turnOf, turnOfBy}
 use Rattle.single_machine.specs.Run.{runOf}
 use Rattle.single_machine.proofs.Kept.{Unbroken, unbroken-of, of-unbroken, begun-unbroken, acted-unbroken}
 use Rattle.single_machine.proofs.Turns.{single-queue, refused-kept, accepted-kept, turn-of-kept}
 use Rattle.single.specs.Single as face
-use Rattle.single_demands.specs.Demands.{RefusedUnchanged, Numbered, ListFirst, StaysUnbroken, OnlyOne}
+use Rattle.single_demands.specs.Demands.{RefusedUnchanged, ListFirst, StaysUnbroken, OnlyOne}
 
 -- ---- one answer
 one : {A : Type 0} (d x y : A) → x ≡ d → y ≡ d → x ≡ y
@@ -44,34 +43,6 @@ only-one = record {
   capacity = (λ m. one _);
   broken = (λ m. one _);
 }
-
--- ---- numbered
-abbrev Low : Did → Type 0
-Low d = d .refusal ≤ 11
-
-refused-low : (k : ℕ) (m : Machine) → k ≤ 11 → Low (refused k m)
-unfolding refused
-refused-low k m h = h
-
-accepted-low : (m : Machine) → Low (accepted m)
-unfolding accepted
-accepted-low m = omega arith
-
-carried-low : (m : Machine) (w : ℕ) (p : Place) (v : Verdict) → Sense (m .meter) (viewOf p .busy) v → Low (carried m w p v)
-carried-low m w p (Refuse k) h = refused-low k m (omega (arith, h .1))
-carried-low m w p (Start c) h = accepted-low (begun m w (beginOf c))
-carried-low m w p (Move lose) h = accepted-low (acted m w p)
-
-turn-low : (m : Machine) (x : Entry) → Low (turn m x)
-turn-low m Unreadable = refused-low 9 m (omega arith)
-turn-low m (Asks w o) =
-    picked Low (ltb w (m .count)) _ (refused 3 m)
-    (carried-low m w (placeOf (m .workers) w) (verdictOf (m .meter) (placeOf (m .workers) w) o) (sense (m .meter) (viewOf (placeOf (m .workers) w) .busy) false o))
-    (refused-low 3 m (omega arith))
-
-turn-of-low : (m : Machine) (a b : ℕ) → Low (turnOf m a b)
-unfolding turnOfBy
-turn-of-low m a b = turn-low m (entryOf a b)
 
 -- ---- what holds of a refusal 6 or 9 and of a turn holds of the three of the face
 module _ (P : Machine → Did → Type 0) (no : (m : Machine) (k : ℕ) → k ≤ 11 → P m (refused k m)) (each : (m : Machine) (a b : ℕ) → P m (turnOf m a b)) (m : Machine) (a b : ℕ) where
@@ -90,28 +61,6 @@ module _ (P : Machine → Did → Type 0) (no : (m : Machine) (k : ℕ) → k �
   of-act =
       picked (P m) (brokenOf m) (refused 6 m) _ (no m 6 (omega arith))
       (picked (P m) (ltb (a % 16) 8) (refused 9 m) (turnOf m a b) (no m 9 (omega arith)) (each m a b))
-
-make-low : (w : ℕ) → Low (face.makeOf w)
-unfolding face.makeOf
-make-low w = picked Low (inLimits w workersMost) (accepted (freshOf w)) (refused 2 blank) (accepted-low (freshOf w)) (refused-low 2 blank (omega arith))
-
-contents-low : (m : Machine) (room : ℕ) → contentsRefusal m room ≤ 11
-unfolding contentsRefusal
-contents-low m room =
-    picked (λ (k : ℕ). k ≤ 11) (brokenOf m) 6 _ (omega arith)
-    (picked (λ (k : ℕ). k ≤ 11) (idleFrom 0 (m .workers)) _ 4 (picked (λ (k : ℕ). k ≤ 11) (ltb room (countIn m)) 10 0 (omega arith) (omega arith)) (omega arith))
-
-pub numbered : Numbered
-numbered =
-    let low : (m : Machine) (k : ℕ) → k ≤ 11 → Low (refused k m) = (λ m k. refused-low k m) in
-    record {
-      make = make-low;
-      step = of-step (λ m. Low) low turn-of-low;
-      begin = of-begin (λ m. Low) low turn-of-low;
-      act = of-act (λ m. Low) low turn-of-low;
-      run = schedule-low single-queue brokenOf 11 (omega arith) turn-of-low;
-      contents = contents-low;
-    }
 
 -- ---- unchanged
 abbrev Kept : Machine → Did → Type 0

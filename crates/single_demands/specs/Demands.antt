@@ -14,6 +14,7 @@ use Rattle.queue_entries.specs.declared.Told.{Told}
 use Rattle.queue_entries.specs.Told.{told}
 use Rattle.queue_entries.specs.declared.Entry.the-variants.{Unreadable}
 use Rattle.queue_entries.specs.Entries.{entryOf}
+use Rattle.queue_numbers.specs.Numbers.{has, Numbers}
 use Rattle.queue_plain.specs.Plain.{answerOf, Pushed}
 use Rattle.queue_plain.specs.Story.{Does, actsIn, fresh, cameFrom, wentFrom}
 use Rattle.queue_plain.specs.Story.{itemsOf as itemsBegun}
@@ -141,14 +142,26 @@ pub record RefusedUnchanged : Type 0 where
   pub unread : (m : Machine) (s : List ℕ) → runOf m s .refusal ≡ 9 → runOf m s .machine ≡ m
   pub contents : (m : Machine) (buffer : List ℕ) → (contentsRefusal m (length buffer) ≡ 0 → ⊥) → written m buffer ≡ buffer
 
--- Demand 1: a refusal is one of the eleven.
-pub record Numbered : Type 0 where
-  pub make : (workers : ℕ) → makeOf workers .refusal ≤ 11
-  pub step : (m : Machine) (first second : ℕ) → stepOf m first second .refusal ≤ 11
-  pub begin : (m : Machine) (first second : ℕ) → beginOf m first second .refusal ≤ 11
-  pub act : (m : Machine) (first second : ℕ) → actOf m first second .refusal ≤ 11
-  pub run : (m : Machine) (s : List ℕ) → runOf m s .refusal ≤ 11
-  pub contents : (m : Machine) (room : ℕ) → contentsRefusal m room ≤ 11
+-- The numbers that the functions of crate single give.
+abbrev pub refusals : Numbers Machine
+refusals =
+    record {
+      make = λ workers. makeOf workers .refusal;
+      step = λ m first second. stepOf m first second .refusal;
+      begin = λ m first second. beginOf m first second .refusal;
+      act = λ m first second. actOf m first second .refusal;
+      run = λ m s. runOf m s .refusal;
+      contents = contentsRefusal;
+    }
+
+-- Demand 1: refusals are numbered, and each function gives these numbers alone; 0 is none.
+pub record Numbered (n : Numbers Machine) : Type 0 where
+  pub make : (workers : ℕ) → has (0 ∷ 2 ∷ []) (n .make workers) ≡ true
+  pub step : (m : Machine) (first second : ℕ) → has (0 ∷ 3 ∷ 4 ∷ 5 ∷ 6 ∷ 7 ∷ 8 ∷ 9 ∷ []) (n .step m first second) ≡ true
+  pub begin : (m : Machine) (first second : ℕ) → has (0 ∷ 3 ∷ 4 ∷ 6 ∷ 9 ∷ []) (n .begin m first second) ≡ true
+  pub act : (m : Machine) (first second : ℕ) → has (0 ∷ 3 ∷ 5 ∷ 6 ∷ 7 ∷ 8 ∷ 9 ∷ []) (n .act m first second) ≡ true
+  pub run : (m : Machine) (s : List ℕ) → has (0 ∷ 3 ∷ 4 ∷ 5 ∷ 6 ∷ 7 ∷ 8 ∷ 9 ∷ 11 ∷ []) (n .run m s) ≡ true
+  pub contents : (m : Machine) (room : ℕ) → has (0 ∷ 4 ∷ 6 ∷ 10 ∷ []) (n .contents m room) ≡ true
 
 -- The list is checked first (document 02, item 7): of a machine that is not broken and a schedule of whole entries.
 pub record ListFirst : Type 0 where

@@ -1,9 +1,10 @@
 -- The demands on the one-slot queue, proved. What they say, in the words of request 1 and of document 01, is
 -- crates/single_demands/specs/Demands.antt; the table of runs is Runs.antt beside it.
 use Rattle.single_demands.specs.Notions.{source}
-use Rattle.single_demands.specs.Demands.{AnswersPlain, RoomNeeded, RefusedUnchanged, Numbered, ListFirst, StaysUnbroken, OnlyOne, UnderEverySchedule, ActByAct, WholeSchedules, ScheduledAlone, AtMost, Attained}
+use Rattle.single_demands.specs.Demands.{AnswersPlain, RoomNeeded, RefusedUnchanged, Numbered, ListFirst, StaysUnbroken, OnlyOne, refusals, UnderEverySchedule, ActByAct, WholeSchedules, ScheduledAlone, AtMost, Attained}
 use Rattle.single_demands.specs.Runs.{RunsHold}
-use Rattle.single_demands.proofs.Refusals.{refused-unchanged, numbered, list-first, stays-unbroken, only-one}
+use Rattle.single_demands.proofs.Refusals.{refused-unchanged, list-first, stays-unbroken, only-one}
+use Rattle.single_demands.proofs.Numbers.{numbered}
 use Rattle.single_demands.proofs.Attained.{at-most, numbers-attained}
 use Rattle.single_demands.proofs.Runs.{runs-hold}
 use Rattle.single_proof_demand2.proofs.Demand2.{demand2, act-by-act, whole-schedules}
@@ -17,7 +18,7 @@ what-an-answer-means = (answers-plain, room-needed)
 
 -- 1. Any machine, entry or schedule handed in gets an answer or a numbered refusal (the functions of crate single have no
 -- `requires`); a refused step changes nothing; only one answer meets a promise.
-pub demand-1 : RefusedUnchanged × Numbered × ListFirst × StaysUnbroken × OnlyOne
+pub demand-1 : RefusedUnchanged × Numbered refusals × ListFirst × StaysUnbroken × OnlyOne
 demand-1 = (refused-unchanged, numbered, list-first, stays-unbroken, only-one)
 
 -- 2. Under every schedule from a fresh machine: each act is the one action of the source; an item goes out at most once, the one of the

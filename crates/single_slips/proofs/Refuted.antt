@@ -11,6 +11,7 @@ use Rattle.queue_entries.specs.Schedules.{runBy, searchBy, scheduleBy, historyB
 use Rattle.queue_entries.specs.Entries.{strayOf, orderOf, entryOf}
 use Rattle.queue_entries.specs.Limits.{all, inLimits}
 use Rattle.queue_schedules.specs.Alone.{acts, passedBy, ownActsBy}
+use Rattle.queue_numbers.specs.Numbers.{has}
 use Rattle.single_words.specs.Words.{state, same, lockedIn, pushedIn, closedIn, unlocked, takenOf, closedOf}
 use Rattle.single_places.specs.declared.Answer.{Answer}
 use Rattle.single_places.specs.declared.Answer.the-variants.{Nothing, Pushed, Full, Closed, Displaced, Popped, Empty, PopClosed, Len, Yes, No}
@@ -148,7 +149,7 @@ unfolding strayOf orderOf entryOf
 readable e = let q : _≡_ {A = ℕ} 0 1 = cc in omega arith
 
 pub refuted : Refuted
-unfolding same lockedIn pushedIn closedIn unlocked takenOf closedOf strayOf orderOf entryOf stay stateTo valueTo exchanged unlockedIn idlers freshOf refused accepted all inLimits recordFits idleFrom brokenOf contentsOf begun stored actedBy turnOfBy ran runBy searchBy scheduleBy historyBy acts passedBy ownActsBy waitingFrom closedBy anyIn heldBy standing runsFrom always busyAlong
+unfolding has same lockedIn pushedIn closedIn unlocked takenOf closedOf strayOf orderOf entryOf stay stateTo valueTo exchanged unlockedIn idlers freshOf refused accepted all inLimits recordFits idleFrom brokenOf contentsOf begun stored actedBy turnOfBy ran runBy searchBy scheduleBy historyBy acts passedBy ownActsBy waitingFrom closedBy anyIn heldBy standing runsFrom always busyAlong
 refuted =
     record {
       plain-push-drops = plain-push-drops;
@@ -213,6 +214,7 @@ refuted =
           λ l. let q : _≡_ {A = ℕ} 0 1 = ap tellAt (l 1 (next lenBesidePush) call.Len looks-len (acting (slipped lenUnlocked) (reached lenBesidePush) 1 refl refl) refl) in omega arith;
       lookers-empty =
           λ l. let q : _≡_ {A = ℕ} 1 0 = ap tellAt (l 1 (next emptyAfterClose) call.IsEmpty looks-empty (acting (slipped emptyIsZero) (reached emptyAfterClose) 1 refl refl) refl) in omega arith;
+      numbered = λ n. true≢false (sym (n .make 1));
       accepted = λ n. let q : _≡_ {A = ℕ} 8 0 = n 1 refl (omega arith) in omega arith;
       alone-push =
           λ a. late (slipped pushWaits) (reached pushOnFull) (past pushOnFull) 1 3 refl (a 1 refl (omega arith) (no-hand (reached pushOnFull) 1 (λ e. refl) (λ e. absurd (e refl)) quiet));

@@ -3,6 +3,7 @@ use Prim.Native.Nat.{ℕ, _+_, _*_, _/_}
 use mathlib.Core.Bool.{cond}
 use mathlib.Core.Path.{_≡_}
 use lib.Dec.{eqb}
+use Rattle.queue_numbers.specs.Numbers.{Numbers}
 use Rattle.single_words.specs.Words.{state, same, lockedIn, pushedIn, closedIn, filled, unlocked, takenOf}
 use Rattle.single_places.specs.declared.Single.{Single}
 use Rattle.single_places.specs.declared.Answer.the-variants.{Pushed, Full, Popped, Empty, Len, Yes, No}
@@ -10,12 +11,13 @@ use Rattle.single_places.specs.declared.Place.{Place}
 use Rattle.single_places.specs.declared.Place.the-variants.{Idle, A1, A2, A3, B1, B2, B3, B4, B5, C1, C2, C3, Len1, Empty1, Full1, Close1, IsClosed1}
 use Rattle.single_acts.specs.declared.Acted.{Acted}
 use Rattle.single_acts.specs.Acts.{stay, stateTo, valueTo, exchanged, unlockedIn, actOf}
+use Rattle.single_machine.specs.declared.Machine.{Machine}
 use Rattle.single_machine.specs.Machine.{refused}
 use Rattle.single_machine.specs.Turn.{turnOf}
 use Rattle.single_machine.specs.Run.{ran, runFrom}
 use Rattle.single_machine.specs.History.{historyOf}
 use Rattle.single_demands.specs.Notions.{Definition, byTable, source}
-use Rattle.single_demands.specs.Demands.{AnswersPlain, UnderEverySchedule, ActByAct, WholeSchedules, ScheduledAlone}
+use Rattle.single_demands.specs.Demands.{refusals, AnswersPlain, UnderEverySchedule, ActByAct, WholeSchedules, ScheduledAlone}
 
 -- ---- the slips
 
@@ -208,6 +210,11 @@ deaf = record { turn = turnOf; run = λ m place s. ran 0 place m; history = hist
 
 abbrev pub refusing : Definition
 refusing = record { turn = λ m first second. refused 8 m; run = runFrom; history = historyOf }
+
+-- Numbers of refusals as the face gives them, but that a making is refused by 1, which document 01 gives to a capacity.
+abbrev pub givesOne : Numbers Machine
+givesOne =
+    record { make = λ workers. 1; step = refusals .step; begin = refusals .begin; act = refusals .act; run = refusals .run; contents = refusals .contents }
 
 -- ---- what stands
 

@@ -26,14 +26,14 @@ use Rattle.unbounded_demands.specs.Notions.{definition, Asking}
 use Rattle.unbounded_demands.specs.Demands.{NoBlock}
 
 -- the lowest free number is a block's or that of none
-lowest-most : (n k : ℕ) (l : List Block) → lowestFrom n k l ≤ k + n
+pub lowest-most : (n k : ℕ) (l : List Block) → lowestFrom n k l ≤ k + n
 unfolding lowestFrom
 lowest-most zero k l = omega arith
 lowest-most (suc n) k l =
     either (λ (x : ℕ). x ≤ k + suc n) (blockAt l k .free) k (lowestFrom n (k + 1) l) (λ h. omega arith) (λ h. omega (arith, lowest-most n (k + 1) l))
 
 module _ (m : Machine) (w first second : ℕ) (u : brokenOf sizes m ≡ false) (a : Asking (definition sizes actOf) m w first second) where
-  moves : turnWith sizes actOf m first second ≡ movedBy sizes actOf m w (placeOf (m .workers) w) false
+  pub moves : turnWith sizes actOf m first second ≡ movedBy sizes actOf m w (placeOf (m .workers) w) false
   unfolding turnWith
   moves =
       sym (pick.no (brokenOf sizes m) false _ (refused 6 m) _ (sym u) refl refl)

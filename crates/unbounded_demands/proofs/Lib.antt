@@ -1,3 +1,5 @@
 pub mod Refusals
+pub mod Numbers
 pub mod Blocks
+pub mod Pool
 pub mod Runs

@@ -1,19 +1,14 @@
--- Demand 1: refusals are numbered and change nothing, and only one answer meets a promise.
-use Prim.Native.Nat.{ℕ, _+_, _%_, _≤_}
-use mathlib.Core.Path.{_≡_, refl, sym, ap, _∙_}
-use mathlib.Core.Bool.{Bool, true, false, cond}
-use mathlib.Core.List.{List, [], _∷_}
-use mathlib.Core.Logic.{_⊎_, inl, inr}
+-- Demand 1: refusals change nothing, and only one answer meets a promise. (Their numbers: Numbers.antt.)
+use Prim.Native.Nat.{ℕ, _%_}
+use mathlib.Core.Path.{_≡_, refl, sym, _∙_}
+use mathlib.Core.Bool.{Bool, cond}
+use mathlib.Core.List.{List}
 use native.Mathlib.Omega.{arith}
-use lib.Dec.{ltb, eqb}
+use lib.Dec.{ltb}
 use lib.ListN.{length}
 use borrow.Author.Tests.{ne-eqb}
-use Rattle.queue_entries.specs.declared.Finding.{Finding}
-use Rattle.queue_entries.specs.declared.Finding.the-variants.{AllRead, UnreadableAt}
-use Rattle.queue_entries.specs.Schedules.{runBy, searchBy, searched, scheduleBy}
-use Rattle.queue_entries.specs.Limits.{workersMost, meterMost, inLimits}
+use Rattle.queue_entries.specs.Limits.{workersMost, inLimits}
 use Rattle.queue_entries.specs.declared.Order.{Order}
-use Rattle.queue_entries.specs.declared.Order.the-variants.{Begin, Act}
 use Rattle.queue_entries.specs.declared.Entry.{Entry}
 use Rattle.queue_entries.specs.declared.Entry.the-variants.{Unreadable, Asks}
 use Rattle.queue_entries.specs.declared.Verdict.{Verdict}
@@ -28,14 +23,14 @@ use Rattle.unbounded_machine.specs.declared.Machine.{Machine}
 use Rattle.unbounded_machine.specs.declared.Did.{Did}
 use Rattle.unbounded_machine.specs.declared.Ran.{Ran}
 use Rattle.unbounded_machine.specs.Machine.{placeOf, freshOf, blank, refused, accepted}
-use Rattle.unbounded_machine.specs.Broken.{brokenOf, allIdle}
-use Rattle.unbounded_machine.specs.Contents.{countIn, contentsRefusal, written}
+use Rattle.unbounded_machine.specs.Broken.{brokenOf}
+use Rattle.unbounded_machine.specs.Contents.{contentsRefusal, written}
 use Rattle.unbounded_machine.specs.Turn.{entryHere, verdictOf, lowestFree, begun, usedBy, takenBy, movedBy, carriedBy, turnBy, turnWith, turnOf}
-use Rattle.unbounded_machine.specs.Run.{ran, runFrom, runOf}
+use Rattle.unbounded_machine.specs.Run.{ran, runOf}
 use Rattle.unbounded_machine.proofs.Fits.{either}
 use Rattle.unbounded.proofs.Steps.{turn-unchanged}
 use Rattle.unbounded.specs.Unbounded as face
-use Rattle.unbounded_demands.specs.Demands.{RefusedUnchanged, ListFirst, Known, Numbered, OnlyOne}
+use Rattle.unbounded_demands.specs.Demands.{RefusedUnchanged, ListFirst, OnlyOne}
 
 -- ---- one answer
 one : {A : Type 0} (d x y : A) → x ≡ d → y ≡ d → x ≡ y
@@ -53,105 +48,9 @@ only-one = record {
   broken = (λ m. one _);
 }
 
--- ---- numbered
 -- a pick between two
 picked : {A : Type 0} (P : A → Type 0) (b : Bool) (x y : A) → P x → P y → P (cond b x y)
 picked P b x y p q = either P b x y (λ h. p) (λ h. q)
-
-low : {k : ℕ} → k ≤ 11 → Known k
-low h = inl h
-
-abbrev Low : Did → Type 0
-Low d = Known (d .refusal)
-
-refused-low : (k : ℕ) (m : Machine) → Known k → Low (refused k m)
-unfolding refused
-refused-low k m h = h
-
-accepted-low : (m : Machine) → Low (accepted m)
-unfolding accepted
-accepted-low m = low (omega arith)
-
-abbrev Sure : Verdict → Type 0
-Sure (Refuse k) = k ≤ 11
-Sure (Start c) = 0 ≤ 11
-Sure (Move lose) = 0 ≤ 11
-
-sure : (meter : ℕ) (p : Place) (o : Order) → Sure (verdictOf sizes meter p o)
-sure meter p (Begin c) = picked Sure (viewOf sizes p .busy) (Refuse 4) (Start c) (omega arith) (omega arith)
-sure meter p (Act lose) =
-    picked Sure (viewOf sizes p .busy) _ (Refuse 5)
-    (picked Sure (ltb meter meterMost) _ (Refuse 7)
-    (picked Sure lose _ (Move false) (picked Sure (viewOf sizes p .weak) (Move true) (Refuse 8) (omega arith) (omega arith)) (omega arith))
-    (omega arith))
-    (omega arith)
-
-moved-low : (m : Machine) (w : ℕ) (p : Place) (lose : Bool) → Low (movedBy sizes actOf m w p lose)
-unfolding movedBy
-moved-low m w p lose =
-    picked Low (viewOf sizes p .takes) _ (accepted (usedBy sizes actOf m w p lose))
-    (picked Low (ltb (lowestFree sizes (m .blocks)) 64) (accepted (takenBy sizes actOf m w p lose (lowestFree sizes (m .blocks)))) (refused 23 m) (accepted-low _) (refused-low 23 m (inr refl)))
-    (accepted-low _)
-
-carried-low : (m : Machine) (w : ℕ) (p : Place) (v : Verdict) → Sure v → Low (carriedBy sizes actOf m w p v)
-carried-low m w p (Refuse k) h = refused-low k m (low h)
-carried-low m w p (Start c) h = accepted-low (begun m w (beginOf c))
-carried-low m w p (Move lose) h = moved-low m w p lose
-
-entry-low : (m : Machine) (x : Entry) → Low (turnBy sizes actOf m x)
-entry-low m Unreadable = refused-low 9 m (low (omega arith))
-entry-low m (Asks w o) =
-    picked Low (ltb w (m .count)) _ (refused 3 m)
-    (carried-low m w (placeOf (m .workers) w) (verdictOf sizes (m .meter) (placeOf (m .workers) w) o) (sure (m .meter) (placeOf (m .workers) w) o)) (refused-low 3 m (low (omega arith)))
-
-turn-low : (m : Machine) (a b : ℕ) → Low (turnOf sizes m a b)
-unfolding turnWith
-turn-low m a b = picked Low (brokenOf sizes m) (refused 6 m) (turnBy sizes actOf m (entryHere a b)) (refused-low 6 m (low (omega arith))) (entry-low m (entryHere a b))
-
-from-low : (m : Machine) (i : ℕ) (s : List ℕ) → Known (runFrom sizes m i s .refusal)
-unfolding runBy ran
-from-low m i [] = low (omega arith)
-from-low m i (a ∷ []) = low (omega arith)
-from-low m i (a ∷ b ∷ s) =
-    picked (λ (r : Ran). Known (r .refusal)) (eqb (turnOf sizes m a b .refusal) 0) (runFrom sizes (turnOf sizes m a b .machine) (i + 1) s) (ran (turnOf sizes m a b .refusal) i m)
-    (from-low (turnOf sizes m a b .machine) (i + 1) s) (turn-low m a b)
-
-module _ (m : Machine) (a b : ℕ) where
-  begin-low : Low (face.beginOf sizes m a b)
-  unfolding face.beginOf
-  begin-low =
-      picked Low (brokenOf sizes m) (refused 6 m) _ (refused-low 6 m (low (omega arith)))
-      (picked Low (ltb (a % 16) 8) (turnOf sizes m a b) (refused 9 m) (turn-low m a b) (refused-low 9 m (low (omega arith))))
-
-  act-low : Low (face.actOf sizes m a b)
-  unfolding face.actOf
-  act-low =
-      picked Low (brokenOf sizes m) (refused 6 m) _ (refused-low 6 m (low (omega arith)))
-      (picked Low (ltb (a % 16) 8) (refused 9 m) (turnOf sizes m a b) (refused-low 9 m (low (omega arith))) (turn-low m a b))
-
-make-low : (w : ℕ) → Low (face.makeOf sizes w)
-unfolding face.makeOf
-make-low w =
-    picked Low (inLimits w workersMost) (accepted (freshOf sizes w)) (refused 2 (blank sizes)) (accepted-low (freshOf sizes w)) (refused-low 2 (blank sizes) (low (omega arith)))
-
-run-low : (m : Machine) (s : List ℕ) → Known (runOf sizes m s .refusal)
-unfolding scheduleBy ran
-run-low m s =
-    picked (λ (r : Ran). Known (r .refusal)) (brokenOf sizes m) (ran 6 0 m) _ (low (omega arith))
-    (picked (λ (r : Ran). Known (r .refusal)) (eqb (length s % 2) 1) (ran 11 0 m) _ (low (omega arith)) (found (searchBy entryHere 0 s)))
-  where
-    found : (f : Finding) → Known (searched (λ (d : Did). d .refusal) (λ (d : Did). d .machine) (turnOf sizes) ran m s f .refusal)
-    found AllRead = from-low m 0 s
-    found (UnreadableAt k) = low (omega arith)
-
-contents-low : (m : Machine) (room : ℕ) → Known (contentsRefusal sizes m room)
-unfolding contentsRefusal
-contents-low m room =
-    picked Known (brokenOf sizes m) 6 _ (low (omega arith))
-    (picked Known (allIdle sizes (m .workers)) _ 4 (picked Known (ltb room (countIn sizes m)) 10 0 (low (omega arith)) (low (omega arith))) (low (omega arith)))
-
-pub numbered : Numbered
-numbered = record { make = make-low; step = turn-low; begin = begin-low; act = act-low; run = run-low; contents = contents-low }
 
 -- ---- unchanged
 abbrev Kept : Machine → Did → Type 0

@@ -1,21 +1,35 @@
--- The statements of request 12, all of them, in its words. The notions (history, claim, hand ..) are defined in Notions.antt.
-use Prim.Native.Nat.{ℕ, _+_, _*_, _%_, _≤_, _<_}
+-- The statements of request 12, all of them, in its words, and what is said of the pool and of progress beside them. The notions (history, claim, hand ..) are
+-- defined in Notions.antt. The proofs are gathered in crates/unbounded_proof_all_demands/proofs/Headlines.antt.
+use Prim.Native.Nat.{ℕ, suc, _+_, _*_, _%_, _≤_, _<_}
 use mathlib.Core.Bool.{Bool, true, false, cond}
 use mathlib.Core.List.{List, [], _∷_, _++_}
-use mathlib.Core.Logic.{_⊎_}
+use mathlib.Core.Logic.{_↔_, _⊎_}
 use mathlib.Core.Path.{_≡_}
 use lib.ListN.{length, take}
 use Rattle.queue_entries.specs.declared.Told.{Told}
 use Rattle.queue_entries.specs.Told.{told}
-use Rattle.queue_entries.specs.declared.Entry.the-variants.{Unreadable}
+use Rattle.queue_entries.specs.Limits.{meterMost}
+use Rattle.queue_entries.specs.declared.Order.the-variants.{Act}
+use Rattle.queue_entries.specs.declared.Entry.the-variants.{Unreadable, Asks}
 use Rattle.queue_entries.specs.Entries.{entryOf}
+use Rattle.queue_entries.specs.declared.Call.{Call}
+use Rattle.queue_entries.specs.declared.Call.the-variants.{IsEmpty, Close}
+use Rattle.queue_plain.specs.Plain.{answerOf}
+use Rattle.queue_plain.specs.Story.{Does, actsIn, fresh, cameFrom, wentFrom}
+use Rattle.queue_plain.specs.Story.{itemsOf as itemsBegun}
 use Rattle.queue_schedules.specs.Reading.{Readable}
+use Rattle.queue_schedules.specs.Alone.{acts}
+use Rattle.queue_numbers.specs.Numbers.{Numbers}
+use Rattle.queue_numbers.specs.Numbers as numbers
 use Rattle.unbounded_words.specs.declared.Index.{Index}
 use Rattle.unbounded_words.specs.declared.Pointer.{Pointer}
 use Rattle.unbounded_words.specs.declared.Pointer.the-variants.{None, To}
-use Rattle.unbounded_words.specs.Words.{sizes}
+use Rattle.unbounded_words.specs.Words.{Sizes, sizes, markedOf, offsetOf, numberOf}
 use Rattle.unbounded_places.specs.declared.Answer.{Answer}
-use Rattle.unbounded_places.specs.declared.Place.the-variants.{Idle}
+use Rattle.unbounded_places.specs.declared.Block.{Block}
+use Rattle.unbounded_places.specs.declared.Answer.the-variants.{Pushed, Popped, PopClosed, Len, Yes, No}
+use Rattle.unbounded_places.specs.declared.Place.{Place}
+use Rattle.unbounded_places.specs.declared.Place.the-variants.{Idle, U15, V6, V10, Empty1, Empty2}
 use Rattle.unbounded_places.specs.Places.{viewOf}
 use Rattle.unbounded_acts.specs.Acts.{WRITE, has}
 use Rattle.unbounded_machine.specs.declared.Machine.{Machine}
@@ -30,7 +44,128 @@ use Rattle.unbounded_machine.specs.Run.{ran, runFrom, runOf}
 use Rattle.unbounded_machine.specs.History.{eventsOf}
 use Rattle.unbounded.specs.declared.Bound.{Bound}
 use Rattle.unbounded.specs.Unbounded.{makeOf, stepOf, beginOf, actOf, capacityOf}
-use Rattle.unbounded_demands.specs.Notions.{Definition, Allowed, machineAfter, actsOf, Acts, Asking, Pushing, Popping, Reads, valueAt, stateAt, takingsOf, freeingsOf, signOf, HandsOut, itemsOf, takersOf, LatestIn, ItemIn, waiting, Fifo, position, Truth, chained}
+use Rattle.unbounded_demands.specs.Notions.{Definition, Allowed, machineAfter, actsOf, Acts, Asking, Pushing, Popping, Reads, valueAt, stateAt, takingsOf, freeingsOf, signOf, HandsOut, itemsOf, takersOf, LatestIn, ItemIn, waiting, Fifo, position, Truth, chained, PushingIn, PoppingIn, OneSlot, Crossing, Tying, Leaving, Fronting, pushLeft, passed, ownActs, Holding, popMost, pushMost}
+use Rattle.unbounded_demands.specs.Claims.{CallClaim, WrittenIn, closedBy, ClosesYes, NoClaims}
+use Rattle.unbounded_demands.specs.Stories.{Story, storyOf, taskOf, Takes, itemIn, changeOf, actor, known, queueAt, replyOf, putBy, takenBy, givenBack, At, AfterNextTail, momentOf, placeIn, Emptying, Filling, lastClaimed, asksLen, asksEmpty}
+
+-- ==== What an answer means: every run of the unbounded queue is a run of a plain queue without capacity (crates/queue_plain), but for one answer of is_empty. The story of a schedule is its
+-- accepted entries, begins too; the plain queue along it, and what each call has put in and taken out, are `known` of Stories.antt.
+
+-- After the story `earlier` an act of its worker answers a. Inside the call that it is in, after its begin and not after this act, there is a moment at which the plain queue, asked that
+-- call, gives that answer; `momentOf` names it.
+pub record Answered (earlier : Story) (act : Event) (a : Answer) : Type 0 where
+  pub call : Call
+  pub its : known earlier .each (act .worker) .calls ≡ call ∷ []
+  pub moment : ℕ
+  pub named : momentOf (act .worker) (earlier ++ Does act ∷ []) ≡ At moment
+  pub begun : known earlier .each (act .worker) .begun < moment
+  pub inside : moment ≤ length earlier
+  pub plain : answerOf (queueAt moment earlier) call ∷ [] ≡ replyOf a
+
+-- The one answer that is none of the plain queue's, as the source has it: a no of is_empty while nothing waits. Nothing waits from its load of head's index on up to its answer; and at that load
+-- some pop stood between its claim of a block's last slot and its store of head's index (V6 to V9).
+pub record AtBlocksEnd (earlier : Story) (act : Event) (a : Answer) : Type 0 where
+  pub its : known earlier .each (act .worker) .calls ≡ IsEmpty ∷ []
+  pub says-no : a ≡ No
+  pub unnamed : momentOf (act .worker) (earlier ++ Does act ∷ []) ≡ AfterNextTail
+  -- its load of head's index
+  pub before : Story
+  pub load : Event
+  pub since : Story
+  pub is : earlier ≡ before ++ Does load ∷ since
+  pub its-own : load .worker ≡ act .worker
+  pub loads : load .before ≡ Empty1
+  pub begun : known earlier .each (act .worker) .begun < length before
+  pub nothing-waits : (n : ℕ) → length before ≤ n → n ≤ length earlier → queueAt n earlier .items ≡ []
+  pub leaving : (v : ℕ) × Emptying (placeIn v before)
+
+-- And it answers so there, but where tail's index stands at that block's end too: where is_empty answers yes although at its load of head's index some pop stood there, some push stands between
+-- its claim of a block's last slot and its add to tail's index (U9, U10).
+pub record YesAtBlocksEnd (earlier : Story) (w : ℕ) : Type 0 where
+  pub before : Story
+  pub load : Event
+  pub since : Story
+  pub is : earlier ≡ before ++ Does load ∷ since
+  pub its-own : load .worker ≡ w
+  pub loads : load .before ≡ Empty1
+  pub begun : known earlier .each w .begun < length before
+  pub filling : (v : ℕ) → Emptying (placeIn v before) → (u : ℕ) × Filling (placeIn u earlier)
+
+-- A call that answered Pushed put its item in once and took none out; Popped took out the one that it hands out and put in none; any other answer neither. Closed gives the item back that the
+-- call came with. After a close, whatever it answered, the queue is closed.
+pub record Meant (earlier : Story) (act : Event) (a : Answer) : Type 0 where
+  pub put : known (earlier ++ Does act ∷ []) .each (act .worker) .puts ≡ putBy a (itemsBegun (known earlier .each (act .worker) .calls))
+  pub took : known (earlier ++ Does act ∷ []) .each (act .worker) .takes ≡ takenBy a
+  pub back : (x : ℕ) → givenBack a ≡ x ∷ [] → itemsBegun (known earlier .each (act .worker) .calls) ≡ x ∷ []
+  pub closed : known earlier .each (act .worker) .calls ≡ Close ∷ [] → known (earlier ++ Does act ∷ []) .queue .closed ≡ true
+
+-- The plain queue just before an act that changes it: something waits where the front goes out; it is open where an item comes in; and no act does both. A close that answers yes finds it open.
+pub record Changes (earlier : Story) (act : Event) : Type 0 where
+  pub takes : changeOf act .takes ≡ true → 0 < length (known earlier .queue .items)
+  pub while-open : changeOf act .puts ≡ true → known earlier .queue .closed ≡ false
+  pub one : changeOf act .puts ≡ true → changeOf act .takes ≡ false
+  pub closes : changeOf act .closes ≡ true → act .after ≡ Idle Yes → known earlier .queue .closed ≡ false
+
+-- While a push is under way, the item in its record is the one of its begin.
+abbrev pub ItemKept : Machine → Story → Type 0
+ItemKept m s = (w x : ℕ) → itemIn (taskOf (placeOf (m .workers) w)) ≡ x ∷ [] → itemsBegun (known s .each w .calls) ≡ x ∷ []
+
+pub record NothingLost (d : Definition) (m : Machine) (s : Story) : Type 0 where
+  -- what came in, in order, is what went out, in order, and then what waits
+  pub in-order : cameFrom actor changeOf (fresh 0) s ≡ wentFrom actor changeOf (fresh 0) s ++ known s .queue .items
+  -- with all workers idle these are the contents
+  pub contents : allIdle (d .sizes) (m .workers) ≡ true → contentsOf (d .sizes) m ≡ known s .queue .items
+  -- what a call under way has taken out is one item at most, and then it stands between its claim and its answer (V6 to V15); what a call has taken out that has ended, it handed out (`Meant`)
+  pub hands : (w v : ℕ) (more : List ℕ) → viewOf (d .sizes) (placeOf (m .workers) w) .busy ≡ true → known s .each w .takes ≡ v ∷ more
+      → (more ≡ []) × (taskOf (placeOf (m .workers) w) ≡ Takes)
+
+-- A call that ended before another began comes before it in the plain queue's run.
+abbrev pub InCallOrder : Story → Type 0
+InCallOrder s =
+    (earlier between later : Story) (first second : Event) (a b : Answer) (i j : ℕ) → s ≡ earlier ++ Does first ∷ between ++ Does second ∷ later
+    → first .after ≡ Idle a → second .after ≡ Idle b → length earlier < known (earlier ++ Does first ∷ between) .each (second .worker) .begun
+    → momentOf (first .worker) (earlier ++ Does first ∷ []) ≡ At i → momentOf (second .worker) (earlier ++ Does first ∷ between ++ Does second ∷ []) ≡ At j → i < j
+
+pub record PlainThroughout (d : Definition) (m : Machine) (h : List Event) (s : Story) : Type 0 where
+  -- it is the story of the same acts
+  pub acts : actsIn s ≡ h
+  pub answers : (earlier later : Story) (act : Event) (a : Answer) → s ≡ earlier ++ Does act ∷ later → act .after ≡ Idle a
+      → (Answered earlier act a ⊎ AtBlocksEnd earlier act a) × Meant earlier act a
+  pub yes-there : (earlier later : Story) (act : Event) (h : Index) → s ≡ earlier ++ Does act ∷ later → act .before ≡ Empty2 h → act .after ≡ Idle Yes → YesAtBlocksEnd earlier (act .worker)
+  pub changes : (earlier later : Story) (act : Event) → s ≡ earlier ++ Does act ∷ later → Changes earlier act
+  pub item-kept : ItemKept m s
+  pub nothing-lost : NothingLost d m s
+  pub call-order : InCallOrder s
+
+-- Every number of workers, every schedule.
+abbrev pub AnswersPlain : Definition → Type 0
+AnswersPlain d =
+    (workers : ℕ) → Allowed workers → (s : List ℕ) → PlainThroughout d (machineAfter d workers s) (actsOf d workers s) (storyOf d workers s)
+
+-- It happens: in a block of `more` slots and two more, pushed full, popped but for the last slot and that one claimed, worker 1's len answers 0, and its is_empty no, with nothing waiting.
+pub record SaidAtBlocksEnd (d : Definition) (more : ℕ) : Type 0 where
+  pub len : placeOf (machineAfter d 2 (lastClaimed more ++ asksLen) .workers) 1 ≡ Idle (Len 0)
+  pub empty : placeOf (machineAfter d 2 (lastClaimed more ++ asksEmpty) .workers) 1 ≡ Idle No
+  pub none-waits : known (storyOf d 2 (lastClaimed more ++ asksEmpty)) .queue .items ≡ []
+
+-- ---- close, and a call's own claim: said of the machine that entries reach, and of the acts behind it
+
+-- Tail's mark is set exactly if a close was made; of all closes one at most answers yes; and after a pop has answered Closed nothing is claimed.
+pub record CloseHolds (m : Machine) (h : List Event) : Type 0 where
+  pub mark : markedOf (m .ends .tail) ≡ closedBy h
+  pub yes-once : (earlier between later : List Event) (act again : Event) → h ≡ earlier ++ act ∷ between ++ again ∷ later → ClosesYes act → ClosesYes again → ⊥
+  pub none-after : (earlier later : List Event) (act : Event) → h ≡ earlier ++ act ∷ later → act .after ≡ Idle PopClosed → NoClaims later
+
+-- The claim rule of request 12 with the call's own claim: a value handed out is the item of the tail claim that has the number of the head claim that its call has made, and was written for that
+-- tail claim.
+abbrev pub OwnClaim : List Event → Type 0
+OwnClaim h =
+    (earlier later : List Event) (act : Event) (v : ℕ) → h ≡ earlier ++ act ∷ later → act .after ≡ Idle (Popped v)
+    → (k : ℕ) × CallClaim earlier (act .worker) k × LatestIn (takersOf earlier) (act .worker) k × ItemIn earlier k v × WrittenIn earlier k v
+
+abbrev pub ClosesAndClaims : Definition → Type 0
+ClosesAndClaims d =
+    (workers : ℕ) → Allowed workers → (s : List ℕ) → CloseHolds (machineAfter d workers s) (actsOf d workers s) × OwnClaim (actsOf d workers s)
 
 -- ==== 1. Any machine, entry or schedule handed in gets an answer or a numbered refusal; a refused step changes nothing.
 -- That each gets an answer is what the functions of crate unbounded promise: none has a `requires`, and each answer is equal to a
@@ -58,17 +193,26 @@ pub record ListFirst : Type 0 where
   -- a schedule that can be read is run, entry by entry
   pub runs : (m : Machine) (s : List ℕ) → brokenOf sizes m ≡ false → length s % 2 ≡ 0 → Readable entryHere s → runOf sizes m s ≡ runFrom sizes m 0 s
 
--- A refusal is one of 2 to 11 or 23.
-abbrev pub Known : ℕ → Type 0
-Known n = (n ≤ 11) ⊎ (n ≡ 23)
+-- The numbers that the functions of crate unbounded give.
+abbrev pub refusals : Numbers Machine
+refusals =
+    record {
+      make = λ workers. makeOf sizes workers .refusal;
+      step = λ m first second. stepOf sizes m first second .refusal;
+      begin = λ m first second. beginOf sizes m first second .refusal;
+      act = λ m first second. actOf sizes m first second .refusal;
+      run = λ m s. runOf sizes m s .refusal;
+      contents = contentsRefusal sizes;
+    }
 
-pub record Numbered : Type 0 where
-  pub make : (workers : ℕ) → Known (makeOf sizes workers .refusal)
-  pub step : (m : Machine) (first second : ℕ) → Known (stepOf sizes m first second .refusal)
-  pub begin : (m : Machine) (first second : ℕ) → Known (beginOf sizes m first second .refusal)
-  pub act : (m : Machine) (first second : ℕ) → Known (actOf sizes m first second .refusal)
-  pub run : (m : Machine) (s : List ℕ) → Known (runOf sizes m s .refusal)
-  pub contents : (m : Machine) (room : ℕ) → Known (contentsRefusal sizes m room)
+-- Refusals are numbered, and each function gives these numbers alone; 0 is none.
+pub record Numbered (n : Numbers Machine) : Type 0 where
+  pub make : (workers : ℕ) → numbers.has (0 ∷ 2 ∷ []) (n .make workers) ≡ true
+  pub step : (m : Machine) (first second : ℕ) → numbers.has (0 ∷ 3 ∷ 4 ∷ 5 ∷ 6 ∷ 7 ∷ 8 ∷ 9 ∷ 23 ∷ []) (n .step m first second) ≡ true
+  pub begin : (m : Machine) (first second : ℕ) → numbers.has (0 ∷ 3 ∷ 4 ∷ 6 ∷ 9 ∷ []) (n .begin m first second) ≡ true
+  pub act : (m : Machine) (first second : ℕ) → numbers.has (0 ∷ 3 ∷ 5 ∷ 6 ∷ 7 ∷ 8 ∷ 9 ∷ 23 ∷ []) (n .act m first second) ≡ true
+  pub run : (m : Machine) (s : List ℕ) → numbers.has (0 ∷ 3 ∷ 4 ∷ 5 ∷ 6 ∷ 7 ∷ 8 ∷ 9 ∷ 11 ∷ 23 ∷ []) (n .run m s) ≡ true
+  pub contents : (m : Machine) (room : ℕ) → numbers.has (0 ∷ 4 ∷ 6 ∷ 10 ∷ []) (n .contents m room) ≡ true
 
 -- Only one answer meets a promise: of the whole answer, the machine and the lent buffer.
 pub record OnlyOne : Type 0 where
@@ -180,3 +324,122 @@ NoBlock d =
     → ((d .turn m first second .refusal ≡ 23) → (viewOf (d .sizes) (placeOf (m .workers) w) .takes ≡ true) × (lowestFree (d .sizes) (m .blocks) ≡ d .sizes .blocks))
     × ((viewOf (d .sizes) (placeOf (m .workers) w) .takes ≡ true) → lowestFree (d .sizes) (m .blocks) ≡ d .sizes .blocks → d .turn m first second .refusal ≡ 23)
     × ((viewOf (d .sizes) (placeOf (m .workers) w) .takes ≡ true) → lowestFree (d .sizes) (m .blocks) < d .sizes .blocks → d .turn m first second .refusal ≡ 0)
+
+-- ==== The pool. Of any machine, reached or not.
+
+-- "None is free" and "the lowest number first": a search for a free block finds the one with the lowest number, and where none is free the number of none.
+pub record LowestFirst (lowest : Sizes → List Block → ℕ) : Type 0 where
+  pub most : (z : Sizes) (l : List Block) → lowest z l ≤ z .blocks
+  pub free : (z : Sizes) (l : List Block) → lowest z l < z .blocks → blockAt l (lowest z l) .free ≡ true
+  pub lower : (z : Sizes) (l : List Block) (k : ℕ) → k < lowest z l → blockAt l k .free ≡ false
+  pub none : (z : Sizes) (l : List Block) → lowest z l ≡ z .blocks ↔ ((k : ℕ) → k < z .blocks → blockAt l k .free ≡ false)
+
+-- The entry is an act of a counted worker of a machine that is not broken, in time; the act takes a block, and no block is free.
+pub record WantsBlock (d : Definition) (m : Machine) (first second : ℕ) : Type 0 where
+  pub unbroken : brokenOf (d .sizes) m ≡ false
+  pub worker : ℕ
+  -- (code 9 is refused by 8: to take a block is no weak exchange)
+  pub asks : entryHere first second ≡ Asks worker (Act false)
+  pub known : worker < m .count
+  pub in-time : m .meter < meterMost
+  pub takes : viewOf (d .sizes) (placeOf (m .workers) worker) .takes ≡ true
+  pub none-free : (k : ℕ) → k < d .sizes .blocks → blockAt (m .blocks) k .free ≡ false
+
+-- Refusal 23 is given by exactly these entries.
+abbrev pub TwentyThree : Definition → Type 0
+TwentyThree d = (m : Machine) (first second : ℕ) → d .turn m first second .refusal ≡ 23 ↔ WantsBlock d m first second
+
+-- ==== The pool under every schedule, beside demand 2.
+
+-- Nobody sets a second block aside: no worker is ever at U15.
+abbrev pub OneAside : Machine → Type 0
+OneAside m = (w : ℕ) (n new : Pointer) (x : ℕ) → placeOf (m .workers) w ≡ U15 n new x → ⊥
+
+-- No slot of the pool is in two hands, whatever positions it stands for: blocks come round again.
+abbrev pub OneHandInPool : Definition → Machine → Type 0
+OneHandInPool d m =
+    ((v w : ℕ) (b c : Pointer) (t u : Index) → PushingIn (placeOf (m .workers) v) b t → PushingIn (placeOf (m .workers) w) c u → OneSlot (d .sizes) b t c u → v ≡ w)
+    × ((v w : ℕ) (b c : Pointer) (t u : Index) → PoppingIn (placeOf (m .workers) v) b t → PoppingIn (placeOf (m .workers) w) c u → OneSlot (d .sizes) b t c u → v ≡ w)
+    × ((v w : ℕ) (b c : Pointer) (t u : Index) → PushingIn (placeOf (m .workers) v) b t → Reads (placeOf (m .workers) w) c u → OneSlot (d .sizes) b t c u → ⊥)
+
+pub record PoolKept (d : Definition) (m : Machine) : Type 0 where
+  pub one-aside : OneAside m
+  pub one-hand : OneHandInPool d m
+
+abbrev pub PoolUnderEverySchedule : Definition → Type 0
+PoolUnderEverySchedule d = (workers : ℕ) → Allowed workers → (s : List ℕ) → PoolKept d (machineAfter d workers s)
+
+-- ==== Progress. (Demand 3 is not asked of this queue, and it does not have it: an act of one worker can wait for another.)
+
+-- An act of a call under way is refused by 7 or 23 alone.
+abbrev pub RefusedByMeterOrPool : Definition → Machine → Type 0
+RefusedByMeterOrPool d m =
+    (w : ℕ) → viewOf (d .sizes) (placeOf (m .workers) w) .busy ≡ true
+    → (d .turn m (16 * w + 8) 0 .refusal ≡ 0) ⊎ (((d .turn m (16 * w + 8) 0 .refusal ≡ 7) × (meterMost ≤ m .meter)) ⊎ (d .turn m (16 * w + 8) 0 .refusal ≡ 23))
+
+-- Whoever waits, waits for a worker that is under way, and here is who that is.
+pub record Holders (d : Definition) (m : Machine) : Type 0 where
+  -- a push that finds tail at offset 31: for the push that claimed the slot before it
+  pub tail : offsetOf (d .sizes) (m .ends .tail) ≡ d .sizes .slots
+      → (v : ℕ) × (t : Index) × Crossing (placeOf (m .workers) v) t × (position t + 1 ≡ position (m .ends .tail))
+  -- a pop that finds head there: for the pop that claimed the slot before it
+  pub head : offsetOf (d .sizes) (m .ends .head) ≡ d .sizes .slots
+      → (v : ℕ) × (h : Index) × Leaving (placeOf (m .workers) v) h × (position h + 1 ≡ position (m .ends .head))
+  -- a pop that finds no block yet, although tail has moved: for the push that installed the first
+  pub first : m .ends .front ≡ None → 0 < position (m .ends .tail) → (v : ℕ) × Fronting (placeOf (m .workers) v)
+  -- V6, next none: for the push of that slot
+  pub next : (w : ℕ) (h new : Index) (b : Pointer) → placeOf (m .workers) w ≡ V6 h b new → blockAt (m .blocks) (numberOf (d .sizes) b) .next ≡ None
+      → (v : ℕ) × (t : Index) × Tying (placeOf (m .workers) v) b t × (position t ≡ position h)
+  -- V10, WRITE clear: for the push of that slot
+  pub write : (w : ℕ) (h : Index) (b : Pointer) → placeOf (m .workers) w ≡ V10 h b → has WRITE (stateAt (d .sizes) m b h) ≡ false
+      → (v : ℕ) × (t : Index) × PushingIn (placeOf (m .workers) v) b t × (position t ≡ position h)
+
+pub record Progress (d : Definition) (m : Machine) : Type 0 where
+  pub refused-by : RefusedByMeterOrPool d m
+  pub holders : Holders d m
+
+abbrev pub ProgressUnderEverySchedule : Definition → Type 0
+ProgressUnderEverySchedule d = (workers : ℕ) → Allowed workers → (s : List ℕ) → Progress d (machineAfter d workers s)
+
+-- Among these entries, with so many acts of w accepted, w's push has answered Pushed.
+pub record AnswersPushed (d : Definition) (m : Machine) (w : ℕ) (entries : List ℕ) (n : ℕ) : Type 0 where
+  pub before : List ℕ
+  pub after : List ℕ
+  pub split : entries ≡ before ++ after
+  pub count : ownActs d w m before ≡ n
+  pub ends : placeOf (passed d m before .workers) w ≡ Idle Pushed
+
+-- A push with a slot in hand answers Pushed within five acts of its own, whatever entries of others come between; of any machine, reached or not. (U14, where
+-- a block is set aside, is one of the five: at U9 to U11 the block set aside goes into the chain.)
+pub record PushEnds (d : Definition) : Type 0 where
+  pub ends : (m : Machine) (w : ℕ) (t : Index) (entries : List ℕ) → Pushing (placeOf (m .workers) w) t
+      → pushLeft (placeOf (m .workers) w) ≤ ownActs d w m entries → AnswersPushed d m w entries (pushLeft (placeOf (m .workers) w))
+  pub most : (p : Place) (t : Index) → Pushing p t → pushLeft p ≤ 5
+
+-- Worker w's call, if only acts of w are scheduled (code 8), ends within so many of them, none refused.
+pub record EndsAlone (d : Definition) (m : Machine) (w most : ℕ) : Type 0 where
+  -- the acts before the last
+  pub before : ℕ
+  pub within : before + 1 ≤ most
+  pub accepted : d .run m 0 (acts w (suc before)) .refusal ≡ 0
+  pub busy : viewOf (d .sizes) (placeOf (d .run m 0 (acts w before) .machine .workers) w) .busy ≡ true
+  pub idle : viewOf (d .sizes) (placeOf (d .run m 0 (acts w (suc before)) .machine .workers) w) .busy ≡ false
+
+-- A pop that alone is scheduled ends, with no holder among the others.
+abbrev pub PopAlone : Definition → Machine → Type 0
+PopAlone d m =
+    (w : ℕ) → 0 < popMost (placeOf (m .workers) w) → m .meter + popMost (placeOf (m .workers) w) ≤ meterMost
+    → ((v : ℕ) → (v ≡ w → ⊥) → Holding (placeOf (m .workers) v) → ⊥) → EndsAlone d m w (popMost (placeOf (m .workers) w))
+
+abbrev pub PopsEndAlone : Definition → Type 0
+PopsEndAlone d = (workers : ℕ) → Allowed workers → (s : List ℕ) → PopAlone d (machineAfter d workers s)
+
+-- A push that alone is scheduled ends, with tail in nobody else's hand and a block free.
+abbrev pub PushAlone : Definition → Machine → Type 0
+PushAlone d m =
+    (w : ℕ) → 0 < pushMost (placeOf (m .workers) w) → m .meter + pushMost (placeOf (m .workers) w) ≤ meterMost
+    → ((v : ℕ) (t : Index) → (v ≡ w → ⊥) → Crossing (placeOf (m .workers) v) t → ⊥)
+    → ((k : ℕ) × (k < d .sizes .blocks) × (blockAt (m .blocks) k .free ≡ true)) → EndsAlone d m w (pushMost (placeOf (m .workers) w))
+
+abbrev pub PushesEndAlone : Definition → Type 0
+PushesEndAlone d = (workers : ℕ) → Allowed workers → (s : List ℕ) → PushAlone d (machineAfter d workers s)

@@ -67,7 +67,7 @@ use Rattle.unbounded_proof_demand2.proofs.Dealings.{live-is}
 use Rattle.unbounded_proof_demand2.proofs.Reached.{Reached, turned-reached, idle-good, used-steps, took-steps}
 use Rattle.unbounded_proof_demand2.proofs.Walk.{whole-walk, chain-is, last-chained, no-walk, none-taken}
 
-abbrev table : Definition
+abbrev pub table : Definition
 table = definition sizes actOf
 
 -- ---- the fresh machine
@@ -81,7 +81,7 @@ all-free zero k l = absurd (omega arith)
 all-free (suc n) zero l = refl
 all-free (suc n) (suc k) l = all-free n k (omega arith)
 
-fresh-stood : (w : ℕ) → placeOf idlers w ≡ Idle Nothing
+pub fresh-stood : (w : ℕ) → placeOf idlers w ≡ Idle Nothing
 unfolding idlers
 fresh-stood w = ap (λ (x : Worker). x .place) (same-all workersMost w idler)
 
@@ -97,7 +97,7 @@ fresh-even : (k : ℕ) → k < 64 → takingsOf k [] ≡ freeingsOf sizes k [] +
 unfolding takingsOf freeingsOf
 fresh-even k l = let e = ap {B = ℕ} (λ (t : Bool). cond t 1 0) (live-is (freeBlocks sizes) k l ∙ ap not (free-at k l)) in omega arith
 
-fresh-reached : (workers : ℕ) → Reached workers (freshOf sizes workers) []
+pub fresh-reached : (workers : ℕ) → Reached workers (freshOf sizes workers) []
 unfolding freshOf notions.itemsOf takersOf
 fresh-reached workers =
     record {
@@ -229,7 +229,7 @@ module _ (workers : ℕ) (allowed : Allowed workers) (m : Machine) (h : List Eve
   unfolding dropFits
   drop-fits = either (λ (t : Bool). t ≡ true) (allIdle sizes (m .workers)) (walkOf sizes (m .ends) (m .blocks) .sound) true (λ z. walk-whole z .0) (λ z. refl)
 
-  unbroken : brokenOf sizes m ≡ false
+  pub unbroken : brokenOf sizes m ≡ false
   unfolding brokenIn inLimits
   unbroken =
       ap (λ (t : Bool). cond (cond t false (leb (m .count) workersMost)) (cond (recordsFit sizes (m .blocks) (m .count) (m .workers)) (not (dropFits sizes (m .ends) (m .blocks) (m .workers))) true) true) (ne-eqb (m .count) 0 (λ e. omega (arith, r .team, allowed .worker-some)))

@@ -68,7 +68,7 @@ takers-first : (xs ys : List Event) (k : ℕ) → k < length (takersOf xs) → g
 takers-first xs ys k l = ap (λ (z : List ℕ). getD z k 0) (takers-split xs ys) ∙ List·getD-append (takersOf xs) (takersOf ys) 0 k l
 
 -- a claim of another worker more
-latest-other : (l : List ℕ) (w v k : ℕ) → v ≢ w → LatestIn l w k → LatestIn (l ++ v ∷ []) w k
+pub latest-other : (l : List ℕ) (w v k : ℕ) → v ≢ w → LatestIn l w k → LatestIn (l ++ v ∷ []) w k
 latest-other l w v k ne o =
     record {
       made = omega (arith, length-append l (v ∷ []), o .made);
@@ -83,7 +83,7 @@ latest-other l w v k ne o =
         ne (sym (getD-append-seam l v [] 0) ∙ ap (λ (i : ℕ). getD (l ++ v ∷ []) i 0) (sym q) ∙ e)
 
 -- a claim of its own more
-latest-own : (l : List ℕ) (w : ℕ) → LatestIn (l ++ w ∷ []) w (length l)
+pub latest-own : (l : List ℕ) (w : ℕ) → LatestIn (l ++ w ∷ []) w (length l)
 latest-own l w =
     record {
       made = omega (arith, length-append l (w ∷ []));

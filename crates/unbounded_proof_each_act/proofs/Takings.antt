@@ -1,31 +1,23 @@
 -- A block that is taken: its number is that of a free one, and its slots are cleared.
 use Prim.Native.Nat.{ℕ, zero, suc, _+_, _*_, _<_, _≤_}
-use mathlib.Core.Path.{_≡_, refl, sym, ap, _∙_, subst}
+use mathlib.Core.Path.{_≡_, refl, ap, _∙_}
 use mathlib.Core.Logic.{_≢_}
-use mathlib.Core.Bool.{Bool, true, false, cond, true≢false}
+use mathlib.Core.Bool.{true}
 use mathlib.Core.List.{List}
 use native.Mathlib.Omega.{arith}
-use native.Mathlib.Decide.{ℕ-discrete, decLt}
+use native.Mathlib.Decide.{ℕ-discrete}
 use lib.ListN.{length, getD, set, length-set}
 use Rattle.unbounded_words.specs.Words.{sizes}
 use Rattle.unbounded_places.specs.declared.Slot.{Slot}
 use Rattle.unbounded_places.specs.declared.Block.{Block}
-use Rattle.unbounded_machine.specs.Turn.{lowestFrom, lowestFree, clearedFrom, cleared}
-use Rattle.unbounded_machine.proofs.Fits.{either}
+use Rattle.unbounded_machine.specs.Turn.{lowestFree, clearedFrom, cleared}
+use Rattle.unbounded_demands.proofs.Pool.{lowest-first}
 use Rattle.unbounded_proof_words.proofs.Stands.{slot, blockAt, slotAt}
 use Rattle.unbounded_proof_words.proofs.Frames.{get-same, get-other}
 
 -- the number that a search gives is free, unless it ran out
-lowest-is : (n k : ℕ) (l : List Block) → lowestFrom n k l < k + n → blockAt l (lowestFrom n k l) .free ≡ true
-unfolding lowestFrom
-lowest-is zero k l b = absurd (omega arith)
-lowest-is (suc n) k l b =
-    either (λ (x : ℕ). x < k + suc n → blockAt l x .free ≡ true) (blockAt l k .free) k (lowestFrom n (k + 1) l)
-    (λ h z. h) (λ h z. lowest-is n (k + 1) l (omega arith)) b
-
 pub lowest-free : (l : List Block) → lowestFree sizes l < 64 → blockAt l (lowestFree sizes l) .free ≡ true
-unfolding lowestFree
-lowest-free l b = lowest-is 64 0 l (omega arith)
+lowest-free l b = lowest-first .free sizes l b
 
 -- ---- so many slots from n on are cleared
 clear-long : (more n : ℕ) (l : List Slot) → length (clearedFrom more n l) ≡ length l

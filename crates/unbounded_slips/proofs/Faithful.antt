@@ -10,9 +10,11 @@ use Rattle.unbounded_places.specs.declared.Place.{Place}
 use Rattle.unbounded_places.specs.declared.Place.the-variants.{Idle, U1, U2, U3, U4, U5, U6, U7, U8, U9, U10, U11, U12, U13, U14, U15, V1, V2, V3, V4, V5, V6, V7, V8, V9, V10, V11, V12, V13, V14, V15, Len1, Len2, Len3, Empty1, Empty2, Full1, Close1, IsClosed1}
 use Rattle.unbounded_acts.specs.Acts.{actOf}
 use Rattle.unbounded_demands.specs.Notions.{definition}
-use Rattle.unbounded_demands.specs.Demands.{UnderEverySchedule, ActByAct, WholeSchedules, NoBlock}
+use Rattle.unbounded_demands.specs.Demands.{AnswersPlain, ClosesAndClaims, UnderEverySchedule, ActByAct, WholeSchedules, NoBlock}
 use Rattle.unbounded_demands.proofs.Blocks.{blocks-run-out}
 use Rattle.unbounded_proof_demand2.proofs.Demand2.{demand2, act-by-act, whole-schedules}
+use Rattle.unbounded_proof_plain.proofs.Plain.{answers-plain}
+use Rattle.unbounded_proof_plain.proofs.Closing.{closes-and-claims}
 use Rattle.unbounded_slips.specs.Slips.{planted, actWith, Faithful, Stands}
 
 -- every row
@@ -62,6 +64,8 @@ faithful = ap (definition sizes) (λ i z e k g s p lose. same-act z e k g s p lo
 
 pub stands : Stands
 stands = (
+  subst AnswersPlain (sym faithful) answers-plain,
+  subst ClosesAndClaims (sym faithful) closes-and-claims,
   subst UnderEverySchedule (sym faithful) demand2,
   subst ActByAct (sym faithful) act-by-act,
   subst WholeSchedules (sym faithful) whole-schedules,

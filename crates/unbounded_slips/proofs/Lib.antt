@@ -1,2 +1,5 @@
+pub mod RefutedPlain
 pub mod Refuted
 pub mod Faithful
+pub mod Whole
+pub mod Further

@@ -45,17 +45,17 @@ abbrev busyAt : Machine → ℕ → Bool
 busyAt m w = viewOf short (placeOf (m .workers) w) .busy
 
 -- The one claim that there is.
-sole : (w : ℕ) → LatestIn (w ∷ []) w 0
+pub sole : (w : ℕ) → LatestIn (w ∷ []) w 0
 sole w = record { made = omega arith; its = refl; last = λ n a b. absurd (omega arith) }
 
 -- Where there is one claim, of the item x, no other item is its.
-other-item : (h : List Event) (w x v : ℕ) → itemsOf h ≡ x ∷ [] → (x ≡ v → ⊥) → ((k : ℕ) × LatestIn (takersOf h) w k × ItemIn h k v) → ⊥
+pub other-item : (h : List Event) (w x v : ℕ) → itemsOf h ≡ x ∷ [] → (x ≡ v → ⊥) → ((k : ℕ) × LatestIn (takersOf h) w k × ItemIn h k v) → ⊥
 other-item h w x v one ne (k, l, i) =
     let z : k ≡ 0 = omega (arith, i .made, ap length one) in
     ne (sym (ap (λ (y : List ℕ). getD y k 0) one ∙ ap (λ (n : ℕ). getD (x ∷ []) n 0) z) ∙ i .is)
 
 -- If the next act of w answers, what it answers is true.
-said : (d : Definition) (m : Machine) (w : ℕ) (a : Answer) → AnswersTrue d m → entryHere (16 * w + 8) 0 ≡ Asks w (Act false)
+pub said : (d : Definition) (m : Machine) (w : ℕ) (a : Answer) → AnswersTrue d m → entryHere (16 * w + 8) 0 ≡ Asks w (Act false)
     → d .turn m (16 * w + 8) 0 ≡ accepted (d .turn m (16 * w + 8) 0 .machine) → placeOf (d .turn m (16 * w + 8) 0 .machine .workers) w ≡ Idle a → Truth (m .ends) a
 said d m w a true-then asks done ends =
     true-then w (d .turn m (16 * w + 8) 0 .machine) a (record { first = 16 * w + 8; second = 0; lose = false; asks = asks; done = done }) ends
@@ -84,7 +84,7 @@ more g e l t a b = ap length (items-more g e ∙ ap (λ (y : List ℕ). itemsOf 
 fewer : (g : List Event) (e : Event) (t : Bool) → takes e ≡ t → length (takersOf (g ++ e ∷ [])) ≡ length (takersOf g) + length (cond t (e .worker ∷ []) [])
 fewer g e t b = ap length (takers-more g e ∙ ap (λ (y : Bool). takersOf g ++ cond y (e .worker ∷ []) []) b) ∙ length-append (takersOf g) (cond t (e .worker ∷ []) [])
 
-balanced : (h : List Event) (q : List ℕ) → Fifo h q → length (itemsOf h) ≡ length (takersOf h) + length q
+pub balanced : (h : List Event) (q : List ℕ) → Fifo h q → length (itemsOf h) ≡ length (takersOf h) + length q
 unfolding itemsOf takersOf
 balanced h q start = refl
 balanced h q (enqueue g p e x f is) =

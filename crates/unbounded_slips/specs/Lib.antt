@@ -1,2 +1,5 @@
 pub mod Slips
 pub mod Refuted
+pub mod RefutedPlain
+pub mod Further
+pub mod Whole

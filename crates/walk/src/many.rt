@@ -94,7 +94,8 @@ fn play(o: Options, fd: i32, begun: Reading, whole: Whole, out: &mut [u8], at: u
             refused: true,
         };
     }
-    walk_play::tell::walk(out, at, asked(o), l.machine)
+    let m = l.words;
+    walk_play::tell::walk(out, at, asked(o), m)
 }
 
 fn mark(out: &mut [u8], at: usize, many: bool) -> usize {

@@ -1,10 +1,11 @@
-// A machine made of a schedule's first pair of numbers, and run by the others.
-use bounded_machine::Machine;
+// A machine made of a schedule's first pair of numbers, and run by the others. It is held as words (bounded_text_words), and is a machine
+// only where a piece of the schedule is run.
+use bounded_text_words::WORDS;
 use replay_input::source::Reading;
 use replay_survey::Whole;
 
 pub struct Loaded {
-    pub machine: Machine,
+    pub words: [u64; WORDS],
     pub made: bool,
     // of the making, of the whole or of an entry; 0: none
     pub refusal: u64,
@@ -12,48 +13,44 @@ pub struct Loaded {
     pub place: u64,
 }
 
-fn refused(m: Machine, refusal: u64, place: u64) -> Loaded {
+fn stands(m: [u64; WORDS], made: bool, refusal: u64, place: u64) -> Loaded {
     Loaded {
-        machine: m,
-        made: true,
+        words: m,
+        made: made,
         refusal: refusal,
         place: place,
     }
 }
 
-fn entries(m: Machine, place: u64, list: &[u64]) -> Loaded {
-    let ran = bounded::run(m, list);
-    refused(
-        ran.machine,
-        ran.refusal,
-        std::num::wrapping_add_u64(place, ran.place),
-    )
-}
-
-fn made(m: Machine, whole: Whole, list: &[u64]) -> Loaded {
-    if whole.refusal != 0 {
-        return refused(m, whole.refusal, whole.place);
+fn made(capacity: u64, workers: u64, edition: u64, whole: Whole) -> Loaded {
+    let left = bounded_text_faces::make(capacity, workers, edition);
+    let m = left.words;
+    if left.refusal != 0 {
+        return stands(m, true, left.refusal, 0);
     }
-    entries(m, 0, list)
+    if whole.refusal != 0 {
+        return stands(m, true, whole.refusal, whole.place);
+    }
+    stands(m, true, 0, 0)
 }
 
-// The first pairs: the machine is made of the first of all.
+fn entries(l: Loaded, list: &[u64]) -> Loaded {
+    if l.refusal != 0 {
+        return l;
+    }
+    let m = l.words;
+    let left = bounded_text_faces::run(m, list);
+    let after = left.words;
+    let place = std::num::wrapping_add_u64(l.place, left.place);
+    stands(after, true, left.refusal, place)
+}
+
+// The machine is made of the first pair of all.
 fn first_pairs(l: Loaded, edition: u64, whole: Whole, list: &[u64]) -> Loaded {
     if list.len() < 2 {
         return l;
     }
-    let did = bounded::make(list[0], list[1], edition);
-    if did.refusal != 0 {
-        return refused(did.machine, did.refusal, 0);
-    }
-    made(did.machine, whole, &list[2..])
-}
-
-fn more_pairs(l: Loaded, list: &[u64]) -> Loaded {
-    if l.refusal != 0 {
-        return l;
-    }
-    entries(l.machine, l.place, list)
+    entries(made(list[0], list[1], edition, whole), &list[2..])
 }
 
 // The pairs among the first n numbers of the list.
@@ -64,18 +61,14 @@ fn pairs(l: Loaded, edition: u64, whole: Whole, list: &[u64], n: usize) -> Loade
     }
     let pairs = &list[..even];
     if l.made {
-        return more_pairs(l, pairs);
+        return entries(l, pairs);
     }
     first_pairs(l, edition, whole, pairs)
 }
 
 fn nothing() -> Loaded {
-    Loaded {
-        machine: bounded_machine::blank(),
-        made: false,
-        refusal: 0,
-        place: 0,
-    }
+    let none = [0; WORDS];
+    stands(none, false, 0, 0)
 }
 
 fn all(

@@ -1,5 +1,5 @@
 // The walk from a machine, and what is told of it.
-use bounded_machine::Machine;
+use bounded_text_words::WORDS;
 use bounded_walks::Sized;
 use queue_entries::Told;
 use replay_survey::Played;
@@ -20,13 +20,13 @@ fn played(at: usize, refused: bool) -> Played {
     }
 }
 
-fn is_idle(m: Machine, w: u64) -> bool {
-    let c = bounded_text_places::code::of(bounded_text_machine::place_of(m, w));
-    c.case == 0
+// By the code of its place: 0 to 10 are those of idle workers.
+fn is_idle(m: [u64; WORDS], w: u64) -> bool {
+    bounded_text_words::record(m, w, 0) < 11
 }
 
 // The lowest idle worker of at most three, of which one is idle.
-fn idle_worker(m: Machine) -> u64 {
+fn idle_worker(m: [u64; WORDS]) -> u64 {
     if is_idle(m, 0) {
         return 0;
     }
@@ -36,12 +36,19 @@ fn idle_worker(m: Machine) -> u64 {
     2
 }
 
-fn refused(out: &mut [u8], at: usize, o: Asked, m: Machine, refusal: u64) -> Played {
+fn refused(out: &mut [u8], at: usize, o: Asked, m: [u64; WORDS], refusal: u64) -> Played {
     let p = crate::refused::tell(out, at, o.many, refusal, &[idle_worker(m)]);
     played(p, true)
 }
 
-fn told(out: &mut [u8], at: usize, o: Asked, m: Machine, sequences: u64, list: &[u8]) -> usize {
+fn told(
+    out: &mut [u8],
+    at: usize,
+    o: Asked,
+    m: [u64; WORDS],
+    sequences: u64,
+    list: &[u8],
+) -> usize {
     if o.list {
         return crate::list::lines(out, at, list);
     }
@@ -58,7 +65,7 @@ fn told_first(
     out: &mut [u8],
     at: usize,
     o: Asked,
-    m: Machine,
+    m: [u64; WORDS],
     sequences: u64,
     buffer: &[u8],
     n: usize,
@@ -69,8 +76,15 @@ fn told_first(
     at
 }
 
-fn listed(out: &mut [u8], at: usize, o: Asked, m: Machine, n: usize, buffer: &mut [u8]) -> usize {
-    match bounded_walks::walk(m, o.depth, buffer) {
+fn listed(
+    out: &mut [u8],
+    at: usize,
+    o: Asked,
+    m: [u64; WORDS],
+    n: usize,
+    buffer: &mut [u8],
+) -> usize {
+    match bounded_walks::walk(bounded_text_faces::machine::read(m), o.depth, buffer) {
         Told::Number(sequences) => told_first(out, at, o, m, sequences, buffer, n),
         Told::Refused(_) => at,
     }
@@ -81,14 +95,14 @@ fn room() -> [u8; BUFFER] {
     [0; BUFFER]
 }
 
-fn walked(out: &mut [u8], at: usize, o: Asked, m: Machine, n: usize) -> usize {
+fn walked(out: &mut [u8], at: usize, o: Asked, m: [u64; WORDS], n: usize) -> usize {
     let mut buffer = room();
     listed(out, at, o, m, n, &mut buffer)
 }
 
 // A list that is longer than the buffer is told with its numbers.
-pub fn walk(out: &mut [u8], at: usize, o: Asked, m: Machine) -> Played {
-    match bounded_walks::size(m, o.depth) {
+pub fn walk(out: &mut [u8], at: usize, o: Asked, m: [u64; WORDS]) -> Played {
+    match bounded_walks::size(bounded_text_faces::machine::read(m), o.depth) {
         Sized::Refused(refusal) => refused(out, at, o, m, refusal),
         Sized::Sequences(sequences, bytes) => {
             if (BUFFER as u64) < bytes {

@@ -4,9 +4,9 @@ use mathlib.Core.Path.{_≡_, refl, ap}
 use mathlib.Core.Bool.{true, cond, not}
 use lib.Dec.{eqb}
 use borrow.Author.Needs.{needs}
-use Rattle.queue_entries.specs.Limits.{workersMost, all}
+use Rattle.queue_entries.specs.Limits.{all}
 use Rattle.queue_entries.proofs.Limits.{all-more, all-failed, all-passed}
-use Rattle.bounded_causes.specs.Causes.{watchOf, othersHold}
+use Rattle.bounded_causes.specs.Causes.{watchedMost, watchOf, othersHold}
 use Rattle.bounded_causes.proofs.others_hold.Statement.{statement}
 use Rattle.bounded_causes.proofs.others_hold.Tie as tie
 use Rattle.bounded_causes.proofs.others_hold.Reads as reads
@@ -15,11 +15,11 @@ use Rattle.bounded_causes.proofs.pick.Reads as pick-reads
 
 abbrev Inv-loop : tie.InvT-loop
 Inv-loop w xs i₀ i =
-    (i ≤ workersMost)
-    × (all (workersMost - i) i (λ (k : ℕ). cond (eqb k w) true (not (watchOf xs k .hand))) ≡ all workersMost 0 (λ (k : ℕ). cond (eqb k w) true (not (watchOf xs k .hand))))
+    (i ≤ watchedMost)
+    × (all (watchedMost - i) i (λ (k : ℕ). cond (eqb k w) true (not (watchOf xs k .hand))) ≡ all watchedMost 0 (λ (k : ℕ). cond (eqb k w) true (not (watchOf xs k .hand))))
 
 abbrev μ-loop : tie.MeasureT-loop
-μ-loop w xs i₀ i = workersMost - i
+μ-loop w xs i₀ i = watchedMost - i
 
 -- src/lib.rt:328:5
 loop-holds : tie.Need-loop-holds Inv-loop μ-loop

@@ -1,8 +1,7 @@
 use Prim.Native.Nat.{_≤_, _-_}
 use mathlib.Core.Path.{_≡_, refl}
 use borrow.Author.Needs.{needs}
-use Rattle.queue_entries.specs.Limits.{workersMost}
-use Rattle.bounded_causes.specs.Causes.{watchedTo}
+use Rattle.bounded_causes.specs.Causes.{watchedMost, watchedTo}
 use Rattle.bounded_causes.proofs.Kept.{watched-more, watched-all}
 use Rattle.bounded_causes.proofs.watch_all.Statement.{statement}
 use Rattle.bounded_causes.proofs.watch_all.Tie as tie
@@ -12,10 +11,10 @@ use Rattle.bounded_causes.proofs.others_hold.Reads as others-hold-reads
 use Rattle.bounded_causes.proofs.watch_with.Reads as watch-with-reads
 
 abbrev Inv-loop : tie.InvT-loop
-Inv-loop w d xs others now₀ i₀ now i = (i ≤ workersMost) × (now ≡ watchedTo i w others d xs)
+Inv-loop w d xs others now₀ i₀ now i = (i ≤ watchedMost) × (now ≡ watchedTo i w others d xs)
 
 abbrev μ-loop : tie.MeasureT-loop
-μ-loop w d xs others now₀ i₀ now i = workersMost - i
+μ-loop w d xs others now₀ i₀ now i = watchedMost - i
 
 -- src/lib.rt:342:9
 others-hold-requires : tie.Need-others-hold-requires Inv-loop μ-loop

@@ -4,7 +4,7 @@ use Rattle.bounded_shows_lent.proofs.first_changed.Statement.{statement
 use Rattle.bounded_shows_lent.proofs.first_changed.Tie as tie
 use Rattle.bounded_shows_lent.proofs.first_changed.Reads as reads
 use Rattle.bounded_shows_lent.proofs.first_changed.Lts as lts
-use Rattle.bounded_text_places.proofs.alike.worker.Reads as worker-reads
+use Rattle.bounded_shows_lent.proofs.same.Reads as same-reads
 
 abbrev Inv-loop : tie.InvT-loop
 Inv-loop a b i₀ i = Unit {0}
@@ -33,8 +33,8 @@ array-copy-out-y : tie.Need-array-copy-out-y Inv-loop μ-loop
 array-copy-out-y c = search needs
 
 -- src/main.rt:16:12
-worker-requires : tie.Need-worker-requires Inv-loop μ-loop
-worker-requires c κs = search needs
+same-requires : tie.Need-same-requires Inv-loop μ-loop
+same-requires c κs = search needs
 
 -- src/main.rt:17:13
 returns : tie.Need-returns Inv-loop μ-loop
@@ -67,7 +67,7 @@ first-changed-spec =
     array-copy-out-x
     mul-y
     array-copy-out-y
-    worker-requires
+    same-requires
     returns
     add-i
     loop-less

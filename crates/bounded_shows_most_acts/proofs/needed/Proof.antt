@@ -5,7 +5,7 @@ use Rattle.bounded_shows_most_acts.proofs.needed.Tie as tie
 use Rattle.bounded_shows_most_acts.proofs.needed.Reads as reads
 use Rattle.bounded_shows_most_acts.proofs.needed.Lts as lts
 use Rattle.bounded_shows_most_acts.proofs.busy.Reads as busy-reads
-use Rattle.bounded.proofs.step.Reads as step-reads
+use Rattle.bounded_text_faces.proofs.enter.Reads as enter-reads
 
 abbrev Inv-loop : tie.InvT-loop
 Inv-loop now₀ n₀ now n = Unit {0}
@@ -22,8 +22,8 @@ busy-requires : tie.Need-busy-requires Inv-loop μ-loop
 busy-requires c κs = search needs
 
 -- src/main.rt:23:17
-step-requires : tie.Need-step-requires Inv-loop μ-loop
-step-requires c κs = search needs
+enter-requires : tie.Need-enter-requires Inv-loop μ-loop
+enter-requires c κs = search needs
 
 -- src/main.rt:25:13
 add-n : tie.Need-add-n Inv-loop μ-loop
@@ -53,7 +53,7 @@ needed-spec =
     μ-loop
     loop-holds
     busy-requires
-    step-requires
+    enter-requires
     add-n
     loop-less
     loop-again

@@ -7,7 +7,7 @@ use Rattle.bounded_shows_walks.proofs.walked.Reads as reads
 use Rattle.bounded_shows_walks.proofs.walked.Lts as lts
 use Rattle.bounded_shows_walks.proofs.bytes.Reads as bytes-reads
 use Rattle.bounded_shows_walks.proofs.say_told.Reads as say-told-reads
-use Rattle.bounded_walks.proofs.walk.Reads as walk-reads
+use Rattle.bounded_shows_walks.proofs.walk.Reads as walk-reads
 use Rattle.text_output.proofs.end.Reads as end-reads
 
 -- src/main.rt:40:47

@@ -5,8 +5,8 @@ use Rattle.walk_load.proofs.pairs.Statement.{statement}
 use Rattle.walk_load.proofs.pairs.Tie as tie
 use Rattle.walk_load.proofs.pairs.Reads as reads
 use Rattle.walk_load.proofs.pairs.Lts as lts
+use Rattle.walk_load.proofs.entries.Reads as entries-reads
 use Rattle.walk_load.proofs.first_pairs.Reads as first-pairs-reads
-use Rattle.walk_load.proofs.more_pairs.Reads as more-pairs-reads
 
 -- src/lib.rt:61:16
 sub-even : tie.Need-sub-even
@@ -21,8 +21,8 @@ slice-aggregate-pairs : tie.Need-slice-aggregate-pairs
 slice-aggregate-pairs c = simp length-take (omega arith)
 
 -- src/lib.rt:67:9
-more-pairs-requires : tie.Need-more-pairs-requires
-more-pairs-requires c κs = search needs
+entries-requires : tie.Need-entries-requires
+entries-requires c κs = search needs
 
 -- src/lib.rt:67:9
 returns-2 : tie.Need-returns-2
@@ -43,7 +43,7 @@ pairs-spec =
     sub-even
     returns
     slice-aggregate-pairs
-    more-pairs-requires
+    entries-requires
     returns-2
     first-pairs-requires
     returns-3)

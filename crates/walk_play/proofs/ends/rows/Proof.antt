@@ -9,10 +9,10 @@ use Rattle.walk_play.proofs.ends.rows.Lts as lts
 use Rattle.walk_play.proofs.ends.row.Reads as row-reads
 
 abbrev Inv-loop : tie.InvT-loop
-Inv-loop out₀ at m list k table n p₀ i₀ out p i = length out ≡ length out₀
+Inv-loop out₀ at count list k table n p₀ i₀ out p i = length out ≡ length out₀
 
 abbrev μ-loop : tie.MeasureT-loop
-μ-loop out₀ at m list k table n p₀ i₀ out p i = n - i
+μ-loop out₀ at count list k table n p₀ i₀ out p i = n - i
 
 -- src/ends.rt:141:5
 loop-holds : tie.Need-loop-holds Inv-loop μ-loop

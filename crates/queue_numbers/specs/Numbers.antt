@@ -1,0 +1,20 @@
+-- The numbers that a refusal can have, as a list of them; 0 is none.
+use Prim.Native.Nat.{ℕ}
+use mathlib.Core.Bool.{Bool, true, false, cond}
+use mathlib.Core.List.{List, [], _∷_}
+use lib.Dec.{eqb}
+
+-- A number of this list.
+unfoldable pub has : List ℕ → ℕ → Bool
+has [] n = false
+has (x ∷ l) n = cond (eqb n x) true (has l n)
+
+-- The numbers that the functions of a face give, on machines M.
+pub record Numbers (M : Type 0) : Type 0 where
+  pub make : ℕ → ℕ
+  pub step : M → ℕ → ℕ → ℕ
+  pub begin : M → ℕ → ℕ → ℕ
+  pub act : M → ℕ → ℕ → ℕ
+  pub run : M → List ℕ → ℕ
+  -- with room for so many items
+  pub contents : M → ℕ → ℕ

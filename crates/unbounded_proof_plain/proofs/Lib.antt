@@ -1,0 +1,13 @@
+pub mod Ends
+pub mod Work
+pub mod Scene
+pub mod Rows
+pub mod Lookers
+pub mod Table
+pub mod Gap
+pub mod Steps
+pub mod Written
+pub mod Told
+pub mod Plain
+pub mod Closing
+pub mod BlocksEnd

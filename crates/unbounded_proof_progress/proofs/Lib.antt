@@ -1,0 +1,9 @@
+pub mod Refused
+pub mod PushEnds
+pub mod Hands
+pub mod Holders
+pub mod PopRank
+pub mod PopAlone
+pub mod PushRank
+pub mod PushAlone
+pub mod Progress

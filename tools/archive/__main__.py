@@ -1,0 +1,267 @@
+"""The program archive: its arguments, and one run from its beginning to its end."""
+
+import gc
+import itertools
+import os
+import signal
+import sys
+
+import files
+import log
+import report
+import runs
+import workers
+
+HOME = os.path.dirname(os.path.dirname(os.path.dirname(os.path.realpath(__file__))))
+HELP = """archive [OPTION..] PLACE..
+archive --sum [FILE..]
+
+Replays every tape (NAME.tape) and schedule (NAME.txt) below the folders PLACE, or the files PLACE, and compares what
+replay prints with what was recorded beside each, in NAME.tape.out or NAME.txt.out, where there is such a file. What
+differs or cannot be read is told as it is found, with the first line that differs. At the end comes a table: how many ran
+to their end, were refused, by number, differ, cannot be read.
+
+A record is what replay prints, followed for a tape that is refused by the line refused N at byte B: .. Records are
+compared where they are; names that end in neither .tape, .txt nor .out are left aside and counted.
+
+  --record    writes a record for each file that has none and could be replayed
+  --json      one line of JSON for each file: file, result (ran, refused, differs, unreadable), refused (the number),
+              record (same, other, none, written), line, recorded and now of the first difference, said; seen: sizes and
+              times of file and record. The table goes to standard error
+  --sum       the table of lines of JSON, from the files or from standard input
+  --jobs N    so many processes at once; one more than there are processors unless told
+  --resume    goes on with a run of the same places and options that was interrupted
+  --log DIR   where the log of a run is kept while it lasts; target/archive unless told
+  --help      prints this
+
+The options of replay are handed on, and are the same for all files: --queue NAME, --edition N, --bits N, --lent, --quiet,
+--causes, --moments, --losses, --stock, --summary.
+
+Status: 0 all ran to their end, as recorded; 1 some were refused or differ; 2 some cannot be read, the arguments cannot be
+read, or not all can be written.
+"""
+WITH_VALUE = ('--queue', '--edition', '--bits')
+HANDED_ON = (*WITH_VALUE, '--lent', '--quiet', '--causes', '--moments', '--losses', '--stock', '--summary')
+JOBS_MOST = 1024
+
+
+class Wrong(Exception):
+    """One line, and status 2."""
+
+
+class Interrupted(Exception):
+    pass
+
+
+class Arguments:
+    def __init__(self, words):
+        self.places, self.options = [], []
+        self.record = self.json = self.sum = self.resume = self.help = False
+        self.jobs = len(os.sched_getaffinity(0)) + 1  # while one reads files, another runs
+        self.log = os.path.join(HOME, 'target/archive')
+        words = iter(words)
+        for word in words:
+            if word in ('--record', '--json', '--sum', '--resume', '--help'):
+                setattr(self, word[2:], True)
+            elif word in ('--jobs', '--log') or word in WITH_VALUE:
+                self.valued(word, next(words, None))
+            elif word in HANDED_ON:
+                self.options.append(word)
+            elif word.startswith('-') or word == '':
+                raise Wrong(f'no use for this argument (see --help): {word}')
+            else:
+                self.places.append(os.fsencode(word))
+        if not (self.places or self.sum or self.help):
+            raise Wrong('no folder and no file to replay (see --help)')
+
+    def valued(self, word, value):
+        if value is None:
+            raise Wrong(f'no use for this argument (see --help): {word}')
+        if word == '--log':
+            self.log = value
+        elif word in WITH_VALUE:
+            self.options += [word, value]
+        elif value.isascii() and value.isdigit() and 0 < int(value) <= JOBS_MOST:
+            self.jobs = int(value)
+        else:
+            raise Wrong(f'no use for this argument (see --help): {value}')
+
+
+class Starter:
+    """tools/start, which says how replay is run, and builds it first where it must."""
+
+    def __init__(self):
+        self.told, writer = os.pipe()
+        words = [os.path.join(HOME, 'tools/start'), 'replay', '--command']
+        self.process = os.posix_spawn(words[0], words, os.environ, file_actions=[(os.POSIX_SPAWN_DUP2, writer, 1)])
+        os.close(writer)
+
+    def command(self):
+        with open(self.told, 'rb') as told:
+            words = [os.fsdecode(word) for word in told.read().split(b'\0')[:-1]]
+        status = os.waitstatus_to_exitcode(os.waitpid(self.process, 0)[1])
+        if status:
+            raise SystemExit(abs(status))
+        return words
+
+
+def asked_of(arguments, starter):
+    """How replay is run; it is asked whether it has a use for the options."""
+    asked = runs.Asked(starter.command(), arguments.options, not {'single', 'unbounded'} & set(arguments.options), arguments.record)
+    if asked.options:
+        program = runs.Program(asked)
+        with runs.InMemory(4) as (given, out, said, told):
+            runs.write_all(given, b'1 1\n')
+            os.lseek(given, 0, os.SEEK_SET)
+            program.start([], given, out, said, told)
+            if program.ended(told) not in (0, 1):
+                raise Wrong(runs.shown(runs.whole(said)).removeprefix('replay: ') or 'replay does not run')
+    return asked
+
+
+def summed(names):
+    """The table of lines that were told before, in pieces or on other machines."""
+    counts = report.Counts()
+    for name in names or [b'-']:
+        shown = 'standard input' if name == b'-' else report.shown(name)
+        try:
+            with open(0 if name == b'-' else name, 'rb', closefd=name != b'-') as lines:
+                for number, line in enumerate(lines, 1):
+                    try:
+                        counts.add_line(line)
+                    except (ValueError, KeyError, TypeError, AttributeError):
+                        raise Wrong(f'{shown}: line {number}: not a line of archive --json') from None
+        except OSError as why:
+            raise Wrong(f'{shown}: {why.strerror}') from None
+    output = report.Output()
+    output.add(counts.table().encode())
+    output.flush()
+    return counts.status
+
+
+class Run:
+    def __init__(self, arguments):
+        self.arguments = arguments
+        self.counts = report.Counts()
+        self.output = report.Output()
+        self.before = 0  # done by the run that this one goes on with
+
+    def troubled(self, folder, why):
+        self.add([runs.unreadable(folder, why.strerror)])
+
+    def left_aside(self, _):
+        self.counts.aside += 1
+
+    def found(self, troubled, aside):
+        for place in self.arguments.places:
+            yield from files.below(place, troubled, aside)
+
+    def add(self, results):
+        for result, number, line in results:
+            plain = not self.arguments.json and result in (runs.RAN, runs.REFUSED)
+            if plain:
+                record = 'none' if b'"record": "none"' in line else 'written' if b'"record": "written"' in line else None
+                self.counts.add(result, number, record)
+            else:
+                told = self.counts.add_line(line)
+                self.output.add(line if self.arguments.json else report.told_of(told).encode('utf-8', 'surrogateescape'))
+
+    def was_done(self, told):
+        self.counts.add(told['result'], told.get('refused', 0), told.get('record'))
+        self.before += 1
+
+    def whole(self, asked):
+        arguments = self.arguments
+        about = os.stat(asked.command[-2])
+        which = {'places': [os.fsdecode(place) for place in arguments.places], 'folder': os.getcwd(), 'options': arguments.options, 'record': arguments.record,
+                 'program': [about.st_size, about.st_mtime_ns]}
+        try:
+            kept = log.Log(arguments.log, which, arguments.resume)
+        except log.Busy:
+            raise Wrong('the same places are being replayed with the same options') from None
+        if arguments.resume and not kept.goes_on:
+            report.say('no such run was interrupted: begun anew')
+        total = sum(1 for _ in self.found(lambda *_: None, lambda _: None)) if os.isatty(2) else 0
+        progress = report.Progress(total)
+        left = self.found(self.troubled, self.left_aside)
+        left = kept.left_of(left, self.was_done) if kept.goes_on else left
+        batches = iter(lambda: list(itertools.islice(left, runs.FILES_MOST)), [])
+        crew = workers.Crew(asked, arguments.jobs)
+        try:
+            for results in crew.results(batches, lambda: progress.tell(self.counts.files, self.before)):
+                self.add(results)
+                progress.end() if self.output.waiting else None
+                self.output.flush()
+                kept.add(b''.join(line for _, _, line in results))
+        finally:
+            progress.end()
+            crew.end()
+        self.output.flush()
+        kept.end()
+
+
+def table(arguments, counts):
+    if arguments.json:
+        os.write(2, counts.table().encode())
+    else:
+        runs.write_all(1, counts.table().encode())
+
+
+def interrupted(number, _):
+    raise Interrupted(number)
+
+
+def run(words):
+    arguments = Arguments(words)
+    if arguments.help:
+        runs.write_all(1, HELP.encode())
+        return 0
+    if arguments.sum:
+        return summed(arguments.places)
+    for place in arguments.places:
+        try:
+            os.stat(place)
+        except OSError as why:
+            raise Wrong(f'{report.shown(place)}: {why.strerror}') from None
+    for number in signal.SIGINT, signal.SIGTERM, signal.SIGHUP:
+        signal.signal(number, interrupted)
+    asked = asked_of(arguments, Starter())
+    this = Run(arguments)
+    try:
+        this.whole(asked)
+    except Interrupted:
+        report.say(f'interrupted after {this.counts.files:,} files; --resume goes on')
+        raise
+    except workers.Ended:
+        raise Wrong('a process of this run was ended; --resume goes on') from None
+    table(arguments, this.counts)
+    return this.counts.status
+
+
+def end_by(number):
+    signal.signal(number, signal.SIG_DFL)
+    os.kill(os.getpid(), number)
+
+
+def main():
+    # What is closed stays unusable, and no file that is opened later takes its number.
+    for number, mode in enumerate((os.O_WRONLY, os.O_RDONLY, os.O_WRONLY, os.O_RDONLY)):
+        try:
+            os.fstat(number)
+        except OSError:
+            os.open(os.devnull, mode)
+    try:
+        return run([os.fsdecode(word) for word in map(os.fsencode, sys.argv[1:])])
+    except Wrong as why:
+        report.say(why)
+    except BrokenPipeError:
+        end_by(signal.SIGPIPE)
+    except OSError as why:
+        report.say(f'{report.shown(os.fspath(why.filename)) if why.filename else "standard output"}: {why.strerror}')
+    except Interrupted as by:
+        end_by(by.args[0])
+    return 2
+
+
+gc.disable()  # nothing here is a ring of references
+sys.exit(main())

@@ -1,0 +1,165 @@
+#!/usr/bin/env python3
+"""manual.py man|bash|zsh PROGRAM < HELP: the manual page of a program, or what a shell completes of it, from what its --help prints, so that neither goes stale.
+
+A help has the usage, a blank line, then paragraphs. A line of two blanks is a term, with what it means behind two blanks more and on lines that
+are further in; a term that begins with - is an option. 'Status: ' begins the paragraph of the statuses."""
+
+import re
+import sys
+import textwrap
+from datetime import date
+from pathlib import Path
+from typing import NamedTuple
+
+HOME = Path(__file__).resolve().parent.parent
+PROGRAMS = ('archive', 'picture', 'replay', 'tape', 'walk')
+
+
+class Help(NamedTuple):
+    usage: list
+    blocks: list  # of paragraphs, and of lists of terms, each with its text
+
+    def terms(self, are_options):
+        return [term for block in self.blocks if isinstance(block, list) for term in block if term[0].startswith('-') == are_options]
+
+
+def read(text):
+    lines = text.rstrip('\n').split('\n')
+    usage = lines[:lines.index('')]
+    blocks = []
+    for line in lines[len(usage) + 1:]:
+        term = re.fullmatch(r'  (\S.*?)(?: {2,}(\S.*))?', line)
+        if not line:
+            blocks.append('')
+        elif term:
+            if not (blocks and isinstance(blocks[-1], list)):
+                blocks.append([])
+            blocks[-1].append((term[1], term[2] or ''))
+        elif line.startswith(' '):
+            name, said = blocks[-1][-1]
+            blocks[-1][-1] = name, f'{said} {line.strip()}'.strip()
+        elif blocks and isinstance(blocks[-1], str) and blocks[-1] and not line.startswith('Status: '):
+            blocks[-1] += ' ' + line
+        else:
+            blocks.append(line)
+    return Help(usage, [block for block in blocks if block])
+
+
+def summary_of(program):
+    """What the comment of its starter says of it."""
+    return re.search(rf'(?m)^# {program} .*?: (.*) \(--help says more\)\.$', (HOME / program).read_text())[1]
+
+
+# The manual page
+
+ESCAPES = str.maketrans({'\\': '\\e', '-': '\\-', "'": '\\(aq', '^': '\\(ha', '~': '\\(ti', '`': '\\(ga'})
+
+
+def roff(text):
+    """In lines of at most 80 bytes; none begins with a point, which would be a command."""
+    lines = textwrap.wrap(text, 60, break_on_hyphens=False, break_long_words=False)
+    return '\n'.join(re.sub(r'^\.', '\\\\&.', line.translate(ESCAPES)) for line in lines)
+
+
+def list_of(terms):
+    return [line for name, said in terms for line in ('.TP', f'.B {name.translate(ESCAPES)}', *([roff(said)] if said else []))]
+
+
+def man(program, text, on, version):
+    told = read(text)
+    page = [f'.TH {program.upper()} 1 {on} "fernmoldew {version}" "Fernmoldew"', '.SH NAME', f'{program} \\- {roff(summary_of(program))}', '.SH SYNOPSIS']
+    for number, usage in enumerate(told.usage):
+        page += ['.br'] * (number > 0) + [f'.B {usage.translate(ESCAPES)}']
+    page.append('.SH DESCRIPTION')
+    status = ''
+    begun = False
+    for block in told.blocks:
+        if isinstance(block, list):
+            shown = [term for term in block if not term[0].startswith('-')]
+            page += list_of(shown)
+            begun = begun or bool(shown)
+        elif block.startswith('Status: '):
+            status = block[len('Status: '):]
+        else:
+            page += ['.PP'] * begun + [roff(block)]
+            begun = True
+    options = told.terms(True)
+    if options:
+        page += ['.SH OPTIONS', *list_of(options)]
+    if status:
+        page += ['.SH EXIT STATUS', roff(status)]
+    others = [other for other in PROGRAMS if other != program and (HOME / other).exists()]
+    page += ['.SH SEE ALSO', ',\n'.join(f'.BR {other} (1)' for other in others).replace(',\n', ' ,\n')]
+    return '\n'.join(page) + '\n'
+
+
+# Completion
+
+def options_of(told):
+    """Each option with the name of its value or None, the values that the help names, and what it does."""
+    found = {}
+    for usage in told.usage:
+        for option, value in re.findall(r'(?<![\w-])(--?[a-z][a-z-]*)(?: ([A-Z][\w.|]*))?(?=[ \]|]|$)', usage):
+            found[option] = [value or None, [], '']
+    for term, said in told.terms(True):
+        for part in term.split(', '):
+            option, _, value = part.partition(' ')
+            kept = found.setdefault(option, [value or None, [], ''])
+            kept[2] = kept[2] or said
+            named = re.findall(r'\((\w+) unless told\)', said)
+            kept[1] += [word for word in (*named, value) if word and not word[0].isupper() and word not in kept[1]]
+            if kept[1]:
+                kept[0] = kept[0] or 'VALUE'
+    found.setdefault('--help', [None, [], 'prints what this program does'])
+    return found
+
+
+def commands_of(told):
+    """The words that may come first, of a program that has such."""
+    return [words[1] for words in map(str.split, told.usage) if len(words) > 1 and words[1].isalpha() and words[1].islower()]
+
+
+def is_file(value):
+    return value is not None and bool(re.search(r'FILE|NAME\.|DIR|PLACE|TAPE|SCHEDULE', value))
+
+
+def bash(program, text):
+    told = read(text)
+    options, commands = options_of(told), commands_of(told)
+    cases = []
+    for option, (value, values, _) in options.items():
+        if value and not is_file(value):
+            cases.append(f'''    {option}) compopt +o default 2>/dev/null; COMPREPLY=($(compgen -W '{' '.join(values)}' -- "$now")); return ;;''')
+        elif value:
+            cases.append(f'    {option}) return ;;')
+    first = f'''    if [ "$COMP_CWORD" = 1 ]; then COMPREPLY=($(compgen -W '{' '.join(commands)} --help' -- "$now")); return; fi\n''' if commands else ''
+    before = 'case $before in\n' + '\n'.join(cases) + '\n    esac\n    ' if cases else ''
+    return f'''# Completion of {program} for bash, made from {program} --help.
+_fernmoldew_{program}() {{
+    local now=${{COMP_WORDS[COMP_CWORD]}} before=${{COMP_WORDS[COMP_CWORD - 1]}}
+    COMPREPLY=()
+    {before}case $now in
+    -*) COMPREPLY=($(compgen -W '{' '.join(options)}' -- "$now")); return ;;
+    esac
+{first}}}
+complete -o default -F _fernmoldew_{program} {program}
+'''
+
+
+def zsh(program, text):
+    told = read(text)
+    words = []
+    for option, (value, values, said) in options_of(told).items():
+        said = re.sub(r"[\[\]:'\\]", ' ', re.split(r'[;:(]|\. ', said)[0]).strip()
+        after = '' if not value else f':{value}:' + ('_files' if is_file(value) else f'({" ".join(values)})')
+        words.append(f"'{option}[{said}]{after}'")
+    if commands_of(told):
+        words.append(f"'1:command:({' '.join(commands_of(told))})'")
+    head = f'#compdef {program}\n# Completion of {program} for zsh, made from {program} --help.\n_arguments'
+    return ' \\\n    '.join([head, *words, "'*:file:_files'"]) + '\n'
+
+
+if __name__ == '__main__':
+    kind, program = sys.argv[1:]
+    text = sys.stdin.read()
+    sys.stdout.write({'man': lambda: man(program, text, date.today().isoformat(), '0'), 'bash': lambda: bash(program, text), 'zsh': lambda: zsh(program, text)}[kind]())

@@ -1,0 +1,159 @@
+"""picture [OPTION..] [FILE]: a run drawn. What a run is comes from replay's lines; what is not there is not drawn."""
+
+import os
+import signal
+import stat
+import sys
+import tempfile
+from pathlib import Path
+
+from drawing import Picture
+from page import html_of, svg_of
+from run import MOST, Replay, Told, run_of
+
+HELP = f'''picture [-o NAME.svg|NAME.html] [--from N] [--to N] [--queue NAME] [--edition N] [--bits N] [--lent] [--tape] [FILE]
+
+Draws the run of a schedule: an SVG, or an HTML page that needs no network and nothing beside itself. The schedule is read from FILE, or
+from standard input, and run by replay; replay --help says how it is written.
+
+Time goes right, an entry a column. A lane for each worker: a circle where a call begins, a box for each act with the place that it is
+done at, solid while a slot is in the worker's hand, with a notch and the cause where it goes back, and the answer at its end. Below, the
+claims of tail and head as two lines of steps, a thick red one while the queue is closed; between them a bar for each item, from its
+claim at tail to the claim at head that takes it. Below, a lane for each slot (the first four and the last four where there are more than
+8; of the unbounded queue those that something happens to): whose hand, stamp or state, value.
+The page has zoom (buttons, or the wheel with Ctrl), search for an item, the line of replay for the column under the cursor (arrow keys
+go on from there), and a table of all entries.
+
+  -o NAME     writes this file, whole or not at all: .svg or .html; without it the SVG goes to standard output
+  --from N    the first entry that is drawn (0 unless told)
+  --to N      the last one (the run's last unless told); at most {MOST:,} entries are drawn
+  --queue single, --queue unbounded, --edition 2, --bits 16, --lent, --tape   for replay, as its help says
+
+A refused schedule is drawn up to its refusal, which is shown.
+Status: 0 drawn, 1 drawn up to a refusal, or a tape that is refused, 2 input or arguments cannot be read, or not all can be written.
+'''
+WITH_VALUE = ('-o', '--from', '--to', '--queue', '--edition', '--bits')
+ALONE = ('--lent', '--tape')
+FOR_REPLAY = ('--queue', '--edition', '--bits', '--lent', '--tape')
+
+
+def no_use(word):
+    return Told(f'no use for this argument (see --help): {word}')
+
+
+def number_of(word):
+    if not (word.isascii() and word.isdigit()) or len(word) > 19:
+        raise no_use(word)
+    return int(word)
+
+
+def read(words):
+    """The options, in order, and the file."""
+    options, file, words = [], None, list(words)
+    while words:
+        word = words.pop(0)
+        if word in WITH_VALUE:
+            if not words:
+                raise no_use(word)
+            options.append((word, words.pop(0)))
+        elif word in ALONE:
+            options.append((word, ''))
+        elif word.startswith('-') or not word or file is not None:
+            raise no_use(word)
+        else:
+            file = word
+    return options, file
+
+
+def written(name, said):
+    """Under another name first, so that a file is there whole or as it was."""
+    target = os.path.realpath(name)
+    try:
+        if os.path.exists(target) and not stat.S_ISREG(os.stat(target).st_mode):
+            with open(target, 'wb') as file:
+                file.write(said)
+            return
+        handle, other = tempfile.mkstemp(prefix='.picture-', dir=os.path.dirname(target))
+    except OSError as wrong:
+        raise Told(f'{name}: {wrong.strerror}')
+    try:
+        with open(handle, 'wb') as file:
+            mask = os.umask(0)
+            os.umask(mask)
+            os.fchmod(file.fileno(), 0o666 & ~mask)
+            file.write(said)
+            file.flush()
+            os.fsync(file.fileno())
+        os.replace(other, target)
+    except BaseException as wrong:
+        os.unlink(other)
+        if isinstance(wrong, OSError):
+            raise Told(f'{name}: {wrong.strerror}')
+        raise
+
+
+def printed(said):
+    try:
+        with open(1, 'wb', closefd=False) as file:
+            file.write(said)
+    except BrokenPipeError:
+        pass
+    except OSError as wrong:
+        raise Told(f'standard output: {wrong.strerror}')
+
+
+def main(starter, words):
+    if '--help' in words:
+        printed(HELP.encode())
+        return 0
+    options, file = read(words)
+    chosen = dict(options)
+    first, last = (number_of(chosen[option]) if option in chosen else None for option in ('--from', '--to'))
+    if last is not None and last < (first or 0):
+        raise Told(f'nothing from entry {first or 0} to {last}')
+    name = chosen.get('-o')
+    if name is not None and not name.endswith(('.svg', '.html')):
+        raise Told(f'{name}: a picture is kept as .svg or .html')
+    if name is None and os.isatty(1):
+        raise Told('standard output is a terminal: name a file, as -o run.html')
+    queue = chosen.get('--queue', 'bounded')
+    for_replay = [word for option, value in options if option in FOR_REPLAY for word in (option, value) if word]
+    given = None
+    if file is None:
+        given = tempfile.TemporaryFile()
+        try:
+            while piece := os.read(0, 1 << 20):
+                given.write(piece)
+        except OSError as wrong:
+            raise Told(f'standard input: {wrong.strerror}')
+    replay = Replay(starter, for_replay, file, given)
+    try:
+        run = run_of(replay, queue, options, first, last)
+    finally:
+        if replay.noted:
+            print(replay.noted, file=sys.stderr)
+    picture = Picture(run)
+    said = (html_of if name and name.endswith('.html') else svg_of)(picture).encode(errors='replace')
+    written(name, said) if name else printed(said)
+    return 1 if run.refusal and (run.refusal[0] is None or run.refusal[0] <= run.last or not run.acts) else 0
+
+
+class Ended(BaseException):
+    """By a signal: what is half written is removed on the way out."""
+
+
+def end(number, _):
+    signal.signal(number, signal.SIG_DFL)
+    raise Ended(number)
+
+
+for number in (signal.SIGHUP, signal.SIGINT, signal.SIGTERM):
+    if signal.getsignal(number) != signal.SIG_IGN:
+        signal.signal(number, end)
+try:
+    sys.exit(main([sys.argv[1]], sys.argv[2:]))
+except Told as told:
+    print(f'picture: {told}', file=sys.stderr)
+    sys.exit(told.status)
+except Ended as ended:
+    os.kill(os.getpid(), ended.args[0])

@@ -1,0 +1,289 @@
+"""A run as it is drawn: replay's lines, folded into calls, hands, slots, claims and lives of items."""
+
+import re
+import subprocess
+from collections import deque
+from dataclasses import dataclass, field
+from typing import NamedTuple, Optional
+
+from queues import IDLE, READINGS, stand_of
+
+MOST = 20_000  # entries of one picture
+UNPROVED = 'built from the sources, not proved on this machine: '
+REFUSALS = {
+    1: 'a capacity of 0 or above 1,024', 2: 'too many workers, or none', 3: 'no such worker', 4: 'a call begun by a busy worker',
+    5: 'an act of an idle worker', 6: 'no sound machine', 7: 'no act left on the meter', 8: 'code 9 where no weak exchange comes next',
+    9: 'an entry that cannot be read', 11: 'an odd number of words', 18: 'an edition that is not 1 or 2', 23: 'no block is free',
+}
+
+
+class Told(Exception):
+    """One line for standard error, and the status."""
+
+    def __init__(self, line, status=2):
+        super().__init__(line)
+        self.status = status
+
+
+@dataclass
+class Call:
+    worker: int
+    name: str
+    item: str
+    begun: int
+    ended: Optional[int] = None
+    answer: str = ''
+
+
+class Act(NamedTuple):
+    """An entry of the drawn part: the place that it was done at, or '' of a begin; why it goes back, if it does; how its worker stands after it.
+    The item is its call's, of a pop the one that it has claimed."""
+    entry: int
+    worker: int
+    call: Optional[Call]
+    place: str
+    causes: tuple
+    hand: object
+    answer: str
+    item: str
+
+
+@dataclass
+class Hand:
+    worker: int
+    slot: object
+    begun: int
+    ended: Optional[int] = None
+
+
+@dataclass
+class Life:
+    """Of an item: its claim number, who claimed it at tail and when, and at head."""
+    claim: int
+    item: str
+    giver: int
+    begun: int
+    taker: Optional[int] = None
+    ended: Optional[int] = None
+
+
+class Level(NamedTuple):
+    """The two ends after an entry: their words, claims so far, and whether the queue is closed."""
+    tail: Optional[str]
+    head: Optional[str]
+    tails: int
+    heads: int
+    closed: bool
+
+
+@dataclass
+class Run:
+    name: str
+    what: str
+    stamp: str
+    count: int
+    first: int
+    last: int
+    acts: list = field(default_factory=list)
+    calls: list = field(default_factory=list)
+    hands: list = field(default_factory=list)
+    lives: list = field(default_factory=list)
+    before: Level = Level(None, None, 0, 0, False)
+    levels: list = field(default_factory=list)
+    slots: dict = field(default_factory=dict)  # before the drawn part
+    changes: list = field(default_factory=list)  # entry, slot, stamp, value
+    refusal: Optional[tuple] = None  # entry or None, number
+    lines: dict = field(default_factory=dict)
+    ending: str = ''
+    workers: int = 0
+
+
+class Replay:
+    """replay, started on one input as often as is asked."""
+
+    def __init__(self, starter, queue_words, file, given):
+        self.starter, self.words, self.file, self.given = starter, queue_words, file, given
+        self.noted = None  # the starter's word on what is not proved
+
+    def started(self, *options):
+        words = [*self.starter, *options, *self.words, *([self.file] if self.file else [])]
+        if self.given:
+            self.given.seek(0)
+        try:
+            return subprocess.Popen(words, stdin=self.given or subprocess.DEVNULL, stdout=subprocess.PIPE, stderr=subprocess.PIPE, text=True, errors='replace')
+        except OSError as wrong:
+            raise Told(f'{self.starter[-1]}: {wrong.strerror}')
+
+    def all(self, *options):
+        """What it prints, and its status. What it cannot do is told in its words."""
+        started = self.started(*options)
+        try:
+            out, said = started.communicate()
+        except BaseException:
+            started.terminate()
+            raise
+        lines = []
+        for line in said.splitlines():
+            if line.startswith(UNPROVED):
+                self.noted = line
+            else:
+                lines.append(line)
+        if started.returncode not in (0, 1) or not out:
+            said = lines[-1] if lines else f'replay ended with status {started.returncode}'
+            if said.startswith('replay: '):
+                said = said[len('replay: '):]
+            elif self.file:
+                said = f'{self.file}: {said}'
+            raise Told(said, 1 if started.returncode == 1 else 2)
+        return out.splitlines(), started.returncode
+
+    def lines(self, *options):
+        """Its lines, one by one; whoever has enough of them leaves."""
+        started = self.started(*options)
+        try:
+            yield from started.stdout
+        finally:
+            started.stdout.close()
+            started.stderr.close()
+            started.terminate()
+            started.wait()
+
+
+def lines_to_show(replay, first, last):
+    """The line that the cursor shows over an entry: of `replay --explain` where this replay has it; else there is none, and its plain line is shown."""
+    if not re.search(r'(?m)^ *--explain\b', '\n'.join(replay.all('--help')[0])):
+        return {}
+    found, entry = {}, 0
+    for line in replay.lines('--explain'):
+        if entry > last:
+            break
+        if re.match(rf' *{entry} ', line):
+            if entry >= first:
+                found[entry] = line.strip()
+            entry += 1
+    return found
+
+
+def run_of(replay, queue, options, first, last):
+    """The run from entry FIRST to LAST, or to its end."""
+    name = ''.join(letter if letter.isprintable() else '?' for letter in replay.file or 'standard input')
+    quiet, _ = replay.all('--quiet')
+    words = quiet[1].split()
+    ended, refused = int(words[0]), int(words[1])
+    made = int(quiet[0].split()[1])
+    entries = 0 if made or refused in (9, 11) else ended + (refused != 0)
+    first = first or 0
+    if first and first >= entries:
+        raise Told(f'{name}: nothing from entry {first}: ' + (f'its entries are 0 to {entries - 1}' if entries else 'no entry is run'))
+    end = entries - 1 if last is None else min(last, entries - 1)
+    if end - first >= MOST:
+        raise Told(f'{name}: {end - first + 1:,} entries, at most {MOST:,} are drawn: choose a part, as --from {first} --to {first + MOST - 1}')
+    reading = READINGS[queue](quiet[2:], 16 if ('--bits', '16') in options else 64)
+    what = {'bounded': f'ring of {len(reading.fresh)} slot{"s" * (len(reading.fresh) != 1)}', 'single': 'one-slot queue', 'unbounded': 'unbounded queue'}[queue]
+    said = ''.join(f', {option[2:]} {value}'.rstrip() for option, value in options if option in ('--edition', '--bits', '--lent'))
+    run = Run(name, what + said, reading.stamp, entries, first, end)
+    if made:
+        run.what, run.refusal = f'no {what.split()[-1]} was made', (None, made)
+        return run
+    if refused:
+        run.refusal = (ended, refused)
+    if end == entries - 1:
+        contents = next(line for line in quiet if line.startswith('contents'))
+        run.ending = {'contents': 'nothing waits', 'contents refused 4': 'a worker is busy at the end'}.get(contents, contents.replace('contents', 'waits:', 1))
+    more = ('--causes', '--moments') if queue == 'bounded' and ('--lent', '') not in options else ()
+    if entries:
+        run.lines = lines_to_show(replay, first, end)
+        fold(run, reading, replay.lines(*more), {} if more else reading.back)
+    return run
+
+
+def fold(run, reading, lines, back):
+    """back: why an act goes back, where the lines name no cause."""
+    stands, calls, hands, items, lives = {}, {}, {}, {}, deque()
+    slots = dict(reading.fresh)
+    tails = heads = 0
+    level = Level(*reading.fresh_ends, 0, 0, False)
+    first, last, column = run.first, run.last, reading.worker
+    run.before, run.slots = level, dict(slots)
+    entry = -1
+    for line in lines:
+        words = line.split()
+        if not words or not words[0].isdigit():
+            continue
+        entry = int(words[0])
+        if entry > last:
+            break
+        if entry == first:
+            run.before, run.slots = level, dict(slots)
+        drawn = entry >= first
+        number, _, text = words[column].partition('=')
+        worker = int(number[1:])
+        if drawn and entry not in run.lines:
+            run.lines[entry] = line.strip()
+        if text != '-':
+            run.workers = max(run.workers, worker + 1)
+        if words[1] != '0':
+            run.acts.append(Act(entry, worker if text != '-' else None, calls.get(worker), '', (), None, '', ''))
+            run.levels.append(level)
+            break
+        before, after = stands.get(worker, IDLE), stand_of(text)
+        stands[worker] = after
+        place, causes = '', ()
+        if before.idle:
+            calls[worker] = call = Call(worker, *reading.call_of(after), entry)
+            items[worker] = call.item
+        else:
+            place, call = before.place, calls[worker]
+            for slot in reading.taken(before, after):
+                if slots.pop(slot, None) and drawn:
+                    run.changes.append((entry, slot, 0, 0))
+            change = reading.change(before, words)
+            if change:
+                stamp, value = slots.get(change.slot, (0, 0))
+                now = stamp if change.stamp is None else change.stamp, value if change.value is None else change.value
+                if now != (stamp, value):
+                    slots[change.slot] = now
+                    if drawn:
+                        run.changes.append((entry, change.slot, *now))
+            for end, item in reading.claims(before, after):
+                if end == 'tail':
+                    lives.append(Life(tails, item, worker, entry))
+                    tails += 1
+                else:
+                    heads += 1
+                    life = lives.popleft()
+                    life.taker, life.ended = worker, entry
+                    items[worker] = call.item or life.item
+                    if drawn:
+                        run.lives.append(life)
+            for word in words[column + 1:]:
+                if word.startswith('because='):
+                    causes = tuple(word[len('because='):].split(','))
+            if (before.place, after.place) in back:
+                causes = (back[before.place, after.place],)
+        hand = reading.hand_of(after)
+        held = hands.get(worker)
+        if held and held.slot != hand:
+            held.ended = entry
+            if drawn:
+                run.hands.append(held)
+            del hands[worker]
+        if hand is not None and worker not in hands:
+            hands[worker] = Hand(worker, hand, entry)
+        answer = ''
+        if after.idle:
+            answer = ' '.join([after.kind, *after.words])
+            call.ended, call.answer = entry, answer
+            del calls[worker]
+            if drawn:
+                run.calls.append(call)
+        tail, head, closed = reading.ends(words)
+        level = Level(tail, head, tails, heads, closed)
+        if drawn:
+            run.acts.append(Act(entry, worker, call, place, causes, hand, answer, items[worker]))
+            run.levels.append(level)
+    run.calls += calls.values()
+    run.hands += hands.values()
+    run.lives += lives
+    if entry == run.count - 1 and not reading.is_end(slots):
+        raise Told(f'{run.name}: the slots that replay ends with are not those of its lines')
