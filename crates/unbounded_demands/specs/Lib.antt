@@ -1,3 +1,4 @@
 pub mod Notions
+pub mod Waiting
 pub mod Demands
 pub mod Runs
