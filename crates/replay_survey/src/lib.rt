@@ -73,7 +73,8 @@ fn with_pairs(s: Survey, list: &[u64], n: usize) -> Survey {
 fn turn(fd: i32, many: bool, s: Survey, bytes: &mut [u8], list: &mut [u64]) -> Survey {
     let r = replay_input::source::turn(fd, many, s.reading, bytes, list, s.left);
     let mut after = with_pairs(s, list, r.count);
-    after.reading = r;
+    after.pairs = std::num::wrapping_add_u64(after.pairs, replay_input::source::owing(r));
+    after.reading = replay_input::source::owing_none(r);
     after.left = replay_input::source::carry(list, r.count);
     after
 }
@@ -104,7 +105,7 @@ pub fn surveyed(
     let mut bytes = [0u8; replay_input::source::BYTES];
     let mut list = [1u64; replay_input::source::NUMBERS];
     let begin = Survey {
-        reading: replay_input::source::start(is_tape, offset, line),
+        reading: replay_input::source::start(is_tape, offset, line, before),
         barred: barred,
         pairs: 0,
         left: before,
