@@ -1,8 +1,8 @@
 // Why acts go back to an earlier place, told along a run: document 02's item 9.
+use crate::Entered;
 use bounded_causes::Causes;
 use bounded_causes::Watches;
 use bounded_places::Loss;
-use bounded_places::Worker;
 
 pub struct Because {
     pub watches: Watches,
@@ -28,18 +28,18 @@ pub fn none() -> Because {
 }
 
 // After an entry that is no act, or is refused.
-pub fn passed(b: Because) -> Because {
+fn passed(b: Because) -> Because {
     let mut c = b;
     c.back = false;
     c
 }
 
 // What an act lost, by the counts in its worker's record before and after it.
-fn lost(before: Worker, after: Worker) -> Loss {
-    if before.failed != after.failed {
+fn lost(before: [u64; 5], after: [u64; 5]) -> Loss {
+    if before[4] != after[4] {
         return Loss::BySchedule;
     }
-    if before.differed != after.differed {
+    if before[3] != after[3] {
         return Loss::ByWords;
     }
     Loss::Nothing
@@ -70,11 +70,11 @@ fn counted(n: [u64; 5], back: bool, c: Causes) -> [u64; 5] {
 }
 
 // One more act of worker w, from record to record.
-pub fn acted(b: Because, w: u64, before: Worker, after: Worker) -> Because {
+fn acted(b: Because, w: u64, before: [u64; 5], after: [u64; 5]) -> Because {
     let watches = b.watches;
     let counts = b.counts;
-    let stood = before.place;
-    let stands = after.place;
+    let stood = bounded_codes::place_in(before[0], before[1], before[2]);
+    let stands = bounded_codes::place_in(after[0], after[1], after[2]);
     let named = bounded_causes::name_causes(watches, w, stood, stands, lost(before, after));
     let kept = named.watches;
     let causes = named.causes;
@@ -85,6 +85,15 @@ pub fn acted(b: Because, w: u64, before: Worker, after: Worker) -> Because {
         causes: causes,
         counts: told,
     }
+}
+
+pub fn after(b: Because, e: Entered) -> Because {
+    let before = e.before;
+    let after = e.after;
+    if crate::kind_of(e) == crate::ACTED {
+        return acted(b, e.first / 16, before, after);
+    }
+    passed(b)
 }
 
 // A cause that holds, after a comma unless the list begins with it.

@@ -1,7 +1,7 @@
 // At which moment a plain queue gives an answer, told along a run.
+use crate::Entered;
 use bounded_moments::Moment;
 use bounded_moments::Moments;
-use bounded_places::Worker;
 
 // Of the entry just run: it is an act that ends its call, and the moment of the answer.
 pub struct Ended {
@@ -47,10 +47,10 @@ fn begun(a: Answers) -> Answers {
 }
 
 // One more act of worker w, from record to record.
-fn acted(a: Answers, w: u64, before: Worker, after: Worker) -> Answers {
+fn acted(a: Answers, w: u64, before: [u64; 5], after: [u64; 5]) -> Answers {
     let moments = a.moments;
-    let stood = before.place;
-    let stands = after.place;
+    let stood = bounded_codes::place_in(before[0], before[1], before[2]);
+    let stands = bounded_codes::place_in(after[0], after[1], after[2]);
     let named = bounded_moments::name_moment(moments, w, stood, stands);
     let kept = named.moments;
     let moment = named.moment;
@@ -63,31 +63,45 @@ fn acted(a: Answers, w: u64, before: Worker, after: Worker) -> Answers {
     }
 }
 
-// After an entry of this first word, which led its worker from one record to the other.
-pub fn after(a: Answers, refusal: u64, first: u64, before: Worker, after: Worker) -> Answers {
-    if refusal != 0 {
-        return refused(a);
+pub fn after(a: Answers, e: Entered) -> Answers {
+    let before = e.before;
+    let after = e.after;
+    let kind = crate::kind_of(e);
+    match kind {
+        crate::REFUSED => refused(a),
+        crate::BEGUN => begun(a),
+        _ => acted(a, e.first / 16, before, after),
     }
-    if first % 16 < 8 {
-        return begun(a);
+}
+
+// A row of the texts of moments, and its number.
+struct Row {
+    row: usize,
+    place: u64,
+}
+
+fn row_of(m: Moment) -> Row {
+    match m {
+        Moment::Before(place) => Row {
+            row: 0,
+            place: place,
+        },
+        Moment::After(place) => Row {
+            row: 1,
+            place: place,
+        },
+        Moment::AfterNextTail => Row { row: 2, place: 0 },
+        Moment::AfterNextHead => Row { row: 2, place: 0 },
     }
-    acted(a, first / 16, before, after)
 }
 
 // at=J or at=J+; an answer whose moment is still to come there is none (`Answered` of bounded_demands)
-fn tell_moment(out: &mut [u8], at: usize, m: Moment) -> usize {
-    match m {
-        Moment::Before(place) => text_output::form(out, at, b" at=#", &[place]),
-        Moment::After(place) => text_output::form(out, at, b" at=#+", &[place]),
-        Moment::AfterNextTail => text_output::text(out, at, b" at=none"),
-        Moment::AfterNextHead => text_output::text(out, at, b" at=none"),
-    }
-}
-
-pub fn tell(out: &mut [u8], at: usize, e: Ended) -> usize {
+pub fn tell(out: &mut [u8], at: usize, a: Answers) -> usize {
+    let e = a.latest;
     if !e.ends {
         return at;
     }
     let moment = e.moment;
-    tell_moment(out, at, moment)
+    let r = row_of(moment);
+    text_output::nth(out, at, b" at=#| at=#+| at=none|", r.row, &[r.place])
 }
