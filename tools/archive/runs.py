@@ -1,6 +1,6 @@
 """Runs of replay: many schedules by one process, or one file by a process of its own; and each run beside its record.
 
-A tape is no input of `replay --many`, and a process for each tape would take ten times as long. So a tape without fault is read here, and its schedule
+A tape is no input of `replay --many`, and a process for each tape is what an archive must not cost. So a tape without fault is read here, and its schedule
 runs among others, as a text; whatever is not beyond doubt, here or to replay, gets a process and is judged by replay alone.
 """
 
@@ -218,7 +218,7 @@ def is_recorded(path, output):
 
 def beside_record(path, seen, output, number, record):
     """The result of a run that is in hand."""
-    if about := is_recorded(path, output):  # the way of nearly all, four times as fast
+    if about := is_recorded(path, output):  # the way of nearly all: no buffered file, no line by line
         result = REFUSED if number else RAN
         refused = f'"refused": {number}, ' if number else ''
         return Result(result, number, b'{"file": %s, "result": "%s", %s"record": "same", "seen": [%d, %d, %d, %d]}\n' % (

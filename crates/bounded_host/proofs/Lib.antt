@@ -1,2 +1,2 @@
 pub mod Running
-mod Answering
+pub mod Answering

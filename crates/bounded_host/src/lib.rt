@@ -4,6 +4,7 @@ ghost use mathlib.Core.Path.{_≡_};
 ghost use Rattle.bounded_rows.specs.Rows.{words, after};
 ghost use Rattle.bounded_host.specs.Host.{replyOf, brokenRefusal, makeWords, stepWords, ended, runWords, capacityWords, listed, contentsWords};
 use bounded_machine::Ring;
+use bounded_words::Width;
 use queue_entries::Told;
 
 // The number of a refusal, 0 where there is none; and what the call is asked for: an entry's place, a count, a capacity.
@@ -56,7 +57,7 @@ pub extern "C" fn fern_ring_step(
     if bounded_slices::broken(head, slots, records) {
         return 6;
     }
-    bounded_rows::turn(head, slots, records, first, second)
+    bounded_rows::turn(Width::SixtyFour, head, slots, records, first, second)
 }
 
 // A schedule, entry by entry, to its end or to the first refusal; 6 is judged once, since no entry breaks what is not broken.
@@ -80,6 +81,7 @@ pub extern "C" fn fern_ring_run(
     let mut i = 0;
     while i < n {
         let refusal = bounded_rows::turn(
+            Width::SixtyFour,
             head,
             slots,
             records,

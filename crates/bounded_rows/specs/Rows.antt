@@ -7,6 +7,7 @@ use lib.ListN.{length, getD, set}
 use Rattle.bounded_words.specs.Words.{stamp}
 use Rattle.bounded_words.specs.Limits.{slotsMost}
 use Rattle.bounded_words.specs.declared.Fixed.{Fixed}
+use Rattle.bounded_words.specs.declared.Width.{Width}
 use Rattle.bounded_places.specs.declared.Ends.{Ends}
 use Rattle.bounded_places.specs.declared.Slot.{Slot}
 use Rattle.bounded_places.specs.declared.Worker.{Worker}
@@ -14,7 +15,8 @@ use Rattle.bounded_machine.specs.Machine.{slot}
 use Rattle.bounded_codes.specs.declared.Coded.{Coded}
 use Rattle.bounded_codes.specs.Codes.{codeOf, placeIn, standsFor}
 use Rattle.bounded_parts.specs.declared.Metered.{Metered}
-use Rattle.bounded_lent.specs.Lent.{Lent}
+use Rattle.bounded_machine.specs.Turn.{turnAt}
+use Rattle.bounded_lent.specs.Lent.{Lent, held, lentOf}
 
 -- the three slices that a host lends
 pub record Words : Type 0 where
@@ -120,3 +122,7 @@ after r w = record { answer = r; words = w }
 
 abbrev pub afterOf : Lent → After
 afterOf x = after (x .answer) (wordsOf (x .ring) (x .records))
+
+-- the entry of two words at either width, on a ring and records that are not broken; of 64 bits it is `turnLent`
+abbrev pub turnWith : Width → Metered → List Worker → ℕ → ℕ → Lent
+turnWith bits l ys first second = lentOf (turnAt bits (held l ys) first second)

@@ -3,8 +3,8 @@ ghost use mathlib.Core.Path.{_≡_};
 ghost use mathlib.Core.Bool.{true, false};
 ghost use Prim.Native.Nat.{_+_, _*_, _<_};
 ghost use lib.ListN.{length};
-ghost use Rattle.bounded_lent.specs.Lent.{brokenLent, turnLent};
-ghost use Rattle.bounded_rows.specs.Rows.{words, fixedIn, endsIn, withHead, recordAt, placedAt, withRecord, slotAt, withSlot, recordsIn, meteredIn, stand, after, afterOf};
+ghost use Rattle.bounded_lent.specs.Lent.{brokenLent};
+ghost use Rattle.bounded_rows.specs.Rows.{words, fixedIn, endsIn, withHead, recordAt, placedAt, withRecord, slotAt, withSlot, recordsIn, meteredIn, stand, after, afterOf, turnWith};
 use bounded_places::Ends;
 use bounded_places::Slot;
 use bounded_places::Worker;
@@ -67,7 +67,7 @@ pub fn placed_at(records: &[u64], i: usize) -> bool
     bounded_codes::stands(records[at], records[at + 1], records[at + 2])
 }
 
-fn put_record(records: &mut [u64], i: usize, r: Worker)
+pub fn put_record(records: &mut [u64], i: usize, r: Worker)
     requires { ⌜ i * 5 + 4 < length (now records) ⌝ }
     ensures { λ _. ⌜ now (records .exit) ≡ withRecord (now (records .entry)) i r ⌝ }
 {
@@ -102,8 +102,9 @@ pub fn put_slot(slots: &mut [u64], k: usize, s: Slot)
     slots[at + 1] = s.value;
 }
 
-// One entry, on words that stand for a ring and records that are not broken.
+// One entry, on words that stand for a ring and records that are not broken; nor are they after it.
 pub fn turn(
+    bits: Width,
     head: &mut [u64],
     slots: &mut [u64],
     records: &mut [u64],
@@ -112,7 +113,9 @@ pub fn turn(
 ) -> u64
     requires { ⌜ brokenLent (meteredIn (words (now head) (now slots) (now records))) (recordsIn (now records)) ≡ false ⌝ }
     requires { ⌜ stand (words (now head) (now slots) (now records)) ≡ true ⌝ }
-    ensures { λ r. ⌜ after r (words (now (head .exit)) (now (slots .exit)) (now (records .exit))) ≡ afterOf (turnLent (meteredIn (words (now (head .entry)) (now (slots .entry)) (now (records .entry)))) (recordsIn (now (records .entry))) first second) ⌝ }
+    ensures { λ r. ⌜ after r (words (now (head .exit)) (now (slots .exit)) (now (records .exit))) ≡ afterOf (turnWith bits (meteredIn (words (now (head .entry)) (now (slots .entry)) (now (records .entry)))) (recordsIn (now (records .entry))) first second) ⌝ }
+    ensures { λ _. ⌜ brokenLent (meteredIn (words (now (head .exit)) (now (slots .exit)) (now (records .exit)))) (recordsIn (now (records .exit))) ≡ false ⌝ }
+    ensures { λ _. ⌜ stand (words (now (head .exit)) (now (slots .exit)) (now (records .exit))) ≡ true ⌝ }
 {
     let count = records.len() / 5;
     let w = bounded_entries::worker_of(first, count);
@@ -121,17 +124,7 @@ pub fn turn(
     let e = ends_in(head);
     let k = bounded_entries::slot_of(f, worker);
     let s = slot_at(slots, k);
-    let t = bounded_entries::turn_on(
-        Width::SixtyFour,
-        f,
-        e,
-        s,
-        worker,
-        head[6],
-        count,
-        first,
-        second,
-    );
+    let t = bounded_entries::turn_on(bits, f, e, s, worker, head[6], count, first, second);
     let ends = t.ends;
     let slot = t.slot;
     let after = t.worker;

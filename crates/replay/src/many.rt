@@ -81,8 +81,18 @@ fn surveyed(o: Options, fd: i32, from: Next) -> Survey {
     )
 }
 
+// Of a schedule that is told in words: what there are none for is said.
+fn said_of_words(o: Options, s: Survey) -> u8 {
+    let whole = replay_survey::refused_whole(s);
+    if o.words && whole.refusal != 0 {
+        tape_files::say::refused_schedule(whole.refusal, whole.place, 0, 0);
+        return REFUSED;
+    }
+    RAN
+}
+
 // Says what is wrong, and answers the status.
-fn said(s: Survey, name: &[u8]) -> u8 {
+fn said(o: Options, s: Survey, name: &[u8]) -> u8 {
     let r = s.reading;
     if r.event == replay_input::source::REFUSED {
         let p = r.tape;
@@ -90,7 +100,7 @@ fn said(s: Survey, name: &[u8]) -> u8 {
         return REFUSED;
     }
     if replay_survey::is_sound(s, name) {
-        RAN
+        said_of_words(o, s)
     } else {
         UNREADABLE
     }
@@ -99,7 +109,7 @@ fn said(s: Survey, name: &[u8]) -> u8 {
 // Read once, and not run.
 fn look(o: Options, fd: i32, name: &[u8], from: Next) -> Next {
     let s = surveyed(o, fd, from);
-    let status = said(s, name);
+    let status = said(o, s, name);
     if status == RAN {
         after(s, 0, from.status)
     } else {
@@ -113,7 +123,7 @@ fn worse(status: u8, refused: bool) -> u8 {
 
 fn one(o: Options, fd: i32, name: &[u8], from: Next, out: &mut [u8]) -> Next {
     let s = surveyed(o, fd, from);
-    let status = said(s, name);
+    let status = said(o, s, name);
     if status != RAN {
         return stop(status);
     }

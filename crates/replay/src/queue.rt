@@ -21,8 +21,11 @@ pub fn before(o: Options) -> usize {
     }
 }
 
-// The unbounded queue has no force_push: code 1.
+// The unbounded queue has no force_push: code 1. There are words for it.
 pub fn barred(o: Options) -> u64 {
+    if o.words {
+        return 16;
+    }
     if o.queue == replay_options::UNBOUNDED {
         1
     } else {
@@ -39,6 +42,12 @@ pub fn play(
     at: usize,
 ) -> Played {
     let queue = o.queue;
+    if o.words {
+        return Played {
+            at: replay_words::tell(fd, o.many, begun, before(o), out, at),
+            refused: false,
+        };
+    }
     match queue {
         replay_options::SINGLE => replay_single::play::play(asked(o), fd, begun, whole, out, at),
         replay_options::UNBOUNDED => replay_unbounded::play::play(o, fd, begun, whole, out, at),

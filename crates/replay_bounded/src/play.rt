@@ -1,193 +1,154 @@
-// A machine, run pair by pair. The first pair of numbers makes it; every other is an entry.
-use bounded_parts::Metered;
-use replay_bounded_entries::Run;
+// A ring, made by the first pair of numbers and run entry by entry.
+ghost use Prim.Native.Nat.{_≤_};
+use crate::entries::Going;
 use replay_input::source::Reading;
 use replay_options::Options;
 use replay_survey::Played;
 use replay_survey::Whole;
+use replay_survey::pieces::Run;
 
-fn start(at: usize) -> Run {
-    Run {
-        ring: replay_bounded_entries::metered(bounded_machine::blank()),
-        records: replay_bounded_entries::idlers(),
-        count: 0,
-        made: false,
-        place: 0,
-        refusal: 0,
-        whole: false,
-        at: at,
-        summary: replay_bounded_counts::summary::none(),
-        answers: replay_bounded_counts::moments::none(0),
-    }
-}
+// Room for one record more than are lent, with which making is refused.
+const RECORDS: usize = bounded_parts::RECORDS + 1;
 
-// What making gives: the number of its refusal, and a ring with so many idle records.
-struct Making {
-    refusal: u64,
-    broken: bool,
-    ring: Metered,
-    count: u64,
-}
+const ROOM: usize = RECORDS * bounded_slices::RECORD;
 
-fn making_held(o: Options, capacity: u64, workers: u64) -> Making {
-    let did = bounded::make(capacity, workers, o.edition);
-    let m = did.machine;
-    let broken = bounded::broken(m);
-    Making {
-        refusal: did.refusal,
-        broken: broken,
-        ring: replay_bounded_entries::metered(m),
-        count: m.count,
-    }
-}
-
-// No entry has this code: it is refused, by 6 where ring and records are broken.
-const NO_ENTRY: u64 = 15;
-
-fn making_lent(o: Options, capacity: u64, workers: u64) -> Making {
-    let made = bounded_parts::make(workers as usize, capacity, o.edition);
-    let ring = made.ring;
-    let judged = bounded_lends::lend(
-        ring,
-        replay_bounded_entries::idlers(),
-        workers as usize,
-        NO_ENTRY,
-        0,
-    );
-    Making {
-        refusal: made.refusal,
-        broken: judged.refusal == 6,
-        ring: ring,
-        count: workers,
-    }
-}
-
-fn making_by(o: Options, capacity: u64, workers: u64) -> Making {
-    if o.lent {
-        return making_lent(o, capacity, workers);
-    }
-    making_held(o, capacity, workers)
-}
-
-// "Order becomes 6, 11, 9, then entry by entry"
-fn of_the_whole(broken: bool, whole: Whole) -> Whole {
-    if broken {
-        return Whole {
-            refusal: 6,
-            place: 0,
-        };
-    }
-    whole
-}
-
-fn made(b: Making, whole: Whole, at: usize) -> Run {
-    let of_all = of_the_whole(b.broken, whole);
-    let summary = replay_bounded_lines::refused_of(of_all.refusal);
-    let metered = b.ring;
-    let ring = metered.ring;
-    let fixed = ring.fixed;
-    Run {
-        ring: metered,
-        records: replay_bounded_entries::idlers(),
-        count: b.count,
-        made: true,
-        place: of_all.place,
-        refusal: of_all.refusal,
-        whole: of_all.refusal != 0,
-        at: at,
-        summary: summary,
-        answers: replay_bounded_counts::moments::none(fixed.capacity),
-    }
-}
-
-fn make(o: Options, capacity: u64, workers: u64, whole: Whole, out: &mut [u8], at: usize) -> Run {
-    let b = making_by(o, capacity, workers);
-    let end = text_output::form(out, at, b"made #\n", &[b.refusal]);
-    made(b, whole, end)
-}
-
-// The first pairs: the machine is made of the first of all.
-fn first_pairs(r: Run, o: Options, whole: Whole, list: &[u64], out: &mut [u8]) -> Run {
-    if list.len() < 2 {
-        return r;
-    }
-    let made = make(o, list[0], list[1], whole, out, r.at);
-    replay_bounded_entries::entries(made, o, list, 2, out)
-}
-
-// The pairs among the first n numbers of the list.
-fn pairs(r: Run, o: Options, whole: Whole, list: &[u64], n: usize, out: &mut [u8]) -> Run {
-    let even = n - n % 2;
-    if list.len() < even {
-        return r;
-    }
-    let pairs = &list[..even];
-    if r.made {
-        return replay_bounded_entries::entries(r, o, pairs, 0, out);
-    }
-    first_pairs(r, o, whole, pairs, out)
-}
-
-// The report of the whole, where there was none for each entry.
-fn tell_whole(r: Run, quiet: bool, out: &mut [u8]) -> usize {
-    if !quiet {
-        if !r.whole {
-            return r.at;
+// How many records are handed to making; too many where the machine that holds them has fewer.
+fn records_of(lent: bool, workers: u64) -> usize
+    ensures { λ r. ⌜ r ≤ 65 ⌝ }
+{
+    if lent {
+        if workers < RECORDS as u64 {
+            return workers as usize;
         }
+        return RECORDS;
     }
-    let l = r.ring;
-    bounded_text_machine::text::report(
-        out,
-        r.at,
-        r.place,
-        r.refusal,
-        replay_bounded_entries::numbers_in(l, r.count),
-    )
+    if workers <= queue_entries::WORKERS as u64 {
+        return workers as usize;
+    }
+    RECORDS
 }
 
-// contents x y ..., through a buffer that any list fits
-fn contents(out: &mut [u8], at: usize, r: Run, lent: bool) -> usize {
-    let mut items = [0u64; bounded_words::SLOTS];
-    let t = replay_bounded_entries::contents_of(r, lent, &mut items);
-    bounded_text_machine::text::told(out, at, b"contents", &items, t)
-}
-
-// What stands at the end.
-fn finish(r: Run, o: Options, out: &mut [u8]) -> usize {
-    let p = tell_whole(r, o.quiet, out);
-    let l = r.ring;
-    let q = bounded_text_machine::text::slots(out, p, l.ring);
-    let t = contents(out, q, r, o.lent);
-    replay_bounded_lines::tell_end(r.summary, o, out, t)
-}
-
-// One piece of the schedule.
-fn some(r: Run, o: Options, whole: Whole, list: &[u64], n: usize, out: &mut [u8]) -> Run {
-    let before = r.place;
-    let after = pairs(r, o, whole, list, n, out);
-    replay_input::say::progress(before, after.place, after.at);
-    after
+// Before the first entry, of a ring of this capacity.
+fn started(broken: bool, whole: Whole, capacity: u64, at: usize) -> Going {
+    let run = replay_survey::pieces::begun(broken, whole, at);
+    Going {
+        run: run,
+        summary: replay_bounded_lines::summary::none(run.refusal != 0),
+        because: replay_bounded_lines::because::none(),
+        answers: replay_bounded_lines::moments::none(capacity),
+    }
 }
 
 fn all(
     o: Options,
     fd: i32,
     begun: Reading,
-    whole: Whole,
+    made: Going,
+    head: &mut [u64],
+    slots: &mut [u64],
+    records: &mut [u64],
     bytes: &mut [u8],
     list: &mut [u64],
     out: &mut [u8],
-    at: usize,
-) -> Run {
-    let mut run = start(at);
-    let mut reading = begun;
+) -> Going {
+    let mut g = made;
+    let mut p = replay_survey::pieces::start(begun);
     let mut turns = u64::MAX;
-    while turns > 0 && replay_input::source::tells_on(reading.event, run.refusal, run.at) {
+    while turns > 0 && replay_survey::pieces::goes_on(p, g.run) {
         turns -= 1;
-        reading = replay_input::source::next(fd, o.many, reading, bytes, list);
-        run = some(run, o, whole, list, reading.count, out);
+        p = replay_survey::pieces::next(fd, o.many, p, g.run, bytes, list);
+        g = crate::entries::run(
+            g,
+            o,
+            head,
+            slots,
+            records,
+            replay_survey::pieces::entries(p, list),
+            out,
+        );
     }
-    run
+    g
+}
+
+// The report of the whole, where there was none for each entry.
+fn tell_whole(r: Run, quiet: bool, head: &[u64], out: &mut [u8]) -> usize {
+    if replay_survey::pieces::is_reported(r, quiet) {
+        let ring = crate::entries::ring_in(head);
+        return replay_bounded_lines::report(out, r.at, r.place, r.refusal, ring);
+    }
+    r.at
+}
+
+fn tell_slots(out: &mut [u8], at: usize, head: &[u64], slots: &[u64]) -> usize {
+    let ring = crate::entries::ring_in(head);
+    bounded_text_codes::slots(out, at, slots, ring[2])
+}
+
+// contents x y ..., through a buffer that any list fits
+fn contents(out: &mut [u8], at: usize, head: &[u64], slots: &[u64], records: &[u64]) -> usize {
+    let mut items = [0u64; bounded_words::SLOTS];
+    let t = bounded_host::fern_ring_contents(head, slots, records, &mut items);
+    bounded_text_codes::told(out, at, b"contents", &items, t.refusal, t.number)
+}
+
+// What stands at the end.
+fn finish(
+    g: Going,
+    o: Options,
+    head: &[u64],
+    slots: &[u64],
+    records: &[u64],
+    out: &mut [u8],
+) -> Played {
+    let run = g.run;
+    let summary = g.summary;
+    let because = g.because;
+    let p = tell_whole(run, o.quiet, head, out);
+    let q = tell_slots(out, p, head, slots);
+    let t = contents(out, q, head, slots, records);
+    let u = replay_bounded_lines::tell_counts(o, out, t, summary, because);
+    Played {
+        at: replay_survey::pieces::end(out, u, o.many),
+        refused: run.refusal != 0,
+    }
+}
+
+fn play_on(
+    o: Options,
+    fd: i32,
+    begun: Reading,
+    whole: Whole,
+    records: &mut [u64],
+    out: &mut [u8],
+    at: usize,
+) -> Played {
+    let mut head = [0u64; bounded_slices::HEAD];
+    let mut slots = [0u64; bounded_slices::SLOTS];
+    let mut bytes = [0u8; replay_input::source::BYTES];
+    let mut list = [1u64; replay_input::source::NUMBERS];
+    let refusal = bounded_host::fern_ring_make(
+        &mut head,
+        &mut slots,
+        records,
+        whole.capacity,
+        o.edition,
+    );
+    let p = text_output::form(out, at, b"made #\n", &[refusal]);
+    let broken = bounded_slices::broken(&head, &slots, records);
+    let made = started(broken, whole, head[2], p);
+    let g = all(
+        o,
+        fd,
+        begun,
+        made,
+        &mut head,
+        &mut slots,
+        records,
+        &mut bytes,
+        &mut list,
+        out,
+    );
+    finish(g, o, &head, &slots, records, out)
 }
 
 // A schedule, read piece by piece and run to its end or to its first refusal.
@@ -199,11 +160,7 @@ pub fn play(
     out: &mut [u8],
     at: usize,
 ) -> Played {
-    let mut bytes = [0u8; replay_input::source::BYTES];
-    let mut list = [1u64; replay_input::source::NUMBERS];
-    let run = all(o, fd, begun, whole, &mut bytes, &mut list, out, at);
-    Played {
-        at: finish(run, o, out),
-        refused: run.refusal != 0,
-    }
+    let mut records = [0u64; ROOM];
+    let used = records_of(o.lent, whole.workers) * bounded_slices::RECORD;
+    play_on(o, fd, begun, whole, &mut records[..used], out, at)
 }

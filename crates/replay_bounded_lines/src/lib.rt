@@ -1,137 +1,127 @@
-// What replay writes of a run of the ring that needs no ring in hand: the line of an entry, and the counts at the end.
-use bounded_places::Worker;
-use replay_bounded_counts::moments::Ended;
-use replay_bounded_counts::summary::Summary;
+// What replay writes of the ring's entries: the line of each, and counts along the run. Ring and records are words, as a host has them (crate bounded_rows).
+use crate::because::Because;
+use crate::moments::Answers;
+use crate::summary::Summary;
 use replay_options::Options;
 
-pub fn refused_of(refusal: u64) -> Summary {
-    let none = replay_bounded_counts::summary::none();
-    if refusal == 0 {
-        return none;
-    }
-    replay_bounded_counts::summary::refused(none)
+pub mod because;
+pub mod moments;
+pub mod summary;
+
+// One entry that was run: its place, its two words, the number of its refusal, how many workers there are, and the words of the ring but for its slots
+// and of its worker's record, before it and after it.
+pub struct Entered {
+    pub place: u64,
+    pub first: u64,
+    pub second: u64,
+    pub refusal: u64,
+    pub count: u64,
+    pub ring_before: [u64; 8],
+    pub ring: [u64; 8],
+    pub before: [u64; 5],
+    pub after: [u64; 5],
 }
 
-// The summary after an entry of this first word, which led its worker from one record to the other.
-pub fn counted(
-    o: Options,
-    s: Summary,
-    refusal: u64,
-    first: u64,
-    before: Worker,
-    after: Worker,
-) -> Summary {
-    if !o.summary && !o.causes && !o.stock {
-        return s;
+// What an entry was.
+pub const REFUSED: u8 = 0;
+
+pub const BEGUN: u8 = 1;
+
+pub const ACTED: u8 = 2;
+
+pub fn kind_of(e: Entered) -> u8 {
+    if e.refusal != 0 {
+        return REFUSED;
     }
-    if refusal != 0 {
-        return replay_bounded_counts::summary::refused(s);
-    }
-    if first % 16 < 8 {
-        return replay_bounded_counts::summary::begun(s);
-    }
-    let acted = replay_bounded_counts::summary::acted(s, before, after);
-    if o.causes {
-        return replay_bounded_counts::summary::reasoned(acted, first / 16, before, after);
-    }
-    acted
+    if e.first % 16 < 8 { BEGUN } else { ACTED }
 }
 
-fn causes_if(asked: bool, out: &mut [u8], at: usize, s: Summary) -> usize {
-    if asked {
-        return replay_bounded_counts::because::tell(out, at, s.because);
+// PLACE; "-" where there is no such worker
+fn stands(out: &mut [u8], at: usize, there: bool, r: [u64; 5]) -> usize {
+    if there {
+        return bounded_text_codes::place(out, at, r[0], r[1], r[2]);
     }
-    at
+    text_output::byte(out, at, b'-')
 }
 
-// lost=D,S; "-" where there is no such worker
-fn losses_if(asked: bool, out: &mut [u8], at: usize, there: bool, r: Worker) -> usize {
+// lost=D,S where it is asked; "-" where there is no such worker
+fn losses_if(asked: bool, out: &mut [u8], at: usize, there: bool, r: [u64; 5]) -> usize {
     if !asked {
         return at;
     }
-    if !there {
-        return text_output::text(out, at, b" lost=-");
+    let row = if there { 0 } else { 1 };
+    text_output::nth(out, at, b" lost=#,#| lost=-|", row, &[r[3], r[4]])
+}
+
+// because=LIST, stock=N and at=J, each where it is asked
+fn causes_if(asked: bool, out: &mut [u8], at: usize, b: Because) -> usize {
+    if asked {
+        return crate::because::tell(out, at, b);
     }
-    let counts = [r.differed, r.failed];
-    text_output::form(out, at, b" lost=#,#", &counts)
+    at
 }
 
 fn stock_if(asked: bool, out: &mut [u8], at: usize, s: Summary) -> usize {
     if asked {
-        return replay_bounded_counts::summary::tell_stock(out, at, s);
+        return crate::summary::tell_stock(out, at, s);
     }
     at
 }
 
-fn moment_if(asked: bool, out: &mut [u8], at: usize, e: Ended) -> usize {
+fn moment_if(asked: bool, out: &mut [u8], at: usize, a: Answers) -> usize {
     if asked {
-        return replay_bounded_counts::moments::tell(out, at, e);
+        return crate::moments::tell(out, at, a);
     }
     at
 }
 
 // PLACE R h=H t=T m=M wN=S, and what is asked beside it
-pub fn line_unless(
+pub fn line(
     o: Options,
     out: &mut [u8],
     at: usize,
-    place: u64,
-    refusal: u64,
-    w: u64,
-    numbers: [u64; 8],
-    after: Worker,
-    s: Summary,
-    e: Ended,
+    e: Entered,
+    summary: Summary,
+    because: Because,
+    answers: Answers,
 ) -> usize {
-    if o.quiet {
-        return at;
-    }
-    let stands = after.place;
-    let p = bounded_text_machine::text::entry_of(out, at, place, refusal, w, numbers, stands);
-    let q = causes_if(o.causes, out, p, s);
-    let r = losses_if(o.losses, out, q, w < numbers[6], after);
-    let t = stock_if(o.stock, out, r, s);
-    let u = moment_if(o.moments, out, t, e);
+    let ring = e.ring;
+    let after = e.after;
+    let w = e.first / 16;
+    let there = w < e.count;
+    let numbers = [e.place, e.refusal, ring[4], ring[5], ring[6], w];
+    let p = text_output::form(out, at, b"# # h=# t=# m=# w#=", &numbers);
+    let q = stands(out, p, there, after);
+    let r = causes_if(o.causes, out, q, because);
+    let s = losses_if(o.losses, out, r, there, after);
+    let t = stock_if(o.stock, out, s, summary);
+    let u = moment_if(o.moments, out, t, answers);
     let v = text_output::byte(out, u, b'\n');
     text_output::settle(out, v)
 }
 
-pub fn next_place(place: u64, refusal: u64) -> u64 {
-    if refusal == 0 {
-        return std::num::wrapping_add_u64(place, 1);
-    }
-    place
+// PLACE R h=H t=T m=M, of the whole
+pub fn report(out: &mut [u8], at: usize, place: u64, refusal: u64, ring: [u64; 8]) -> usize {
+    let numbers = [place, refusal, ring[4], ring[5], ring[6]];
+    text_output::form(out, at, b"# # h=# t=# m=#\n", &numbers)
 }
 
-fn tell_causes(s: Summary, asked: bool, out: &mut [u8], at: usize) -> usize {
+fn tell_causes(asked: bool, out: &mut [u8], at: usize, b: Because) -> usize {
     if asked {
-        return replay_bounded_counts::because::tell_counts(out, at, s.because);
+        return crate::because::tell_counts(out, at, b);
     }
     at
 }
 
-fn tell_summary(s: Summary, o: Options, out: &mut [u8], at: usize) -> usize {
+// The counts over the whole, where they are asked.
+pub fn tell_counts(o: Options, out: &mut [u8], at: usize, s: Summary, b: Because) -> usize {
     if !o.summary {
         return at;
     }
-    let p = replay_bounded_counts::summary::tell(out, at, s);
-    let q = tell_causes(s, o.causes, out, p);
+    let p = crate::summary::tell(out, at, s);
+    let q = tell_causes(o.causes, out, p, b);
     if o.losses {
-        return replay_bounded_counts::summary::tell_losses(out, q, s);
+        return crate::summary::tell_losses(out, q, s);
     }
     q
-}
-
-// What follows the output of one of many.
-fn tell_mark(out: &mut [u8], at: usize, many: bool) -> usize {
-    if many {
-        return text_output::text(out, at, b"%\n");
-    }
-    at
-}
-
-pub fn tell_end(s: Summary, o: Options, out: &mut [u8], at: usize) -> usize {
-    let p = tell_summary(s, o, out, at);
-    let q = tell_mark(out, p, o.many);
-    text_output::settle(out, q)
 }

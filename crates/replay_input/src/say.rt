@@ -1,5 +1,6 @@
 // What goes wrong with the input or the output, as one line on standard error that begins with the program's name.
 use crate::source::Reading;
+use text_words::line::Words;
 
 fn out(text: &[u8], n: usize) {
     if n <= text.len() {
@@ -30,14 +31,27 @@ pub fn is_written(program: &[u8], whole: bool) -> bool {
     false
 }
 
-// PROGRAM: NAME: line L, column C: WHAT
+// PROGRAM: NAME: line L, column C:
+fn place(text: &mut [u8], program: &[u8], name: &[u8], line: u64, column: u64) -> usize {
+    let o = text_output::text(text, 0, program);
+    let p = text_output::text(text, o, b": ");
+    let q = text_output::text(text, p, name);
+    text_output::form(text, q, b": line #, column #: ", &[line, column])
+}
+
 fn fault(program: &[u8], name: &[u8], line: u64, column: u64, what: &[u8]) {
     let mut text = [0u8; 4608];
-    let o = text_output::text(&mut text, 0, program);
-    let p = text_output::text(&mut text, o, b": ");
-    let q = text_output::text(&mut text, p, name);
-    let r = text_output::form(&mut text, q, b": line #, column #: ", &[line, column]);
+    let r = place(&mut text, program, name, line, column);
     let s = text_output::text(&mut text, r, what);
+    let t = text_output::byte(&mut text, s, b'\n');
+    out(&text, t);
+}
+
+// Of a word that is none of those that may stand there, or is missing.
+fn unexpected(program: &[u8], name: &[u8], line: u64, column: u64, words: Words) {
+    let mut text = [0u8; 4608];
+    let r = place(&mut text, program, name, line, column);
+    let s = text_words::line::expected(&mut text, r, words);
     let t = text_output::byte(&mut text, s, b'\n');
     out(&text, t);
 }
@@ -59,6 +73,10 @@ pub fn is_sound(program: &[u8], name: &[u8], r: Reading, numbers: u64) -> bool {
                 scan.start,
                 b"not an unsigned decimal number",
             );
+            return false;
+        }
+        text_words::line::UNEXPECTED => {
+            unexpected(program, name, scan.line, scan.start, r.words);
             return false;
         }
         text_numbers::TOO_LARGE => {

@@ -1,25 +1,27 @@
 // The bytes of a schedule, which is a text or a tape. They are read twice, first to see whether every number is one and how many there are,
 // so that what can't be read is known before anything runs, in a fixed amount of memory. What can't be read twice is kept in a
 // file that has no name.
-use text_numbers::Piece;
 use text_numbers::Scan;
+use text_words::line::Words;
+use text_words::reading::Piece;
 
 // A piece of the input, and room for the numbers in it: of a text with one left over from the piece before, of a tape with two before its entries.
 pub const BYTES: usize = tape_pieces::WINDOW;
 
 pub const NUMBERS: usize = tape_pieces::WORDS + 8;
 
-// Beside the events of `text_numbers`: the input's end, a read that failed, and a tape that is refused.
-pub const END: u64 = 5;
+// Beside the events of `text_words`: the input's end, a read that failed, and a tape that is refused.
+pub const END: u64 = 6;
 
-pub const FAILED: u64 = 6;
+pub const FAILED: u64 = 7;
 
-pub const REFUSED: u64 = 7;
+pub const REFUSED: u64 = 8;
 
 // Where a reading stands: the numbers of the last piece, and what ended it.
 pub struct Reading {
     // of a text, with the offset of the next byte
     pub scan: Scan,
+    pub words: Words,
     pub offset: u64,
     pub count: usize,
     pub event: u64,
@@ -35,10 +37,11 @@ pub fn to_offset(n: u64) -> i64 {
     }
 }
 
-// Of a text from this offset and line on, or of a tape.
-pub fn start(is_tape: bool, offset: u64, line: u64) -> Reading {
+// Of a text from this offset and line on, or of a tape; so many numbers, none or one, are put before it.
+pub fn start(is_tape: bool, offset: u64, line: u64, before: usize) -> Reading {
     Reading {
         scan: text_numbers::start(line),
+        words: text_words::line::start(before),
         offset: offset,
         count: 0,
         event: text_numbers::NOTHING,
@@ -49,8 +52,10 @@ pub fn start(is_tape: bool, offset: u64, line: u64) -> Reading {
 
 fn after(piece: Piece, offset: u64, event: u64) -> Reading {
     let scan = piece.scan;
+    let words = piece.words;
     Reading {
         scan: scan,
+        words: words,
         offset: offset,
         count: piece.count,
         event: event,
@@ -67,12 +72,12 @@ fn stopped(r: Reading, count: usize, event: u64) -> Reading {
     after
 }
 
-// The input's end ends a line. It is the event unless that line's end was one; the reading stands where the input ended.
+// The input's end ends a line. It is the event unless that line's end was one, or some of its entries found no room; the reading stands where the input ended.
 fn ended(r: Reading, many: bool, list: &mut [u64], left: usize) -> Reading {
-    let scan = r.scan;
     let end = [b'\n'];
-    let piece = text_numbers::read_piece(scan, many, &end, list, left);
-    if piece.event == text_numbers::NOTHING {
+    let piece = text_words::reading::read_piece(r.scan, r.words, many, &end, list, left);
+    let words = piece.words;
+    if piece.event == text_numbers::NOTHING && words.left == 0 {
         return stopped(r, piece.count, END);
     }
     after(piece, r.offset, piece.event)
@@ -89,8 +94,10 @@ fn event_of(state: u64) -> u64 {
 
 fn with_piece(r: Reading, p: tape_pieces::Piece, count: usize) -> Reading {
     let scan = r.scan;
+    let words = r.words;
     Reading {
         scan: scan,
+        words: words,
         offset: r.offset,
         count: count,
         event: event_of(p.state),
@@ -146,10 +153,24 @@ fn tape_turn(fd: i32, r: Reading, bytes: &mut [u8], list: &mut [u64], left: usiz
 }
 
 fn text_read(r: Reading, many: bool, bytes: &[u8], list: &mut [u64], left: usize) -> Reading {
-    let scan = r.scan;
-    let piece = text_numbers::read_piece(scan, many, bytes, list, left);
+    let piece = text_words::reading::read_piece(r.scan, r.words, many, bytes, list, left);
     let offset = std::num::wrapping_add_u64(r.offset, piece.used as u64);
     after(piece, offset, piece.event)
+}
+
+// How many acts of a row that was read have found no room yet.
+pub fn owing(r: Reading) -> u64 {
+    let words = r.words;
+    words.left
+}
+
+// For who need not see them: they are left out.
+pub fn owing_none(r: Reading) -> Reading {
+    let mut after = r;
+    let mut words = r.words;
+    words.left = 0;
+    after.words = words;
+    after
 }
 
 fn text_turn(
@@ -160,6 +181,9 @@ fn text_turn(
     list: &mut [u64],
     left: usize,
 ) -> Reading {
+    if 0 < owing(r) {
+        return text_read(r, many, b"", list, left);
+    }
     let got = libc::pread(fd, bytes, to_offset(r.offset));
     if got < 0 {
         return stopped(r, 0, FAILED);
@@ -200,7 +224,7 @@ pub fn carry(list: &mut [u64], count: usize) -> usize {
 
 // Of a schedule that is read to be run: so many numbers, none or one, stand in the list before its first.
 pub fn begun(is_tape: bool, offset: u64, line: u64, before: usize) -> Reading {
-    let mut r = start(is_tape, offset, line);
+    let mut r = start(is_tape, offset, line, before);
     r.count = before;
     r
 }

@@ -44,6 +44,10 @@ pub struct Options {
     // the number of the argument --summary
     pub summary_at: usize,
     pub many: bool,
+    // the schedule is told in words, and not run
+    pub words: bool,
+    // the number of the argument --words-of; 0: there is none
+    pub words_at: usize,
     // the input is a tape, and no text
     pub tape: bool,
     pub help: bool,
@@ -93,6 +97,8 @@ fn none() -> Options {
         summary: false,
         summary_at: 0,
         many: false,
+        words: false,
+        words_at: 0,
         tape: false,
         help: false,
         tells: false,
@@ -257,6 +263,11 @@ fn with_word(before: Options, i: usize, word: &[u8]) -> Options {
         o.many = true;
         return o;
     }
+    if equal(word, b"--words-of") {
+        o.words = true;
+        o.words_at = i;
+        return o;
+    }
     if equal(word, b"--tape") {
         o.tape = true;
         return o;
@@ -289,6 +300,14 @@ fn arguments() -> Options {
     o
 }
 
+// What is asked of a run, of which there is none where a schedule is only told in words.
+fn runs_so(o: Options) -> bool {
+    if o.edition_at != 0 || o.bits_at != 0 || o.lent {
+        return true;
+    }
+    o.quiet || o.causes || o.moments || o.losses || o.stock || o.summary
+}
+
 // An option that is still without its value at the end is of no use; nor is an edition, a width, lent records, causes, moments, losses or a stock of a queue that has none.
 // Lent records are of 64 bits; causes and moments are kept for sixteen workers.
 pub fn read() -> Options {
@@ -317,6 +336,9 @@ pub fn read() -> Options {
     if o.stock && o.queue != BOUNDED {
         o.wrong = o.stock_at;
     }
+    if o.words && runs_so(o) {
+        o.wrong = o.words_at;
+    }
     if o.queue == UNBOUNDED && o.summary {
         o.wrong = o.summary_at;
     }
@@ -340,6 +362,7 @@ pub fn help() -> bool {
     io::write_all(
         libc::STDOUT_FILENO,
         b"replay [--queue NAME] [--edition N] [--bits N] [--lent] [--quiet] [--causes] [--moments] [--losses] [--stock] [--summary] [--many] [--tape] [FILE]\n\
+        replay --words-of [--queue NAME] [--many] [--tape] [FILE]\n\
         \n\
         Runs a schedule on the stamped ring, or on another queue. It is read from FILE, or from standard input: unsigned decimal\n\
         numbers separated by white space. The first is the capacity (1 to 1024), the second the number of\n\
@@ -347,6 +370,8 @@ pub fn help() -> bool {
         Codes: 0 push, 1 force_push, 2 pop, 3 len, 4 is_empty, 5 is_full, 6 close, 7 is_closed begin a call;\n\
         8 is an act, 9 an act whose weak exchange fails. The item is 0 unless the code is 0 or 1.\n\
         # starts a comment to the end of its line.\n\
+        Or in words, where the first thing that is no comment is a letter: lines capacity 2, workers 3 (of the other queues workers\n\
+        alone), then an entry or a row of acts each: w0 push 101, w1 pop, w0 act, w1 act 4, w0 fail, w0 fail 2. fail is code 9.\n\
         \n\
         \x20 made R                     0, or why there is no machine: 1 capacity, 2 workers, 18 edition\n\
         \x20 PLACE R h=H t=T m=M wN=S   for each entry: its place from 0, refusal or 0, head, tail, meter, its worker\n\
@@ -376,6 +401,7 @@ pub fn help() -> bool {
         \x20 --stock     at the end of each entry's line stock=N: the items claimed at tail whose value is not yet read out\n\
         \x20 --summary   then counts of acts, answers, claims, refusals and retries; with --causes of each cause, with --losses of lost exchanges\n\
         \x20 --many      several schedules, separated by a line with a single %; a line % follows each output\n\
+        \x20 --words-of  prints the schedule in words, acts in a row gathered, and runs nothing; 9, 11: what no words are for\n\
         \x20 --tape      FILE is a schedule tape (see tape --help); a tape that is refused is told in one line, and nothing is run\n",
     )
 }

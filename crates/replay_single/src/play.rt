@@ -4,19 +4,14 @@ use crate::summary::Summary;
 use replay_input::source::Reading;
 use replay_survey::Played;
 use replay_survey::Whole;
+use replay_survey::pieces::Run;
 use single_machine::Machine;
 use single_places::Place;
 
-pub struct Run {
+// The machine, how far its run is, and what is counted along it.
+pub struct Going {
     pub machine: Machine,
-    pub made: bool,
-    // entries accepted so far: the place of the next one
-    pub place: u64,
-    pub refusal: u64,
-    // the refusal is of the whole
-    pub whole: bool,
-    // where the text to be written goes on
-    pub at: usize,
+    pub run: Run,
     pub summary: Summary,
 }
 
@@ -27,55 +22,16 @@ pub struct Asked {
     pub many: bool,
 }
 
-fn start(at: usize) -> Run {
-    Run {
-        machine: single_machine::fresh(0),
-        made: false,
-        place: 0,
-        refusal: 0,
-        whole: false,
-        at: at,
-        summary: crate::summary::none(),
-    }
-}
-
-// "Order becomes 6, 11, 9, then entry by entry"
-fn of_the_whole(m: Machine, whole: Whole) -> Whole {
-    if single::broken(m) {
-        return Whole {
-            refusal: 6,
-            place: 0,
-        };
-    }
-    whole
-}
-
-fn refused_of(refusal: u64) -> Summary {
-    let none = crate::summary::none();
-    if refusal == 0 {
-        return none;
-    }
-    crate::summary::refused(none)
-}
-
-fn made(m: Machine, whole: Whole, at: usize) -> Run {
-    let of_all = of_the_whole(m, whole);
-    let summary = refused_of(of_all.refusal);
-    Run {
-        machine: m,
-        made: true,
-        place: of_all.place,
-        refusal: of_all.refusal,
-        whole: of_all.refusal != 0,
-        at: at,
-        summary: summary,
-    }
-}
-
-fn make(workers: u64, whole: Whole, out: &mut [u8], at: usize) -> Run {
-    let did = single::make(workers);
+fn make(whole: Whole, out: &mut [u8], at: usize) -> Going {
+    let did = single::make(whole.workers);
     let end = text_output::form(out, at, b"made #\n", &[did.refusal]);
-    made(did.machine, whole, end)
+    let m = did.machine;
+    let run = replay_survey::pieces::begun(single::broken(m), whole, end);
+    Going {
+        machine: m,
+        run: run,
+        summary: crate::summary::none(run.refusal != 0),
+    }
 }
 
 // The summary after an entry of this first word, which led its worker to this place.
@@ -111,29 +67,20 @@ fn line_unless(
     text_output::settle(out, q)
 }
 
-fn next_place(place: u64, refusal: u64) -> u64 {
-    if refusal == 0 {
-        return std::num::wrapping_add_u64(place, 1);
-    }
-    place
-}
-
 // Entry by entry, with what is asked after each.
-fn steps(r: Run, o: Asked, list: &[u64], from: usize, out: &mut [u8]) -> Run {
-    let mut m = r.machine;
+fn steps(g: Going, o: Asked, list: &[u64], out: &mut [u8]) -> Going {
+    let r = g.run;
+    let mut m = g.machine;
+    let mut s = g.summary;
     let mut place = r.place;
     let mut refusal = r.refusal;
     let mut at = r.at;
-    let mut s = r.summary;
-    if list.len() == 0 {
-        return r;
-    }
-    let last = list.len() - 1;
-    let mut i = from;
-    while i < last && refusal == 0 {
-        let first = list[i];
-        let second = list[i + 1];
-        i += 2;
+    let n = list.len() / 2;
+    let mut i = 0;
+    while i < n && refusal == 0 {
+        let first = list[2 * i];
+        let second = list[2 * i + 1];
+        i += 1;
         let w = first / 16;
         let pair = [first, second];
         let ran = single::run(m, &pair);
@@ -151,82 +98,47 @@ fn steps(r: Run, o: Asked, list: &[u64], from: usize, out: &mut [u8]) -> Run {
             single_text::numbers(m),
             after,
         );
-        place = next_place(place, refusal);
+        place = replay_survey::pieces::next_place(place, refusal);
     }
-    Run {
+    Going {
         machine: m,
-        made: true,
-        place: place,
-        refusal: refusal,
-        whole: false,
-        at: at,
+        run: Run {
+            place: place,
+            refusal: refusal,
+            whole: r.whole,
+            at: at,
+        },
         summary: s,
     }
 }
 
 // All entries of the list at once: no line of theirs is asked.
-fn at_once(r: Run, list: &[u64]) -> Run {
-    let m = r.machine;
-    let s = r.summary;
-    let ran = single::run(m, list);
+fn at_once(g: Going, list: &[u64]) -> Going {
+    let r = g.run;
+    let s = g.summary;
+    let ran = single::run(g.machine, list);
     let after = ran.machine;
-    Run {
+    Going {
         machine: after,
-        made: true,
-        place: std::num::wrapping_add_u64(r.place, ran.place),
-        refusal: ran.refusal,
-        whole: false,
-        at: r.at,
+        run: replay_survey::pieces::ran(r, ran.place, ran.refusal),
         summary: s,
     }
 }
 
-fn entries(r: Run, o: Asked, list: &[u64], from: usize, out: &mut [u8]) -> Run {
-    if r.refusal != 0 {
-        return r;
+fn run_piece(g: Going, o: Asked, list: &[u64], out: &mut [u8]) -> Going {
+    if o.quiet && !o.summary {
+        return at_once(g, list);
     }
-    if o.quiet {
-        if !o.summary {
-            if from <= list.len() {
-                return at_once(r, &list[from..]);
-            }
-        }
-    }
-    steps(r, o, list, from, out)
-}
-
-// The first pairs: the machine is made of the first of all.
-fn first_pairs(r: Run, o: Asked, whole: Whole, list: &[u64], out: &mut [u8]) -> Run {
-    if list.len() < 2 {
-        return r;
-    }
-    let made = make(list[1], whole, out, r.at);
-    entries(made, o, list, 2, out)
-}
-
-// The pairs among the first n numbers of the list.
-fn pairs(r: Run, o: Asked, whole: Whole, list: &[u64], n: usize, out: &mut [u8]) -> Run {
-    let even = n - n % 2;
-    if list.len() < even {
-        return r;
-    }
-    let pairs = &list[..even];
-    if r.made {
-        return entries(r, o, pairs, 0, out);
-    }
-    first_pairs(r, o, whole, pairs, out)
+    steps(g, o, list, out)
 }
 
 // The report of the whole, where there was none for each entry.
-fn tell_whole(r: Run, quiet: bool, out: &mut [u8]) -> usize {
-    if !quiet {
-        if !r.whole {
-            return r.at;
-        }
+fn tell_whole(r: Run, quiet: bool, m: Machine, out: &mut [u8]) -> usize {
+    if replay_survey::pieces::is_reported(r, quiet) {
+        let p = single_text::text::report(out, r.at, r.place, r.refusal, single_text::numbers(m));
+        return text_output::byte(out, p, b'\n');
     }
-    let m = r.machine;
-    let p = single_text::text::report(out, r.at, r.place, r.refusal, single_text::numbers(m));
-    text_output::byte(out, p, b'\n')
+    r.at
 }
 
 // contents, through a buffer that any list fits
@@ -243,62 +155,45 @@ fn tell_summary(s: Summary, asked: bool, out: &mut [u8], at: usize) -> usize {
     at
 }
 
-// What follows the output of one of many.
-fn tell_mark(out: &mut [u8], at: usize, many: bool) -> usize {
-    if many {
-        return text_output::text(out, at, b"%\n");
-    }
-    at
-}
-
 // What stands at the end.
-fn finish(r: Run, o: Asked, out: &mut [u8]) -> usize {
-    let m = r.machine;
-    let s = r.summary;
-    let p = tell_whole(r, o.quiet, out);
+fn finish(g: Going, o: Asked, out: &mut [u8]) -> Played {
+    let run = g.run;
+    let m = g.machine;
+    let s = g.summary;
+    let p = tell_whole(run, o.quiet, m, out);
     let q = single_text::text::value(out, p, m);
     let t = contents(out, q, m);
     let u = tell_summary(s, o.summary, out, t);
-    let v = tell_mark(out, u, o.many);
-    text_output::settle(out, v)
-}
-
-// One piece of the schedule.
-fn some(r: Run, o: Asked, whole: Whole, list: &[u64], n: usize, out: &mut [u8]) -> Run {
-    let before = r.place;
-    let after = pairs(r, o, whole, list, n, out);
-    replay_input::say::progress(before, after.place, after.at);
-    after
+    Played {
+        at: replay_survey::pieces::end(out, u, o.many),
+        refused: run.refusal != 0,
+    }
 }
 
 fn all(
     o: Asked,
     fd: i32,
     begun: Reading,
-    whole: Whole,
+    made: Going,
     bytes: &mut [u8],
     list: &mut [u64],
     out: &mut [u8],
-    at: usize,
-) -> Run {
-    let mut run = start(at);
-    let mut reading = begun;
+) -> Going {
+    let mut g = made;
+    let mut p = replay_survey::pieces::start(begun);
     let mut turns = u64::MAX;
-    while turns > 0 && replay_input::source::tells_on(reading.event, run.refusal, run.at) {
+    while turns > 0 && replay_survey::pieces::goes_on(p, g.run) {
         turns -= 1;
-        reading = replay_input::source::next(fd, o.many, reading, bytes, list);
-        run = some(run, o, whole, list, reading.count, out);
+        p = replay_survey::pieces::next(fd, o.many, p, g.run, bytes, list);
+        g = run_piece(g, o, replay_survey::pieces::entries(p, list), out);
     }
-    run
+    g
 }
 
 // A schedule, read piece by piece and run to its end or to its first refusal.
 pub fn play(o: Asked, fd: i32, begun: Reading, whole: Whole, out: &mut [u8], at: usize) -> Played {
     let mut bytes = [0u8; replay_input::source::BYTES];
     let mut list = [1u64; replay_input::source::NUMBERS];
-    let run = all(o, fd, begun, whole, &mut bytes, &mut list, out, at);
-    Played {
-        at: finish(run, o, out),
-        refused: run.refusal != 0,
-    }
+    let made = make(whole, out, at);
+    finish(all(o, fd, begun, made, &mut bytes, &mut list, out), o, out)
 }

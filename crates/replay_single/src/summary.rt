@@ -11,12 +11,13 @@ pub struct Summary {
     pub answers: [u64; 11],
 }
 
-pub fn none() -> Summary {
+// Before the first entry; the whole may be refused.
+pub fn none(refused: bool) -> Summary {
     Summary {
         entries: 0,
         acts: 0,
         retries: 0,
-        refusals: 0,
+        refusals: up_if(0, refused),
         answers: [0u64; 11],
     }
 }
@@ -75,20 +76,25 @@ pub fn refused(s: Summary) -> Summary {
     t
 }
 
-fn tell_counts(out: &mut [u8], at: usize, s: Summary) -> usize {
-    let counts = [s.entries, s.acts, s.retries, s.refusals];
-    let form = b"summary entries=# acts=# retries=# refusals=#\n";
-    text_output::form(out, at, form, &counts)
-}
-
-fn tell_answers(out: &mut [u8], at: usize, answers: [u64; 11]) -> usize {
-    let form =
-        b"answers pushed=# full=# closed=# displaced=# popped=# empty=# pop-closed=# len=# yes=# no=#\n";
-    text_output::form(out, at, form, &answers[1..])
-}
-
 pub fn tell(out: &mut [u8], at: usize, s: Summary) -> usize {
-    let answers = s.answers;
-    let p = tell_counts(out, at, s);
-    tell_answers(out, p, answers)
+    let n = s.answers;
+    let counts = [
+        s.entries,
+        s.acts,
+        s.retries,
+        s.refusals,
+        n[1],
+        n[2],
+        n[3],
+        n[4],
+        n[5],
+        n[6],
+        n[7],
+        n[8],
+        n[9],
+        n[10],
+    ];
+    let form = b"summary entries=# acts=# retries=# refusals=#\n\
+        answers pushed=# full=# closed=# displaced=# popped=# empty=# pop-closed=# len=# yes=# no=#\n";
+    text_output::form(out, at, form, &counts)
 }

@@ -1,4 +1,6 @@
-// A schedule read once before it is run: whether every number is one, how many there are, and the first entry that can't be read.
+// A schedule read once before it is run: whether every number is one, how many there are, and the first entry that can't be read. Then it is read piece by piece.
+pub mod pieces;
+
 use queue_entries::Finding;
 use replay_input::source::Reading;
 
@@ -12,12 +14,17 @@ pub struct Survey {
     // the place of the first entry that can't be read, once there is one
     pub unread: bool,
     pub place: u64,
+    // the first pair
+    pub capacity: u64,
+    pub workers: u64,
 }
 
-// What is refused of the whole schedule on a machine that is not broken: 11, or 9 with its place; 0 is nothing.
+// Of a whole schedule: what is refused of it on a machine that is not broken, 11, or 9 with its place, 0 is nothing; and of what its machine is made.
 pub struct Whole {
     pub refusal: u64,
     pub place: u64,
+    pub capacity: u64,
+    pub workers: u64,
 }
 
 // A schedule that was run: where the text to be written goes on, and whether it was refused.
@@ -44,8 +51,19 @@ fn entries_of(pairs: u64, list: &[u64]) -> &[u64] {
     list
 }
 
-fn searched(s: Survey, list: &[u64]) -> Survey {
+fn with_first(s: Survey, list: &[u64]) -> Survey {
     let mut after = s;
+    if s.pairs == 0 {
+        if 2 <= list.len() {
+            after.capacity = list[0];
+            after.workers = list[1];
+        }
+    }
+    after
+}
+
+fn searched(s: Survey, list: &[u64]) -> Survey {
+    let mut after = with_first(s, list);
     after.pairs = std::num::wrapping_add_u64(s.pairs, (list.len() / 2) as u64);
     if s.unread {
         return after;
@@ -73,7 +91,8 @@ fn with_pairs(s: Survey, list: &[u64], n: usize) -> Survey {
 fn turn(fd: i32, many: bool, s: Survey, bytes: &mut [u8], list: &mut [u64]) -> Survey {
     let r = replay_input::source::turn(fd, many, s.reading, bytes, list, s.left);
     let mut after = with_pairs(s, list, r.count);
-    after.reading = r;
+    after.pairs = std::num::wrapping_add_u64(after.pairs, replay_input::source::owing(r));
+    after.reading = replay_input::source::owing_none(r);
     after.left = replay_input::source::carry(list, r.count);
     after
 }
@@ -104,12 +123,14 @@ pub fn surveyed(
     let mut bytes = [0u8; replay_input::source::BYTES];
     let mut list = [1u64; replay_input::source::NUMBERS];
     let begin = Survey {
-        reading: replay_input::source::start(is_tape, offset, line),
+        reading: replay_input::source::start(is_tape, offset, line, before),
         barred: barred,
         pairs: 0,
         left: before,
         unread: false,
         place: 0,
+        capacity: 0,
+        workers: 0,
     };
     survey_in(fd, many, begin, &mut bytes, &mut list)
 }
@@ -123,22 +144,22 @@ pub fn is_sound(s: Survey, name: &[u8]) -> bool {
     replay_input::say::is_sound(b"replay", name, s.reading, numbers(s))
 }
 
+fn of_whole(s: Survey, refusal: u64, place: u64) -> Whole {
+    Whole {
+        refusal: refusal,
+        place: place,
+        capacity: s.capacity,
+        workers: s.workers,
+    }
+}
+
 // "11, 9, then entry by entry"
 pub fn refused_whole(s: Survey) -> Whole {
     if s.left == 1 {
-        return Whole {
-            refusal: 11,
-            place: 0,
-        };
+        return of_whole(s, 11, 0);
     }
     if s.unread {
-        return Whole {
-            refusal: 9,
-            place: s.place,
-        };
+        return of_whole(s, 9, s.place);
     }
-    Whole {
-        refusal: 0,
-        place: 0,
-    }
+    of_whole(s, 0, 0)
 }

@@ -13,6 +13,8 @@ pub struct Asked {
     pub tell: bool,
     pub act: u64,
     pub little: bool,
+    // the schedule is printed in words, and not in numbers
+    pub words: bool,
     // the numbers of the arguments that name the files; 0: none yet
     pub from: usize,
     pub to: usize,
@@ -24,6 +26,7 @@ fn nothing() -> Asked {
         tell: false,
         act: NOTHING,
         little: false,
+        words: false,
         from: 0,
         to: 0,
         wrong: false,
@@ -84,6 +87,12 @@ fn with_word(before: Asked, i: usize, word: &[u8]) -> Asked {
             return a;
         }
     }
+    if check::same(word, b"--words") {
+        if a.act == READ {
+            a.words = true;
+            return a;
+        }
+    }
     named(a, i, word)
 }
 
@@ -136,7 +145,7 @@ pub fn read() -> Asked {
 pub fn usage() {
     io::write_all(
         libc::STDERR_FILENO,
-        b"tape: usage: tape write [--little] SCHEDULE TAPE, or tape read TAPE (see --help)\n",
+        b"tape: usage: tape write [--little] SCHEDULE TAPE, or tape read [--words] TAPE (see --help)\n",
     );
 }
 
@@ -145,13 +154,14 @@ pub fn help() -> bool {
     io::write_all(
         libc::STDOUT_FILENO,
         b"tape write [--little] SCHEDULE TAPE\n\
-        tape read TAPE\n\
+        tape read [--words] TAPE\n\
         \n\
         Writes a schedule, as replay reads it, to a tape; or reads a tape and prints its schedule, as replay\n\
         reads it: capacity and workers, then a line for each entry. - is standard input or output.\n\
         replay --tape TAPE runs a tape as it is.\n\
         \n\
         \x20 --little    the second variant of tapes, with little-endian numbers\n\
+        \x20 --words     the schedule in words, which replay reads too: capacity N, workers N, w0 push 5, w0 act 5\n\
         \n\
         A tape appears whole or not at all. What is refused is told in a line on standard error, and nothing\n\
         is written: 'refused N at entry E' of a schedule, 'refused N at byte B' of a tape, B being where the\n\

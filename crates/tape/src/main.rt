@@ -22,7 +22,7 @@ fn run_from(starter: i32, a: Asked, fd: i32, name: &[u8]) -> u8 {
     if a.act == asked::WRITE {
         write(starter, a, fd, name)
     } else {
-        tape_reads::run(fd, name)
+        tape_reads::run(fd, name, a.words)
     }
 }
 

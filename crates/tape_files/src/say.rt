@@ -36,7 +36,8 @@ fn refused(number: u64, form: &[u8], place: u64) {
         p,
         b"an odd number of words|cut short|unknown tag, wrong length or place, or mixed variant|\
         code not allowed under its tag|bytes after the end|output buffer too short|\
-        an entry that a tape can't carry: code above 9, an item where none may be, or a worker above 15|",
+        an entry that a tape can't carry: code above 9, an item where none may be, or a worker above 15|\
+        an entry that cannot be read: code above 9, or an item where none may be|",
         meaning(number),
         &[],
     );
@@ -44,8 +45,11 @@ fn refused(number: u64, form: &[u8], place: u64) {
     error(&text, r);
 }
 
-// The place of a refusal's meaning in the list, which begins with 11.
+// The place of a refusal's meaning in the list, which begins with 11; 9 stands last.
 fn meaning(number: u64) -> usize {
+    if number == 9 {
+        return 7;
+    }
     if number < 11 {
         return 0;
     }

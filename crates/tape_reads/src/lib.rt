@@ -1,4 +1,4 @@
-// A tape piece by piece, as the text of its schedule that replay reads.
+// A tape piece by piece, as the text of its schedule that replay reads, in numbers or in words.
 use tape_pieces::Piece;
 
 // Beside the states of a piece: its text could not be written, and that was said.
@@ -136,22 +136,37 @@ fn status_of(p: Piece, name: &[u8]) -> u8 {
     }
 }
 
+fn told_in_words(from: i32) -> u8 {
+    let mut out = io::large_buffer();
+    let begun = replay_input::source::begun(true, 0, 1, 0);
+    let p = replay_words::tell(from, false, begun, 0, &mut out, 0);
+    let at = text_output::flush(&out, p);
+    if replay_input::say::is_written(b"tape", at != text_output::LOST) {
+        0
+    } else {
+        2
+    }
+}
+
 // Read once to judge it, and once more to write its text, so that nothing is written of a tape that is refused.
-fn judged_first(from: i32, name: &[u8]) -> u8 {
+fn judged_first(from: i32, name: &[u8], words: bool) -> u8 {
     let status = status_of(read(from, NOWHERE), name);
     if status != 0 {
         return status;
+    }
+    if words {
+        return told_in_words(from);
     }
     status_of(read(from, libc::STDOUT_FILENO), name)
 }
 
 // The text to standard output; answers the status.
-pub fn run(from: i32, name: &[u8]) -> u8 {
+pub fn run(from: i32, name: &[u8], words: bool) -> u8 {
     let kept = replay_input::source::kept(b"tape", from, name);
     if kept < 0 {
         return 2;
     }
-    let status = judged_first(kept, name);
+    let status = judged_first(kept, name, words);
     replay_input::source::release(kept, from);
     status
 }

@@ -28,7 +28,7 @@ struct Work {
 
 fn start() -> Work {
     Work {
-        reading: replay_input::source::start(false, 0, 1),
+        reading: replay_input::source::start(false, 0, 1, 0),
         left: 0,
         begun: false,
         capacity: 0,

@@ -80,14 +80,14 @@ fn along(s: Scan, state: State, value: u64, start: u64) -> Scan {
     }
 }
 
-fn is_blank(b: u8) -> bool {
+pub fn is_blank(b: u8) -> bool {
     match b {
         9 | 11 | 12 | 13 | 32 => true,
         _ => false,
     }
 }
 
-fn is_digit(b: u8) -> bool {
+pub fn is_digit(b: u8) -> bool {
     match b {
         48..=57 => true,
         _ => false,
@@ -208,7 +208,7 @@ fn keep(list: &mut [u64], count: usize, event: u64, number: u64) -> usize {
 }
 
 // What stops a reading; a number does not.
-fn stop_of(event: u64) -> u64 {
+pub fn stop_of(event: u64) -> u64 {
     if event < MARK { NOTHING } else { event }
 }
 
@@ -261,7 +261,7 @@ fn digits_at(bytes: &[u8], from: usize) -> Digits {
     }
 }
 
-fn is_between(s: Scan) -> bool {
+pub fn is_between(s: Scan) -> bool {
     let state = s.state;
     match state {
         State::Between => true,

@@ -1,5 +1,5 @@
 -- The statements of request 12, all of them, in its words, and what is said of the pool and of progress beside them. The notions (history, claim, hand ..) are
--- defined in Notions.antt. The proofs are gathered in crates/unbounded_proof_all_demands/proofs/Headlines.antt.
+-- defined in Notions.antt and Waiting.antt. The proofs are gathered in crates/unbounded_proof_all_demands/proofs/Headlines.antt.
 use Prim.Native.Nat.{ℕ, suc, _+_, _*_, _%_, _≤_, _<_}
 use mathlib.Core.Bool.{Bool, true, false, cond}
 use mathlib.Core.List.{List, [], _∷_, _++_}
@@ -44,7 +44,8 @@ use Rattle.unbounded_machine.specs.Run.{ran, runFrom, runOf}
 use Rattle.unbounded_machine.specs.History.{eventsOf}
 use Rattle.unbounded.specs.declared.Bound.{Bound}
 use Rattle.unbounded.specs.Unbounded.{makeOf, stepOf, beginOf, actOf, capacityOf}
-use Rattle.unbounded_demands.specs.Notions.{Definition, Allowed, machineAfter, actsOf, Acts, Asking, Pushing, Popping, Reads, valueAt, stateAt, takingsOf, freeingsOf, signOf, HandsOut, itemsOf, takersOf, LatestIn, ItemIn, waiting, Fifo, position, Truth, chained, PushingIn, PoppingIn, OneSlot, Crossing, Tying, Leaving, Fronting, pushLeft, passed, ownActs, Holding, popMost, pushMost}
+use Rattle.unbounded_demands.specs.Notions.{Definition, Allowed, machineAfter, actsOf, Acts, Asking, Pushing, Popping, Reads, valueAt, stateAt, takingsOf, freeingsOf, signOf, HandsOut, itemsOf, takersOf, LatestIn, ItemIn, waiting, Fifo, position, Truth, chained}
+use Rattle.unbounded_demands.specs.Waiting.{PushingIn, PoppingIn, OneSlot, Crossing, Tying, Leaving, Fronting, pushLeft, passed, ownActs, Holding, popMost, pushMost}
 use Rattle.unbounded_demands.specs.Claims.{CallClaim, WrittenIn, closedBy, ClosesYes, NoClaims}
 use Rattle.unbounded_demands.specs.Stories.{Story, storyOf, taskOf, Takes, itemIn, changeOf, actor, known, queueAt, replyOf, putBy, takenBy, givenBack, At, AfterNextTail, momentOf, placeIn, Emptying, Filling, lastClaimed, asksLen, asksEmpty}
 

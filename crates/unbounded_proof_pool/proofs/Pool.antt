@@ -18,7 +18,8 @@ use Rattle.unbounded_machine.specs.declared.Event.{Event}
 use Rattle.unbounded_machine.specs.Machine.{freshOf}
 use Rattle.unbounded_machine.specs.History.{eventsOf}
 use Rattle.unbounded_demands.proofs.Refusals.{unbounded-queue}
-use Rattle.unbounded_demands.specs.Notions.{definition, Allowed, machineAfter, actsOf, Reads, read11, PushingIn, in9, in10, in11, in12, in13, PoppingIn, out6, out7, out8, out9, out10, out11, out12, OneSlot}
+use Rattle.unbounded_demands.specs.Notions.{definition, Allowed, machineAfter, actsOf, Reads, read11}
+use Rattle.unbounded_demands.specs.Waiting.{PushingIn, in9, in10, in11, in12, in13, PoppingIn, out6, out7, out8, out9, out10, out11, out12, OneSlot}
 use Rattle.unbounded_demands.specs.Demands.{OneHandInPool, PoolUnderEverySchedule}
 use Rattle.unbounded_proof_invariant.proofs.Queue.{Ptr, Hand, By, Done, Chain, Shared}
 use Rattle.unbounded_proof_invariant.proofs.Kept.{hand-by-done, chain-number}

@@ -7,7 +7,7 @@ use Rattle.unbounded_words.specs.declared.Pointer.{Pointer}
 use Rattle.unbounded_words.specs.declared.Pointer.the-variants.{To}
 use Rattle.unbounded_words.specs.declared.Index.{Index}
 use Rattle.unbounded_places.specs.declared.Place.{Place}
-use Rattle.unbounded_demands.specs.Notions.{PushingIn, in9, in10, in11, in12, in13, Crossing, cross9, cross10, Tying, tie9, tie10, tie11, Leaving, leave6, leave7, leave8, leave9, Fronting, front6}
+use Rattle.unbounded_demands.specs.Waiting.{PushingIn, in9, in10, in11, in12, in13, Crossing, cross9, cross10, Tying, tie9, tie10, tie11, Leaving, leave6, leave7, leave8, leave9, Fronting, front6}
 use Rattle.unbounded_proof_invariant.proofs.Queue.{Ptr, none, to, Hand, Open, Done, By, Walk, Shared, Inv}
 use Rattle.unbounded_proof_invariant.proofs.Kept.{hand-open-done, hand-by-done, walk-not-wait}
 use Rattle.unbounded_proof_invariant.proofs.Views.{Seen, SeenOk}

@@ -18,7 +18,8 @@ use Rattle.unbounded_acts.specs.Acts.{WRITE, has, actOf}
 use Rattle.unbounded_machine.specs.declared.Machine.{Machine}
 use Rattle.unbounded_machine.specs.declared.Event.{Event}
 use Rattle.unbounded_machine.specs.Machine.{slot, blockAt, slotAt}
-use Rattle.unbounded_demands.specs.Notions.{definition, PushingIn, Crossing, Tying, Leaving, Fronting, stateAt, position}
+use Rattle.unbounded_demands.specs.Notions.{definition, stateAt, position}
+use Rattle.unbounded_demands.specs.Waiting.{PushingIn, Crossing, Tying, Leaving, Fronting}
 use Rattle.unbounded_demands.specs.Demands.{Holders}
 use Rattle.unbounded_proof_invariant.proofs.Queue.{Ptr, Hand, Open, Done, By, Own, Chain, Shared}
 use Rattle.unbounded_proof_invariant.proofs.Kept as kept

@@ -30,7 +30,8 @@ use Rattle.unbounded_machine.specs.Turn.{stored, actedAt, usedBy, movedBy, turn
 use Rattle.unbounded_machine.specs.History.{eventsOf}
 use Rattle.unbounded_demands.proofs.Refusals.{unbounded-queue}
 use Rattle.unbounded_demands.proofs.Blocks.{moves}
-use Rattle.unbounded_demands.specs.Notions.{definition, Allowed, machineAfter, actsOf, Holding, popMost}
+use Rattle.unbounded_demands.specs.Notions.{definition, Allowed, machineAfter, actsOf}
+use Rattle.unbounded_demands.specs.Waiting.{Holding, popMost}
 use Rattle.unbounded_demands.specs.Demands.{EndsAlone, PopsEndAlone}
 use Rattle.unbounded_proof_invariant.proofs.Queue.{Ptr}
 use Rattle.unbounded_proof_invariant.proofs.Views.{Seen}

@@ -26,7 +26,8 @@ use Rattle.unbounded_machine.specs.declared.Machine.{Machine}
 use Rattle.unbounded_machine.specs.declared.Event.{Event}
 use Rattle.unbounded_machine.specs.Machine.{slot, blockAt, slotAt, slotNumber}
 use Rattle.unbounded_machine.specs.Turn.{blockUsed, slotUsed}
-use Rattle.unbounded_demands.specs.Notions.{definition, position, stateAt, Holding, fronts, pushes, leaves, PushingIn, in9, in10, in11, in12, in13, Tying, tie9, tie10, tie11, leave6, leave7, leave8, leave9, front6, pushLeft}
+use Rattle.unbounded_demands.specs.Notions.{definition, position, stateAt}
+use Rattle.unbounded_demands.specs.Waiting.{Holding, fronts, pushes, leaves, PushingIn, in9, in10, in11, in12, in13, Tying, tie9, tie10, tie11, leave6, leave7, leave8, leave9, front6, pushLeft}
 use Rattle.unbounded_demands.specs.Demands.{Holders}
 use Rattle.unbounded_proof_invariant.proofs.Queue.{Ptr, Chain, Shared}
 use Rattle.unbounded_proof_invariant.proofs.Kept.{free-not-chain}

@@ -29,7 +29,8 @@ use Rattle.unbounded_machine.specs.History.{eventsOf}
 use Rattle.unbounded_demands.proofs.Refusals.{unbounded-queue}
 use Rattle.unbounded_demands.proofs.Blocks.{moves}
 use Rattle.unbounded_demands.proofs.Pool.{lowest-first}
-use Rattle.unbounded_demands.specs.Notions.{definition, Allowed, machineAfter, actsOf, Crossing, pushMost}
+use Rattle.unbounded_demands.specs.Notions.{definition, Allowed, machineAfter, actsOf}
+use Rattle.unbounded_demands.specs.Waiting.{Crossing, pushMost}
 use Rattle.unbounded_demands.specs.Demands.{EndsAlone, PushesEndAlone}
 use Rattle.unbounded_proof_words.proofs.Frames.{get-same, get-other}
 use Rattle.unbounded_proof_demand2.proofs.Turns.{stood, turned}

@@ -30,7 +30,8 @@ use Rattle.unbounded_machine.specs.declared.Machine.{Machine}
 use Rattle.unbounded_machine.specs.Machine.{blockAt, slotAt, placeOf}
 use Rattle.unbounded_machine.specs.Turn.{lowestFree, blockUsed, slotUsed, begun, stored, actedAt, usedBy, takenBy, turnWith}
 use Rattle.unbounded_demands.proofs.Refusals.{unbounded-queue, turn-kept}
-use Rattle.unbounded_demands.specs.Notions.{definition, Pushing, push9, push10, push11, push12, push13, pushLeft}
+use Rattle.unbounded_demands.specs.Notions.{definition, Pushing, push9, push10, push11, push12, push13}
+use Rattle.unbounded_demands.specs.Waiting.{pushLeft}
 use Rattle.unbounded_demands.specs.Demands.{PushEnds}
 use Rattle.unbounded_proof_words.proofs.Frames.{get-same, get-other}
 use Rattle.unbounded_proof_demand2.proofs.Turns.{stood, Turned, began, used, took, turned}

@@ -25,7 +25,8 @@ use Rattle.unbounded_acts.specs.Acts.{leave, frontTo, tailTo, backTo, answered,
 use Rattle.unbounded_machine.specs.declared.Machine.{Machine}
 use Rattle.unbounded_machine.specs.declared.Event.{Event}
 use Rattle.unbounded_machine.specs.Machine.{blockAt}
-use Rattle.unbounded_demands.specs.Notions.{definition, Crossing, cross9, cross10, pushLeft}
+use Rattle.unbounded_demands.specs.Notions.{definition}
+use Rattle.unbounded_demands.specs.Waiting.{Crossing, cross9, cross10, pushLeft}
 use Rattle.unbounded_demands.specs.Demands.{Holders}
 use Rattle.unbounded_proof_invariant.proofs.Queue.{Ptr, Shared}
 use Rattle.unbounded_proof_invariant.proofs.Views.{Seen, SeenOk}

@@ -26,7 +26,8 @@ use Rattle.unbounded_machine.specs.Machine.{live, freeBlocks, emptySlots, idler
 use Rattle.unbounded_machine.specs.Broken.{recordFits, recordsFit, allIdle, dropFits, brokenIn}
 use Rattle.unbounded_machine.specs.Turn.{lowestFrom, lowestFree, clearedFrom, cleared, begun, stored, actedAt, movedBy, turnWith}
 use Rattle.unbounded_machine.specs.Run.{ran}
-use Rattle.unbounded_demands.specs.Notions.{Definition, acts, itemsOf, takersOf, takingsOf, freeingsOf, push12, in12, Holding, pushLeft, passed}
+use Rattle.unbounded_demands.specs.Notions.{Definition, acts, itemsOf, takersOf, takingsOf, freeingsOf, push12}
+use Rattle.unbounded_demands.specs.Waiting.{in12, Holding, pushLeft, passed}
 use Rattle.unbounded_demands.specs.Notions as notions
 use Rattle.unbounded_demands.specs.Demands.{WantsBlock, OneAside, OneHandInPool, RefusedByMeterOrPool, Holders, AnswersPushed, PushEnds, EndsAlone, PopAlone, PushAlone}
 use Rattle.unbounded_demands.specs.Runs.{short}

@@ -107,7 +107,7 @@ loop-less c = search needs
 
 -- src/lib.rt:64:5
 loop-again : tie.Need-loop-again Inv-loop μ-loop
-loop-again c = goes-on _ _ _ _ _ _ _ _ _ _ (c .before .before .before .before .before .before .before .before .before .before .before .before .before .before .loop .inv) (c .before .before .before .before .before .before .before .before .before .before .before .before .before .loop-test .taken) (c .before .before .before .before .before .before .before .turn .result) _ _ _ (search needs) (search needs) (search needs) (c .before .before .before .before .before .before .before .turn .ensures) (c .if2 .left)
+loop-again c = goes-on _ _ _ _ _ _ _ _ _ _ (c .before .before .before .before .before .before .before .before .before .before .before .before .before .before .loop .inv) (c .before .before .before .before .before .before .before .before .before .before .before .before .before .loop-test .taken) (c .before .before .before .before .before .before .before .turn .result) _ _ _ (search needs) (search needs) (search needs) (c .before .before .before .before .before .before .before .turn .ensures .0) (c .if2 .left)
 
 -- src/lib.rt:51:1
 same-length-7 : tie.Need-same-length-7 Inv-loop μ-loop

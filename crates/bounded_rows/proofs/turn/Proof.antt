@@ -2,7 +2,7 @@ use Prim.Native.Nat.{_/_}
 use mathlib.Core.Path.{refl}
 use native.Mathlib.Omega.{arith}
 use lib.ListN.{length}
-use Rattle.bounded_rows.proofs.Turning.{eight-words, record-room, fair, fits, slot-room, done}
+use Rattle.bounded_rows.proofs.Turning.{eight-words, record-room, fair, fits, slot-room, done, still-sound}
 use borrow.Author.Needs.{needs}
 use Rattle.bounded_rows.proofs.turn.Statement.{statement}
 use Rattle.bounded_rows.proofs.turn.Tie as tie
@@ -124,7 +124,7 @@ returns c =
     let k = c .before .before .before .before .before .before .before .before .before .before .before .before .before .before .before .before .before .before .before .slot-of in
     let s = c .before .before .before .before .before .before .before .before .before .before .before .before .before .before .before .before .before .slot-at in
     let t = c .before .before .before .before .before .before .before .before .before .before .before .before .before .before .before .turn-on in
-    done (a .head .now) (a .slots .now) (a .records .now) (p .0) (a .first) (length (a .records .now) / 5) (w .result) refl (w .ensures) (r .result) (r .ensures) (f .result) (f .ensures) (k .result) (k .ensures) (p .1) (e .result) (e .ensures) (s .result) (s .ensures) (a .second) (t .result) (t .ensures) _ _ _ (c .before .before .before .before .before .before .before .before .before .before .put-head .ensures) (c .before .before .before .before .before .before .put-slot .ensures) (c .before .before .put-record .ensures)
+    (done (a .head .now) (a .slots .now) (a .records .now) (p .0) (a .first) (length (a .records .now) / 5) (w .result) refl (w .ensures) (r .result) (r .ensures) (f .result) (f .ensures) (k .result) (k .ensures) (p .1) (e .result) (e .ensures) (s .result) (s .ensures) (a .bits) (a .second) (t .result) (t .ensures) _ _ _ (c .before .before .before .before .before .before .before .before .before .before .put-head .ensures) (c .before .before .before .before .before .before .put-slot .ensures) (c .before .before .put-record .ensures), still-sound (a .head .now) (a .slots .now) (a .records .now) (p .0) (a .first) (length (a .records .now) / 5) (w .result) refl (w .ensures) (r .result) (r .ensures) (f .result) (f .ensures) (k .result) (k .ensures) (p .1) (e .result) (e .ensures) (s .result) (s .ensures) (a .bits) (a .second) (t .result) (t .ensures) _ _ _ (c .before .before .before .before .before .before .before .before .before .before .put-head .ensures) (c .before .before .before .before .before .before .put-slot .ensures) (c .before .before .put-record .ensures))
 
 pub turn-spec : {M : Type 1} → statement M
 turn-spec =

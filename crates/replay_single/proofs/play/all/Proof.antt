@@ -1,4 +1,5 @@
-use mathlib.Core.Path.{_≡_}
+use Prim.Native.Nat.{_*_, _-_, _≤_}
+use mathlib.Core.Path.{_≡_, refl}
 use lib.ListN.{length}
 use native.Mathlib.Omega.{arith}
 use borrow.Author.Needs.{needs}
@@ -6,78 +7,68 @@ use Rattle.replay_single.proofs.play.all.Statement.{statement}
 use Rattle.replay_single.proofs.play.all.Tie as tie
 use Rattle.replay_single.proofs.play.all.Reads as reads
 use Rattle.replay_single.proofs.play.all.Lts as lts
-use Rattle.replay_input.proofs.source.tells_on.Reads as tells-on-reads
-use Rattle.replay_input.proofs.source.next.Reads as next-reads
-use Rattle.replay_single.proofs.play.some.Reads as some-reads
-use Rattle.replay_single.proofs.play.start.Reads as start-reads
+use Rattle.replay_survey.proofs.pieces.entries.Reads as entries-reads
+use Rattle.replay_survey.proofs.pieces.goes_on.Reads as goes-on-reads
+use Rattle.replay_survey.proofs.pieces.next.Reads as next-reads
+use Rattle.replay_survey.proofs.pieces.start.Reads as start-reads
+use Rattle.replay_single.proofs.play.run_piece.Reads as run-piece-reads
 
 abbrev Inv-loop : tie.InvT-loop
-Inv-loop o fd whole bytes₀ list₀ out₀ at run₀ reading₀ turns₀ bytes list out run reading turns = (length bytes ≡ length bytes₀) × ((length list ≡ length list₀) × (length out ≡ length out₀))
+Inv-loop o fd bytes₀ list₀ out₀ g₀ p₀ turns₀ bytes list out g p turns = (length bytes ≡ length bytes₀) × ((length list ≡ length list₀) × (length out ≡ length out₀))
 
 abbrev μ-loop : tie.MeasureT-loop
-μ-loop o fd whole bytes₀ list₀ out₀ at run₀ reading₀ turns₀ bytes list out run reading turns = turns
+μ-loop o fd bytes₀ list₀ out₀ g₀ p₀ turns₀ bytes list out g p turns = turns
 
--- src/play.rt:284:9
 start-requires : tie.Need-start-requires Inv-loop μ-loop
 start-requires c κs = search needs
 
--- src/play.rt:287:5
 loop-holds : tie.Need-loop-holds Inv-loop μ-loop
-loop-holds c = search needs
+loop-holds c = (refl, (refl, refl))
 
--- src/play.rt:287:24
-tells-on-requires : tie.Need-tells-on-requires Inv-loop μ-loop
-tells-on-requires c κs = search needs
+goes-on-requires : tie.Need-goes-on-requires Inv-loop μ-loop
+goes-on-requires c κs = search needs
 
--- src/play.rt:288:9
 sub-turns : tie.Need-sub-turns Inv-loop μ-loop
 sub-turns c = search needs
 
--- src/play.rt:289:9
 next-requires : tie.Need-next-requires Inv-loop μ-loop
 next-requires c κs = search needs
 
--- src/play.rt:290:9
-some-requires : tie.Need-some-requires Inv-loop μ-loop
-some-requires c κs = search needs
+entries-requires : tie.Need-entries-requires Inv-loop μ-loop
+entries-requires c κs = search needs
 
--- src/play.rt:287:5
+run-piece-requires : tie.Need-run-piece-requires Inv-loop μ-loop
+run-piece-requires c κs = search needs
+
 loop-less : tie.Need-loop-less Inv-loop μ-loop
-loop-less c = search needs
+loop-less c = omega (arith, c .before .before .before .before .before .before .before .before .before .before .before .before .before .before .before .loop-test .taken)
 
--- src/play.rt:287:5
 loop-again : tie.Need-loop-again Inv-loop μ-loop
-loop-again c = let l = c .before .before .before .before .before .before .before .before .before .before .before .before .before .before .before .loop .inv in (omega (arith, l .0), (omega (arith, l .1 .0), omega (arith, l .1 .1)))
+loop-again c =
+    let l = c .before .before .before .before .before .before .before .before .before .before .before .before .before .before .before .before .loop .inv in
+    (omega (arith, l .0), (omega (arith, l .1 .0), omega (arith, l .1 .1)))
 
--- src/play.rt:274:1
 same-length : tie.Need-same-length Inv-loop μ-loop
 same-length c = search needs
 
--- src/play.rt:274:1
 same-length-2 : tie.Need-same-length-2 Inv-loop μ-loop
 same-length-2 c = search needs
 
--- src/play.rt:274:1
 same-length-3 : tie.Need-same-length-3 Inv-loop μ-loop
 same-length-3 c = search needs
 
--- src/play.rt:274:1
 returns : tie.Need-returns Inv-loop μ-loop
 returns c = search needs
 
--- src/play.rt:274:1
 same-length-4 : tie.Need-same-length-4 Inv-loop μ-loop
 same-length-4 c = search needs
 
--- src/play.rt:274:1
 same-length-5 : tie.Need-same-length-5 Inv-loop μ-loop
 same-length-5 c = search needs
 
--- src/play.rt:274:1
 same-length-6 : tie.Need-same-length-6 Inv-loop μ-loop
 same-length-6 c = search needs
 
--- src/play.rt:274:1
 returns-2 : tie.Need-returns-2 Inv-loop μ-loop
 returns-2 c = search needs
 
@@ -89,10 +80,11 @@ all-spec =
     μ-loop
     start-requires
     loop-holds
-    tells-on-requires
+    goes-on-requires
     sub-turns
     next-requires
-    some-requires
+    entries-requires
+    run-piece-requires
     loop-less
     loop-again
     same-length
