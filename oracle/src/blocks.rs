@@ -1,11 +1,11 @@
 //! The unbounded queue: unbounded.rs over a pool of blocks. Numbers of lines are that file's.
 
 use crate::call::Call;
-use crate::pool::{self, Pool, BLOCKS, NO_BLOCK};
-use crate::queue::Facts;
+use crate::facts::Facts;
+use crate::pool::{self, Pool, BLOCKS};
 use crate::source::{agree, Item, Seen, SeenBlocks, Source};
 use crate::stage::{self, Action, Met, Pending, Word};
-use crate::state::{Kind, ShownBlock, State, NONE};
+use crate::state::{Kind, ShownBlock, State, NONE, NO_BLOCK};
 use std::cell::Cell;
 use std::fmt::Write;
 use std::mem::ManuallyDrop;

@@ -1,6 +1,6 @@
 //! The entries of schedules: the calls and acts that their codes name.
 
-use crate::queue::Queue;
+use crate::facts::Queue;
 
 /// The codes that begin a call.
 pub mod code {

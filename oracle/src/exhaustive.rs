@@ -10,9 +10,7 @@ use crate::drive::{Program, Run};
 use crate::interleaved::end_all_calls;
 use crate::machine::Machine;
 use crate::queue::{Making, Queue};
-use crate::schedule::Schedule;
-use crate::sequential::whole_call;
-use crate::stage::Action;
+use crate::schedule::{whole_call, Schedule};
 use std::collections::{HashSet, VecDeque};
 
 #[derive(Clone, Copy)]
@@ -106,7 +104,7 @@ fn deep(run: &mut Run, depth: usize, preload: Preload, calls: &[u64]) -> Result<
     let mut open = vec![Vec::new()];
     while let Some(path) = open.pop() {
         let (mut schedule, mut machine) = walked(preload, calls, &path);
-        let options = options(&machine);
+        let options = machine.acts();
         if options.is_empty() || path.len() == depth {
             end_all_calls(&mut schedule, &mut machine);
             run.add(schedule)?;
@@ -125,7 +123,7 @@ fn compact(run: &mut Run, preload: Preload, calls: &[u64]) -> Result<(), String>
         let (schedule, machine) = walked(preload, calls, &path);
         run.add(schedule)?;
         if seen.insert(snapshot(&machine, run.program)) {
-            open.extend(options(&machine).iter().map(|option| [path.as_slice(), &[*option]].concat()));
+            open.extend(machine.acts().iter().map(|option| [path.as_slice(), &[*option]].concat()));
         }
     }
     Ok(())
@@ -163,19 +161,6 @@ pub fn begun(preload: Preload, calls: &[u64]) -> (Schedule, Machine) {
         schedule.push(first, item);
     }
     (schedule, machine)
-}
-
-/// The first words of the acts that are not refused.
-pub fn options(machine: &Machine) -> Vec<u64> {
-    let mut options = Vec::new();
-    for worker in 0..machine.workers() as u64 {
-        match machine.pending(worker) {
-            None => {}
-            Some(Action::WeakExchange(..)) => options.extend([16 * worker + 8, 16 * worker + 9]),
-            Some(_) => options.push(16 * worker + 8),
-        }
-    }
-    options
 }
 
 /// All but the meter, which no act looks at below its limit, and what workers have lost, which none looks at; where causes are shown,

@@ -7,8 +7,7 @@ use crate::drive::Run;
 use crate::machine::Machine;
 use crate::queue::{Making, Queue};
 use crate::random::Random;
-use crate::schedule::Schedule;
-use crate::sequential::whole_call;
+use crate::schedule::{whole_call, Schedule};
 use crate::stage::Action;
 
 /// How likely each call is, in the order of the codes; close has its own rule.

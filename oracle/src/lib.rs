@@ -25,6 +25,7 @@ pub mod call;
 pub mod causes;
 pub mod drive;
 pub mod exhaustive;
+pub mod facts;
 pub mod interleaved;
 pub mod list;
 pub mod machine;
@@ -38,6 +39,7 @@ pub mod state;
 pub mod tally;
 pub mod turns;
 pub mod walk;
+pub mod walks;
 
 use std::ops::{Deref, DerefMut};
 

@@ -1,12 +1,13 @@
 //! The fixed list: schedules and the output of each, for tests that have no Rust at hand.
 
 use crate::call::code::{CLOSE, IS_CLOSED, IS_EMPTY, IS_FULL, LEN, POP, PUSH};
+use crate::facts::Refusal;
 use crate::interleaved::{self, refused_whole};
-use crate::machine::{Machine, Refusal};
+use crate::machine::Machine;
 use crate::queue::{Facts, Making, Queue};
 use crate::random::Random;
-use crate::schedule::{join, run, Schedule, Show, SEPARATOR};
-use crate::sequential::{self, whole_call};
+use crate::schedule::{join, run, whole_call, Schedule, Show, SEPARATOR};
+use crate::sequential;
 use crate::tally::Tally;
 
 /// The input and the output, as texts.

@@ -4,6 +4,7 @@
 use crate::call::{Call, Entry};
 use crate::causes::{Causes, Watch};
 use crate::coroutine::Coroutine;
+use crate::facts::Refusal;
 use crate::plain::Account;
 use crate::queue::{Making, Queue};
 use crate::source::{items_dropped, Seen, Source};
@@ -14,9 +15,6 @@ use std::cell::Cell;
 
 /// Refusal 7 is given from here on.
 const METER_LIMIT: u64 = 4_294_967_295;
-
-/// A refusal's number; document 01 lists them.
-pub type Refusal = u64;
 
 thread_local! {
     /// The call a worker is about to begin, and the queue to call.
@@ -138,6 +136,19 @@ impl Machine {
 
     pub fn busy(&self, worker: u64) -> bool {
         self.pending(worker).is_some()
+    }
+
+    /// The first words of the acts that are not refused.
+    pub fn acts(&self) -> Vec<u64> {
+        let mut acts = Vec::new();
+        for worker in 0..self.workers() as u64 {
+            match self.pending(worker) {
+                None => {}
+                Some(Action::WeakExchange(..)) => acts.extend([16 * worker + 8, 16 * worker + 9]),
+                Some(_) => acts.push(16 * worker + 8),
+            }
+        }
+        acts
     }
 
     /// The action a busy worker does next.

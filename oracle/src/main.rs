@@ -6,7 +6,7 @@ use oracle::queue::{Bits, Queue};
 use oracle::schedule::{run, split, Schedule, Show, SEPARATOR};
 use oracle::tally::Tally;
 use oracle::walk::{self, Walk};
-use oracle::{exhaustive, interleaved, list, sequential, turns};
+use oracle::{exhaustive, interleaved, list, sequential, turns, walks};
 use std::io::Read;
 use std::path::Path;
 use std::process::ExitCode;
@@ -54,7 +54,9 @@ fn command(arguments: &[String]) -> Result<(), String> {
         }),
         "exhaustive" => driven(&options, |run| exhaustive::drive(run, extent(&options)?)),
         "walk" => expect(&options, Program::Walk(walk_asked(&options)?)),
-        "walks" => driven(&options, |run| walk::drive(run, walk_asked(&options)?, options.optional_number("workers")?)),
+        "walks" => {
+            driven(&options, |run| walks::drive(run, walk_asked(&options)?, options.optional_number("workers")?))
+        }
         "list" => write_list(&options),
         "check-against" => check_against(&options),
         _ => Err(USAGE.into()),

@@ -1,7 +1,7 @@
 //! The one-slot queue: single.rs. Numbers of lines are that file's.
 
 use crate::call::Call;
-use crate::queue::Facts;
+use crate::facts::Facts;
 use crate::source::{Item, Seen, Source};
 use crate::stage::{Action, Pending, Word};
 use crate::state::{Kind, State};

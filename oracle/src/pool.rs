@@ -2,6 +2,7 @@
 //! imports: making one takes a block, its end frees the block, and each of the two is an action.
 
 use crate::stage::{self, Action};
+use crate::state::NO_BLOCK;
 use std::alloc::{alloc, dealloc, handle_alloc_error, Layout};
 use std::cell::{Cell, RefCell};
 use std::mem;
@@ -9,9 +10,6 @@ use std::rc::Rc;
 
 /// Blocks in a pool.
 pub const BLOCKS: usize = 64;
-
-/// The number of no block.
-pub const NO_BLOCK: usize = usize::MAX;
 
 /// What the pool is told to do with a block's words.
 pub trait Block {

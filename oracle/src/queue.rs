@@ -1,49 +1,14 @@
 //! The crate's queues, and what the runs must know of each.
 
 use crate::blocks::{self, Blocks};
-use crate::machine::Refusal;
+use crate::facts::Refusal;
 use crate::one_slot::{self, OneSlot};
 use crate::random::Random;
 use crate::ring::{self, Ring};
 use crate::source::Source;
 use crate::state::Kind;
 
-#[derive(Clone, Copy, Debug, PartialEq, Eq)]
-pub enum Queue {
-    /// `lent`: its records are lent, up to 64 of them (document 02, item 11).
-    Bounded { edition: u64, bits: Bits, lent: bool },
-    Single,
-    Unbounded,
-}
-
-/// How wide a ring's head, tail and stamps are.
-#[derive(Clone, Copy, Debug, PartialEq, Eq)]
-pub enum Bits {
-    Sixteen,
-    SixtyFour,
-}
-
-/// What differs from queue to queue beside the source itself.
-pub struct Facts {
-    /// As `--queue` has it; the source is the file of this name.
-    pub name: &'static str,
-    /// The name of the fixed list's files.
-    pub list: &'static str,
-    /// The numbers before the entries of a schedule.
-    pub begins_with: &'static str,
-    pub places: &'static [&'static [Kind]],
-    /// The places of weak and of strong exchanges.
-    pub weak: &'static [Kind],
-    pub strong: &'static [Kind],
-    /// How many different answers all calls have together.
-    pub answers: usize,
-    /// Refusals that a schedule from a fresh machine can meet. 6 comes after a refused making alone; 7 needs 4,294,967,295
-    /// acts and 10 a buffer, which a schedule has not.
-    pub refusals: &'static [Refusal],
-    /// What the blank machine after a refused making shows.
-    pub blank_words: &'static str,
-    pub blank_slots: &'static str,
-}
+pub use crate::facts::{Bits, Facts, Queue};
 
 impl Queue {
     /// The source's ring, without requests 6 and 14.

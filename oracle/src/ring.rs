@@ -1,7 +1,7 @@
 //! The ring: bounded.rs, and the copies of it for edition 2 and for sixteen bits (`edition_2.patch`, `sixteen_bits.patch`, applied when the judge is built).
 
 use crate::call::Call;
-use crate::queue::{Bits, Facts};
+use crate::facts::{Bits, Facts};
 use crate::source::{agree, Item, Seen, Source};
 use crate::stage::{Action, Pending, Word};
 use crate::state::{Kind, State};

@@ -1,7 +1,8 @@
 //! Schedules in `replay`'s input format, and the text that `replay` must print for them.
 
 use crate::call::Entry;
-use crate::machine::{Losses, Machine, Refusal};
+use crate::facts::Refusal;
+use crate::machine::{Losses, Machine};
 use crate::queue::{Making, Queue};
 use crate::tally::Tally;
 use std::fmt::Write;
@@ -228,5 +229,16 @@ fn contents(out: &mut String, machine: Machine, checks_plain: bool, tally: &mut 
     tally.count_plain(&plain);
     if checks_plain && tally.fault.is_none() {
         tally.fault = plain.fault().cloned();
+    }
+}
+
+/// A call from its begin to its answer.
+pub fn whole_call(schedule: &mut Schedule, machine: &mut Machine, first: u64, item: u64) {
+    assert_eq!(machine.enter(first, item), 0);
+    schedule.push(first, item);
+    let worker = first / 16;
+    while machine.busy(worker) {
+        assert_eq!(machine.enter(16 * worker + 8, 0), 0);
+        schedule.push(16 * worker + 8, 0);
     }
 }

@@ -5,7 +5,7 @@ use crate::interleaved::mix_for;
 use crate::machine::Machine;
 use crate::queue::Making;
 use crate::random::Random;
-use crate::schedule::Schedule;
+use crate::schedule::{whole_call, Schedule};
 
 /// How likely each call is, in the order of the codes.
 const MIXES: [[usize; 8]; 5] = [
@@ -51,15 +51,4 @@ pub fn schedule(random: &mut Random, making: Making, calls: usize) -> Schedule {
         whole_call(&mut schedule, &mut machine, 16 * worker + code, item);
     }
     schedule
-}
-
-/// A call from its begin to its answer.
-pub fn whole_call(schedule: &mut Schedule, machine: &mut Machine, first: u64, item: u64) {
-    assert_eq!(machine.enter(first, item), 0);
-    schedule.push(first, item);
-    let worker = first / 16;
-    while machine.busy(worker) {
-        assert_eq!(machine.enter(16 * worker + 8, 0), 0);
-        schedule.push(16 * worker + 8, 0);
-    }
 }

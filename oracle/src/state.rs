@@ -1,6 +1,5 @@
 //! Where a worker stands, as `replay` prints it: a place with the words held there, or idle with the last answer.
 
-use crate::pool::NO_BLOCK;
 use std::fmt;
 
 macro_rules! kinds {
@@ -132,6 +131,9 @@ const fn words(text: &str) -> usize {
     }
     count
 }
+
+/// The number of no block.
+pub const NO_BLOCK: usize = usize::MAX;
 
 /// The word for no block.
 pub const NONE: u64 = NO_BLOCK as u64;

@@ -10,8 +10,7 @@ use crate::interleaved::{end_all_calls, mixed};
 use crate::machine::Machine;
 use crate::queue::{Bits, Making, Queue};
 use crate::random::Random;
-use crate::schedule::Schedule;
-use crate::sequential::whole_call;
+use crate::schedule::{whole_call, Schedule};
 use crate::stage::Word;
 use std::ops::RangeInclusive;
 

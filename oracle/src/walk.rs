@@ -2,19 +2,14 @@
 //!
 //! The source cannot be stepped back, so each sequence has a queue of its own: the schedule is run on it, then the acts.
 
-use crate::drive::{Program, Run};
-use crate::exhaustive::{begun, cases, options, rings};
-use crate::machine::{Machine, Refusal};
-use crate::queue::Queue;
+use crate::facts::Refusal;
+use crate::machine::Machine;
 use crate::schedule::{refused_whole, Schedule};
 use crate::tally::Tally;
 use std::fmt::Write;
 
 const WORKERS_MOST: usize = 3;
 pub const DEPTH_MOST: u64 = 12;
-
-/// Three calls at once on the ring: several that claim at one end, at both, and with closes and lookers between them.
-const TRIPLES: [[u64; 3]; 8] = [[0, 0, 2], [0, 2, 2], [1, 1, 2], [0, 1, 6], [1, 6, 6], [1, 6, 7], [2, 0, 3], [1, 4, 5]];
 
 /// What is asked of a walk.
 #[derive(Clone, Copy)]
@@ -127,7 +122,7 @@ fn each_sequence(schedule: &Schedule, depth: usize, mut see: impl FnMut(&[u64], 
         let mut machine = reached(schedule).expect("it was reached before");
         acts.iter().for_each(|first| assert_eq!(machine.enter(*first, 0), 0));
         while acts.len() < depth {
-            let mut choices = options(&machine).into_iter();
+            let mut choices = machine.acts().into_iter();
             let Some(first) = choices.next() else { break };
             assert_eq!(machine.enter(first, 0), 0);
             acts.push(first);
@@ -201,32 +196,4 @@ fn rows(counts: &[Counts]) -> String {
         let _ = writeln!(out, "{}", format!("{shown} sequences={sequences} shortest {}", words(shortest)).trim_end());
     }
     out
-}
-
-/// A walk from each start, or from those with so many workers.
-pub fn drive(run: &mut Run, walk: Walk, workers: Option<u64>) -> Result<(), String> {
-    if !run.many() {
-        return Err("walks: the module must take --many".into());
-    }
-    run.program = Program::Walk(walk);
-    for schedule in starts(run.queue) {
-        if workers.is_none_or(|workers| workers == schedule.workers) {
-            run.add(schedule)?;
-        }
-    }
-    run.flush()
-}
-
-/// The calls that `exhaustive` has, begun on the queues that it has, and some three calls on rings that hold an item.
-fn starts(queue: Queue) -> Vec<Schedule> {
-    let mut all = Vec::new();
-    for (preload, calls) in cases(queue) {
-        all.push(begun(preload, &calls).0);
-    }
-    for preload in rings(queue) {
-        if preload.gone == 0 && preload.held == 1 && !preload.closed {
-            all.extend(TRIPLES.map(|calls| begun(preload, &calls).0));
-        }
-    }
-    all
 }

@@ -132,7 +132,8 @@ fn losses() {
 /// The moment of an answer: last on the line of an act that ends a call, and of no other line.
 #[test]
 fn moments() {
-    let named = |queue, input, quiet, stock| shown(queue, input, Show { quiet, stock, moments: true, ..Show::default() });
+    let named =
+        |queue, input, quiet, stock| shown(queue, input, Show { quiet, stock, moments: true, ..Show::default() });
     let input = "1 1 2 0 8 0 8 0 8 0 6 0 8 0 8 0";
     let lines = [
         "0 0 h=0 t=0 m=0 w0=O1 stock=0",
@@ -216,7 +217,11 @@ fn blocks() {
     assert_eq!(unbounded("1 0 5 8"), "made 0\n0 11 h=0 hb=- t=0 tb=- m=0\ncontents\n");
     let unread = "made 0\n0 9 h=0 hb=- t=0 tb=- m=0\ncontents\n";
     assert_eq!(["1 1 5", "1 17 5"].map(unbounded), [unread; 2], "code 1 is 9, before 3");
-    assert_eq!(unbounded("1 0 5 1 5"), "made 0\n1 9 h=0 hb=- t=0 tb=- m=0\ncontents\n", "9 is of the whole: nothing is run");
+    assert_eq!(
+        unbounded("1 0 5 1 5"),
+        "made 0\n1 9 h=0 hb=- t=0 tb=- m=0\ncontents\n",
+        "9 is of the whole: nothing is run"
+    );
     let pushed = text(Queue::Unbounded, &format!("1 0 5{}", " 8 0".repeat(8)), true);
     let block = format!("block 0 next=- (1,5){}", " (0,0)".repeat(30));
     assert_eq!(pushed, format!("made 0\n9 0 h=0 hb=0 t=2 tb=0 m=8\n{block}\ncontents 5\n"));

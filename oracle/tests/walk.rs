@@ -5,6 +5,7 @@ use oracle::queue::{Bits, Queue};
 use oracle::schedule::Schedule;
 use oracle::tally::Tally;
 use oracle::walk::{self, Walk};
+use oracle::walks;
 
 const JUDGE: &str = env!("CARGO_BIN_EXE_judge");
 /// The ring holds 7; a force_push and two closes are under way.
@@ -119,7 +120,7 @@ fn walks_are_compared() {
             let module = Some(Module { command, many: true });
             let place = concat!(env!("CARGO_TARGET_TMPDIR"), "/walks");
             let mut run = Run::new(Queue::ring(edition, Bits::SixtyFour), module, 5000, place.into());
-            walk::drive(&mut run, Walk { depth: 4, list: !list.is_empty(), buffer: None }, None)
+            walks::drive(&mut run, Walk { depth: 4, list: !list.is_empty(), buffer: None }, None)
         };
         assert_eq!(driven(4), Ok(()));
         assert!(driven(3).unwrap_err().contains("the module differs"));

@@ -2,12 +2,13 @@
 // (specs/Acts.antt) and what several places share; the acts themselves: bounded_pushes, bounded_forces, bounded_pops, bounded_lookers.
 ghost use mathlib.Core.Path.{_≡_};
 ghost use Rattle.bounded_words.specs.Words.{plus};
-ghost use Rattle.bounded_acts.specs.Acts.{stay, losing, exchangeOf, stampTo, valueTo};
+ghost use Rattle.bounded_acts.specs.Acts.{stay, losing, exchangeOf, stampTo, valueTo, countOf, Within};
 use bounded_places::Ends;
 use bounded_places::Exchange;
 use bounded_places::Loss;
 use bounded_places::Place;
 use bounded_places::Slot;
+use bounded_words::Fixed;
 use bounded_words::Stamp;
 use bounded_words::Width;
 
@@ -73,4 +74,24 @@ pub fn value_to(s: Slot, v: u64) -> Slot
 {
     let w = s.stamp;
     Slot { stamp: w, value: v }
+}
+
+// How many items lie between the two words.
+pub fn count(f: Fixed, tail: Stamp, head: Stamp) -> u64
+    requires { ⌜ Within f tail head ⌝ }
+    ensures { λ r. ⌜ r ≡ countOf f tail head ⌝ }
+{
+    let hix = bounded_words::index(f, head);
+    let tix = bounded_words::index(f, tail);
+    if hix < tix {
+        return tix - hix;
+    }
+    if tix < hix {
+        return f.capacity - hix + tix;
+    }
+    if bounded_words::unmarked_is(f, tail, head) {
+        0
+    } else {
+        f.capacity
+    }
 }

@@ -32,7 +32,7 @@ use Rattle.bounded_machine.specs.Turn.{turnAt, turnOfBy}
 use Rattle.bounded_machine.specs.Run.{ran, runOfBy}
 use Rattle.bounded_machine.proofs.Laws.{ruled-of}
 use Rattle.bounded_machine.proofs.Kept.{ends-of, either, UnbrokenWith, Unbroken, unbroken-of, of-unbroken}
-use Rattle.bounded_runs.proofs.Turns.{turn-of-unbroken}
+use Rattle.bounded_machine.proofs.Turns.{turn-of-unbroken}
 use Rattle.bounded_steps.specs.Steps.{stepOfBy, beginOfBy, actOfBy}
 use Rattle.bounded_steps.proofs.Steps.{turn-unchanged}
 use Rattle.bounded.specs.Bounded as face

@@ -23,7 +23,7 @@ use Rattle.bounded_machine.specs.Turn.{verdictOf, beginner, begun, stored, acte
 use Rattle.bounded_machine.proofs.Kept.{either}
 use Rattle.bounded_entries.specs.declared.Turned.{Turned}
 use Rattle.bounded_entries.specs.Entries.{workerOf, slotOf, with, moved, carriedOn, turnedOn, turnedOf}
-use Rattle.bounded_runs.proofs.Turns.{move-busy}
+use Rattle.bounded_machine.proofs.Turns.{move-busy}
 
 set-same : {A : Type 0} (xs : List A) (i : ℕ) (d : A) → set xs i (getD xs i d) ≡ xs
 set-same [] i d = refl

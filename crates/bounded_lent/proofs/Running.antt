@@ -27,7 +27,7 @@ use Rattle.bounded_machine.specs.Machine.{placeOf, refused, accepted}
 use Rattle.bounded_machine.specs.Turn.{verdictOf, begun, stored, actedBy, carried, turn, turnOf, turnOfBy}
 use Rattle.bounded_machine.specs.Run.{ran, runAt}
 use Rattle.bounded_machine.proofs.Kept.{either, UnbrokenWith}
-use Rattle.bounded_runs.proofs.Turns.{turn-of-unbroken, ended}
+use Rattle.bounded_machine.proofs.Turns.{turn-of-unbroken, ended}
 use Rattle.bounded_steps.proofs.Steps.{turn-unchanged}
 use Rattle.bounded_parts.specs.declared.Metered.{Metered}
 use Rattle.bounded_parts.specs.declared.Report.{Report}

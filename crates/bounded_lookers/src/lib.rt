@@ -2,7 +2,7 @@
 ghost use mathlib.Core.Path.{_≡_};
 ghost use Rattle.bounded_words.specs.Words.{Fair, withMark};
 ghost use Rattle.bounded_places.specs.declared.Place.the-variants.{Idle};
-ghost use Rattle.bounded_acts.specs.Acts.{stay, tailTo, countOf, yesNo, actLen3, actEmpty2, actFull2, actClose1, actIsClosed1, Within};
+ghost use Rattle.bounded_acts.specs.Acts.{stay, tailTo, yesNo, actLen3, actEmpty2, actFull2, actClose1, actIsClosed1, Within};
 use bounded_acts::Acted;
 use bounded_places::Answer;
 use bounded_places::Ends;
@@ -32,33 +32,13 @@ fn tail_to_marked(bits: Width, f: Fixed, e: Ends) -> Ends
     Ends { head: h, tail: w }
 }
 
-// How many items lie between the two words.
-pub fn count(f: Fixed, tail: Stamp, head: Stamp) -> u64
-    requires { ⌜ Within f tail head ⌝ }
-    ensures { λ r. ⌜ r ≡ countOf f tail head ⌝ }
-{
-    let hix = bounded_words::index(f, head);
-    let tix = bounded_words::index(f, tail);
-    if hix < tix {
-        return tix - hix;
-    }
-    if tix < hix {
-        return f.capacity - hix + tix;
-    }
-    if bounded_words::unmarked_is(f, tail, head) {
-        0
-    } else {
-        f.capacity
-    }
-}
-
 pub fn len3(f: Fixed, e: Ends, s: Slot, t: Stamp, h: Stamp) -> Acted
     requires { ⌜ Within f t h ⌝ }
     ensures { λ r. ⌜ r ≡ actLen3 f e s t h ⌝ }
 {
     let again = e.tail;
     if bounded_words::same_word(again, t) {
-        bounded_acts::stay(e, s, Place::Idle(Answer::Len(count(f, t, h))))
+        bounded_acts::stay(e, s, Place::Idle(Answer::Len(bounded_acts::count(f, t, h))))
     } else {
         bounded_acts::stay(e, s, Place::Len1)
     }

@@ -303,7 +303,7 @@ pub fn count_in(m: Machine) -> u64
     let ring = m.ring;
     let f = ring.fixed;
     let e = ring.ends;
-    bounded_lookers::count(f, e.tail, e.head)
+    bounded_acts::count(f, e.tail, e.head)
 }
 
 // "wrapping at capacity"

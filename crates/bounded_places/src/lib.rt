@@ -42,33 +42,57 @@ pub enum Answer {
     No,
 }
 
-// The places of the two tables and of the lookers, each with the words that its worker has loaded.
+// Where a worker stands: the action that it takes next, with the words that it has loaded and the item of its call. t is a tail, h a head
+// that it loaded or found.
 pub enum Place {
+    // No call under way: the last answer.
     Idle(Answer),
+    // push, force_push: load tail.
     P1(Kind, u64),
+    // Load the stamp of t's slot: is it free on this lap?
     P2(Kind, Stamp, u64),
+    // Try to claim: tail from t to next(t), a weak exchange.
     P3(Kind, Stamp, u64),
+    // The slot is this worker's: write the item.
     P4(Stamp, u64),
+    // Store the stamp t + 1, by which a pop sees that the item is there.
     P5(Stamp),
+    // push: the slot still has the last lap's item. Load head, to tell Full from a pop under way.
     P6(Stamp, u64),
+    // force_push, there: try to take the oldest item, head from t - lap to next(t) - lap, a weak exchange.
     F6(Stamp, u64),
+    // The oldest slot is this worker's: store tail, so that the item comes in behind the others.
     F7(Stamp, u64),
+    // Read the old value and write the item.
     F8(Stamp, u64),
+    // Store the stamp t + 1; the number is the value displaced.
     F9(Stamp, u64),
+    // pop: load head.
     O1,
+    // Load the stamp of h's slot: is an item there?
     O2(Stamp),
+    // Try to claim: head from h to next(h), a weak exchange.
     O3(Stamp),
+    // The slot is this worker's: read the value.
     O4(Stamp),
+    // Store the stamp h + lap, by which a push of the next lap sees that the slot is free; the number is the value.
     O5(Stamp, u64),
+    // No item is there. Load tail, to tell Empty or Closed from a push under way.
     O6(Stamp),
+    // len: load tail, then head, then tail once more, which must be the first.
     Len1,
     Len2(Stamp),
+    // tail, head
     Len3(Stamp, Stamp),
+    // is_empty: load head, then tail.
     Empty1,
     Empty2(Stamp),
+    // is_full: load tail, then head.
     Full1,
     Full2(Stamp),
+    // close: set tail's mark.
     Close1,
+    // is_closed: load tail.
     IsClosed1,
 }
 

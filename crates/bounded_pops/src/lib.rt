@@ -26,9 +26,11 @@ pub fn o2(bits: Width, e: Ends, s: Slot, h: Stamp) -> Acted
     ensures { λ r. ⌜ r ≡ actO2 bits e s h ⌝ }
 {
     let seen = s.stamp;
+    // "If the stamp is ahead of the head by 1, we may attempt to pop."
     if bounded_words::one_past(bits, seen, h) {
         return bounded_acts::stay(e, s, Place::O3(h));
     }
+    // Not written on this lap: nothing is there, or a push has claimed it and not yet stamped it.
     if bounded_words::same_word(seen, h) {
         bounded_acts::stay(e, s, Place::O6(h))
     } else {
@@ -63,6 +65,7 @@ pub fn o6(f: Fixed, e: Ends, s: Slot, h: Stamp) -> Acted
 {
     let t = e.tail;
     let again = Place::O1;
+    // "If the tail equals the head, that means the queue is empty."
     if bounded_words::unmarked_is(f, t, h) {
         if bounded_words::marked(f, t) {
             bounded_acts::stay(e, s, Place::Idle(Answer::PopClosed))

@@ -32,7 +32,7 @@ use Rattle.bounded_machine.specs.Turn.{turnAt, turnOfBy, recordAfter, begun, ac
 use Rattle.bounded_machine.specs.Run.{ran, runAt}
 use Rattle.bounded_machine.proofs.Kept.{UnbrokenWith, few-workers}
 use Rattle.bounded_demands.proofs.Refusals.{turn-kept}
-use Rattle.bounded_runs.proofs.Turns.{turn-of-unbroken}
+use Rattle.bounded_machine.proofs.Turns.{turn-of-unbroken}
 use Rattle.bounded_demands.specs.Notions.{withRecords, InHand, handP4, handP5, handF7, handF8, handF9, handO4, handO5, mostOf, passed, actBy, ownActs, LetsGo}
 use Rattle.bounded_proof_demand2.proofs.Turns.{Turned, began, did, turned, stood, turned-seats}
 use Rattle.bounded_proof_demand3.proofs.Solo.{acted-else}

@@ -55,9 +55,11 @@ pub fn p2(bits: Width, f: Fixed, e: Ends, s: Slot, k: Kind, t: Stamp, item: u64)
     ensures { λ r. ⌜ r ≡ actP2 bits f e s k t item ⌝ }
 {
     let seen = s.stamp;
+    // "If the tail and the stamp match, we may attempt to push."
     if bounded_words::same_word(seen, t) {
         return bounded_acts::stay(e, s, Place::P3(k, t, item));
     }
+    // The last lap's item is still there: full, or a pop is about to take it.
     if bounded_words::lap_behind_one_past(bits, f, seen, t) {
         bounded_acts::stay(e, s, full_at(k, t, item))
     } else {
@@ -101,6 +103,7 @@ pub fn p6(bits: Width, f: Fixed, e: Ends, s: Slot, t: Stamp, item: u64) -> Acted
     ensures { λ r. ⌜ r ≡ actP6 bits f e s t item ⌝ }
 {
     let h = e.head;
+    // "If the head lags one lap behind the tail as well.. then the queue is full."
     if bounded_words::lap_behind(bits, f, h, t) {
         bounded_acts::stay(e, s, Place::Idle(Answer::Full(item)))
     } else {

@@ -23,7 +23,7 @@ use Rattle.bounded_entries.specs.declared.Turned.{Turned}
 use Rattle.bounded_entries.specs.Entries.{workerOf, slotOf, turnedOf}
 use Rattle.bounded_entries.proofs.Resting.{worker-below}
 use Rattle.bounded_entries.proofs.Back.{putBack, put-back}
-use Rattle.bounded_runs.proofs.Turns.{turn-of-unbroken}
+use Rattle.bounded_machine.proofs.Turns.{turn-of-unbroken}
 use Rattle.bounded_parts.specs.Parts.{recordsMost}
 use Rattle.bounded_lent.specs.Lent.{held, brokenLent, lentOf}
 use Rattle.bounded_lent.proofs.Turning.{unbroken-lent, lent-unbroken, few-lent, some-record, fair-lent, record-fits, spot-below}

@@ -31,7 +31,7 @@ use Rattle.bounded_machine.specs.Machine.{slot, machineOf, recordOf, placeOf, r
 use Rattle.bounded_machine.specs.Broken.{brokenWith, allIdle}
 use Rattle.bounded_machine.specs.Turn.{verdictOf, recordAfter, stored, actedBy, carried, turn, turnOf, turnOfBy}
 use Rattle.bounded_machine.proofs.Kept.{Unbroken, unbroken-of, of-unbroken, fair-in}
-use Rattle.bounded_runs.proofs.Turns.{worker-below, fits-in, spot-below, lost-below, kept, moved-unbroken}
+use Rattle.bounded_machine.proofs.Turns.{worker-below, fits-in, spot-below, lost-below, kept, moved-unbroken}
 use Rattle.bounded_words.specs.Words.{Fair}
 use Rattle.bounded_walkers.specs.declared.State.{State}
 use Rattle.bounded_walkers.specs.declared.After.{After}

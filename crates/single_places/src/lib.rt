@@ -26,21 +26,30 @@ pub enum Answer {
     No,
 }
 
-// The actions of push (A), force_push (B) and pop (C) in the source's order, and of the lookers, each with what its worker holds:
-// the word that an exchange expects, the caller's item, the value read.
+// Where a worker stands: the action that it takes next, of push (A), force_push (B), pop (C) in the source's order, or of a looker. e is
+// the word that an exchange expects; the other numbers are the call's item or the value read.
 pub enum Place {
+    // No call under way: the last answer.
     Idle(Answer),
+    // push: exchange 0 for LOCKED and PUSHED.
     A1(u64),
+    // Locked by this worker: write the item, then unlock.
     A2(u64),
     A3,
+    // force_push: exchange e for LOCKED and PUSHED.
     B1(State, u64),
+    // Nothing was there: write the item, then unlock.
     B2(u64),
     B3,
+    // An item was there: put the item in its place, then unlock; the number of B5 is the old value.
     B4(u64),
     B5(u64),
+    // pop: exchange e for LOCKED without PUSHED.
     C1(State),
+    // Read the value, then unlock.
     C2,
     C3(u64),
+    // The lookers: one load of the word, or for close one change of it.
     Len1,
     Empty1,
     Full1,

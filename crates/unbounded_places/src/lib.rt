@@ -41,46 +41,84 @@ pub enum Answer {
     No,
 }
 
-// The places of the table, each with its words in the table's order, and of the lookers.
+// Where a worker stands: the action that it takes next, with its words in the table's order. t and h are indices of tail and head, b the
+// block that came with them, n the block set aside for later or none, item the call's, value the one read.
 pub enum Place {
+    // No call under way: the last answer.
     Idle(Answer),
+    // push: load tail's index. (n, item)
     U1(Pointer, u64),
+    // Load tail's block. (n, t, item)
     U2(Pointer, Index, u64),
+    // The next slot is its block's last: take a block now and set it aside, so that nobody waits long for it. (t, b, item)
     U3(Index, Pointer, u64),
+    // There is no block yet: take the first. (n, t, item)
     U4(Pointer, Index, u64),
+    // Install it: tail's block from none to new, a strong exchange. (n, t, new, item)
     U5(Pointer, Index, Pointer, u64),
+    // It is the first: store it in head's block too. (n, t, new, item)
     U6(Pointer, Index, Pointer, u64),
+    // Try to claim: tail's index from t to t + 2, a weak exchange. (n, t, b, item)
     U7(Pointer, Index, Pointer, u64),
+    // Lost: load tail's block, to try again with the index found. (n, t, item)
     U8(Pointer, Index, u64),
+    // A block's last slot was claimed: store the block set aside in tail's block, .. (n, t, b, item, to U12)
     U9(Pointer, Index, Pointer, u64),
+    // .. move tail's index over the block's end, ..
     U10(Pointer, Index, Pointer, u64),
+    // .. and store it as the next of the old block.
     U11(Pointer, Index, Pointer, u64),
+    // The slot is this worker's: write the item.
     U12(Pointer, Index, Pointer, u64),
+    // Set WRITE, by which a pop sees that the item is there. (n, t, b)
     U13(Pointer, Index, Pointer),
+    // Free the block set aside, then give the answer.
     U14(Pointer, Answer),
+    // Free the block set aside, and go on with new in its place. (n, new, item)
     U15(Pointer, Pointer, u64),
+    // pop: load head's index.
     V1,
+    // Load head's block. (h)
     V2(Index),
+    // head's block may be the last: load tail's index, to tell Empty or Closed from an item. (h, b)
     V3(Index, Pointer),
+    // Try to claim: head's index from h to new, a weak exchange. (h, b, new)
     V4(Index, Pointer, Index),
+    // Lost: load head's block, to try again with the index found. (h)
     V5(Index),
+    // A block's last slot was claimed: load its next until there is one, .. (h, b, new)
     V6(Index, Pointer, Index),
+    // .. load that one's next, to know whether head's mark is due, .. (h, b, new, next)
     V7(Index, Pointer, Index, Pointer),
+    // .. store it in head's block .. (h, b, next, index)
     V8(Index, Pointer, Pointer, Index),
+    // .. and move head's index over the block's end. (h, b, index)
     V9(Index, Pointer, Index),
+    // The slot is this worker's: load its state until WRITE is set. (h, b, to V12)
     V10(Index, Pointer),
+    // Read the value.
     V11(Index, Pointer),
+    // Set READ; if DESTROY was set, the block is this worker's to free. (h, b, value)
     V12(Index, Pointer, u64),
+    // Free the block, slot by slot: load the state of slot i. (b, i, value)
     V13(Pointer, u64, u64),
+    // Its pop has not read it: set DESTROY, so that it goes on with the freeing. (b, i, value)
     V14(Pointer, u64, u64),
+    // All slots are read: free the block. (b, value)
     V15(Pointer, u64),
+    // len: load tail's index, then head's, then tail's once more, which must be the first.
     Len1,
     Len2(Index),
+    // tail, head
     Len3(Index, Index),
+    // is_empty: load head's index, then tail's.
     Empty1,
     Empty2(Index),
+    // is_full: one act that loads nothing.
     Full1,
+    // close: set the mark of tail's index.
     Close1,
+    // is_closed: load tail's index.
     IsClosed1,
 }
 

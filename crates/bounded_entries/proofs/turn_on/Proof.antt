@@ -5,7 +5,7 @@ use native.Mathlib.Omega.{arith}
 use Rattle.queue_entries.specs.Limits.{meterMost}
 use Rattle.queue_entries.specs.declared.Entry.the-variants.{Asks}
 use Rattle.bounded_places.specs.Places.{viewOf}
-use Rattle.bounded_runs.proofs.Turns.{move-busy, move-in-time}
+use Rattle.bounded_machine.proofs.Turns.{move-busy, move-in-time}
 use Rattle.bounded_machine.proofs.Kept.{few-differed, few-failed, of-record}
 use Rattle.bounded_entries.proofs.Turns.{nine, three, stop, start, move}
 use borrow.Author.Needs.{needs}

@@ -6,7 +6,7 @@ use Rattle.bounded_lookers.proofs.len3.Statement.{statement}
 use Rattle.bounded_lookers.proofs.len3.Tie as tie
 use Rattle.bounded_lookers.proofs.len3.Reads as reads
 use Rattle.bounded_lookers.proofs.len3.Lts as lts
-use Rattle.bounded_lookers.proofs.count.Reads as count-reads
+use Rattle.bounded_acts.proofs.count.Reads as count-reads
 use Rattle.bounded_acts.proofs.stay.Reads as stay-reads
 
 -- src/lib.rt:6:8

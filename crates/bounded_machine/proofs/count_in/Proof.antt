@@ -4,7 +4,7 @@ use Rattle.bounded_machine.proofs.count_in.Statement.{statement}
 use Rattle.bounded_machine.proofs.count_in.Tie as tie
 use Rattle.bounded_machine.proofs.count_in.Reads as reads
 use Rattle.bounded_machine.proofs.count_in.Lts as lts
-use Rattle.bounded_lookers.proofs.count.Reads as count-reads
+use Rattle.bounded_acts.proofs.count.Reads as count-reads
 
 -- src/lib.rt:270:5
 count-requires : tie.Need-count-requires

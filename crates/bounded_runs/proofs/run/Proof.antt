@@ -24,7 +24,7 @@ use Rattle.bounded_machine.proofs.broken.Reads as broken-reads
 use Rattle.bounded_machine.proofs.record_after.Reads as record-after-reads
 use Rattle.bounded_machine.proofs.spot.Reads as spot-reads
 use Rattle.bounded_machine.proofs.verdict_of.Reads as verdict-of-reads
-use Rattle.bounded_runs.proofs.Turns.{broken-run, odd-run, unread-run, read-run, stop-9, stop-3, stop, start, move, ended, worker-below, fits-in, spot-below, lost-below, started-unbroken, moved-unbroken, move-busy, move-in-time}
+use Rattle.bounded_machine.proofs.Turns.{broken-run, odd-run, unread-run, read-run, stop-9, stop-3, stop, start, move, ended, worker-below, fits-in, spot-below, lost-below, started-unbroken, moved-unbroken, move-busy, move-in-time}
 use Rattle.bounded_runs.proofs.run.Statement.{statement}
 use Rattle.bounded_runs.proofs.run.Tie as tie
 use Rattle.bounded_runs.proofs.run.Reads as reads

@@ -1,9 +1,9 @@
 use Rattle.bounded_acts.proofs.Arms.{count-low, count-high, count-none, count-all}
 use borrow.Author.Needs.{needs}
-use Rattle.bounded_lookers.proofs.count.Statement.{statement}
-use Rattle.bounded_lookers.proofs.count.Tie as tie
-use Rattle.bounded_lookers.proofs.count.Reads as reads
-use Rattle.bounded_lookers.proofs.count.Lts as lts
+use Rattle.bounded_acts.proofs.count.Statement.{statement}
+use Rattle.bounded_acts.proofs.count.Tie as tie
+use Rattle.bounded_acts.proofs.count.Reads as reads
+use Rattle.bounded_acts.proofs.count.Lts as lts
 use Rattle.bounded_words.proofs.index.Reads as index-reads
 use Rattle.bounded_words.proofs.unmarked_is.Reads as unmarked-is-reads
 
