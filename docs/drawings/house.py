@@ -20,7 +20,7 @@ RIGHT, HALF, GAP = 804, 124, 16
 PROGRAMS, PROOFS, STATEMENTS, TEXTS, MACHINES, SHARED = 100, 100, 200, 320, 430, 530
 LIBRARIES = STATEMENTS
 # The lines that several arrows share, below the libraries.
-TO_TAPES, TO_QUEUES = 288, TEXTS + HIGH / 2
+TO_TAPES, TO_QUEUES, OF_BENCH = 288, TEXTS + HIGH / 2, TEXTS + HIGH - 12
 
 
 def box_of(name):
@@ -62,7 +62,6 @@ WAYS = {
     (('libraries',), ('texts',)): down(('libraries',), ('texts',), RIGHT + HALF - 24),
     (('shows',), ('texts',)): down(('shows',), ('texts',), RIGHT + 2 * HALF + GAP - 24),
     (('texts',), ('text',)): down(('texts',), ('text',), RIGHT + HALF + GAP / 2),
-    (('bench',), ('machine', 'bounded')): [(92, TO_QUEUES), (COLUMNS['bounded'] + 24, TO_QUEUES), (COLUMNS['bounded'] + 24, MACHINES)],
 }
 for queue, x in COLUMNS.items():
     WAYS[('proof', queue), ('statement', queue)] = down(('proof', queue), ('statement', queue), x + NARROW / 2)
@@ -70,6 +69,7 @@ for queue, x in COLUMNS.items():
     WAYS[('machine', queue), ('shared',)] = down(('machine', queue), ('shared',), x + WIDE / 2)
     if queue != 'tapes':
         WAYS[('texts',), ('machine', queue)] = [(RIGHT, TO_QUEUES), (x + DROP, TO_QUEUES), (x + DROP, MACHINES)]
+        WAYS[('bench',), ('machine', queue)] = [(92, OF_BENCH), (x + 24, OF_BENCH), (x + 24, MACHINES)]
 for above, x in (('libraries', RIGHT + 24), ('shows', RIGHT + HALF + GAP + 24)):
     to = COLUMNS['tapes'] + DROP
     WAYS[(above,), ('machine', 'tapes')] = [(x, LIBRARIES + HIGH), (x, TO_TAPES), (to, TO_TAPES), (to, MACHINES)]

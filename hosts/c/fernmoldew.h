@@ -1,4 +1,4 @@
-/* fernmoldew.h: the proved bounded queue, and tapes of its schedules, linked into a program of yours.
+/* fernmoldew.h: the proved bounded queue, the one-slot queue, and tapes of schedules, linked into a program of yours.
  *
  * What no proof speaks of, and you must see to: the slices of a call must not overlap, each must be as long as is
  * said, two calls on the same words must not run at once, and nobody else may write the words between two calls.
@@ -19,6 +19,12 @@
  * Words that stand for no ring and records (a wrong length, a code that there is none of, a word that is not used
  * and not 0, another layout number) are refusal FERN_BROKEN, as are those of a broken ring.
  *
+ * The torque station's one-slot queue is the same in two arrays, with entries, answers and refusals of the same numbers:
+ *
+ *     head     FERN_SLOT_HEAD words: state, value, count of workers, meter, layout number
+ *     records  FERN_SLOT_RECORDS words, three for each of FERN_SLOT_WORKERS records, whatever the count: code, first,
+ *              second. All zeros is a worker that is idle and has no answer yet; past the count no record may be busy.
+ *
  * A tape is a schedule as bytes, for an archive: fern_tape_write and fern_tape_read, which need no ring. */
 #ifndef FERNMOLDEW_H
 #define FERNMOLDEW_H
@@ -37,7 +43,12 @@ enum {
     FERN_RECORD = 5,
     FERN_WORKERS = 64,    /* the most workers */
     FERN_CAPACITY = 1024, /* the most slots */
-    FERN_LAYOUT = 1       /* the layout number, in the last word of the head */
+    FERN_LAYOUT = 1,      /* the layout number, in the last word of the head */
+    FERN_SLOT_HEAD = 5,
+    FERN_SLOT_RECORD = 3,
+    FERN_SLOT_WORKERS = 16, /* the most workers of a one-slot queue, and how many records it has */
+    FERN_SLOT_RECORDS = FERN_SLOT_RECORD * FERN_SLOT_WORKERS,
+    FERN_SLOT_LAYOUT = 2 /* the layout number of a one-slot queue */
 };
 
 /* A tape's variant: the byte with which it begins. */
@@ -70,7 +81,16 @@ enum fern_head {
     FERN_HEAD_LAYOUT
 };
 
-/* The words of a record. */
+/* The words of a one-slot queue's head. */
+enum fern_slot_head {
+    FERN_SLOT_HEAD_STATE, /* 1: in a worker's hand; 2: an item is in, or comes; 4: closed; and their sums */
+    FERN_SLOT_HEAD_VALUE,
+    FERN_SLOT_HEAD_COUNT,
+    FERN_SLOT_HEAD_METER,
+    FERN_SLOT_HEAD_LAYOUT
+};
+
+/* The words of a record; a one-slot queue's has the first three. */
 enum fern_record {
     FERN_RECORD_CODE,
     FERN_RECORD_FIRST,
@@ -170,6 +190,28 @@ enum fern_code {
     FERN_CODES
 };
 
+/* Where a worker of a one-slot queue stands: up to FERN_LAST_ANSWER as above, and then its own places. Codes 6 to 18 hold a
+ * first word (an item or a value; at B1 and C1 the word that the exchange expects), B1 alone a second (its item). */
+enum fern_slot_code {
+    FERN_A1 = FERN_LAST_ANSWER + 1,
+    FERN_A2,
+    FERN_B2,
+    FERN_B4,
+    FERN_B5,
+    FERN_C1,
+    FERN_C3,
+    FERN_B1,
+    FERN_A3,
+    FERN_B3,
+    FERN_C2,
+    FERN_SLOT_LEN1,
+    FERN_SLOT_EMPTY1,
+    FERN_SLOT_FULL1,
+    FERN_SLOT_CLOSE1,
+    FERN_SLOT_IS_CLOSED1,
+    FERN_SLOT_CODES
+};
+
 /* A refusal, 0 where there is none, and what was asked for: 0 where it was refused, but an entry's place from run,
  * and what is said below from the functions for tapes. */
 struct fern_reply {
@@ -207,6 +249,18 @@ struct fern_reply fern_ring_capacity(const uint64_t *head, size_t head_words, co
 uint64_t fern_ring_broken(const uint64_t *head, size_t head_words, const uint64_t *slots, size_t slots_words,
                           const uint64_t *records, size_t records_words);
 
+/* The one-slot queue, as the ring's functions: a fresh one of so many workers, all idle (refusal 2; 6 for slices of other
+ * lengths); one entry; a schedule; the item, if there is one and no worker is busy (refusals 6, 4, 10); broken. No exchange
+ * of it is weak: FERN_ACT_LOSE is refusal 8. */
+uint64_t fern_slot_make(uint64_t *head, size_t head_words, uint64_t *records, size_t records_words, uint64_t workers);
+uint64_t fern_slot_step(uint64_t *head, size_t head_words, uint64_t *records, size_t records_words, uint64_t first,
+                        uint64_t second);
+struct fern_reply fern_slot_run(uint64_t *head, size_t head_words, uint64_t *records, size_t records_words,
+                                const uint64_t *schedule, size_t schedule_words);
+struct fern_reply fern_slot_contents(const uint64_t *head, size_t head_words, const uint64_t *records,
+                                     size_t records_words, uint64_t *buffer, size_t buffer_words);
+uint64_t fern_slot_broken(const uint64_t *head, size_t head_words, const uint64_t *records, size_t records_words);
+
 /* A schedule as a tape at the buffer's start, with the capacity and the count of workers that it is meant for: how many
  * bytes. Refusals, and their number, in this order: FERN_TAPE_FIELD for a variant that there is none of (0),
  * FERN_ODD_SCHEDULE (0), FERN_TAPE_ENTRY (the entry's place from 0; 0 for a capacity or count above 65,535),
@@ -226,22 +280,22 @@ static inline uint64_t fern_entry(uint64_t worker, enum fern_call call) {
     return 16 * worker + (uint64_t)call;
 }
 
-/* Whether a worker has a call under way. */
-static inline bool fern_busy(const uint64_t record[FERN_RECORD]) {
+/* Whether a worker has a call under way; a record of either queue. */
+static inline bool fern_busy(const uint64_t record[FERN_SLOT_RECORD]) {
     return record[FERN_RECORD_CODE] > FERN_LAST_ANSWER;
 }
 
 /* What the last call of an idle worker answered: FERN_NOTHING to FERN_LEN_IS. */
-static inline enum fern_code fern_answer(const uint64_t record[FERN_RECORD]) {
+static inline enum fern_code fern_answer(const uint64_t record[FERN_SLOT_RECORD]) {
     return (enum fern_code)record[FERN_RECORD_CODE];
 }
 
 /* Whether that answer has a value, and the value. */
-static inline bool fern_has_value(const uint64_t record[FERN_RECORD]) {
+static inline bool fern_has_value(const uint64_t record[FERN_SLOT_RECORD]) {
     return record[FERN_RECORD_CODE] >= FERN_FULL && record[FERN_RECORD_CODE] <= FERN_LEN_IS;
 }
 
-static inline uint64_t fern_value(const uint64_t record[FERN_RECORD]) {
+static inline uint64_t fern_value(const uint64_t record[FERN_SLOT_RECORD]) {
     return record[FERN_RECORD_FIRST];
 }
 

@@ -11,7 +11,7 @@
 #include <sys/types.h>
 #include <unistd.h>
 
-enum { WORDS = 64, SAID = 4096, TOLD = 4096, DEPTH_MOST = 5 };
+enum { WORDS = 64, SAID = 4096, TOLD = 4096, DEPTH_MOST = 5, ROW_MOST = 300 };
 
 void program_main(void);
 
@@ -83,10 +83,19 @@ ssize_t program_write(int fd, const char *bytes, size_t size) {
     return (ssize_t)size;
 }
 
-/* A walk of twelve acts takes seconds, and is no hang. */
-static int takes_long(void) {
+/* A walk of twelve acts takes seconds, and is no hang; nor is a long row of acts, in words. What is no number is none, and its fault is for the program to find. */
+static int takes_long(const uint8_t *at, const uint8_t *end) {
     for (size_t i = 0; i + 1 < count; i++)
         if (!strcmp(words[i], "--depth") && strtoul(words[i + 1], NULL, 10) > DEPTH_MOST) return 1;
+    while (at < end) {
+        size_t row = end - at > 3 && !memcmp(at, "act", 3) ? 3 : end - at > 4 && !memcmp(at, "fail", 4) ? 4 : 0;
+        at += row ? row : 1;
+        if (!row) continue;
+        while (at < end && (*at == ' ' || (*at >= 9 && *at <= 13))) at++;
+        unsigned __int128 acts = 0, fits = (unsigned __int128)1 << 64;
+        for (; at < end && *at >= '0' && *at <= '9'; at++) acts = acts < fits ? 10 * acts + (*at - '0') : fits;
+        if (acts > ROW_MOST && acts < fits) return 1;
+    }
     return 0;
 }
 
@@ -118,9 +127,9 @@ int LLVMFuzzerTestOneInput(const uint8_t *data, size_t size) {
     if (memchr(data, 0, head)) return 0;
     char *line = strndup((const char *)data, head);
     take_words(line);
-    if (!takes_long()) {
+    size_t from = end ? head + 1 : head;
+    if (!takes_long(data + from, data + size)) {
         input = fresh();
-        size_t from = end ? head + 1 : head;
         if (write(input, data + from, size - from) != (ssize_t)(size - from)) abort();
         lseek(input, 0, SEEK_SET);
         written = said = told = 0;

@@ -2,6 +2,7 @@
 
 import gc
 import itertools
+import json
 import os
 import signal
 import sys
@@ -29,19 +30,19 @@ compared where they are; names that end in neither .tape, .txt nor .out are left
               record (same, other, none, written), line, recorded and now of the first difference, said; seen: sizes and
               times of file and record. The table goes to standard error
   --sum       the table of lines of JSON, from the files or from standard input
-  --jobs N    so many processes at once; one more than there are processors unless told
+  --jobs N    so many runs of replay at once; as many as there are processors unless told
   --resume    goes on with a run of the same places and options that was interrupted
   --log DIR   where the log of a run is kept while it lasts; target/archive unless told
   --help      prints this
 
 The options of replay are handed on, and are the same for all files: --queue NAME, --edition N, --bits N, --lent, --quiet,
---causes, --moments, --losses, --stock, --summary.
+--causes, --moments, --losses, --stock, --summary, --explain, --follow ITEM.
 
 Status: 0 all ran to their end, as recorded; 1 some were refused or differ; 2 some cannot be read, the arguments cannot be
 read, or not all can be written.
 """
-WITH_VALUE = ('--queue', '--edition', '--bits')
-HANDED_ON = (*WITH_VALUE, '--lent', '--quiet', '--causes', '--moments', '--losses', '--stock', '--summary')
+WITH_VALUE = ('--queue', '--edition', '--bits', '--follow')
+HANDED_ON = (*WITH_VALUE, '--lent', '--quiet', '--causes', '--moments', '--losses', '--stock', '--summary', '--explain')
 JOBS_MOST = 1024
 
 
@@ -57,7 +58,7 @@ class Arguments:
     def __init__(self, words):
         self.places, self.options = [], []
         self.record = self.json = self.sum = self.resume = self.help = False
-        self.jobs = len(os.sched_getaffinity(0)) + 1  # while one reads files, another runs
+        self.jobs = len(os.sched_getaffinity(0))
         self.log = os.path.join(HOME, 'target/archive')
         words = iter(words)
         for word in words:
@@ -109,7 +110,7 @@ def asked_of(arguments, starter):
     """How replay is run; it is asked whether it has a use for the options."""
     asked = runs.Asked(starter.command(), arguments.options, not {'single', 'unbounded'} & set(arguments.options), arguments.record)
     if asked.options:
-        program = runs.Program(asked)
+        program = runs.Program(asked, runs.Turns(1))
         with runs.InMemory(4) as (given, out, said, told):
             runs.write_all(given, b'1 1\n')
             os.lseek(given, 0, os.SEEK_SET)
@@ -128,7 +129,7 @@ def summed(names):
             with open(0 if name == b'-' else name, 'rb', closefd=name != b'-') as lines:
                 for number, line in enumerate(lines, 1):
                     try:
-                        counts.add_line(line)
+                        counts.add_told(json.loads(line))
                     except (ValueError, KeyError, TypeError, AttributeError):
                         raise Wrong(f'{shown}: line {number}: not a line of archive --json') from None
         except OSError as why:
@@ -145,9 +146,12 @@ class Run:
         self.counts = report.Counts()
         self.output = report.Output()
         self.before = 0  # done by the run that this one goes on with
+        found = self.found(self.troubled, self.left_aside)
+        self.files = itertools.chain(list(itertools.islice(found, 1)), found)  # the first folder is read at once, while the starter is at work
 
     def troubled(self, folder, why):
-        self.add([runs.unreadable(folder, why.strerror)])
+        told = runs.Told([runs.unreadable(folder, why.strerror)])
+        self.add(told.counted, told.lines, told.worth)
 
     def left_aside(self, _):
         self.counts.aside += 1
@@ -156,18 +160,16 @@ class Run:
         for place in self.arguments.places:
             yield from files.below(place, troubled, aside)
 
-    def add(self, results):
-        for result, number, line in results:
-            plain = not self.arguments.json and result in (runs.RAN, runs.REFUSED)
-            if plain:
-                record = 'none' if b'"record": "none"' in line else 'written' if b'"record": "written"' in line else None
-                self.counts.add(result, number, record)
-            else:
-                told = self.counts.add_line(line)
-                self.output.add(line if self.arguments.json else report.told_of(told).encode('utf-8', 'surrogateescape'))
+    def add(self, counted, lines, worth):
+        for what, times in counted.items():
+            self.counts.add(*what, times)
+        if self.arguments.json:
+            self.output.add(lines)
+        else:
+            self.output.add(''.join(map(report.told_of, worth)).encode('utf-8', 'surrogateescape'))
 
     def was_done(self, told):
-        self.counts.add(told['result'], told.get('refused', 0), told.get('record'))
+        self.counts.add_told(told)
         self.before += 1
 
     def whole(self, asked):
@@ -183,16 +185,15 @@ class Run:
             report.say('no such run was interrupted: begun anew')
         total = sum(1 for _ in self.found(lambda *_: None, lambda _: None)) if os.isatty(2) else 0
         progress = report.Progress(total)
-        left = self.found(self.troubled, self.left_aside)
-        left = kept.left_of(left, self.was_done) if kept.goes_on else left
+        left = kept.left_of(self.files, self.was_done) if kept.goes_on else self.files
         batches = iter(lambda: list(itertools.islice(left, runs.FILES_MOST)), [])
         crew = workers.Crew(asked, arguments.jobs)
         try:
-            for results in crew.results(batches, lambda: progress.tell(self.counts.files, self.before)):
-                self.add(results)
+            for counted, lines, worth in crew.results(batches, lambda: progress.tell(self.counts.files, self.before)):
+                self.add(counted, lines, worth)
                 progress.end() if self.output.waiting else None
                 self.output.flush()
-                kept.add(b''.join(line for _, _, line in results))
+                kept.add(lines)
         finally:
             progress.end()
             crew.end()
@@ -220,13 +221,14 @@ def run(words):
         return summed(arguments.places)
     for place in arguments.places:
         try:
-            os.stat(place)
+            os.lstat(place)  # a link that leads nowhere is a file that cannot be read, as it is below a folder
         except OSError as why:
             raise Wrong(f'{report.shown(place)}: {why.strerror}') from None
     for number in signal.SIGINT, signal.SIGTERM, signal.SIGHUP:
         signal.signal(number, interrupted)
-    asked = asked_of(arguments, Starter())
+    starter = Starter()
     this = Run(arguments)
+    asked = asked_of(arguments, starter)
     try:
         this.whole(asked)
     except Interrupted:

@@ -20,16 +20,17 @@ def below(place, troubled, aside):
         return
     try:
         with os.scandir(place) as found:
-            entries = sorted(found, key=lambda entry: entry.name)
+            entries = [(entry.name, entry) for entry in found if not entry.name.endswith(RECORD) or entry.is_dir(follow_symlinks=False)]
     except OSError as why:
         troubled(place, why)
         return
-    for entry in entries:
+    entries.sort()
+    for name, entry in entries:
         if entry.is_dir(follow_symlinks=False):
             yield from below(entry.path, troubled, aside)
-        elif is_taken(entry.name):
+        elif is_taken(name):
             yield entry.path
-        elif not entry.name.endswith(RECORD):
+        else:
             aside(entry.path)
 
 
@@ -46,33 +47,30 @@ def seen_of(path):
 
 # What a file holds
 
-class Variant:
-    def __init__(self, order, added):
-        tag = lambda number, length: re.escape(bytes([number + added]) + struct.pack(order + 'H', length))
-        self.numbers = struct.Struct(order + 'HH')
-        self.item = struct.Struct(order + 'Q')
-        self.begins = bytes([1 + added]) + struct.pack(order + 'H', 4)
-        self.ends = bytes([4 + added]) + struct.pack(order + 'H', 0)
-        with_item, act = tag(2, 9), tag(3, 1)
-        # the code stands high in a byte and the worker low: codes 0 and 1, or 2 to 9
-        self.entry = re.compile(with_item + rb'[\x00-\x1f].{8}|' + act + rb'[\x20-\x9f]', re.DOTALL)
-        self.texts = Entries(self.item)
-        for byte in range(0x20, 0xa0):
-            self.texts[bytes([3 + added]) + struct.pack(order + 'H', 1) + bytes([byte])] = b'%d 0\n' % first_of(byte)
-
-
 def first_of(byte):
+    """An entry's first number; the code stands high in the byte and the worker low."""
     return 16 * (byte & 15) + (byte >> 4)
 
 
-class Entries(dict):
-    """The text of an entry's field; of one with an item it is made as it comes."""
+ACTS = [b'%d 0\n' % first_of(byte) for byte in range(256)]
 
-    def __init__(self, item):
-        self.item = item
 
-    def __missing__(self, field):
-        return b'%d %d\n' % (first_of(field[3]), *self.item.unpack_from(field, 4))
+class Variant:
+    def __init__(self, order, added):
+        def field(number, length):
+            return bytes([number + added]) + struct.pack(order + 'H', length)
+        self.numbers = struct.Struct(order + 'HH')
+        self.item = struct.Struct(order + 'Q')
+        self.begins, self.ends = field(1, 4), field(4, 0)
+        with_item, without = field(2, 9), field(3, 1)
+        self.tag_with_item = with_item[0]
+        # entries without an item, as many as stand together, or one with its item: codes 2 to 9, or 0 and 1
+        self.stretch = re.compile(b'(?:' + re.escape(without) + rb'[\x20-\x9f])+|' + re.escape(with_item) + rb'[\x00-\x1f].{8}', re.DOTALL)
+
+    def text_of(self, stretch):
+        if stretch[0] == self.tag_with_item:
+            return b'%d %d\n' % (first_of(stretch[3]), *self.item.unpack_from(stretch, 4))
+        return b''.join(map(ACTS.__getitem__, stretch[3::4]))
 
 
 VARIANTS = Variant('>', 0), Variant('<', 128)
@@ -84,11 +82,11 @@ def text_of_tape(data, capacity_too):
     for variant in VARIANTS:
         end = len(data) - END
         if data.startswith(variant.begins) and end >= HEAD and data.endswith(variant.ends):
-            fields = variant.entry.findall(data, HEAD, end)
-            if sum(map(len, fields)) == end - HEAD:
+            stretches = variant.stretch.findall(data, HEAD, end)
+            if sum(map(len, stretches)) == end - HEAD:
                 numbers = variant.numbers.unpack_from(data, 3)
                 head = b'%d %d\n' % numbers if capacity_too else b'%d\n' % numbers[1]
-                return head + b''.join(map(variant.texts.__getitem__, fields))
+                return head + b''.join(map(variant.text_of, stretches))
     return None
 
 

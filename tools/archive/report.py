@@ -23,17 +23,15 @@ class Counts:
         self.records = Counter()
         self.aside = 0
 
-    def add(self, result, number, record):
-        self.results[result] += 1
-        self.records[record] += 1
+    def add(self, result, number, record, times=1):
+        self.results[result] += times
+        self.records[record] += times
         if result == REFUSED:
-            self.refusals[number] += 1
+            self.refusals[number] += times
 
-    def add_line(self, line):
-        """A line of JSON, as this program tells it."""
-        told = json.loads(line)
+    def add_told(self, told):
+        """A line of JSON, as this program tells it, taken apart."""
         self.add(told['result'], told.get('refused', 0), told.get('record'))
-        return told
 
     @property
     def files(self):
@@ -69,8 +67,9 @@ def say(text):
         pass
 
 
-def told_of(told):
-    """What is worth a line while the archive is replayed: what differs, and what cannot be read."""
+def told_of(line):
+    """A line of JSON of what differs or cannot be read, as it is told while the archive is replayed."""
+    told = json.loads(line)
     name = shown(told['file'])
     if told['result'] == DIFFERS:
         sides = ('nothing' if told[side] is None else shown(told[side]) for side in ('recorded', 'now'))
@@ -85,7 +84,8 @@ class Output:
         self.waiting = []
 
     def add(self, data):
-        self.waiting.append(data)
+        if data:
+            self.waiting.append(data)
 
     def flush(self):
         data, self.waiting = memoryview(b''.join(self.waiting)), []

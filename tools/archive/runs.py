@@ -10,7 +10,7 @@ import os
 import re
 import signal
 import stat
-from typing import NamedTuple
+from json.encoder import encode_basestring_ascii as quoted
 
 import files
 
@@ -19,30 +19,40 @@ TEXT_MOST, FILES_MOST, ALONE = 1 << 20, 500, 1 << 18
 PIECE = 1 << 16
 
 RAN, REFUSED, DIFFERS, UNREADABLE = 'ran', 'refused', 'differs', 'unreadable'
-REFUSED_LINE = re.compile(rb'^(?:made|\d+) ([1-9]\d*)\b', re.MULTILINE)
+REFUSED_LINE = re.compile(rb'^(?:made |\d+ |(?: *\d+  -   )?refused )([1-9]\d*)\b', re.MULTILINE)
 REFUSED_TAPE = re.compile(rb'refused (\d+) ')
 
 
-class Asked(NamedTuple):
-    command: list  # runs replay
-    options: list
-    with_capacity: bool  # a schedule begins with one
-    record: bool
+class Asked:
+    def __init__(self, command, options, with_capacity, record):
+        self.command = command  # runs replay
+        self.options = options
+        self.with_capacity = with_capacity  # a schedule begins with one
+        self.record = record
 
 
-class Result(NamedTuple):
-    result: str
-    number: int  # of the refusal, or 0
-    line: bytes  # of JSON
+# The result of a file: what it is counted as, which is the result, the refusal's number or 0 and what is said of its record, if anything; and its line of JSON.
 
-
-def line_of(path, result, number, seen, **more):
+def result_of(path, result, number, seen, **more):
     told = {'file': os.fsdecode(path), 'result': result, **({'refused': number} if number else {}), **more, 'seen': seen}
-    return Result(result, number, json.dumps(told).encode() + b'\n')
+    return (result, number, more.get('record')), json.dumps(told) + '\n'
 
 
 def unreadable(path, said):
-    return line_of(path, UNREADABLE, 0, files.seen_of(path), said=said)
+    return result_of(path, UNREADABLE, 0, files.seen_of(path), said=said)
+
+
+class Told:
+    """The results of some files, put together: how often each is counted, all lines of JSON, and those that are worth telling while the archive is replayed."""
+
+    def __init__(self, results):
+        self.counted, lines, self.worth = {}, [], []
+        for counted, line in results:
+            self.counted[counted] = self.counted.get(counted, 0) + 1
+            lines.append(line)
+            if counted[0] in (DIFFERS, UNREADABLE):
+                self.worth.append(line)
+        self.lines = ''.join(lines).encode()
 
 
 def shown(line):
@@ -51,23 +61,48 @@ def shown(line):
 
 # The program
 
+class Turns:
+    """So many programs may run at once, whichever process starts them: a pipe has a byte for each that may still be started. Who waits for one has the only byte of
+    another pipe meanwhile, so that nobody who comes later is before him."""
+
+    def __init__(self, count):
+        self.left, self.given = os.pipe()
+        self.next, self.passed = os.pipe()
+        os.write(self.given, b'.' * count)
+        os.write(self.passed, b'.')
+
+    def take(self):
+        os.read(self.next, 1)
+        os.read(self.left, 1)
+        os.write(self.passed, b'.')
+
+    def give(self):
+        os.write(self.given, b'.')
+
+
 class Program:
     """replay, started as tools/start does: its status is told on descriptor 3."""
 
-    def __init__(self, asked):
-        self.asked = asked
+    def __init__(self, asked, turns):
+        self.asked, self.turns = asked, turns
         self.running = None
 
     def start(self, words, given, out, said, told):
         actions = [(os.POSIX_SPAWN_DUP2, fd, number) for number, fd in ((0, given), (1, out), (2, said), (3, told))]
         words = [*self.asked.command, *self.asked.options, *words]
-        # in a group of its own: an interrupt at a terminal is for the archive to hear
-        self.running = os.posix_spawn(words[0], words, os.environ, file_actions=actions, setpgroup=0, setsigdef=[signal.SIGINT, signal.SIGTERM, signal.SIGPIPE])
+        self.turns.take()
+        try:
+            # in a group of its own: an interrupt at a terminal is for the archive to hear
+            self.running = os.posix_spawn(words[0], words, os.environ, file_actions=actions, setpgroup=0, setsigdef=[signal.SIGINT, signal.SIGTERM, signal.SIGPIPE])
+        except OSError:
+            self.turns.give()
+            raise
 
     def ended(self, told):
         """Its status; None: it has none, having been ended."""
         ended = os.waitpid(self.running, 0)[1]
         self.running = None
+        self.turns.give()
         status = os.pread(told, PIECE, 0)[-1:]
         return int(status) if ended == 0 and status.isdigit() else None
 
@@ -190,8 +225,8 @@ class Beside:
         seen = [*self.seen, *self.about]
         record = 'written' if self.is_new else 'same' if self.had else 'none'
         if self.difference:
-            return line_of(self.path, DIFFERS, number, seen, record='other', **self.difference)
-        return line_of(self.path, REFUSED if number else RAN, number, seen, record=record)
+            return result_of(self.path, DIFFERS, number, seen, record='other', **self.difference)
+        return result_of(self.path, REFUSED if number else RAN, number, seen, record=record)
 
     def close(self):
         if self.recorded:
@@ -201,7 +236,7 @@ class Beside:
 
 
 def is_recorded(path, output):
-    """The size and time of the record if it is this one; None: it is not, or there is a doubt."""
+    """What there is to know of the record if it is this one; None: it is not, or there is a doubt."""
     try:
         fd = os.open(path + files.RECORD, os.O_RDONLY | os.O_NONBLOCK)
     except OSError:
@@ -213,16 +248,16 @@ def is_recorded(path, output):
         return None
     finally:
         os.close(fd)
-    return (about.st_size, about.st_mtime_ns) if is_so else None
+    return about if is_so else None
 
 
 def beside_record(path, seen, output, number, record):
     """The result of a run that is in hand."""
     if about := is_recorded(path, output):  # the way of nearly all: no buffered file, no line by line
-        result = REFUSED if number else RAN
-        refused = f'"refused": {number}, ' if number else ''
-        return Result(result, number, b'{"file": %s, "result": "%s", %s"record": "same", "seen": [%d, %d, %d, %d]}\n' % (
-            json.dumps(os.fsdecode(path)).encode(), result.encode(), refused.encode(), *seen, *about))
+        result, refused = (REFUSED, f'"refused": {number}, ') if number else (RAN, '')
+        size, time = seen
+        return (result, number, 'same'), (f'{{"file": {quoted(os.fsdecode(path))}, "result": "{result}", {refused}"record": "same", '
+                                          f'"seen": [{size}, {time}, {about.st_size}, {about.st_mtime_ns}]}}\n')
     try:
         beside = Beside(path, seen, record)
         try:
@@ -236,16 +271,13 @@ def beside_record(path, seen, output, number, record):
 
 # Many by one process, and one by its own
 
-class Held(NamedTuple):
-    path: bytes
-    seen: tuple
-    text: bytes
+PATH, SEEN, TEXT = range(3)  # of a file that is held
 
 
 class Runs:
-    def __init__(self, asked):
+    def __init__(self, asked, turns):
         self.asked = asked
-        self.program = Program(asked)
+        self.program = Program(asked, turns)
 
     def of(self, paths):
         """The results of these files, in their order."""
@@ -260,36 +292,37 @@ class Runs:
                 results[path] = self.alone(path)
                 continue
             held.append(taken)
-            size += len(taken.text)
+            size += len(taken[TEXT])
             if size > TEXT_MOST or len(held) == FILES_MOST:
                 results.update(self.among_others(held))
                 held, size = [], 0
         results.update(self.among_others(held))
-        return [results[path] for path in paths]
+        return Told([results[path] for path in paths])
 
     def taken(self, path):
-        """A file that can stand among others; None: it can't, or there is a doubt."""
+        """A file that can stand among others, with its size and time and its text; None: it can't, or there is a doubt."""
         fd = os.open(path, os.O_RDONLY | os.O_NONBLOCK)
         try:
             about = os.fstat(fd)
             if not stat.S_ISREG(about.st_mode):
                 raise OSError(0, os.strerror(21) if stat.S_ISDIR(about.st_mode) else 'not a regular file')
-            data = os.read(fd, ALONE) if about.st_size < ALONE else b''
+            size = about.st_size
+            data = os.read(fd, size + 1) if size < ALONE else b''  # room for ALONE bytes would cost more than all the rest
         finally:
             os.close(fd)
-        if len(data) != about.st_size:
+        if len(data) != size:
             return None
         text = files.text_of_tape(data, self.asked.with_capacity) if files.is_tape(path, data) else files.text_of_schedule(data)
-        return text and Held(path, (about.st_size, about.st_mtime_ns), text)
+        return text and (path, (size, about.st_mtime_ns), text)
 
     def among_others(self, held):
         """Where a process does not end as it should, its files are run by two, and so on."""
         if not held:
             return []
         if len(held) == 1:
-            return [(held[0].path, self.alone(held[0].path))]
+            return [(held[0][PATH], self.alone(held[0][PATH]))]
         with InMemory(4) as (given, out, said, told):
-            write_all(given, b'%\n'.join(one.text for one in held))
+            write_all(given, b'%\n'.join([text for _, _, text in held]))
             os.lseek(given, 0, os.SEEK_SET)
             self.program.start(['--many'], given, out, said, told)
             status = self.program.ended(told)
@@ -297,8 +330,7 @@ class Runs:
         if status not in (0, 1) or len(outputs) != len(held) + 1:
             half = len(held) // 2
             return self.among_others(held[:half]) + self.among_others(held[half:])
-        return [(one.path, beside_record(one.path, one.seen, output, refusal_in(output) if status else 0, self.asked.record))
-                for one, output in zip(held, outputs)]
+        return [(path, beside_record(path, seen, output, refusal_in(output) if status else 0, self.asked.record)) for (path, seen, _), output in zip(held, outputs)]
 
     def alone(self, path):
         try:

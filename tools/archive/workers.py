@@ -2,7 +2,7 @@
 
 import marshal
 import os
-import selectors
+import select
 import signal
 import struct
 import sys
@@ -38,8 +38,8 @@ def write_message(fd, message):
     runs.write_all(fd, LENGTH.pack(len(body)) + body)
 
 
-def work(asked, requests, results):
-    mine = runs.Runs(asked)
+def work(asked, turns, requests, results):
+    mine = runs.Runs(asked, turns)
 
     def stop(*_):
         mine.program.stop()
@@ -49,11 +49,12 @@ def work(asked, requests, results):
     signal.signal(signal.SIGTERM, stop)
     while (message := read_message(requests)) is not None:
         number, paths = message
-        write_message(results, (number, [tuple(result) for result in mine.of(paths)]))
+        told = mine.of(paths)
+        write_message(results, (number, told.counted, told.lines, told.worth))
 
 
 class Worker:
-    def __init__(self, asked, others):
+    def __init__(self, asked, turns, others):
         asked_here, self.requests = os.pipe()
         self.results, answered_here = os.pipe()
         self.is_busy = False
@@ -63,7 +64,7 @@ class Worker:
             try:
                 for fd in (self.requests, self.results, *(fd for other in others for fd in (other.requests, other.results))):
                     os.close(fd)
-                work(asked, asked_here, answered_here)
+                work(asked, turns, asked_here, answered_here)
                 status = 0
             except (SystemExit, BrokenPipeError):
                 status = 0
@@ -87,33 +88,35 @@ class Worker:
 
 class Crew:
     def __init__(self, asked, jobs):
+        turns = runs.Turns(jobs)
         self.workers = []
-        for _ in range(jobs):
-            self.workers.append(Worker(asked, self.workers))
+        for _ in range(jobs + (jobs + 1) // 2):  # while the programs of some run, the others read files and compare
+            self.workers.append(Worker(asked, turns, self.workers))
 
     def results(self, batches, idle):
         """The results of each batch, in the order of the batches; idle() is called now and then."""
         batches = enumerate(batches)
         kept, next_told, more = {}, 0, True
-        with selectors.DefaultSelector() as ready:
+        ready = select.poll()
+        of = {worker.results: worker for worker in self.workers}
+        for fd in of:
+            ready.register(fd, select.POLLIN)
+        while True:
             for worker in self.workers:
-                ready.register(worker.results, selectors.EVENT_READ, worker)
-            while True:
-                for worker in self.workers:
-                    if more and not worker.is_busy and len(kept) <= AHEAD * len(self.workers):
-                        number, paths = next(batches, (None, None))
-                        more = number is not None
-                        if more:
-                            worker.ask(number, paths)
-                if not any(worker.is_busy for worker in self.workers):
-                    return
-                for key, _ in ready.select(0.2):
-                    number, results = key.data.answer()
-                    kept[number] = results
-                while next_told in kept:
-                    yield kept.pop(next_told)
-                    next_told += 1
-                idle()
+                if more and not worker.is_busy and len(kept) <= AHEAD * len(self.workers):
+                    number, paths = next(batches, (None, None))
+                    more = number is not None
+                    if more:
+                        worker.ask(number, paths)
+            if not any(worker.is_busy for worker in self.workers):
+                return
+            for fd, _ in ready.poll(200):
+                number, *told = of[fd].answer()
+                kept[number] = told
+            while next_told in kept:
+                yield kept.pop(next_told)
+                next_told += 1
+            idle()
 
     def end(self):
         for worker in self.workers:

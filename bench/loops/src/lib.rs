@@ -1,4 +1,4 @@
-//! What the two races share: processor time, a schedule's words, five runs of each in turns. Each race is a program of its own, since a plain loop with
+//! What the races share: processor time, a schedule's words, five runs of each in turns. Each race is a program of its own, since a plain loop with
 //! two callers in one program is compiled otherwise, and slower.
 
 pub mod words;
@@ -12,7 +12,10 @@ extern "C" {
 /// A function of the proved library: a machine of so many slots, workers and this edition is made, and a schedule run on it.
 pub type Exported = unsafe extern "C" fn(u64, u64, u64, *const u64, usize, *mut [u64; 4]) -> u64;
 
-/// The refusal; place, head, tail and meter.
+/// The same of a queue that has no capacity.
+pub type ByWorkers = unsafe extern "C" fn(u64, *const u64, usize, *mut [u64; 4]) -> u64;
+
+/// The refusal; place, head, tail and meter (of the one-slot queue: state and value in place of head and tail).
 pub type Told = (u64, [u64; 4]);
 
 pub fn called(function: Exported, list: &[u64]) -> Told {
@@ -20,6 +23,14 @@ pub fn called(function: Exported, list: &[u64]) -> Told {
     let entries = &list[2..];
     // SAFETY: the slice is as long as is said, and told is four words.
     let refusal = unsafe { function(list[0], list[1], 1, entries.as_ptr(), entries.len(), &mut told) };
+    (refusal, told)
+}
+
+pub fn called_by_workers(function: ByWorkers, list: &[u64]) -> Told {
+    let mut told = [0; 4];
+    let entries = &list[1..];
+    // SAFETY: the slice is as long as is said, and told is four words.
+    let refusal = unsafe { function(list[0], entries.as_ptr(), entries.len(), &mut told) };
     (refusal, told)
 }
 
@@ -56,7 +67,8 @@ fn raced(file: &str, ours: fn(&[u64]) -> Told, theirs: fn(&[u64]) -> Told, list:
             exit(1)
         }
     }
-    let entry = 1e9 / (list.len() / 2 - 1) as f64;
+    // what makes the machine is two words, or one
+    let entry = 1e9 / ((list.len() - 1) / 2) as f64;
     (a * entry, b * entry)
 }
 

@@ -1,5 +1,12 @@
-//! The job of `replay` as a plain Rust program: document 01's machine and tables, written for speed and nothing else.
-//! It is what the proved port is measured against by bench/run, and compared with by tests/bench.
+//! The job of `replay` as a plain Rust program: document 01's machine and tables, written for speed and nothing else; the two other queues and the walk in
+//! modules of their own. It is what the proved port is measured against by bench/run, and compared with by tests/bench.
+
+pub mod single;
+pub mod unbounded;
+pub mod walk;
+
+use std::fmt::{self, Display, Formatter};
+use std::io::{self, Write};
 
 pub const METER: u64 = 4_294_967_295;
 
@@ -16,6 +23,77 @@ pub enum Answer {
     Len(u64),
     Yes,
     No,
+}
+
+impl Display for Answer {
+    fn fmt(&self, f: &mut Formatter) -> fmt::Result {
+        match self {
+            Nothing => f.write_str("none"),
+            Pushed => f.write_str("pushed"),
+            Full(x) => write!(f, "full({x})"),
+            Closed(x) => write!(f, "closed({x})"),
+            Displaced(x) => write!(f, "displaced({x})"),
+            Popped(x) => write!(f, "popped({x})"),
+            Empty => f.write_str("empty"),
+            PopClosed => f.write_str("closed"),
+            Len(n) => write!(f, "len({n})"),
+            Yes => f.write_str("yes"),
+            No => f.write_str("no"),
+        }
+    }
+}
+
+impl Answer {
+    fn as_idle(&self, f: &mut Formatter) -> fmt::Result {
+        f.write_str("idle:")?;
+        self.fmt(f)
+    }
+}
+
+/// What the programs of bench/ ask of a queue's machine. The blank one, which nothing was made of, is the default.
+pub trait Queue: Default {
+    fn idle(&self, worker: u64) -> bool;
+
+    /// Whether the worker's next action is a weak exchange.
+    fn weak(&self, worker: u64) -> bool;
+
+    fn unreadable(first: u64, second: u64) -> bool {
+        stray(first, second)
+    }
+
+    /// The place of the first entry that cannot be read.
+    fn unreadable_at(schedule: &[u64]) -> Option<u64> {
+        schedule.chunks_exact(2).position(|e| Self::unreadable(e[0], e[1])).map(|at| at as u64)
+    }
+
+    /// One entry, read already: 0, or the refusal.
+    fn step(&mut self, first: u64, item: u64) -> u64;
+
+    /// A schedule to its end or to its first refusal: the refusal, and how many entries were run.
+    fn run(&mut self, schedule: &[u64]) -> (u64, u64) {
+        if schedule.len() % 2 == 1 {
+            return (11, 0);
+        }
+        if let Some(at) = Self::unreadable_at(schedule) {
+            return (9, at);
+        }
+        for (i, entry) in schedule.chunks_exact(2).enumerate() {
+            let refusal = self.step(entry[0], entry[1]);
+            if refusal != 0 {
+                return (refusal, i as u64);
+            }
+        }
+        (0, schedule.len() as u64 / 2)
+    }
+
+    /// The place of an entry, its refusal, the machine's words and its meter, without the line's end.
+    fn report(&self, place: u64, refusal: u64, out: &mut impl Write) -> io::Result<()>;
+
+    /// The same, and where a worker stands.
+    fn line(&self, place: u64, refusal: u64, worker: u64, out: &mut impl Write) -> io::Result<()>;
+
+    /// What stands at the end.
+    fn tell(&self, out: &mut impl Write) -> io::Result<()>;
 }
 
 #[derive(Clone, Copy, PartialEq)]
@@ -51,6 +129,47 @@ pub enum Place {
 use Answer::*;
 use Place::*;
 
+impl Place {
+    /// Its next action is a weak exchange.
+    fn weak(self) -> bool {
+        matches!(self, P3 { .. } | F6 { .. } | O3 { .. })
+    }
+}
+
+impl Display for Place {
+    fn fmt(&self, f: &mut Formatter) -> fmt::Result {
+        let kind = |force| if force { "force" } else { "push" };
+        match *self {
+            Idle(a) => a.as_idle(f),
+            P1 { force, item } => write!(f, "P1:{}({item})", kind(force)),
+            P2 { force, t, item } => write!(f, "P2:{}({t},{item})", kind(force)),
+            P3 { force, t, item } => write!(f, "P3:{}({t},{item})", kind(force)),
+            P4 { t, item } => write!(f, "P4({t},{item})"),
+            P5 { t } => write!(f, "P5({t})"),
+            P6 { t, item } => write!(f, "P6({t},{item})"),
+            F6 { t, item } => write!(f, "F6({t},{item})"),
+            F7 { t, item } => write!(f, "F7({t},{item})"),
+            F8 { t, item } => write!(f, "F8({t},{item})"),
+            F9 { t, old } => write!(f, "F9({t},{old})"),
+            O1 => f.write_str("O1"),
+            O2 { h } => write!(f, "O2({h})"),
+            O3 { h } => write!(f, "O3({h})"),
+            O4 { h } => write!(f, "O4({h})"),
+            O5 { h, value } => write!(f, "O5({h},{value})"),
+            O6 { h } => write!(f, "O6({h})"),
+            Len1 => f.write_str("len1"),
+            Len2 { t } => write!(f, "len2({t})"),
+            Len3 { t, h } => write!(f, "len3({t},{h})"),
+            Empty1 => f.write_str("empty1"),
+            Empty2 { h } => write!(f, "empty2({h})"),
+            Full1 => f.write_str("full1"),
+            Full2 { t } => write!(f, "full2({t})"),
+            Close1 => f.write_str("close1"),
+            IsClosed1 => f.write_str("isclosed1"),
+        }
+    }
+}
+
 #[derive(Clone, Copy)]
 pub struct Slot {
     pub stamp: u64,
@@ -65,6 +184,7 @@ pub struct Worker {
     pub failed: u64,
 }
 
+#[derive(Default)]
 pub struct Machine {
     pub capacity: u64,
     mark: u64,
@@ -254,15 +374,15 @@ impl Machine {
             Len2 { t } => Len3 { t, h: self.head },
             Len3 { t, h } => if self.tail == t { Idle(Len(self.count(t, h))) } else { Len1 },
             Empty1 => Empty2 { h: self.head },
-            Empty2 { h } => yes_no(self.unmarked(self.tail) == h),
+            Empty2 { h } => Idle(yes_no(self.unmarked(self.tail) == h)),
             Full1 => Full2 { t: self.tail },
-            Full2 { t } => yes_no(self.head.wrapping_add(self.lap) == self.unmarked(t)),
+            Full2 { t } => Idle(yes_no(self.head.wrapping_add(self.lap) == self.unmarked(t))),
             Close1 => {
                 let clear = !self.marked(self.tail);
                 self.tail |= self.mark;
-                yes_no(clear)
+                Idle(yes_no(clear))
             }
-            IsClosed1 => yes_no(self.marked(self.tail)),
+            IsClosed1 => Idle(yes_no(self.marked(self.tail))),
         };
     }
 
@@ -293,9 +413,30 @@ impl Machine {
         })
     }
 
-    /// One entry, read already: 0, or the refusal.
+    /// What `Drop` would meet, or refusal 6 or 4.
+    pub fn contents(&self) -> Result<Vec<u64>, u64> {
+        if self.workers.is_empty() {
+            return Err(6);
+        }
+        if self.workers.iter().any(|w| !matches!(w.place, Idle(_))) {
+            return Err(4);
+        }
+        let from = self.index(self.head);
+        Ok((0..self.count(self.tail, self.head)).map(|k| self.slots[((from + k) % self.capacity) as usize].value).collect())
+    }
+}
+
+impl Queue for Machine {
+    fn idle(&self, w: u64) -> bool {
+        matches!(self.workers[w as usize].place, Idle(_))
+    }
+
+    fn weak(&self, w: u64) -> bool {
+        self.workers[w as usize].place.weak()
+    }
+
     #[inline(always)]
-    pub fn step(&mut self, first: u64, item: u64) -> u64 {
+    fn step(&mut self, first: u64, item: u64) -> u64 {
         let w = (first / 16) as usize;
         let Some(&worker) = self.workers.get(w) else { return 3 };
         let mut worker = worker;
@@ -314,7 +455,7 @@ impl Machine {
                 return 7;
             }
             let lose = code == 9;
-            if lose && !matches!(worker.place, P3 { .. } | F6 { .. } | O3 { .. }) {
+            if lose && !worker.place.weak() {
                 return 8;
             }
             self.act(&mut worker, lose);
@@ -324,40 +465,43 @@ impl Machine {
         0
     }
 
-    /// A schedule to its end or to its first refusal: the refusal, and how many entries were run.
-    pub fn run(&mut self, schedule: &[u64]) -> (u64, u64) {
-        if schedule.len() % 2 == 1 {
-            return (11, 0);
+    fn report(&self, place: u64, refusal: u64, out: &mut impl Write) -> io::Result<()> {
+        write!(out, "{place} {refusal} h={} t={} m={}", self.head, self.tail, self.meter)
+    }
+
+    fn line(&self, place: u64, refusal: u64, w: u64, out: &mut impl Write) -> io::Result<()> {
+        write!(out, "{place} {refusal} h={} t={} m={} w{w}=", self.head, self.tail, self.meter)?;
+        match self.workers.get(w as usize) {
+            Some(worker) => writeln!(out, "{}", worker.place),
+            None => out.write_all(b"-\n"),
         }
-        if let Some(at) = unreadable(schedule) {
-            return (9, at);
+    }
+
+    fn tell(&self, out: &mut impl Write) -> io::Result<()> {
+        out.write_all(b"slots")?;
+        for Slot { stamp, value } in &self.slots {
+            write!(out, " ({stamp},{value})")?;
         }
-        for (i, entry) in schedule.chunks_exact(2).enumerate() {
-            let refusal = self.step(entry[0], entry[1]);
-            if refusal != 0 {
-                return (refusal, i as u64);
+        match self.contents() {
+            Ok(items) => {
+                out.write_all(b"\ncontents")?;
+                for item in items {
+                    write!(out, " {item}")?;
+                }
+                out.write_all(b"\n")
             }
+            Err(refusal) => writeln!(out, "\ncontents refused {refusal}"),
         }
-        (0, schedule.len() as u64 / 2)
-    }
-
-    /// What `Drop` would meet, or refusal 4.
-    pub fn contents(&self) -> Result<Vec<u64>, u64> {
-        if self.workers.iter().any(|w| !matches!(w.place, Idle(_))) {
-            return Err(4);
-        }
-        let from = self.index(self.head);
-        Ok((0..self.count(self.tail, self.head)).map(|k| self.slots[((from + k) % self.capacity) as usize].value).collect())
     }
 }
 
-/// The place of the first entry that cannot be read.
-pub fn unreadable(schedule: &[u64]) -> Option<u64> {
-    schedule.chunks_exact(2).position(|e| e[0] % 16 > 9 || (e[0] % 16 > 1 && e[1] != 0)).map(|at| at as u64)
+/// An entry that no queue can read.
+pub fn stray(first: u64, second: u64) -> bool {
+    first % 16 > 9 || (first % 16 > 1 && second != 0)
 }
 
-fn yes_no(yes: bool) -> Place {
-    Idle(if yes { Yes } else { No })
+fn yes_no(yes: bool) -> Answer {
+    if yes { Yes } else { No }
 }
 
 fn begin(code: u64, item: u64) -> Place {

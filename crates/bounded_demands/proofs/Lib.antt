@@ -11,3 +11,5 @@ pub mod Window
 pub mod Walkings
 pub mod Mixtures
 pub mod EachNumber
+pub mod Fit
+pub mod Answers

@@ -1,25 +1,27 @@
 -- The table of demand 3's numbers: for each place a schedule after which worker 0 stands there, every other worker is idle, and
--- the call needs exactly `mostOf` acts more. What is said of it: `Attained` of Demands.antt, proved in proofs/Attained.antt.
+-- the call needs exactly `mostOf` acts more. What is said of it: `Attained` and `AttainedBy` of Demands.antt, proved in proofs/Attained.antt.
 use Prim.Native.Nat.{ℕ, zero, suc, _+_, _*_}
 use mathlib.Core.Bool.{Bool, true, cond, not}
 use mathlib.Core.List.{List, [], _∷_, _++_}
 use lib.Dec.{eqb}
 use Rattle.queue_entries.specs.Limits.{workersMost, all}
+use Rattle.bounded_words.specs.declared.Width.the-variants.{SixtyFour}
 use Rattle.bounded_words.specs.Words.{stamp}
 use Rattle.bounded_places.specs.declared.Kind.the-variants.{Push, Force}
 use Rattle.bounded_places.specs.declared.Place.{Place}
 use Rattle.bounded_places.specs.declared.Place.the-variants.{P1, P2, P3, P4, P5, P6, F6, F7, F8, F9, O1, O2, O3, O4, O5, O6, Len1, Len2, Len3, Empty1, Empty2, Full1, Full2, Close1, IsClosed1}
 use Rattle.bounded_places.specs.Places.{viewOf}
+use Rattle.bounded_acts.specs.Acts.{actOf}
 use Rattle.bounded_machine.specs.declared.Machine.{Machine}
 use Rattle.bounded_machine.specs.Machine.{freshOf, placeOf}
-use Rattle.bounded_machine.specs.Turn.{turnOf}
-use Rattle.bounded_machine.specs.Run.{runOf}
+use Rattle.bounded_machine.specs.Turn.{Table, turnOfBy}
+use Rattle.bounded_machine.specs.Run.{runOfBy}
 use Rattle.bounded_demands.specs.Notions.{acts, mostOf}
 
--- Acts of worker w alone, code 8, until it is idle; no more than so many are tried.
-unfoldable pub needed : ℕ → Machine → ℕ → ℕ
-needed zero m w = 0
-needed (suc more) m w = cond (viewOf (placeOf (m .workers) w) .busy) (1 + needed more (turnOf m (16 * w + 8) 0 .machine) w) 0
+-- Acts of worker w alone, code 8, until it is idle, by a table of what an act does at each place; no more than so many are tried.
+unfoldable pub needed : Table → ℕ → Machine → ℕ → ℕ
+needed table zero m w = 0
+needed table (suc more) m w = cond (viewOf (placeOf (m .workers) w) .busy) (1 + needed table more (turnOfBy table m (16 * w + 8) 0 .machine) w) 0
 
 unfoldable pub othersIdle : Machine → ℕ → Bool
 othersIdle m w = all workersMost 0 (λ (i : ℕ). cond (eqb i w) true (not (viewOf (placeOf (m .workers) i) .busy)))
@@ -33,13 +35,13 @@ pub record Sight : Type 0 where
   pub acts-needed : ℕ
   pub alone : Bool
 
-unfoldable pub sightOf : ℕ → Machine → Sight
-sightOf refusal m =
+unfoldable pub sightOf : Table → ℕ → Machine → Sight
+sightOf table refusal m =
     record {
       refusal = refusal;
       place = placeOf (m .workers) 0;
       most = mostOf (placeOf (m .workers) 0);
-      acts-needed = needed 9 m 0;
+      acts-needed = needed table 9 m 0;
       alone = othersIdle m 0;
     }
 
@@ -56,8 +58,13 @@ pub record Case : Type 0 where
 abbrev needs : ℕ → List ℕ → Place → ℕ → Case
 needs c s p n = record { capacity = c; schedule = s; place = p; number = n }
 
-unfoldable pub seenIn : Case → Sight
-seenIn r = sightOf (runOf (freshOf (r .capacity) 2 1) (r .schedule) .refusal) (runOf (freshOf (r .capacity) 2 1) (r .schedule) .machine)
+-- By this table, in this edition; and by document 01's, in its edition.
+unfoldable pub seenBy : Table → ℕ → Case → Sight
+seenBy table edition r =
+    sightOf table (runOfBy table (freshOf (r .capacity) 2 edition) (r .schedule) .refusal) (runOfBy table (freshOf (r .capacity) 2 edition) (r .schedule) .machine)
+
+abbrev pub seenIn : Case → Sight
+seenIn = seenBy (actOf SixtyFour) 1
 
 -- Worker 0 begins the call of a code and does so many acts of it.
 abbrev its : ℕ → ℕ → List ℕ

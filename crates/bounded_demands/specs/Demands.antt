@@ -20,6 +20,7 @@ use Rattle.queue_plain.specs.OneStep.{Step, Follows}
 use Rattle.queue_plain.specs.Story.{Does, actsIn, fresh, cameFrom, wentFrom}
 use Rattle.queue_plain.specs.Story.{itemsOf as itemsBegun}
 use Rattle.bounded_words.specs.declared.Stamp.{Stamp}
+use Rattle.bounded_words.specs.declared.Fixed.{Fixed}
 use Rattle.bounded_words.specs.declared.Width.{Width}
 use Rattle.bounded_words.specs.declared.Width.the-variants.{Sixteen, SixtyFour}
 use Rattle.bounded_words.specs.Limits.{wide}
@@ -43,6 +44,7 @@ use Rattle.bounded_machine.specs.Machine.{freshOf, recordOf, placeOf, blank, fr
 use Rattle.bounded_machine.specs.Broken.{brokenOf, allIdle, brokenWith}
 use Rattle.bounded_machine.specs.Contents.{countIn, contentsOf, contentsRefusal, written, capacityRefusal, capacityOf}
 use Rattle.bounded_machine.specs.Turn.{byWords, bySchedule}
+use Rattle.bounded_machine.specs.Turn.{Table}
 use Rattle.bounded_machine.specs.Run.{runFrom, runOfBy, runOf}
 use Rattle.bounded_machine.specs.History.{eventsOf, movedOf, readsAt, stockOf, untakenOf}
 use Rattle.bounded_causes.specs.declared.Stand.{Stand}
@@ -56,7 +58,7 @@ use Rattle.bounded_moments.specs.declared.Moments.{Moments}
 use Rattle.bounded_moments.specs.declared.Named.{Named as NamedMoment}
 use Rattle.bounded_moments.specs.Moments as moments
 use Rattle.bounded_widths.specs.declared.Machine as widths
-use Rattle.bounded_widths.specs.Widths.{widened, narrowed}
+use Rattle.bounded_widths.specs.Widths.{widened, narrowed, Short}
 use Rattle.bounded_narrow.specs.Narrow as narrow
 use Rattle.bounded_stock.specs.Stock.{talliedOf}
 use Rattle.queue_walks.specs.Listed.{bytesOf}
@@ -65,18 +67,23 @@ use Rattle.bounded_walkers.specs.Walkers.{walkOf}
 use Rattle.bounded_walks.specs.declared.Sized.{Sized}
 use Rattle.bounded_walks.specs.declared.Sized.the-variants.{Sequences}
 use Rattle.bounded_walks.specs.Walks.{walkRefusal, walkTold, listed, sizeOf}
-use Rattle.bounded_demands.specs.Notions.{Tried, entriesOf, Face, Definition, ofWidth, Allowed, machineAfter, actsOf, Acts, acts, InHand, HandsOut, Reads, Truth, itemsOf, takersOf, LatestIn, ItemIn, WrittenIn, CallClaim, tally, waiting, stock, unreadBy, lesser, Exchanges, lostIn, struck, Fifo, Words, Plain, since, turnLength, windowLength, KeepsWindow, rounds, sleepingPush, sleepingPop, valueAt, queueAnswer, LenAnswers, mostOf, OtherHand, passed, ownActs, LetsGo, has, ClosesYes, NoClaims, ClaimsOn, withRecords, AllowedWith, Asking, leftByAll, takenByAll, Promises, freshIn, pushingIn, stockedIn}
+use Rattle.bounded_demands.specs.Notions.{Tried, entriesOf, Face, Definition, ofWidth, Allowed, machineAfter, actsOf, Acts, acts, InHand, HandsOut, Reads, Truth, itemsOf, tailersOf, takersOf, LatestIn, ItemIn, WrittenIn, CallClaim, tally, talliedBy, readsIn, waiting, stock, unreadBy, lesser, Exchanges, lostIn, struck, Fifo, Words, Plain, since, turnLength, windowLength, widestLength, KeepsWindow, KeepsWindowOf, KeepsWidestWindow, KeepsPrompt, rounds, sleepingPush, sleepingPop, valueAt, queueAnswer, LenAnswers, mostOf, OtherHand, passed, ownActs, LetsGo, has, ClosesYes, NoClaims, ClaimsOn, withRecords, AllowedWith, Asking, leftByAll, takenByAll, Promises, freshIn, pushingIn, stockedIn}
+use Rattle.bounded_walks.specs.Walks.{sizeRefusal}
+use Rattle.bounded_walks.specs.declared.Sized.the-variants as sized
+use Rattle.queue_entries.specs.declared.Told.the-variants as answer
+use Rattle.queue_numbers.specs.Answers.{BothWays, numberIn, valueIn}
+use Rattle.bounded_demands.specs.Answers.{sizedNumber, sizedValues, sizedOf}
 use Rattle.bounded.specs.Bounded.{makeOf, stepOf}
 use Rattle.bounded_parts.specs.declared.Metered.{Metered}
 use Rattle.bounded_parts.specs.Parts.{recordsMost, meteredOf, Filled, filled, report}
 use Rattle.bounded_lent.specs.Lent.{Lent, Gone, gone}
 use Rattle.bounded_demands.specs.Stories.{Story, storyOf, oneStep, OnlySuch, twoCloses, known, queueAt, changeOf, actor, replyOf, putBy, takenBy, givenBack, itemAt, At, momentOf, momentNamed, inStory}
 use Rattle.bounded_demands.specs.Lending.{Lending, Promise, promised, holding, holds-did, holds-ran, steps, heldIn, actsLent, refusalOf, stepByStep, Doing, leftLent, allTakenLent, stepOn, runOn, freshLent, pushingLent, stockedLent, noneLent, spentLent}
-use Rattle.bounded_demands.specs.Foretold.{foretold, Telling, toldIn, tellings, asForetold}
+use Rattle.bounded_demands.specs.Foretold.{foretold, Telling, toldBy, toldIn, tellings, asForetold}
 use Rattle.bounded_demands.specs.Eight.{closedF, caseF}
-use Rattle.bounded_demands.specs.Attained.{Case, seenIn, attained, exactly}
+use Rattle.bounded_demands.specs.Attained.{Case, seenBy, seenIn, attained, exactly}
 use Rattle.bounded_demands.specs.Walkings.{Walking, walkings, walked}
-use Rattle.bounded_demands.specs.Shelves.{Shelf, stockAtMost, fullest}
+use Rattle.bounded_demands.specs.Shelves.{Shelf, shelving, stockAtMost, fullest}
 use Rattle.bounded_demands.specs.Notions.{goesBack, WayBack, watches, causesIn, Caused, otherHand, deed, DoneSince, LatestBy, Tells, Alone, goingsBack}
 use Rattle.bounded_demands.specs.Retries.{Retry, retries, lastIn, backBy, onlyOwn}
 
@@ -303,6 +310,13 @@ pub record EachNumber {M D R : Type 0} (f : Face M D R) (spent : M) : Type 0 whe
   pub contents : map (λ (m : M). contentsRefusal (f .wide m) 0) (freshIn f ∷ pushingIn f ∷ f .blank ∷ stockedIn f ∷ []) ≡ 0 ∷ 4 ∷ 6 ∷ 10 ∷ []
   pub capacity : map (λ (m : M). capacityRefusal (f .wide m)) (freshIn f ∷ f .blank ∷ []) ≡ 0 ∷ 6 ∷ []
 
+-- "Where an answer is an enum, a definition gives this paper's number and values for each of the enum's cases": there and back, inverse to each other, of what `capacity`, `contents` and `walk` answer
+-- and of what `size` does; and the promises use it.
+pub record EnumsBothWays : Type 0 where
+  pub numbers : BothWays answer.Refused numberIn valueIn told
+  pub sizes : BothWays sized.Refused sizedNumber sizedValues sizedOf
+  pub size : (m : Machine) (depth : ℕ) → sizeOf m depth ≡ sizedOf (sizeRefusal m depth) (length (walkOf depth m), length (bytesOf (walkOf depth m)))
+
 -- Demand 1 of a face.
 pub record Demand1 {M D R : Type 0} (f : Face M D R) : Type 0 where
   pub refused-unchanged : RefusedUnchanged f
@@ -486,9 +500,21 @@ ScheduledAlone d =
 abbrev pub Attained : Type 0
 Attained = map seenIn attained ≡ map (λ (c : Case). exactly (c .place) (c .number)) attained
 
+-- The same by any table of what an act does at each place, in any edition, so that it can be said of both widths and of a table with a slip.
+abbrev pub AttainedBy : Table → ℕ → Type 0
+AttainedBy table edition = map (seenBy table edition) attained ≡ map (λ (c : Case). exactly (c .place) (c .number)) attained
+
+-- In words: seven acts at most, and three with a slot in hand. It is met by `mostOf`.
+abbrev pub AtMost : (Place → ℕ) → Type 0
+AtMost most = (p : Place) → (most p ≤ 7) × ((t : Stamp) → InHand p t → most p ≤ 3)
+
 -- Each schedule of the table leads to the answer that is foretold there.
 abbrev pub AsForetold : Type 0
 AsForetold = map toldIn tellings ≡ map (λ (r : Telling). asForetold (r .answer)) tellings
+
+-- The same of words of any width, by any table, in any edition.
+abbrev pub AsForetoldBy : Width → Table → ℕ → Type 0
+AsForetoldBy bits table edition = map (toldBy bits table edition) tellings ≡ map (λ (r : Telling). asForetold (r .answer)) tellings
 
 -- ==== Stock (document 02, item 4). Said of the same machines and acts, and of any way to count stock from a history, so that crate bounded_slips can
 -- say it of wrong ones; it is met by `stock`.
@@ -519,7 +545,7 @@ StockByHands count m h = count h ≡ untakenOf (tally h) + unreadBy (m .workers)
 abbrev pub StockIsNumber : (List Event → ℕ) → Machine → List Event → Type 0
 StockIsNumber count m h = allIdle (m .workers) ≡ true → (count h ≡ length (contentsOf m)) × (count h ≡ untakenOf (tally h))
 
--- It is never above capacity plus the number of workers, and no more of them count than there are slots. `MostStock` has rings that reach it.
+-- It is never above capacity plus the number of workers, and no more of them count than there are slots. Every ring reaches it: `StockAttained`.
 abbrev pub StockMost : (List Event → ℕ) → ℕ → ℕ → List Event → Type 0
 StockMost count capacity workers h = count h ≤ capacity + lesser capacity workers
 
@@ -536,9 +562,30 @@ StockUnderEverySchedule d count =
     (capacity workers edition : ℕ) → AllowedWith (d .records) capacity workers edition → (s : List ℕ)
     → Stocked count capacity workers (machineAfter d capacity workers edition s) (actsOf d capacity workers edition s)
 
+-- What the code counts act by act (`tally` of crate bounded_stock, which is `talliedOf`) is what the acts say: of any acts, fewer than 2^64, the claims at each end and the values read. Of any
+-- way to count an act on, so that slips can be said of it.
+pub record TallyAsSaid (count : Tally → Place → Place → Tally) : Type 0 where
+  pub tails : (h : List Event) → length h < wide → talliedBy count h .tail .0 ≡ length (tailersOf h)
+  pub heads : (h : List Event) → length h < wide → talliedBy count h .head .0 ≡ length (takersOf h)
+  pub reads : (h : List Event) → length h < wide → talliedBy count h .reads ≡ readsIn h
+  -- and so they are the tally of the history, by which stock is said
+  pub so : (h : List Event) → length h < wide → talliedBy count h ≡ tally h
+
+-- Under every schedule, at either width, the stock that is made of these counts is the stock: the meter ends long before.
+abbrev pub TalliedUnderEverySchedule : Definition → (Tally → Place → Place → Tally) → Type 0
+TalliedUnderEverySchedule d count =
+    (capacity workers edition : ℕ) → AllowedWith (d .records) capacity workers edition → (s : List ℕ)
+    → stockOf (talliedBy count (actsOf d capacity workers edition s)) ≡ stock (actsOf d capacity workers edition s)
+
 -- The bound is attained, in both editions: each ring of the table, full and with a force_push of as many workers as can claim in it, each before its read.
 abbrev pub MostStock : Type 0
 MostStock = map stockAtMost fullest ≡ map (λ (r : Shelf). r .capacity + lesser (r .capacity) (r .workers)) fullest
+
+-- By every ring: every capacity, every number of workers, both editions, with any number of records.
+abbrev pub StockAttained : Definition → (List Event → ℕ) → Type 0
+StockAttained d count =
+    (capacity workers edition : ℕ) → AllowedWith (d .records) capacity workers edition
+    → count (actsOf d capacity workers edition (shelving capacity workers)) ≡ capacity + lesser capacity workers
 
 -- ==== How an exchange ended (document 02, item 8). Of any way to tell it, so that crate bounded_slips can say it of wrong ones; it is met by `lossAt`, which
 -- the events of a history have.
@@ -595,6 +642,10 @@ CloseHolds d =
     (capacity workers : ℕ) → AllowedWith (d .records) capacity workers 2 → (s : List ℕ)
     → OnceClosed d (machineAfter d capacity workers 2 s) × YesOnce (actsOf d capacity workers 2 s)
 
+-- Edition 2, of any machine that is not broken, reached or not: once closed, always closed. It asks for no window.
+abbrev pub OnceClosedAnywhere : Definition → Type 0
+OnceClosedAnywhere d = (m : Machine) → brokenWith (d .records) m ≡ false → m .ring .fixed .edition ≡ 2 → OnceClosed d m
+
 abbrev pub ClosedIsLast : Definition → Type 0
 ClosedIsLast d = (capacity workers edition : ℕ) → AllowedWith (d .records) capacity workers edition → (s : List ℕ) → NoneAfterClosed (actsOf d capacity workers edition s)
 
@@ -644,23 +695,24 @@ AloneBackOnce d = (capacity workers edition : ℕ) → Allowed capacity workers 
 
 -- What is kept of worker w after these acts is what they say: of each end, whether it was claimed, and of tail whether it was marked, since w loaded or found a word, and since its
 -- last stamp load; whether at that load another had a slot in hand; and whether w's latest act left it with one.
-pub record Kept (h : List Event) (w : ℕ) : Type 0 where
-  pub word-tail : Tells (watchOf (watches h .each) w .word .tail) (DoneSince (λ (d : Deed). d .tail) (λ (d : Deed). d .word) w h)
-  pub word-head : Tells (watchOf (watches h .each) w .word .head) (DoneSince (λ (d : Deed). d .head) (λ (d : Deed). d .word) w h)
-  pub word-mark : Tells (watchOf (watches h .each) w .word .mark) (DoneSince (λ (d : Deed). d .mark) (λ (d : Deed). d .word) w h)
-  pub stamp-tail : Tells (watchOf (watches h .each) w .stamp .tail) (DoneSince (λ (d : Deed). d .tail) (λ (d : Deed). d .stamp) w h)
-  pub stamp-head : Tells (watchOf (watches h .each) w .stamp .head) (DoneSince (λ (d : Deed). d .head) (λ (d : Deed). d .stamp) w h)
-  pub others : Tells (watchOf (watches h .each) w .others) (LatestBy (λ (d : Deed). d .stamp) w (λ earlier act. otherHand w earlier ≡ true) h)
-  pub hand : Tells (watchOf (watches h .each) w .hand) (LatestBy (λ (d : Deed). true) w (λ earlier act. deed act .hand ≡ true) h)
+pub record Kept (kept : List Event → Watches) (h : List Event) (w : ℕ) : Type 0 where
+  pub word-tail : Tells (watchOf (kept h .each) w .word .tail) (DoneSince (λ (d : Deed). d .tail) (λ (d : Deed). d .word) w h)
+  pub word-head : Tells (watchOf (kept h .each) w .word .head) (DoneSince (λ (d : Deed). d .head) (λ (d : Deed). d .word) w h)
+  pub word-mark : Tells (watchOf (kept h .each) w .word .mark) (DoneSince (λ (d : Deed). d .mark) (λ (d : Deed). d .word) w h)
+  pub stamp-tail : Tells (watchOf (kept h .each) w .stamp .tail) (DoneSince (λ (d : Deed). d .tail) (λ (d : Deed). d .stamp) w h)
+  pub stamp-head : Tells (watchOf (kept h .each) w .stamp .head) (DoneSince (λ (d : Deed). d .head) (λ (d : Deed). d .stamp) w h)
+  pub others : Tells (watchOf (kept h .each) w .others) (LatestBy (λ (d : Deed). d .stamp) w (λ earlier act. otherHand w earlier ≡ true) h)
+  pub hand : Tells (watchOf (kept h .each) w .hand) (LatestBy (λ (d : Deed). true) w (λ earlier act. deed act .hand ≡ true) h)
 
--- Of every history, one act more is what `name_causes` of crate bounded_causes makes of it, and what is kept is so.
-pub record KeptAsSaid : Type 0 where
-  pub more : (h : List Event) (e : Event) → watches (h ++ e ∷ []) ≡ namedOf (watches h) (e .worker) (e .before) (e .after) (e .loss) .watches
-  pub so : (h : List Event) (w : ℕ) → w < workersMost → Kept h w
+-- Of every history, one act more is what `name_causes` of crate bounded_causes makes of it, and what is kept is so. Of any way to keep it, so that slips can be said of it; it is met by
+-- `watches`.
+pub record KeptAsSaid (kept : List Event → Watches) : Type 0 where
+  pub more : (h : List Event) (e : Event) → kept (h ++ e ∷ []) ≡ namedOf (kept h) (e .worker) (e .before) (e .after) (e .loss) .watches
+  pub so : (h : List Event) (w : ℕ) → w < workersMost → Kept kept h w
 
 -- The same of so many workers as are lent.
 abbrev pub KeptOf : ℕ → Type 0
-KeptOf many = (h : List Event) (w : ℕ) → w < many → Kept h w
+KeptOf many = (h : List Event) (w : ℕ) → w < many → Kept watches h w
 
 -- All that is said of retries, of one history;
 pub record Retried (name : List Event → Event → Causes) (h : List Event) : Type 0 where
@@ -685,9 +737,9 @@ RetriesInWindow d name =
 pub record Within (d : Definition) (capacity workers edition : ℕ) (s : List ℕ) : Type 0 where
   pub demand2 : Demand2 d capacity workers edition (machineAfter d capacity workers edition s) (actsOf d capacity workers edition s)
   pub demand3 : Demand3 d (machineAfter d capacity workers edition s) (actsOf d capacity workers edition s)
-  -- where the window is kept between the two acts of `len`
+  -- where the widest window is kept between the two acts of `len`
   pub len : (w n : ℕ) (a : LenAnswers d capacity workers edition s w n)
-      → KeepsWindow d (a .loaded) (actsOf d capacity workers edition s ++ eventsOf (d .width) (machineAfter d capacity workers edition s) (Asks w (Act (a .load .lose))) (a .loaded)) (a .rest)
+      → KeepsWidestWindow d (a .loaded) (actsOf d capacity workers edition s ++ eventsOf (d .width) (machineAfter d capacity workers edition s) (Asks w (Act (a .load .lose))) (a .loaded)) (a .rest)
       → n ≡ untakenOf (tally (actsOf d capacity workers edition s))
   pub stocked : Stocked stock capacity workers (machineAfter d capacity workers edition s) (actsOf d capacity workers edition s)
   pub losses : LossesCounted (machineAfter d capacity workers edition s) (actsOf d capacity workers edition s)
@@ -704,7 +756,14 @@ WithinTheWindow d =
 abbrev pub AloneKeeps : Definition → Type 0
 AloneKeeps d = (capacity edition : ℕ) → Allowed capacity 1 edition → (s : List ℕ) → KeepsWindow d (freshOf capacity 1 edition) [] s
 
--- And it makes as many as it likes: so many pushes, each followed by a pop, are so many claims at either end, as far as the meter goes.
+-- A premise that a host can keep, with any number of workers: whoever drops a word within fewer acts of getting it than the window has claims keeps the window. (An act is one claim at most.) Of
+-- any window and any number of acts, so that one that is too large can be refused.
+abbrev pub PromptKeeps : (Width → Fixed → ℕ) → (Width → Fixed → ℕ) → Definition → Type 0
+PromptKeeps many window d =
+    (capacity workers edition : ℕ) → AllowedWith (d .records) capacity workers edition → (s : List ℕ)
+    → KeepsPrompt many d (freshWith (d .records) capacity workers edition) [] s → KeepsWindowOf window d (freshWith (d .records) capacity workers edition) [] s
+
+-- And a worker alone makes as many as it likes: so many pushes, each followed by a pop, are so many claims at either end, as far as the meter goes.
 abbrev pub RoundsClaim : Definition → Type 0
 RoundsClaim d =
     (capacity edition : ℕ) → Allowed capacity 1 edition → (n : ℕ) → 10 * n ≤ meterMost
@@ -717,6 +776,8 @@ pub record NotIdle : Type 0 where
   pub heads : tally (since 1 (actsOf (ofWidth Sixteen) 1 2 1 sleepingPush)) .head .0 ≡ turnLength Sixteen (fixedOf 1 1) - 1
   pub untrue : AnswersTrue (ofWidth Sixteen) (machineAfter (ofWidth Sixteen) 1 2 1 sleepingPush) → ⊥
   pub claimed-yet : NoneAfterClosed (actsOf (ofWidth Sixteen) 1 2 2 sleepingPop) → ⊥
+  -- and a host that lets a word sleep for 25 turns of acts does not keep the window
+  pub too-late : PromptKeeps (λ bits f. 25 * turnLength bits f) windowLength (ofWidth Sixteen) → ⊥
 
 -- "(at capacity 256: 15,872)", and at 1,024, the largest since item 2.
 abbrev pub WindowLengths : Type 0
@@ -728,6 +789,15 @@ pub record SameNumbers : Type 0 where
   pub again : (m : Machine) → widened (narrowed m) ≡ m
   pub reaches : (capacity workers edition : ℕ) → Allowed capacity workers edition → (s : List ℕ) → length s % 2 ≡ 0 → Readable entryOf s
       → widened (narrow.runOf (narrowed (freshOf capacity workers edition)) s .machine) ≡ machineAfter (ofWidth Sixteen) capacity workers edition s
+
+-- Its numbers are below 65,536: every word of head, tail and a slot, under every schedule from a fresh machine, and after any entry on a machine of such words. So cutting them to sixteen bits
+-- changes none of them. Of any definition and any way to cut, so that slips can be said of them; met by the definition of sixteen bits and by `as u16`.
+pub record NumbersFit (d : Definition) (cut : Machine → Machine) : Type 0 where
+  pub fits : (capacity workers edition : ℕ) → Allowed capacity workers edition → (s : List ℕ) → Short (machineAfter d capacity workers edition s)
+  pub entry : (m : Machine) (first second : ℕ) → Short m → Short (d .turn m first second .machine)
+  pub uncut : (m : Machine) → Short m → cut m ≡ m
+  -- what is cut and kept in sixteen bits is, widened, what it was
+  pub again : (m : Machine) → Short m → widened (narrowed (cut m)) ≡ m
 
 -- ==== Every schedule of a small case (document 02, item 10). A walk: what it lists of so many acts from a machine.
 
@@ -886,6 +956,16 @@ pub record ThroughoutInWindow (d : Definition) (capacity workers edition : ℕ) 
 pub record Throughout (d : Definition) (capacity workers edition : ℕ) (s : List ℕ) : Type 0 where
   pub in-window : ThroughoutInWindow d capacity workers edition s
   pub len : (w n : ℕ) → LenAnswers d capacity workers edition s w n → n ≡ untakenOf (tally (actsOf d capacity workers edition s))
+
+-- The widest window (document 02, item 14): a turn less one capacity suffices for all of this. Of a window of any length, so that one that is too long can be refused.
+abbrev pub WithinWindowOf : (Width → Fixed → ℕ) → Definition → Type 0
+WithinWindowOf many d =
+    (capacity workers edition : ℕ) → AllowedWith (d .records) capacity workers edition → (s : List ℕ) → KeepsWindowOf many d (freshWith (d .records) capacity workers edition) [] s
+    → ThroughoutInWindow d capacity workers edition s
+
+-- A window of one claim more does not.
+abbrev pub NoWider : Type 0
+NoWider = WithinWindowOf (λ bits f. widestLength bits f + 1) (ofWidth Sixteen) → ⊥
 
 -- The machine m, whatever calls led to it, is where the entries s lead, each of them accepted.
 pub record AsOneSchedule (d : Definition) (capacity workers edition : ℕ) (m : Machine) (s : List ℕ) : Type 0 where

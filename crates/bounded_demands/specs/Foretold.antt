@@ -16,11 +16,11 @@ use Rattle.bounded_places.specs.declared.Answer.the-variants.{Pushed, Full, Clo
 use Rattle.bounded_places.specs.declared.Place.{Place}
 use Rattle.bounded_places.specs.declared.Place.the-variants.{Idle, P1, P2, P3, P4, P5, P6, F6, F7, F8, F9, O1, O2, O3, O4, O5, O6, Len1, Len2, Len3, Empty1, Empty2, Full1, Full2, Close1, IsClosed1}
 use Rattle.bounded_places.specs.Places.{viewOf}
-use Rattle.bounded_acts.specs.Acts.{countOf, yesNo}
+use Rattle.bounded_acts.specs.Acts.{countOf, yesNo, actOf}
 use Rattle.bounded_machine.specs.declared.Machine.{Machine}
 use Rattle.bounded_machine.specs.Machine.{slot, freshOf, placeOf}
-use Rattle.bounded_machine.specs.Turn.{spotOf}
-use Rattle.bounded_machine.specs.Run.{runOf}
+use Rattle.bounded_machine.specs.Turn.{Table, spotOf}
+use Rattle.bounded_machine.specs.Run.{runOfBy}
 use Rattle.bounded_demands.specs.Notions.{acts, valueAt}
 
 -- what a push says of a full ring, in whose first slot v is
@@ -88,11 +88,15 @@ pub record Told : Type 0 where
   pub foretold-is : Answer
   pub ends-at : Place
 
-unfoldable pub toldBy : Machine → Told
-toldBy m = record { foretold-is = foretold SixtyFour m 0; ends-at = placeOf (runOf m (acts 0 7) .machine .workers) 0 }
+unfoldable pub toldOn : Width → Table → Machine → Told
+toldOn bits table m = record { foretold-is = foretold bits m 0; ends-at = placeOf (runOfBy table m (acts 0 7) .machine .workers) 0 }
 
-unfoldable pub toldIn : Telling → Told
-toldIn r = toldBy (runOf (freshOf (r .capacity) 2 1) (r .schedule) .machine)
+-- Of words of this width, by this table of what an act does at each place, in this edition; and by document 01's, in its edition.
+unfoldable pub toldBy : Width → Table → ℕ → Telling → Told
+toldBy bits table edition r = toldOn bits table (runOfBy table (freshOf (r .capacity) 2 edition) (r .schedule) .machine)
+
+abbrev pub toldIn : Telling → Told
+toldIn = toldBy SixtyFour (actOf SixtyFour) 1
 
 abbrev pub asForetold : Answer → Told
 asForetold a = record { foretold-is = a; ends-at = Idle a }

@@ -1,6 +1,7 @@
 pub mod Notions
 pub mod Stories
 pub mod Walkings
+pub mod Answers
 pub mod Demands
 pub mod Eight
 pub mod Foretold

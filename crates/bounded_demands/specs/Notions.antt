@@ -25,7 +25,8 @@ use Rattle.bounded_words.specs.declared.Fixed.{Fixed}
 use Rattle.bounded_words.specs.declared.Width.{Width}
 use Rattle.bounded_words.specs.declared.Width.the-variants.{Sixteen, SixtyFour}
 use Rattle.bounded_words.specs.Limits.{slotsMost, editionsMost, wide}
-use Rattle.bounded_words.specs.Words.{indexOf, markedOf, unmarkedOf, widthOf, minus, lapBehind}
+use Rattle.bounded_words.specs.Words.{stamp, indexOf, markedOf, unmarkedOf, widthOf, minus, lapBehind}
+use Rattle.bounded_places.specs.declared.Slot.{Slot}
 use Rattle.bounded_places.specs.declared.Ends.{Ends}
 use Rattle.bounded_places.specs.declared.Kind.{Kind}
 use Rattle.bounded_places.specs.declared.Kind.the-variants.{Push, Force}
@@ -50,7 +51,7 @@ use Rattle.bounded_machine.specs.Broken.{allIdle, brokenOf}
 use Rattle.bounded_machine.specs.Contents.{countIn, contentsRefusal, written, capacityOf}
 use Rattle.bounded_machine.specs.Turn.{Table, beginner, turnOfBy, turnOf}
 use Rattle.bounded_machine.specs.Run.{ran, runWith, runAt, runFrom, runOf}
-use Rattle.bounded_machine.specs.History.{historyWith, movedOf, untallied, tallyOf, stockOf}
+use Rattle.bounded_machine.specs.History.{historyWith, movedOf, readsAt, untallied, tallyOf, stockOf}
 use Rattle.bounded.specs.Bounded as bounded
 use Rattle.bounded_widths.specs.declared.Machine as widths
 use Rattle.bounded_widths.specs.declared.Did as widths-did
@@ -415,6 +416,19 @@ waiting h = drop (tally h .head .0) (itemsOf h)
 abbrev pub stock : List Event → ℕ
 stock h = stockOf (tally h)
 
+-- What is counted of these acts where each of them is counted on so, none before the first.
+unfoldable pub talliedFrom : (Tally → Place → Place → Tally) → Tally → List Event → Tally
+talliedFrom count t [] = t
+talliedFrom count t (e ∷ h) = talliedFrom count (count t (e .before) (e .after)) h
+
+abbrev pub talliedBy : (Tally → Place → Place → Tally) → List Event → Tally
+talliedBy count h = talliedFrom count untallied h
+
+-- How many of them read a value out.
+unfoldable pub readsIn : List Event → ℕ
+readsIn [] = 0
+readsIn (e ∷ h) = cond (readsAt (e .before)) 1 0 + readsIn h
+
 -- A head claim is made whose value is still to be read out: at O4, F7 and F8.
 abbrev pub unread : Place → Bool
 unread (Idle a) = false
@@ -590,16 +604,41 @@ turnLength bits f = f .capacity * widthOf bits / f .lap
 abbrev pub windowLength : Width → Fixed → ℕ
 windowLength bits f = turnLength bits f - 2 * f .capacity
 
--- "since the load or exchange that gave any word of an end a busy worker still holds, fewer claims were made at either end than a turn less two capacities"
-abbrev pub InWindow : Width → Machine → List Event → Type 0
-InWindow bits m h =
+-- A turn less one capacity: the widest that does.
+abbrev pub widestLength : Width → Fixed → ℕ
+widestLength bits f = turnLength bits f - f .capacity
+
+-- "since the load or exchange that gave any word of an end a busy worker still holds, fewer claims were made at either end than" so many
+abbrev pub InWindowOf : (Width → Fixed → ℕ) → Width → Machine → List Event → Type 0
+InWindowOf many bits m h =
     (w : ℕ) → holds (holdingAt (placeOf (m .workers) w)) ≡ true
-    → (tally (since w h) .tail .0 < windowLength bits (m .ring .fixed)) × (tally (since w h) .head .0 < windowLength bits (m .ring .fixed))
+    → (tally (since w h) .tail .0 < many bits (m .ring .fixed)) × (tally (since w h) .head .0 < many bits (m .ring .fixed))
 
 -- Each beginning of these entries leaves a machine in the window; h are the acts before them.
+abbrev pub KeepsWindowOf : (Width → Fixed → ℕ) → Definition → Machine → List Event → List ℕ → Type 0
+KeepsWindowOf many d m h entries =
+    (before after : List ℕ) → entries ≡ before ++ after → InWindowOf many (d .width) (d .run m 0 before .machine) (h ++ d .history m before)
+
+-- Document 02's window, and the widest.
+abbrev pub InWindow : Width → Machine → List Event → Type 0
+InWindow = InWindowOf windowLength
+
 abbrev pub KeepsWindow : Definition → Machine → List Event → List ℕ → Type 0
-KeepsWindow d m h entries =
-    (before after : List ℕ) → entries ≡ before ++ after → InWindow (d .width) (d .run m 0 before .machine) (h ++ d .history m before)
+KeepsWindow = KeepsWindowOf windowLength
+
+abbrev pub InWidestWindow : Width → Machine → List Event → Type 0
+InWidestWindow = InWindowOf widestLength
+
+abbrev pub KeepsWidestWindow : Definition → Machine → List Event → List ℕ → Type 0
+KeepsWidestWindow = KeepsWindowOf widestLength
+
+-- What a host can see to: each word is dropped before so many acts, its own and others', were done since the act that gave it; so that a worker which holds one got it fewer acts ago.
+abbrev pub Prompt : (Width → Fixed → ℕ) → Width → Machine → List Event → Type 0
+Prompt many bits m h = (w : ℕ) → holds (holdingAt (placeOf (m .workers) w)) ≡ true → length (since w h) < many bits (m .ring .fixed)
+
+abbrev pub KeepsPrompt : (Width → Fixed → ℕ) → Definition → Machine → List Event → List ℕ → Type 0
+KeepsPrompt many d m h entries =
+    (before after : List ℕ) → entries ≡ before ++ after → Prompt many (d .width) (d .run m 0 before .machine) (h ++ d .history m before)
 
 -- Worker 0 pushes and pops, so many times.
 unfoldable pub rounds : ℕ → List ℕ
@@ -613,6 +652,15 @@ sleepingPush = 0 ∷ 7 ∷ acts 0 5 ++ 2 ∷ 0 ∷ acts 0 3 ++ 16 ∷ 9 ∷ acts
 -- Capacity 1: worker 1's pop loads head and finds the stamp of an empty ring; worker 0 goes on for a turn less one, pushes and closes; worker 1 loads tail; worker 0 pops, up to its claim.
 unfoldable pub sleepingPop : List ℕ
 sleepingPop = 18 ∷ 0 ∷ acts 1 2 ++ (rounds 16383 ++ (0 ∷ 7 ∷ acts 0 5 ++ 6 ∷ 0 ∷ acts 0 1 ++ acts 1 1 ++ 2 ∷ 0 ∷ acts 0 3))
+
+-- A machine with head, tail and stamps cut to so many numbers, each to what is left of it modulo that many: to 65,536 it is what `as u16` makes of them.
+abbrev pub cutWord : ℕ → Stamp → Stamp
+cutWord many w = stamp (w .0 % many)
+
+unfoldable pub cutTo : ℕ → Machine → Machine
+cutTo many m =
+    machineOf (m .ring .fixed) (record { head = cutWord many (m .ring .ends .head); tail = cutWord many (m .ring .ends .tail) })
+    (map (λ (s : Slot). record { stamp = cutWord many (s .stamp); value = s .value }) (m .ring .slots)) (m .workers) (m .count) (m .meter)
 
 -- the value of the slot at the index of a word
 abbrev pub valueAt : Machine → Stamp → ℕ

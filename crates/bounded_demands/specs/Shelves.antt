@@ -1,5 +1,5 @@
--- The table of the most stock: of each ring a schedule after which it is full and workers stand at F8. What is said of it: `MostStock` of
--- Demands.antt, proved in proofs/Shelves.antt.
+-- The most stock: of each ring a schedule after which it is full and workers stand at F8, and a table of some. What is said of them: `StockAttained` and `MostStock`
+-- of Demands.antt.
 use Prim.Native.Nat.{ℕ, zero, suc, _+_, _*_}
 use mathlib.Core.List.{List, [], _∷_, _++_}
 use Rattle.bounded_machine.specs.Machine.{freshOf}
@@ -16,6 +16,10 @@ unfoldable pub forces : ℕ → List ℕ
 forces zero = []
 forces (suc w) = (16 * w + 1) ∷ 8 ∷ acts w 4 ++ forces w
 
+-- A ring of this capacity is filled, and then as many workers as can claim in it each do all but read.
+abbrev pub shelving : ℕ → ℕ → List ℕ
+shelving capacity workers = pushes capacity ++ forces (lesser capacity workers)
+
 pub record Shelf : Type 0 where
   pub capacity : ℕ
   pub workers : ℕ
@@ -26,7 +30,7 @@ shelf c w e = record { capacity = c; workers = w; edition = e }
 
 unfoldable pub stockAtMost : Shelf → ℕ
 stockAtMost r =
-    stock (historyOf (freshOf (r .capacity) (r .workers) (r .edition)) (pushes (r .capacity) ++ forces (lesser (r .capacity) (r .workers))))
+    stock (historyOf (freshOf (r .capacity) (r .workers) (r .edition)) (shelving (r .capacity) (r .workers)))
 
 unfoldable pub fullest : List Shelf
 fullest =

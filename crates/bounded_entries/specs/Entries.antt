@@ -1,8 +1,7 @@
 -- One entry on what it touches alone: its worker's record, and the slot that its act goes to. Put back where they were taken out, they are what `turnAt` of crate bounded_machine leaves.
 use Prim.Native.Nat.{ℕ, _+_, _/_}
-use mathlib.Core.Bool.{Bool, true, false, cond}
+use mathlib.Core.Bool.{cond}
 use lib.Dec.{ltb}
-use Rattle.queue_entries.specs.Limits.{inLimits}
 use Rattle.queue_entries.specs.declared.Entry.{Entry}
 use Rattle.queue_entries.specs.declared.Entry.the-variants.{Unreadable, Asks}
 use Rattle.queue_entries.specs.declared.Verdict.{Verdict}
@@ -10,14 +9,12 @@ use Rattle.queue_entries.specs.declared.Verdict.the-variants.{Refuse, Start, Mo
 use Rattle.queue_entries.specs.Entries.{entryOf}
 use Rattle.bounded_words.specs.declared.Fixed.{Fixed}
 use Rattle.bounded_words.specs.declared.Width.{Width}
-use Rattle.bounded_words.specs.Limits.{slotsMost}
 use Rattle.bounded_places.specs.declared.Ends.{Ends}
 use Rattle.bounded_places.specs.declared.Slot.{Slot}
 use Rattle.bounded_places.specs.declared.Worker.{Worker}
 use Rattle.bounded_places.specs.Places.{viewOf, beginOf}
 use Rattle.bounded_acts.specs.declared.Acted.{Acted}
 use Rattle.bounded_acts.specs.Acts.{actOf}
-use Rattle.bounded_machine.specs.Broken.{byRule, recordFits}
 use Rattle.bounded_machine.specs.Turn.{verdictOf, spotOf, beginner, recordAfter}
 use Rattle.bounded_entries.specs.declared.Turned.{Turned}
 
@@ -47,15 +44,3 @@ turnedOn bits f e s r m count (Asks w o) = cond (ltb w count) (carriedOn bits f 
 
 unfoldable pub turnedOf : Width → Fixed → Ends → Slot → Worker → ℕ → ℕ → ℕ → ℕ → Turned
 turnedOf bits f e s r m count first second = turnedOn bits f e s r m count (entryOf first second)
-
--- ---- for any ring and record
--- what an entry rests on: mark and lap by rule, and a record that fits them
-unfoldable pub restsOn : Fixed → ℕ → Worker → Bool
-restsOn f m r = cond (inLimits (f .capacity) slotsMost) (cond (byRule f) (recordFits f m r true) false) false
-
-unfoldable pub slotFor : Fixed → ℕ → Worker → ℕ
-slotFor f m r = cond (restsOn f m r) (slotOf f r) 0
-
--- 6 where there is nothing to rest on
-unfoldable pub stepOn : Width → Fixed → Ends → Slot → Worker → ℕ → ℕ → ℕ → ℕ → Turned
-stepOn bits f e s r m count first second = cond (restsOn f m r) (turnedOf bits f e s r m count first second) (with 6 e s r m)

@@ -3,7 +3,7 @@ ghost use mathlib.Core.Path.{_≡_};
 ghost use mathlib.Core.Bool.{true};
 ghost use Rattle.bounded_words.specs.Words.{Fair};
 ghost use Rattle.bounded_machine.specs.Broken.{recordFits};
-ghost use Rattle.bounded_entries.specs.Entries.{workerOf, slotOf, with, turnedOf, restsOn, slotFor, stepOn};
+ghost use Rattle.bounded_entries.specs.Entries.{workerOf, slotOf, with, turnedOf};
 use bounded_acts::Acted;
 use bounded_places::Ends;
 use bounded_places::Slot;
@@ -97,49 +97,5 @@ pub fn turn_on(
             let after = bounded_machine::record_after(r, place, loss);
             with(0, ends, slot, after, meter + 1)
         }
-    }
-}
-
-// For callers that have proved nothing of ring and record.
-
-fn rests_on(f: Fixed, meter: u64, r: Worker) -> bool
-    ensures { λ b. ⌜ b ≡ restsOn f meter r ⌝ }
-{
-    if queue_entries::in_limits(f.capacity, bounded_words::SLOTS as u64) {} else {
-        return false;
-    }
-    if bounded_machine::by_rule(f) {} else {
-        return false;
-    }
-    bounded_machine::record_fits(f, meter, r, true)
-}
-
-pub fn slot_for(f: Fixed, meter: u64, r: Worker) -> usize
-    ensures { λ k. ⌜ k ≡ slotFor f meter r ⌝ }
-{
-    if rests_on(f, meter, r) {
-        slot_of(f, r)
-    } else {
-        0
-    }
-}
-
-pub fn step_on(
-    bits: Width,
-    f: Fixed,
-    e: Ends,
-    s: Slot,
-    r: Worker,
-    meter: u64,
-    count: usize,
-    first: u64,
-    second: u64,
-) -> Turned
-    ensures { λ t. ⌜ t ≡ stepOn bits f e s r meter count first second ⌝ }
-{
-    if rests_on(f, meter, r) {
-        turn_on(bits, f, e, s, r, meter, count, first, second)
-    } else {
-        with(6, e, s, r, meter)
     }
 }

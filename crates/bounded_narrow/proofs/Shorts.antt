@@ -165,7 +165,7 @@ module _ (m : Machine) (o : Short m) where
       either (λ (d : Did). Short (d .machine)) (brokenOf m) (refused 6 m) _ (λ b. o)
       (λ b. either (λ (d : Did). Short (d .machine)) (ltb (first % 16) 8) (refused 9 m) (turnAt Sixteen m first second) (λ d. o) (λ d. entry-short first second))
 
-from-short : (s : List ℕ) (m : Machine) (place : ℕ) → Short m → Short (runAt Sixteen m place s .machine)
+pub from-short : (s : List ℕ) (m : Machine) (place : ℕ) → Short m → Short (runAt Sixteen m place s .machine)
 unfolding runBy ran
 from-short [] m place o = o
 from-short (first ∷ []) m place o = o
@@ -204,7 +204,7 @@ blank-short : Short blank
 unfolding blank
 blank-short = record { head = omega arith; tail = omega arith; slots = empty-short }
 
-fresh-short : (c w e : ℕ) → c ≤ slotsMost → Short (freshOf c w e)
+pub fresh-short : (c w e : ℕ) → c ≤ slotsMost → Short (freshOf c w e)
 unfolding freshWith freshSlots
 fresh-short c w e few = record { head = omega arith; tail = omega arith; slots = stamped-short c emptySlots (omega arith) empty-short }
 

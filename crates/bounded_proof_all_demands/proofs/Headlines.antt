@@ -2,41 +2,50 @@
 -- runs on paper are Eight.antt beside it.
 use Rattle.queue_entries.specs.Limits.{workersMost}
 use Rattle.bounded_words.specs.declared.Width.the-variants.{Sixteen, SixtyFour}
+use Rattle.bounded_words.specs.Limits.{narrow}
+use Rattle.bounded_acts.specs.Acts.{actOf}
 use Rattle.bounded_machine.specs.History.{lossAt}
+use Rattle.bounded_stock.specs.Stock.{talliedOf}
 use Rattle.bounded_widths.specs.Widths.{narrowed}
-use Rattle.bounded_demands.specs.Notions.{sixtyFour, sixteen, promisesOf, pushingIn, atTheEnd, withRecords, ofWidth, document01, stock}
+use Rattle.bounded_demands.specs.Notions.{sixtyFour, sixteen, promisesOf, pushingIn, atTheEnd, withRecords, ofWidth, document01, stock, windowLength, widestLength, cutTo}
 use Rattle.bounded_parts.specs.Parts.{recordsMost}
-use Rattle.bounded_demands.specs.Demands.{Demand1, OnlyOneCount, UnderEverySchedule, NothingWraps, ActByAct, WholeSchedules, LenTrue, ScheduledAlone, Attained, AsForetold, StockUnderEverySchedule, MostStock, EndsTold, LossesUnderEverySchedule, CountsAside, CloseHolds, ClosedIsLast, CaseF, WithinTheWindow, AloneKeeps, RoundsClaim, NotIdle, WindowLengths, SameNumbers, AsHeld, OnlyTheActing, LentUnbroken, OnlyOneLent, LentThroughout, SixtyFourRecords, LentDemand1, LentEachNumber, LentMixed, Mixed, MixedInWindow, OnlyOneMeets, EachNumber}
+use Rattle.bounded_demands.specs.Demands.{Demand1, OnlyOneCount, UnderEverySchedule, NothingWraps, ActByAct, WholeSchedules, LenTrue, ScheduledAlone, Attained, AsForetold, StockUnderEverySchedule, MostStock, StockAttained, TallyAsSaid, TalliedUnderEverySchedule, EndsTold, LossesUnderEverySchedule, CountsAside, CloseHolds, OnceClosedAnywhere, ClosedIsLast, CaseF, WithinTheWindow, WithinWindowOf, NoWider, PromptKeeps, AloneKeeps, RoundsClaim, NotIdle, WindowLengths, SameNumbers, NumbersFit, AsHeld, OnlyTheActing, LentUnbroken, OnlyOneLent, LentThroughout, SixtyFourRecords, LentDemand1, LentEachNumber, LentMixed, Mixed, MixedInWindow, OnlyOneMeets, EachNumber, AttainedBy, AtMost, AsForetoldBy, EnumsBothWays}
 use Rattle.bounded_demands.specs.Eight.{EightRuns}
 use Rattle.bounded_demands.specs.Lending.{item11, promised}
 use Rattle.bounded_demands.proofs.Refusals.{demand1, only-one-count}
 use Rattle.bounded_demands.proofs.Narrow.{narrow-demand1}
 use Rattle.bounded_demands.proofs.EachNumber.{only-one-meets, each-number, each-number-narrow}
+use Rattle.bounded_demands.proofs.Answers.{enums-both-ways}
 use Rattle.bounded_demands.proofs.Window.{window-lengths}
-use Rattle.bounded_demands.proofs.Attained.{numbers-attained}
-use Rattle.bounded_demands.proofs.Foretold.{as-foretold}
+use Rattle.bounded_demands.proofs.Fit.{numbers-fit}
+use Rattle.bounded_demands.proofs.Attained.{numbers-attained, attained-by, at-most}
+use Rattle.bounded_demands.proofs.Foretold.{as-foretold, as-foretold-by}
 use Rattle.bounded_demands.proofs.Shelves.{most-stock}
 use Rattle.bounded_demands.proofs.CaseF.{case-f}
 use Rattle.bounded_demands.proofs.Eight.{eight-runs}
 use Rattle.bounded_proof_demand2.proofs.Demand2.{demand2, nothing-wraps, act-by-act, whole-schedules}
 use Rattle.bounded_proof_demand2.proofs.Lone.{alone-keeps}
 use Rattle.bounded_proof_demand2.proofs.Short.{same-numbers}
+use Rattle.bounded_proof_demand2.proofs.Tallied.{tally-as-said, tallied-always}
+use Rattle.bounded_proof_demand2.proofs.Prompt.{prompt-keeps}
 use Rattle.bounded_proof_window.proofs.Kept.{rounds-claim}
+use Rattle.bounded_proof_window.proofs.Fullest.{stock-attained}
 use Rattle.bounded_proof_window.proofs.Asleep.{not-idle}
+use Rattle.bounded_proof_window.proofs.NoWider.{no-wider}
 use Rattle.bounded_proof_demand2.proofs.Lens.{len-true}
 use Rattle.bounded_proof_demand2.proofs.Stock.{stock-stands}
 use Rattle.bounded_proof_demand2.proofs.Losses.{ends-told, losses}
 use Rattle.bounded_proof_demand2.proofs.Aside.{counts-aside}
-use Rattle.bounded_proof_demand2.proofs.Closing.{close-holds, closed-is-last}
+use Rattle.bounded_proof_demand2.proofs.Closing.{close-holds, once-closed-anywhere, closed-is-last}
 use Rattle.bounded_proof_demand3.proofs.Demand3.{demand3, within-the-window}
 use Rattle.bounded_proof_lent.proofs.Padded.{as-held, sixty-four-records}
 use Rattle.bounded_proof_lent.proofs.Acting.{only-the-acting, only-one-lent}
 use Rattle.bounded_proof_lent.proofs.Throughout.{lent-throughout, lent-unbroken-still}
 use Rattle.bounded_proof_lent.proofs.Refusals.{lent-demand1}
 use Rattle.bounded_proof_lent.proofs.EachNumber.{lent-each-number}
-use Rattle.bounded_proof_lent.proofs.Mixed.{lent-mixed}
+use Rattle.bounded_proof_lent.proofs.Mixed.{lent-mixed, within-the-widest}
 use Rattle.bounded_proof_all_demands.proofs.Mixed.{any-mixture, any-mixture-in-window}
-use Rattle.bounded_demands.specs.Notions.{causesIn}
+use Rattle.bounded_demands.specs.Notions.{causesIn, watches, mostOf}
 use Rattle.bounded_demands.specs.Demands.{EveryRetryHasACause, EightWaysBack, EachNeeded, AloneBackOnce, KeptAsSaid, KeptOf, RetriesUnderEverySchedule, RetriesInWindow}
 use Rattle.bounded_demands.proofs.Retries.{each-needed}
 use Rattle.bounded_proof_causes.proofs.Causes.{every-retry, eight-ways}
@@ -71,6 +80,10 @@ pub demand-1-exact :
     × OnlyOneMeets (promisesOf sixtyFour) × OnlyOneMeets (promisesOf sixteen)
 demand-1-exact = (each-number, each-number-narrow, only-one-meets sixtyFour, only-one-meets sixteen)
 
+-- Answers that are enums have document 01's numbers and values, there and back.
+pub enums : EnumsBothWays
+enums = enums-both-ways
+
 -- 2. Under every schedule from a fresh machine: each act is the one action of document 01; the claim rule; no slot in two hands;
 -- Empty, Full and Closed true at the act that decided them; claims not taken and contents.
 pub demand-2 : UnderEverySchedule document01 × NothingWraps document01 × ActByAct document01 × WholeSchedules document01 × LenTrue document01
@@ -81,24 +94,32 @@ demand-2 = (demand2 workersMost, nothing-wraps workersMost, act-by-act SixtyFour
 pub demand-3 : ScheduledAlone document01 × Attained × AsForetold
 demand-3 = (demand3 workersMost, numbers-attained, as-foretold)
 
+-- Seven acts at most, three in hand; and the numbers are attained, and the answers those foretold, in both editions and with words of sixteen bits too.
+pub demand-3-exact :
+    AtMost mostOf × AttainedBy (actOf SixtyFour) 2 × AttainedBy (actOf Sixteen) 1 × AttainedBy (actOf Sixteen) 2
+    × AsForetoldBy SixtyFour (actOf SixtyFour) 2 × AsForetoldBy Sixteen (actOf Sixteen) 1 × AsForetoldBy Sixteen (actOf Sixteen) 2
+demand-3-exact = (at-most, attained-by .0, attained-by .1, attained-by .2, as-foretold-by .0, as-foretold-by .1, as-foretold-by .2)
+
 -- The eight runs on paper.
 pub on-paper : EightRuns
 on-paper = eight-runs
 
--- Stock: from the tail claim until the value is read out, both editions; its bound is attained.
-pub stock-counted : StockUnderEverySchedule document01 stock × MostStock
-stock-counted = (stock-stands workersMost, most-stock)
+-- Stock: from the tail claim until the value is read out, both editions; its bound is attained by every ring, with held records and lent; and what the code counts is what the acts say.
+pub stock-counted :
+    StockUnderEverySchedule document01 stock × MostStock × StockAttained document01 stock × StockAttained (withRecords recordsMost SixtyFour) stock
+    × TallyAsSaid talliedOf × TalliedUnderEverySchedule document01 talliedOf
+stock-counted = (stock-stands workersMost, most-stock, stock-attained SixtyFour workersMost, stock-attained SixtyFour recordsMost, tally-as-said, tallied-always SixtyFour workersMost)
 
 -- How an exchange ended: told by the words and the schedule; counted by each worker, both editions; and no answer goes by it.
 pub losses-counted : EndsTold SixtyFour (lossAt SixtyFour) × LossesUnderEverySchedule document01 × CountsAside document01
 losses-counted = (ends-told SixtyFour, losses SixtyFour workersMost, counts-aside SixtyFour)
 
--- A close that holds: edition 2; what follows a pop's Closed, in both editions; case F.
-pub close-that-holds : CloseHolds document01 × ClosedIsLast document01 × CaseF document01
-close-that-holds = (close-holds workersMost, closed-is-last workersMost, case-f)
+-- A close that holds: edition 2, and there of any machine that is not broken, at either width; what follows a pop's Closed, in both editions; case F.
+pub close-that-holds : CloseHolds document01 × OnceClosedAnywhere document01 × OnceClosedAnywhere (ofWidth Sixteen) × ClosedIsLast document01 × CaseF document01
+close-that-holds = (close-holds workersMost, once-closed-anywhere SixtyFour workersMost, once-closed-anywhere Sixteen workersMost, closed-is-last workersMost, case-f)
 
 -- Every retry has a cause, in both editions; each of the four is needed; alone a worker goes back at most once; and what is kept for naming them is what the history says.
-pub retries-caused : EveryRetryHasACause document01 causesIn × EightWaysBack document01 × EachNeeded causesIn 1 × EachNeeded causesIn 2 × AloneBackOnce document01 × KeptAsSaid
+pub retries-caused : EveryRetryHasACause document01 causesIn × EightWaysBack document01 × EachNeeded causesIn 1 × EachNeeded causesIn 2 × AloneBackOnce document01 × KeptAsSaid watches
 retries-caused = (every-retry, eight-ways, each-needed .0, each-needed .1, alone-back-once, kept-as-said)
 
 -- The same with as many records as are lent, up to 64; and of sixteen bits within the window.
@@ -106,12 +127,28 @@ pub retries-caused-anywhere : RetriesUnderEverySchedule (withRecords recordsMost
 retries-caused-anywhere = (retries-always recordsMost, retries-in-window Sixteen workersMost, kept-of-records)
 
 -- Words that wrap: of sixteen bits, as long as the window is kept, all of demands 2 and 3 with stock, losses and closing; and what needs no window.
-pub sixteen-bits : WithinTheWindow (ofWidth Sixteen) × ActByAct (ofWidth Sixteen) × WholeSchedules (ofWidth Sixteen) × EndsTold Sixteen (lossAt Sixteen) × CountsAside (ofWidth Sixteen) × SameNumbers
-sixteen-bits = (within-the-window Sixteen workersMost, act-by-act Sixteen, whole-schedules Sixteen, ends-told Sixteen, counts-aside Sixteen, same-numbers)
+pub sixteen-bits :
+    WithinTheWindow (ofWidth Sixteen) × ActByAct (ofWidth Sixteen) × WholeSchedules (ofWidth Sixteen) × EndsTold Sixteen (lossAt Sixteen) × CountsAside (ofWidth Sixteen) × SameNumbers
+    × LossesUnderEverySchedule (ofWidth Sixteen) × TalliedUnderEverySchedule (ofWidth Sixteen) talliedOf × NumbersFit (ofWidth Sixteen) (cutTo narrow)
+sixteen-bits = (
+  within-the-window Sixteen workersMost,
+  act-by-act Sixteen,
+  whole-schedules Sixteen,
+  ends-told Sixteen,
+  counts-aside Sixteen,
+  same-numbers,
+  losses Sixteen workersMost,
+  tallied-always Sixteen workersMost,
+  numbers-fit,
+)
 
--- The window: as long as document 02 says, met through any number of turns, and needed.
-pub window : WindowLengths × AloneKeeps (ofWidth Sixteen) × RoundsClaim (ofWidth Sixteen) × NotIdle
-window = (window-lengths, alone-keeps Sixteen, rounds-claim Sixteen, not-idle)
+-- The window: as long as document 02 says, kept by whoever drops its words in time and by one worker alone, through any number of turns, and needed.
+pub window : WindowLengths × PromptKeeps windowLength windowLength (ofWidth Sixteen) × AloneKeeps (ofWidth Sixteen) × RoundsClaim (ofWidth Sixteen) × NotIdle
+window = (window-lengths, prompt-keeps windowLength Sixteen workersMost, alone-keeps Sixteen, rounds-claim Sixteen, not-idle)
+
+-- The widest: a turn less one capacity suffices for all that is said of a schedule, and whoever drops its words within so many acts keeps it; one claim more does not do.
+pub widest-window : WithinWindowOf widestLength (ofWidth Sixteen) × PromptKeeps widestLength widestLength (ofWidth Sixteen) × NoWider
+widest-window = (within-the-widest Sixteen workersMost, prompt-keeps widestLength Sixteen workersMost, no-wider)
 
 -- Walks: the list has every sequence of acts that goes so and no other, in order; what is answered and left in the buffer; and how many there are of some.
 pub every-sequence : WalksAll walkOf × WalkTold × WalksCounted

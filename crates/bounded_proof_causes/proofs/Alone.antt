@@ -23,13 +23,13 @@ use Rattle.bounded_machine.specs.History.{lossAt}
 use Rattle.bounded_machine.proofs.Kept.{placed}
 use Rattle.bounded_causes.specs.declared.Watch.{Watch}
 use Rattle.bounded_causes.specs.Causes.{watchedMost, standOf, goesBackOf, watchOf, othersHold}
-use Rattle.bounded_demands.specs.Notions.{withRecords, document01, AllowedWith, KeepsWindow, actsOf, InWindow, goesBack, otherHand, Alone, goingsBack, causesIn}
-use Rattle.bounded_demands.specs.Demands.{BackOnce, AloneBackOnce, RetriesUnderEverySchedule, RetriesInWindow}
+use Rattle.bounded_demands.specs.Notions.{withRecords, document01, AllowedWith, KeepsWidestWindow, actsOf, InWidestWindow, goesBack, otherHand, Alone, goingsBack, causesIn}
+use Rattle.bounded_demands.specs.Demands.{BackOnce, AloneBackOnce, Retried, RetriesUnderEverySchedule, RetriesInWindow}
 use Rattle.bounded_proof_each_act.proofs.Sight.{look, Recent}
 use Rattle.bounded_proof_demand2.proofs.Turns.{Turned, began, did, stood}
 use Rattle.bounded_proof_demand2.proofs.Pictured.{Base}
 use Rattle.bounded_proof_demand2.proofs.Reached.{lapsOf, base-of, along, recent-in}
-use Rattle.bounded_proof_demand2.proofs.Always.{always}
+use Rattle.bounded_proof_demand2.proofs.Always.{always, widens}
 use Rattle.bounded_proof_causes.proofs.Rows.{Clean, begin-clean}
 use Rattle.bounded_proof_causes.proofs.Folds.{others-stay}
 use Rattle.bounded_proof_causes.proofs.Causes as causes
@@ -151,7 +151,7 @@ module _ (bits : Width) (c n workers : ℕ) (base : Base bits c n workers) (team
         go (whole p q) = soles-next earlier alone v (sym p) a free .1
         go (part left p q) = o .once earlier alone left v q a free
 
-  once-kept : (m : Machine) (h : List Event) (en : Entry) (next-machine : Machine) (acts : List Event) → Once m h → InWindow bits m h → Turned bits m en next-machine acts
+  once-kept : (m : Machine) (h : List Event) (en : Entry) (next-machine : Machine) (acts : List Event) → Once m h → InWidestWindow bits m h → Turned bits m en next-machine acts
       → Once next-machine (h ++ acts)
   once-kept m h en next-machine acts o window (began w q l idle) =
       record {
@@ -169,13 +169,13 @@ module _ (bits : Width) (c n workers : ℕ) (base : Base bits c n workers) (team
 
 -- every schedule that keeps the window
 back-once : (bits : Width) (records capacity workers edition : ℕ) (a : AllowedWith records capacity workers edition) (team : workers ≤ watchedMost) (s : List ℕ)
-    → KeepsWindow (withRecords records bits) (freshWith records capacity workers edition) [] s → BackOnce (actsOf (withRecords records bits) capacity workers edition s)
+    → KeepsWidestWindow (withRecords records bits) (freshWith records capacity workers edition) [] s → BackOnce (actsOf (withRecords records bits) capacity workers edition s)
 unfolding goingsBack
 back-once bits records capacity workers edition a team s keeps =
     let n = lapsOf bits capacity in
     let base = base-of bits records capacity workers edition a in
     let m = freshWith records capacity workers edition in
-    along bits (InWindow bits) (Once bits capacity n workers base team) (once-kept bits capacity n workers base team) s m [] 0 keeps
+    along bits (InWidestWindow bits) (Once bits capacity n workers base team) (once-kept bits capacity n workers base team) s m [] 0 keeps
     (record {
       causing = fresh-causing bits records capacity workers edition a team;
       soles = λ earlier alone w e b free.
@@ -191,10 +191,15 @@ pub alone-back-once : AloneBackOnce document01
 alone-back-once capacity workers edition a s = back-once SixtyFour workersMost capacity workers edition a (few-held capacity workers edition a) s (always workersMost capacity workers edition a s)
 
 -- ---- all that is said of retries
-pub retries-in-window : (bits : Width) (records : ℕ) → RetriesInWindow (withRecords records bits) causesIn
-retries-in-window bits records capacity workers edition a team s keeps =
+pub retries-in : (bits : Width) (records capacity workers edition : ℕ) → AllowedWith records capacity workers edition → workers ≤ watchedMost → (s : List ℕ)
+    → KeepsWidestWindow (withRecords records bits) (freshWith records capacity workers edition) [] s → Retried causesIn (actsOf (withRecords records bits) capacity workers edition s)
+retries-in bits records capacity workers edition a team s keeps =
     let o = causes.reached-causing bits records capacity workers edition a team s keeps in
     record { caused = o .caused; len = o .lens; ways = o .ways; once = back-once bits records capacity workers edition a team s keeps }
 
+pub retries-in-window : (bits : Width) (records : ℕ) → RetriesInWindow (withRecords records bits) causesIn
+retries-in-window bits records capacity workers edition a team s keeps =
+    retries-in bits records capacity workers edition a team s (widens (withRecords records bits) (freshWith records capacity workers edition) [] s keeps)
+
 pub retries-always : (records : ℕ) → RetriesUnderEverySchedule (withRecords records SixtyFour) causesIn
-retries-always records capacity workers edition a team s = retries-in-window SixtyFour records capacity workers edition a team s (always records capacity workers edition a s)
+retries-always records capacity workers edition a team s = retries-in SixtyFour records capacity workers edition a team s (always records capacity workers edition a s)

@@ -34,7 +34,7 @@ use Rattle.bounded_causes.specs.declared.Deed.{Deed}
 use Rattle.bounded_causes.specs.declared.Watch.{Watch}
 use Rattle.bounded_causes.specs.declared.Watches.{Watches}
 use Rattle.bounded_causes.specs.Causes.{watchedMost, standOf, goesBackOf, claimsTail, deedOf, ownAct, otherAct, unwatched, start, watchOf, othersHold, watchedOf, causesOf, namedOf}
-use Rattle.bounded_demands.specs.Notions.{withRecords, document01, AllowedWith, Allowed, KeepsWindow, InWindow, machineAfter, actsOf, goesBack, WayBack, watchesFrom, watches, causesIn, Caused, by-schedule, by-own-end, by-other-end, by-hand}
+use Rattle.bounded_demands.specs.Notions.{withRecords, document01, AllowedWith, Allowed, KeepsWidestWindow, InWidestWindow, machineAfter, actsOf, goesBack, WayBack, watchesFrom, watches, causesIn, Caused, by-schedule, by-own-end, by-other-end, by-hand}
 use Rattle.bounded_demands.specs.Retries.{onlyOwn}
 use Rattle.bounded_demands.specs.Demands.{RetriesCaused, LenByOwnEnd, EveryRetryHasACause, WaysBack, EightWaysBack}
 use Rattle.bounded_proof_invariant.proofs.Ring.{Mine, Shared}
@@ -180,7 +180,7 @@ module _ (bits : Width) (c n workers : ℕ) (base : Base bits c n workers) (team
       tails k t y e none =
           let z : Stands c (markOf c) n ring w (pic .ages w) (look c (P2 k t y)) = subst (λ (p : Place). Stands c (markOf c) n ring w (pic .ages w) (look c p)) e (pic .stands w) in
           let i : z .0 % c ≡ at = at-word (P2 k t y) t (z .0) e refl (word-slot bits c (markOf c) n (base .ground) t (z .0) (z .1)) in
-          let late : ring .tail + 2 * c < z .0 + n * c = omega (arith, subst (λ (p : Place). Recent c (markOf c) n ring (pic .ages w) (look c p)) e young refl .0, z .3) in
+          let late : ring .tail + c < z .0 + n * c = omega (arith, subst (λ (p : Place). Recent c (markOf c) n ring (pic .ages w) (look c p)) e young refl .0, z .3) in
           let free = loose (λ a. true≢false (sym (subst (λ (p : Place). HandAt (markOf c) (look c p) at) e a .0))) none in
           let seen = sees-tail bits c (markOf c) n (m .ring .fixed .edition) (base .ground) ring (pic .inv) at (z .0) (ring .val at) (pic .shut) i (z .2) late (ring .cell at) (pic .inv .cells at small) free in
           subst (λ (f : Fixed). SeesTail bits f (m .ring .ends) here t) (sym (pic .rule))
@@ -192,7 +192,7 @@ module _ (bits : Width) (c n workers : ℕ) (base : Base bits c n workers) (team
       heads t e none =
           let z : Stands c (markOf c) n ring w (pic .ages w) (look c (O2 t)) = subst (λ (p : Place). Stands c (markOf c) n ring w (pic .ages w) (look c p)) e (pic .stands w) in
           let i : z .0 % c ≡ at = at-word (O2 t) t (z .0) e refl (word-slot bits c (markOf c) n (base .ground) t (z .0) (z .1)) in
-          let late : ring .head + 2 * c < z .0 + n * c = omega (arith, subst (λ (p : Place). Recent c (markOf c) n ring (pic .ages w) (look c p)) e young refl .1, z .3) in
+          let late : ring .head + c < z .0 + n * c = omega (arith, subst (λ (p : Place). Recent c (markOf c) n ring (pic .ages w) (look c p)) e young refl .1, z .3) in
           let free = loose (λ a. true≢false (sym (subst (λ (p : Place). HandAt (markOf c) (look c p) at) e a .0))) none in
           let seen = sees-head bits c (markOf c) n (m .ring .fixed .edition) (base .ground) ring (pic .inv) at (z .0) (ring .val at) (pic .shut) i (z .2) late (ring .cell at) (pic .inv .cells at small) free in
           subst (λ (f : Fixed). SeesHead bits f (m .ring .ends) here t) (sym (pic .rule))
@@ -305,7 +305,7 @@ module _ (bits : Width) (c n workers : ℕ) (base : Base bits c n workers) (team
             lens = lens-next;
           }
 
-  pub causing-kept : (m : Machine) (h : List Event) (en : Entry) (next : Machine) (acts : List Event) → Causing m h → InWindow bits m h → Turned bits m en next acts → Causing next (h ++ acts)
+  pub causing-kept : (m : Machine) (h : List Event) (en : Entry) (next : Machine) (acts : List Event) → Causing m h → InWidestWindow bits m h → Turned bits m en next acts → Causing next (h ++ acts)
   causing-kept m h en next acts o window (began w q l idle) =
       begun-causing m h o w l q idle en (entered-in bits c n workers base m h en next acts (o .behind) window (began w q l idle))
   causing-kept m h en next acts o window (did w lose l busy early) =
@@ -331,13 +331,13 @@ fresh-causing bits records capacity workers edition a team =
 
 -- every schedule that keeps the window
 pub reached-causing : (bits : Width) (records capacity workers edition : ℕ) (a : AllowedWith records capacity workers edition) (team : workers ≤ watchedMost) (s : List ℕ)
-    → KeepsWindow (withRecords records bits) (freshWith records capacity workers edition) [] s
+    → KeepsWidestWindow (withRecords records bits) (freshWith records capacity workers edition) [] s
     → Causing bits capacity (lapsOf bits capacity) workers (base-of bits records capacity workers edition a) team (machineAfter (withRecords records bits) capacity workers edition s)
     (actsOf (withRecords records bits) capacity workers edition s)
 reached-causing bits records capacity workers edition a team s keeps =
     let n = lapsOf bits capacity in
     let base = base-of bits records capacity workers edition a in
-    along bits (InWindow bits) (Causing bits capacity n workers base team) (causing-kept bits capacity n workers base team) s (freshWith records capacity workers edition) [] 0 keeps
+    along bits (InWidestWindow bits) (Causing bits capacity n workers base team) (causing-kept bits capacity n workers base team) s (freshWith records capacity workers edition) [] 0 keeps
     (fresh-causing bits records capacity workers edition a team)
 
 -- of 64 bits every schedule, of the machine that holds its sixteen records

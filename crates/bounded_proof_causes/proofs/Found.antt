@@ -55,8 +55,8 @@ module _ (bits : Width) (c mark n ed : ℕ) (g : Ground bits c mark n) (s : Shar
   some : 0 < c
   some = g .laws .some
 
-  -- a word of tail: no older than a turn less two capacities
-  module _ (le : m ≤ s .tail) (late : s .tail + 2 * c < m + n * c) where
+  -- a word of tail: no older than a turn less one capacity
+  module _ (le : m ≤ s .tail) (late : s .tail + c < m + n * c) where
     tail-is : tailWord c mark n (s .tail) b ≡ Word m → s .tail ≡ m
     tail-is e =
         let r : Near (n * c) (s .tail) m = omega (arith, turn) in
@@ -65,7 +65,6 @@ module _ (bits : Width) (c mark n ed : ℕ) (g : Ground bits c mark n) (s : Shar
     pub sees-tail : (x : Cell) → CellOk c s i x → Loose x → SeesTail bits f (endsOf c mark n s b) (slotOf c mark n x v) (Word m)
     sees-tail (Await k) o l =
         let r : Near (n * c) k m = omega (arith, turn, inv .low, inv .high, o .1, o .2) in
-        let r' : Near (n * c) (k + c) m = omega (arith, turn, inv .low, inv .high, o .1, o .2) in
         record {
           decides =
               λ q h d.
@@ -73,11 +72,11 @@ module _ (bits : Width) (c mark n ed : ℕ) (g : Ground bits c mark n) (s : Shar
               let z : k % c ≡ s .tail % c = o .0 ∙ sym at ∙ ap (λ (y : ℕ). y % c) (sym e) in
               let w : k ≡ s .tail = near-one c (s .tail) k some (o .1) (omega (arith, inv .low, o .2)) z in
               eqb-false k m (sym (Stamps.stamp-same bits c mark n g false k m (o .0 ∙ sym at) r) ∙ h) (w ∙ e);
-          full = λ d. clash _ d (Stamps.stamp-behind bits c mark n g ed false k m (o .0 ∙ sym at) r');
+          full = λ d. clash _ d (Stamps.stamp-behind bits c mark n g ed false k m (o .0 ∙ sym at) (λ e. absurd (true≢false (sym e))));
         }
     sees-tail (Hold k) o l =
         let r' : Near (n * c) (k + c) m = omega (arith, turn, inv .low, inv .high, o .1, o .2) in
-        let past = Stamps.stamp-behind bits c mark n g ed true k m (o .0 ∙ sym at) r' in
+        let past = Stamps.stamp-behind bits c mark n g ed true k m (o .0 ∙ sym at) (λ e. r') in
         record {
           decides =
               λ q h d.
@@ -97,7 +96,7 @@ module _ (bits : Width) (c mark n ed : ℕ) (g : Ground bits c mark n) (s : Shar
         }
 
   -- a word of head
-  module _ (le : m ≤ s .head) (late : s .head + 2 * c < m + n * c) where
+  module _ (le : m ≤ s .head) (late : s .head + c < m + n * c) where
     head-is : Word (s .head) ≡ Word m → s .head ≡ m
     head-is e =
         let r : Near (n * c) (s .head) m = omega (arith, turn) in

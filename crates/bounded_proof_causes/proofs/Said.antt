@@ -192,7 +192,7 @@ itself : (b : Bool) → Tells b (b ≡ true)
 itself b = (λ h. h, λ h. h)
 
 abbrev Said : ℕ → List Event → Type 0
-Said w h = (length (watches h .each) ≡ watchedMost) × Kept h w
+Said w h = (length (watches h .each) ≡ watchedMost) × Kept watches h w
 
 module _ (w : ℕ) (few : w < watchedMost) where
   said-more : (h : List Event) (e : Event) → Said w h → Said w (h ++ e ∷ [])
@@ -250,5 +250,5 @@ module _ (w : ℕ) (few : w < watchedMost) where
 pub kept-of-records : KeptOf recordsMost
 kept-of-records h w few = grow (Said w) (said-more w few) h [] (said-none w few) .1
 
-pub kept-as-said : KeptAsSaid
+pub kept-as-said : KeptAsSaid watches
 kept-as-said = record { more = λ h e. watches-end start h e; so = λ h w few. kept-of-records h w (omega arith) }

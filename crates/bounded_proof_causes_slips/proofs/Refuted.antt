@@ -22,6 +22,7 @@ use Rattle.bounded_causes.specs.Causes.{goesBackOf, deedOf, sinceWith, ownAct, 
 use Rattle.bounded_demands.specs.Notions.{withRecords, ofWidth, document01, AllowedWith, actsOf, acts, watchesFrom, Caused, by-schedule, by-own-end, by-other-end, by-hand}
 use Rattle.bounded_demands.specs.Retries.{noCause, Last, lastOf, lastIn, does, retries}
 use Rattle.bounded_proof_demand2.proofs.Lone.{alone-keeps}
+use Rattle.bounded_proof_demand2.proofs.Reached.{nil-split}
 use Rattle.bounded_proof_causes_slips.specs.Slips.{sinceAnswer}
 use Rattle.bounded_proof_causes_slips.specs.Refuted.{Refuted}
 
@@ -53,8 +54,11 @@ alone = does 0 0 5 2 ++ 9 ∷ 0 ∷ []
 grabs : Event
 grabs = event 64 (P3 Push (stamp 0) 5) (P4 (stamp 0) 5) Nothing
 
+takes : Event
+takes = event 0 (P3 Push (stamp 0) 5) (P4 (stamp 0) 5) Nothing
+
 pub refuted : Refuted
-unfolding doubled markOf markedOf unmarkedOf plus minus withMark nextOf same onePast lapBehind lapBehindOnePast strayOf orderOf entryOf stay losing exchangeOf afterTail tailTo headTo stampTo valueTo forcedTail countOf emptySlots stamped freshSlots idlers freshWith refused accepted recordAfter begun stored actedBy turnOfBy historyBy all goesBackOf deedOf sinceWith ownAct otherAct othersHold watchedTo watchedOf causesOf namedOf acts watchesFrom lastOf lastIn retries sinceAnswer fifth alone grabs
+unfolding doubled markOf markedOf unmarkedOf plus minus withMark nextOf same onePast lapBehind lapBehindOnePast strayOf orderOf entryOf stay losing exchangeOf afterTail tailTo headTo stampTo valueTo forcedTail countOf emptySlots stamped freshSlots idlers freshWith refused accepted recordAfter begun stored actedBy turnOfBy historyBy all goesBackOf deedOf sinceWith ownAct otherAct othersHold watchedTo watchedOf causesOf namedOf acts watchesFrom lastOf lastIn retries sinceAnswer fifth alone grabs takes
 refuted =
     record {
       schedule = λ r. uncaused (r (actsOf document01 1 2 1 (does 0 0 5 2)) [] (event 0 (P3 Push (stamp 0) 5) (P2 Push (stamp 0) 5) BySchedule) refl refl);
@@ -87,5 +91,9 @@ refuted =
       kept =
           λ k.
           true≢false (sym (k (grabs ∷ []) 64 (omega arith) .hand .1 (record { earlier = []; act = grabs; later = []; is = refl; by = refl; did = refl; holds = refl; last = tt })));
+      kept-nothing =
+          λ k.
+          true≢false (sym (k .so (takes ∷ []) 0 (omega arith) .hand .1 (record { earlier = []; act = takes; later = []; is = refl; by = refl; did = refl; holds = refl; last = tt })));
+      kept-first = λ k. let z = k .so [] 0 (omega arith) .hand .0 refl in nil-split (z .earlier) (z .act) (z .later) (z .is);
       load-before = λ r. uncaused (r (actsOf document01 1 2 1 (does 1 0 6 5 ++ does 0 0 5 3 ++ does 1 1 7 3 ++ does 0 2 0 1)) [] (event 0 (O2 (stamp 4)) O1 Nothing) refl refl);
     }

@@ -4,8 +4,8 @@ use Rattle.bounded_words.specs.declared.Width.the-variants.{Sixteen, SixtyFour}
 use Rattle.bounded_machine.specs.declared.Event.{Event}
 use Rattle.bounded_demands.specs.Notions.{withRecords, ofWidth, document01, actsOf}
 use Rattle.bounded_demands.specs.Retries.{Retry, failedPush, latePush, emptiedPush, earlyPop, besideAPop, closedLen, does, onlyHand}
-use Rattle.bounded_demands.specs.Demands.{RetriesCaused, LenByOwnEnd, EachNeeded, RetriesUnderEverySchedule, RetriesInWindow, KeptOf}
-use Rattle.bounded_proof_causes_slips.specs.Slips.{noSchedule, noOwnEnd, noOtherEnd, noHand, sinceBegin, handNow, lenWithStamps, markUnseen, loadBefore, firstSixteen, nameWith}
+use Rattle.bounded_demands.specs.Demands.{RetriesCaused, LenByOwnEnd, EachNeeded, RetriesUnderEverySchedule, RetriesInWindow, KeptOf, KeptAsSaid}
+use Rattle.bounded_proof_causes_slips.specs.Slips.{noSchedule, noOwnEnd, noOtherEnd, noHand, sinceBegin, handNow, lenWithStamps, markUnseen, loadBefore, firstSixteen, nameWith, keepsNothing, heldAtFirst}
 
 abbrev pub past : Retry → List Event
 past r = actsOf document01 (r .capacity) 2 1 (r .schedule)
@@ -31,3 +31,6 @@ pub record Refuted : Type 0 where
   pub records : RetriesUnderEverySchedule (withRecords 17 SixtyFour) (nameWith firstSixteen) → ⊥
   pub in-window : RetriesInWindow (ofWidth Sixteen) (nameWith noSchedule) → ⊥
   pub kept : KeptOf 65 → ⊥
+  -- of what is kept itself
+  pub kept-nothing : KeptAsSaid keepsNothing → ⊥
+  pub kept-first : KeptAsSaid heldAtFirst → ⊥

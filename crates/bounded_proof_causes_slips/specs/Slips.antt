@@ -1,18 +1,20 @@
 -- Ways to name the causes of a retry with a slip: one struck from the list, or one read otherwise than document 02 has it.
 use Prim.Native.Nat.{ℕ}
-use mathlib.Core.Bool.{Bool, false, cond}
+use mathlib.Core.Bool.{Bool, true, false, cond}
 use mathlib.Core.List.{List, [], _∷_}
 use mathlib.Core.Path.{_≡_}
 use lib.Dec.{eqb, ltb}
+use lib.ListN.{replicate}
 use Rattle.queue_entries.specs.Limits.{workersMost}
 use Rattle.bounded_words.specs.declared.Width.the-variants.{Sixteen, SixtyFour}
 use Rattle.bounded_machine.specs.declared.Event.{Event}
 use Rattle.bounded_machine.specs.History.{movedOf}
 use Rattle.bounded_causes.specs.declared.Since.{Since}
 use Rattle.bounded_causes.specs.declared.Causes.{Causes}
-use Rattle.bounded_causes.specs.Causes.{standOf, deedOf, untouched, sinceWith, watchOf, ownIn, otherIn, causesOf}
+use Rattle.bounded_causes.specs.declared.Watches.{Watches}
+use Rattle.bounded_causes.specs.Causes.{standOf, deedOf, watchedMost, start, untouched, sinceWith, watchOf, ownIn, otherIn, causesOf}
 use Rattle.bounded_parts.specs.Parts.{recordsMost}
-use Rattle.bounded_demands.specs.Notions.{ofWidth, withRecords, document01, watches, causesIn, otherHand}
+use Rattle.bounded_demands.specs.Notions.{ofWidth, withRecords, document01, watchesFrom, watches, causesIn, otherHand}
 use Rattle.bounded_demands.specs.Demands.{EveryRetryHasACause, EachNeeded, RetriesUnderEverySchedule, RetriesInWindow}
 
 abbrev pub none : ℕ
@@ -90,6 +92,16 @@ amiss n earlier act k =
 
 abbrev pub nameWith : ℕ → List Event → Event → Causes
 nameWith n earlier act = amiss n earlier act (causesIn earlier act)
+
+-- ---- what is kept, with a slip
+
+-- nothing, whatever was done
+abbrev pub keepsNothing : List Event → Watches
+keepsNothing h = start
+
+-- every worker with a slot in hand before the first act
+abbrev pub heldAtFirst : List Event → Watches
+heldAtFirst = watchesFrom (record { each = replicate watchedMost (record { word = untouched; stamp = untouched; others = false; hand = true }) })
 
 -- ---- what stands
 

@@ -15,12 +15,16 @@ use Rattle.bounded_machine.specs.declared.Machine.{Machine}
 use Rattle.bounded_machine.specs.declared.Event.{Event}
 use Rattle.bounded_machine.specs.Machine.{freshWith}
 use Rattle.bounded_machine.specs.Turn.{begun, actedBy, stored}
-use Rattle.bounded_demands.specs.Notions.{document01, AllowedWith, tally, since, turnLength, InWindow, KeepsWindow}
+use Rattle.bounded_demands.specs.Notions.{Definition, document01, withRecords, AllowedWith, machineAfter, actsOf, tally, since, turnLength, InWindow, KeepsWindow, KeepsWidestWindow}
 use Rattle.bounded_proof_each_act.proofs.Stamps.{fixed}
 use Rattle.bounded_proof_demand2.proofs.Turns.{Turned, began, did}
 use Rattle.bounded_proof_demand2.proofs.Window.{since-claims, turn-is}
 use Rattle.bounded_proof_demand2.proofs.Pictured.{Base}
 use Rattle.bounded_proof_demand2.proofs.Reached.{lapsOf, base-of, long, along-any}
+
+-- Who keeps document 02's window keeps the widest.
+pub widens : (d : Definition) (m : Machine) (h : List Event) (s : List ℕ) → KeepsWindow d m h s → KeepsWidestWindow d m h s
+widens d m h s keeps before after e w held = let k = keeps before after e w held in (omega (arith, k .0), omega (arith, k .1))
 
 -- What is kept along any history.
 pub record Metered (c : ℕ) (m : Machine) (h : List Event) : Type 0 where
@@ -39,6 +43,12 @@ fresh-metered : (records c workers edition : ℕ) → Metered c (freshWith recor
 unfolding freshWith
 fresh-metered records c workers edition = record { meter = refl; few = omega arith; rule = refl }
 
+-- after any schedule, at either width
+pub metered-in : (bits : Width) (records c workers edition : ℕ) (s : List ℕ)
+    → Metered c (machineAfter (withRecords records bits) c workers edition s) (actsOf (withRecords records bits) c workers edition s)
+metered-in bits records c workers edition s =
+    along-any bits (Metered c) (metered-kept bits c) s (freshWith records c workers edition) [] 0 (fresh-metered records c workers edition)
+
 module _ (records c workers edition : ℕ) (a : AllowedWith records c workers edition) where
   abbrev n : ℕ
   n = lapsOf SixtyFour c
@@ -55,12 +65,12 @@ module _ (records c workers edition : ℕ) (a : AllowedWith records c workers ed
       subst (λ (f : Fixed). (tally (since w h) .tail .0 < turnLength SixtyFour f - 2 * f .capacity) × (tally (since w h) .head .0 < turnLength SixtyFour f - 2 * f .capacity)) (sym (o .rule))
       (omega (arith, q .0, o .meter, o .few, turn), omega (arith, q .1, o .meter, o .few, turn))
 
-  pub always-from : (m : Machine) (h : List Event) → Metered c m h → (s : List ℕ) → KeepsWindow document01 m h s
-  always-from m h o s before after e =
+  pub always-in-window : (m : Machine) (h : List Event) → Metered c m h → (s : List ℕ) → KeepsWindow document01 m h s
+  always-in-window m h o s before after e =
       in-window _ _ (along-any SixtyFour (Metered c) (metered-kept SixtyFour c) before m h 0 o)
 
-  pub always : (s : List ℕ) → KeepsWindow document01 (freshWith records c workers edition) [] s
-  always = always-from (freshWith records c workers edition) [] (fresh-metered records c workers edition)
+  pub always-from : (m : Machine) (h : List Event) → Metered c m h → (s : List ℕ) → KeepsWidestWindow document01 m h s
+  always-from m h o s = widens document01 m h s (always-in-window m h o s)
 
-  pub metered-after : (s : List ℕ) → Metered c (document01 .run (freshWith records c workers edition) 0 s .machine) (document01 .history (freshWith records c workers edition) s)
-  metered-after s = along-any SixtyFour (Metered c) (metered-kept SixtyFour c) s (freshWith records c workers edition) [] 0 (fresh-metered records c workers edition)
+  pub always : (s : List ℕ) → KeepsWidestWindow document01 (freshWith records c workers edition) [] s
+  always = always-from (freshWith records c workers edition) [] (fresh-metered records c workers edition)

@@ -26,7 +26,7 @@ use Rattle.bounded_machine.specs.declared.Did.{Did}
 use Rattle.bounded_machine.specs.declared.Event.{Event}
 use Rattle.bounded_machine.specs.Machine.{slot, accepted}
 use Rattle.bounded_machine.specs.Turn.{spotOf, turn, turnOfBy, acted}
-use Rattle.bounded_demands.specs.Notions.{withRecords, Acts, Truth, holdingAt, holds, InWindow}
+use Rattle.bounded_demands.specs.Notions.{withRecords, Acts, Truth, holdingAt, holds, InWidestWindow}
 use Rattle.bounded_proof_invariant.proofs.Width.{Near, turn-long}
 use Rattle.bounded_proof_each_act.proofs.Stamps.{fixed, W, unmarked-tail, same-is, behind-is}
 use Rattle.bounded_proof_each_act.proofs.Sight.{look, answerIn, endsOf, Stands, Recent}
@@ -97,7 +97,7 @@ module _ (bits : Width) (c n workers : ℕ) (base : Base bits c n workers) (m : 
       subst (λ (f : Fixed). Truth bits f (m .ring .ends) a) (sym (pic .rule)) (subst (λ (z : Ends). Truth bits (fixed c (markOf c) (m .ring .fixed .edition)) z a) (sym (pic .ends)) t)
 
   -- in the window
-  module _ (window : InWindow bits m h) where
+  module _ (window : InWidestWindow bits m h) where
     empty-yes : (w : ℕ) (t : Stamp) → stood m w ≡ Empty2 t → same (unmarkedOf F (E .tail)) t ≡ true → unmarkedOf F (E .tail) ≡ E .head
     empty-yes w t at e =
         let o = stood-at w (Empty2 t) at in

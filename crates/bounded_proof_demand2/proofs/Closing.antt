@@ -28,8 +28,8 @@ use Rattle.bounded_machine.specs.Machine.{slot, freshWith}
 use Rattle.bounded_machine.specs.Turn.{acted}
 use Rattle.bounded_machine.specs.History.{movedOf}
 use Rattle.bounded_machine.proofs.Kept.{unbroken-of}
-use Rattle.bounded_demands.specs.Notions.{withRecords, AllowedWith, machineAfter, actsOf, InWindow, KeepsWindow, ClosesYes, NoClaims}
-use Rattle.bounded_demands.specs.Demands.{OnceClosed, YesOnce, NoneAfterClosed, CloseHolds, ClosedIsLast}
+use Rattle.bounded_demands.specs.Notions.{withRecords, AllowedWith, machineAfter, actsOf, InWidestWindow, KeepsWidestWindow, ClosesYes, NoClaims}
+use Rattle.bounded_demands.specs.Demands.{OnceClosed, OnceClosedAnywhere, YesOnce, NoneAfterClosed, CloseHolds, ClosedIsLast}
 use Rattle.bounded_proof_invariant.proofs.Ring.{Filled, Grab, Swapped, Cell, Await, Hold, Hand, Shared, CellOk, Inv}
 use Rattle.bounded_proof_invariant.proofs.Effects.{Effect, Still, Tailed, Taken, Grabbed, Forced, Fills, Swaps, Frees, Gives, Fits, Loose, after, ok-at}
 use Rattle.bounded_proof_invariant.proofs.Upd.{upd, upd-at, upd-else}
@@ -226,7 +226,7 @@ module _ (bits : Width) (c n workers : ℕ) (base : Base bits c n workers) where
   abbrev SealedRing : Shared × Bool → Type 0
   SealedRing z = Sealed c (z .0) (z .1)
 
-  closing-kept : (m : Machine) (h : List Event) (en : Entry) (next : Machine) (acts : List Event) → Closing m h → InWindow bits m h → Turned bits m en next acts → Closing next (h ++ acts)
+  closing-kept : (m : Machine) (h : List Event) (en : Entry) (next : Machine) (acts : List Event) → Closing m h → InWidestWindow bits m h → Turned bits m en next acts → Closing next (h ++ acts)
   closing-kept m h en next acts o window (began w call l idle) =
       record {
         behind = entered-in bits c n workers base m h en next acts (o .behind) window (began w call l idle);
@@ -247,7 +247,7 @@ module _ (bits : Width) (c n workers : ℕ) (base : Base bits c n workers) where
     pub once : YesOnce h
     pub shut : Said ClosesYes h → behind .pictured .shut ≡ true
 
-  shutting-kept : (m : Machine) (h : List Event) (en : Entry) (next : Machine) (acts : List Event) → Shutting m h → InWindow bits m h → Turned bits m en next acts → Shutting next (h ++ acts)
+  shutting-kept : (m : Machine) (h : List Event) (en : Entry) (next : Machine) (acts : List Event) → Shutting m h → InWidestWindow bits m h → Turned bits m en next acts → Shutting next (h ++ acts)
   shutting-kept m h en next acts o window (began w call l idle) =
       record {
         behind = entered-in bits c n workers base m h en next acts (o .behind) window (began w call l idle);
@@ -276,10 +276,15 @@ module _ (bits : Width) (c n workers : ℕ) (base : Base bits c n workers) where
               true≢false (sym (o .shut (record { earlier = earlier; act = act; later = between; is = sym (e .whole); so = y }))
               ∙ was-open m h (o .behind) w lose l busy (recent-in bits c n workers base m h (o .behind) window w) (subst ClosesYes (e .one) x))
 
-module _ (bits : Width) (records capacity workers edition : ℕ) (a : AllowedWith records capacity workers edition) (s : List ℕ) (keeps : KeepsWindow (withRecords records bits) (freshWith records capacity workers edition) [] s) where
+-- reached or not
+pub once-closed-anywhere : (bits : Width) (records : ℕ) → OnceClosedAnywhere (withRecords records bits)
+once-closed-anywhere bits records m whole two marked =
+    stays-shut bits m [] (record { records = records; unbroken = unbroken-of m whole; second = two; marked = marked })
+
+module _ (bits : Width) (records capacity workers edition : ℕ) (a : AllowedWith records capacity workers edition) (s : List ℕ) (keeps : KeepsWidestWindow (withRecords records bits) (freshWith records capacity workers edition) [] s) where
   pub none-in : NoneAfterClosed (actsOf (withRecords records bits) capacity workers edition s)
   none-in =
-      along bits (InWindow bits) (Closing bits capacity (lapsOf bits capacity) workers (base-of bits records capacity workers edition a))
+      along bits (InWidestWindow bits) (Closing bits capacity (lapsOf bits capacity) workers (base-of bits records capacity workers edition a))
       (closing-kept bits capacity (lapsOf bits capacity) workers (base-of bits records capacity workers edition a)) s (freshWith records capacity workers edition) [] 0 keeps
       (record {
         behind = fresh-reached bits records capacity workers edition a;
@@ -294,7 +299,7 @@ module _ (bits : Width) (records capacity workers edition : ℕ) (a : AllowedWit
 
   pub yes-in : edition ≡ 2 → YesOnce (actsOf (withRecords records bits) capacity workers edition s)
   yes-in two =
-      along bits (InWindow bits) (Shutting bits capacity (lapsOf bits capacity) workers (base-of bits records capacity workers edition a))
+      along bits (InWidestWindow bits) (Shutting bits capacity (lapsOf bits capacity) workers (base-of bits records capacity workers edition a))
       (shutting-kept bits capacity (lapsOf bits capacity) workers (base-of bits records capacity workers edition a)) s (freshWith records capacity workers edition) [] 0 keeps
       (record {
         behind = fresh-reached bits records capacity workers edition a;
@@ -305,16 +310,9 @@ module _ (bits : Width) (records capacity workers edition : ℕ) (a : AllowedWit
       .once
 
   pub closed-in : edition ≡ 2 → OnceClosed (withRecords records bits) (machineAfter (withRecords records bits) capacity workers edition s)
-  closed-in two marked entries =
-      let m = machineAfter (withRecords records bits) capacity workers edition s in
-      stays-shut bits m (actsOf (withRecords records bits) capacity workers edition s)
-      (record {
-        records = records;
-        unbroken = unbroken-of m (demand2-in bits records capacity workers edition a s keeps .unbroken);
-        second = ap (λ (f : Fixed). f .edition) (same-fixed bits (freshWith records capacity workers edition) s) ∙ edition-of ∙ two;
-        marked = marked;
-      })
-      entries
+  closed-in two =
+      once-closed-anywhere bits records (machineAfter (withRecords records bits) capacity workers edition s) (demand2-in bits records capacity workers edition a s keeps .unbroken)
+      (ap (λ (f : Fixed). f .edition) (same-fixed bits (freshWith records capacity workers edition) s) ∙ edition-of ∙ two)
 
 pub closed-is-last : (records : ℕ) → ClosedIsLast (withRecords records SixtyFour)
 closed-is-last records capacity workers edition a s = none-in SixtyFour records capacity workers edition a s (always records capacity workers edition a s)

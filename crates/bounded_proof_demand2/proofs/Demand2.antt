@@ -23,12 +23,12 @@ use Rattle.bounded_machine.specs.Turn.{turnAt}
 use Rattle.bounded_machine.specs.Run.{ran, runAt}
 use Rattle.bounded_machine.specs.History.{eventsOf}
 use Rattle.bounded_machine.proofs.Kept.{of-unbroken}
-use Rattle.bounded_demands.specs.Notions.{withRecords, ofWidth, AllowedWith, Allowed, machineAfter, actsOf, InWindow, KeepsWindow}
+use Rattle.bounded_demands.specs.Notions.{withRecords, ofWidth, AllowedWith, Allowed, machineAfter, actsOf, InWidestWindow, KeepsWidestWindow}
 use Rattle.bounded_demands.specs.Demands.{Demand2, UnderEverySchedule, NothingWraps, ActByAct, WholeSchedules}
 use Rattle.bounded_demands.proofs.Refusals.{ring-queue, ran-machine}
 use Rattle.bounded_proof_demand2.proofs.Turns.{turned-fixed, turned-seats}
 use Rattle.bounded_proof_demand2.proofs.Reached.{Reached, lapsOf, base-of, ring0, fresh-pictured, fresh-records, fresh-logged, fresh-metered, fresh-dated, along-any, recent-in, entries, at-end}
-use Rattle.bounded_proof_demand2.proofs.Always.{always, metered-after}
+use Rattle.bounded_proof_demand2.proofs.Always.{always, metered-in}
 use Rattle.bounded_proof_demand2.proofs.Pictured.{Base}
 use Rattle.bounded_proof_demand2.proofs.Counts.{tally-tail, tally-head}
 use Rattle.bounded_proof_demand2.proofs.Hands.{one-hand, reads-written}
@@ -52,7 +52,7 @@ fresh-reached bits records capacity workers edition a =
     }
 
 pub reached : (bits : Width) (records capacity workers edition : ℕ) → AllowedWith records capacity workers edition → (s : List ℕ)
-    → KeepsWindow (withRecords records bits) (freshWith records capacity workers edition) [] s
+    → KeepsWidestWindow (withRecords records bits) (freshWith records capacity workers edition) [] s
     → Reached capacity (lapsOf bits capacity) workers (machineAfter (withRecords records bits) capacity workers edition s) (actsOf (withRecords records bits) capacity workers edition s)
 reached bits records capacity workers edition a s keeps =
     entries bits capacity (lapsOf bits capacity) workers (base-of bits records capacity workers edition a) s (freshWith records capacity workers edition) [] 0 keeps
@@ -69,7 +69,7 @@ same-records bits m s =
     along-any bits (λ (z : Machine) (h : List Event). length (z .workers) ≡ length (m .workers)) (λ z h en next acts e t. turned-seats bits z en next acts t ∙ e) s m [] 0 refl
 
 -- what a reached machine in the window has behind it is the demand
-module _ (bits : Width) (c n workers : ℕ) (base : Base bits c n workers) (m : Machine) (h : List Event) (r : Reached c n workers m h) (window : InWindow bits m h) where
+module _ (bits : Width) (c n workers : ℕ) (base : Base bits c n workers) (m : Machine) (h : List Event) (r : Reached c n workers m h) (window : InWidestWindow bits m h) where
   demanded : (records edition : ℕ) → length (m .workers) ≡ records → m .ring .fixed ≡ fixedOf c edition → Demand2 (withRecords records bits) c workers edition m h
   demanded records edition seats made =
       record {
@@ -97,7 +97,7 @@ made-of : (records capacity workers edition : ℕ) → freshWith records capacit
 unfolding freshWith
 made-of records capacity workers edition = refl
 
-pub demand2-in : (bits : Width) (records capacity workers edition : ℕ) → AllowedWith records capacity workers edition → (s : List ℕ) → KeepsWindow (withRecords records bits) (freshWith records capacity workers edition) [] s
+pub demand2-in : (bits : Width) (records capacity workers edition : ℕ) → AllowedWith records capacity workers edition → (s : List ℕ) → KeepsWidestWindow (withRecords records bits) (freshWith records capacity workers edition) [] s
     → Demand2 (withRecords records bits) capacity workers edition (machineAfter (withRecords records bits) capacity workers edition s) (actsOf (withRecords records bits) capacity workers edition s)
 demand2-in bits records capacity workers edition a s keeps =
     demanded bits capacity (lapsOf bits capacity) workers (base-of bits records capacity workers edition a) (machineAfter (withRecords records bits) capacity workers edition s)
@@ -110,7 +110,8 @@ pub demand2 : (records : ℕ) → UnderEverySchedule (withRecords records SixtyF
 demand2 records capacity workers edition a s = demand2-in SixtyFour records capacity workers edition a s (always records capacity workers edition a s)
 
 pub nothing-wraps : (records : ℕ) → NothingWraps (withRecords records SixtyFour)
-nothing-wraps records capacity workers edition a s = plainly records capacity workers edition a _ _ (metered-after records capacity workers edition a s) (demand2 records capacity workers edition a s .words)
+nothing-wraps records capacity workers edition a s =
+    plainly records capacity workers edition a _ _ (metered-in SixtyFour records capacity workers edition s) (demand2 records capacity workers edition a s .words)
 
 pub act-by-act : (bits : Width) → ActByAct (ofWidth bits)
 unfolding runBy historyBy ran

@@ -32,7 +32,7 @@ use Rattle.bounded_machine.specs.Machine.{idler, freshWith}
 use Rattle.bounded_machine.specs.Turn.{turnAt, turnOfBy, beginner, begun, actedBy, stored}
 use Rattle.bounded_machine.specs.Run.{ran, runAt}
 use Rattle.bounded_machine.specs.History.{eventsOf, historyAt, movedOf, untakenOf}
-use Rattle.bounded_demands.specs.Notions.{withRecords, AllowedWith, machineAfter, actsOf, Acts, LenAnswers, Unmoved, tailBy, tailersOf, tally, holdingAt, holds, isNew, givesTo, sinceFrom, since, InWindow, KeepsWindow}
+use Rattle.bounded_demands.specs.Notions.{withRecords, AllowedWith, machineAfter, actsOf, Acts, LenAnswers, Unmoved, tailBy, tailersOf, tally, holdingAt, holds, isNew, givesTo, sinceFrom, since, InWidestWindow, KeepsWidestWindow}
 use Rattle.bounded_demands.specs.Demands.{LenTrue}
 use Rattle.bounded_proof_invariant.proofs.Width.{Near, turn-long}
 use Rattle.bounded_proof_each_act.proofs.Stamps.{fixed, W, tailWord, tails-one}
@@ -42,7 +42,7 @@ use Rattle.bounded_proof_demand2.proofs.Counts.{count-is, tally-tail}
 use Rattle.bounded_proof_demand2.proofs.Window.{since-end}
 use Rattle.bounded_proof_demand2.proofs.Pictured.{Base}
 use Rattle.bounded_proof_demand2.proofs.Reached.{Reached, young-in, entered-in, entries, at-end, lapsOf, base-of}
-use Rattle.bounded_proof_demand2.proofs.Always.{Metered, metered-kept, always, always-from, metered-after}
+use Rattle.bounded_proof_demand2.proofs.Always.{Metered, metered-kept, always, always-from, metered-in}
 use Rattle.bounded_proof_demand2.proofs.Answers.{Done, acts-done, leads}
 use Rattle.bounded_proof_demand2.proofs.Contents.{untaken-is}
 use Rattle.bounded_proof_demand2.proofs.Demand2.{reached}
@@ -110,7 +110,7 @@ module _ (bits : Width) (c n workers : ℕ) (base : Base bits c n workers) (m : 
     done : Done bits m w (load .lose) loaded
     done = acts-done bits m w loaded load
 
-    pub reached-loaded : InWindow bits m h → Reached c n workers loaded (h ++ eventOf bits m w (load .lose) loaded ∷ [])
+    pub reached-loaded : InWidestWindow bits m h → Reached c n workers loaded (h ++ eventOf bits m w (load .lose) loaded ∷ [])
     reached-loaded window =
         subst (λ (z : Machine). Reached c n workers z (h ++ eventOf bits m w (load .lose) z ∷ [])) (sym (done .is))
         (entered-in bits c n workers base m h (Asks w (Act (load .lose))) _ _ r window (did w (load .lose) (done .team) (done .busy) (done .early)))
@@ -123,7 +123,7 @@ module _ (bits : Width) (c n workers : ℕ) (base : Base bits c n workers) (m : 
     tail-seen = subst (λ (z : Place). Stands c mark n (r .ring) w (r .pictured .ages w) (look c z)) at (r .pictured .stands w)
 
     -- the answer, on a machine on which no fewer tail claims were made, and not a turn more
-    pub counted : (m₂ : Machine) (h₂ : List Event) (r₂ : Reached c n workers m₂ h₂) → r .ring .tail ≤ r₂ .ring .tail → r₂ .ring .tail + 2 * c < r .pictured .ages w .tail + n * c
+    pub counted : (m₂ : Machine) (h₂ : List Event) (r₂ : Reached c n workers m₂ h₂) → r .ring .tail ≤ r₂ .ring .tail → r₂ .ring .tail + c < r .pictured .ages w .tail + n * c
         → stood m₂ w ≡ Len3 t (W c mark n (r .ring .head)) → (answered : Machine) → Acts (withRecords records bits) m₂ w answered → (k : ℕ) → stood answered w ≡ Idle (Len k)
         → k ≡ r .ring .tail - r .ring .head
     counted m₂ h₂ r₂ up late stays answered act k is =
@@ -165,9 +165,9 @@ since-load w h e rest t d q o =
     neither true = refl
     neither false = refl
 
-module _ (bits : Width) (records capacity workers edition : ℕ) (a : AllowedWith records capacity workers edition) (s : List ℕ) (keeps : KeepsWindow (withRecords records bits) (freshWith records capacity workers edition) [] s) where
+module _ (bits : Width) (records capacity workers edition : ℕ) (a : AllowedWith records capacity workers edition) (s : List ℕ) (keeps : KeepsWidestWindow (withRecords records bits) (freshWith records capacity workers edition) [] s) where
   pub len-in : (w k : ℕ) (o : LenAnswers (withRecords records bits) capacity workers edition s w k)
-      → KeepsWindow (withRecords records bits) (o .loaded) (actsOf (withRecords records bits) capacity workers edition s ++ eventOf bits (machineAfter (withRecords records bits) capacity workers edition s) w (o .load .lose) (o .loaded) ∷ []) (o .rest)
+      → KeepsWidestWindow (withRecords records bits) (o .loaded) (actsOf (withRecords records bits) capacity workers edition s ++ eventOf bits (machineAfter (withRecords records bits) capacity workers edition s) w (o .load .lose) (o .loaded) ∷ []) (o .rest)
       → k ≡ untakenOf (tally (actsOf (withRecords records bits) capacity workers edition s))
   len-in w k o onward =
       let n = lapsOf bits capacity in
@@ -191,7 +191,7 @@ module _ (bits : Width) (records capacity workers edition : ℕ) (a : AllowedWit
         tailers-append (e ∷ []) (historyAt bits (o .loaded) (o .rest)),
       ) in
       let young = young-in bits capacity n workers base _ _ r₂ (at-end bits (o .loaded) (h ++ e ∷ []) (o .rest) onward) w (ap (λ (z : Place). holds (holdingAt z)) stays) in
-      let aged : r₂ .ring .tail + 2 * capacity < r .pictured .ages w .tail + n * capacity =
+      let aged : r₂ .ring .tail + capacity < r .pictured .ages w .tail + n * capacity =
       omega (
         arith,
         young,
@@ -212,5 +212,5 @@ len-true records capacity workers edition a s w k o =
     let d = acts-done SixtyFour m w (o .loaded) (o .load) in
     let loaded : Metered capacity (o .loaded) (h ++ eventOf SixtyFour m w (o .load .lose) (o .loaded) ∷ []) =
     subst (λ (z : Machine). Metered capacity z (h ++ eventOf SixtyFour m w (o .load .lose) z ∷ [])) (sym (d .is))
-    (metered-kept SixtyFour capacity m h (Asks w (Act (o .load .lose))) _ _ (metered-after records capacity workers edition a s) (did w (o .load .lose) (d .team) (d .busy) (d .early))) in
+    (metered-kept SixtyFour capacity m h (Asks w (Act (o .load .lose))) _ _ (metered-in SixtyFour records capacity workers edition s) (did w (o .load .lose) (d .team) (d .busy) (d .early))) in
     len-in SixtyFour records capacity workers edition a s (always records capacity workers edition a s) w k o (always-from records capacity workers edition a (o .loaded) _ loaded (o .rest))

@@ -20,3 +20,5 @@ pub mod Stock
 pub mod Losses
 pub mod Aside
 pub mod Short
+pub mod Tallied
+pub mod Prompt

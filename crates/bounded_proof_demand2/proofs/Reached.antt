@@ -37,7 +37,7 @@ use Rattle.bounded_machine.specs.Turn.{turnAt, turnOfBy, begun, acted, actedBy,
 use Rattle.bounded_machine.specs.Run.{ran, runAt}
 use Rattle.bounded_machine.specs.History.{lossAt, eventsOf, historyAt, movedOf, tallyOf}
 use Rattle.bounded_machine.proofs.Kept.{UnbrokenWith, ends-of}
-use Rattle.bounded_demands.specs.Notions.{ofWidth, AllowedWith, start, itemsOf, tailersOf, takersOf, tailBy, headBy, tally, holdingAt, holds, isNew, givesTo, sinceFrom, since, turnLength, InWindow, KeepsWindow}
+use Rattle.bounded_demands.specs.Notions.{ofWidth, AllowedWith, start, itemsOf, tailersOf, takersOf, tailBy, headBy, tally, holdingAt, holds, isNew, givesTo, sinceFrom, since, turnLength, InWidestWindow, KeepsWidestWindow}
 use Rattle.bounded_proof_invariant.proofs.Width.{word, word-first}
 use Rattle.bounded_proof_invariant.proofs.Upd.{upd, upd-same, upd-else}
 use Rattle.bounded_proof_invariant.proofs.Ring.{Await, Shared}
@@ -319,12 +319,12 @@ pub record Reached (c n workers : ℕ) (m : Machine) (h : List Event) : Type 0 w
 
 module _ (bits : Width) (c n workers : ℕ) (base : Base bits c n workers) where
   -- in the window no worker's word is too old
-  module _ (m : Machine) (h : List Event) (r : Reached c n workers m h) (window : InWindow bits m h) (w : ℕ) where
+  module _ (m : Machine) (h : List Event) (r : Reached c n workers m h) (window : InWidestWindow bits m h) (w : ℕ) where
     pub young-in : holds (holdingAt (stood m w)) ≡ true → Young c (markOf c) n (r .ring) (r .pictured .ages w)
     young-in held =
         let f = fixed c (markOf c) (m .ring .fixed .edition) in
         window-young bits c (markOf c) n (m .ring .fixed .edition) (base .ground) (r .ring) (r .pictured .ages w) (since w h) (r .dated w)
-        (subst (λ (z : Fixed). (tally (since w h) .tail .0 < turnLength bits z - 2 * z .capacity) × (tally (since w h) .head .0 < turnLength bits z - 2 * z .capacity)) (r .pictured .rule) (window w held))
+        (subst (λ (z : Fixed). (tally (since w h) .tail .0 < turnLength bits z - z .capacity) × (tally (since w h) .head .0 < turnLength bits z - z .capacity)) (r .pictured .rule) (window w held))
 
     pub recent-in : Recent c (markOf c) n (r .ring) (r .pictured .ages w) (look c (stood m w))
     recent-in = recent-of bits c (markOf c) n (m .ring .fixed .edition) (base .ground) (r .ring) (r .pictured .ages w) (stood m w) young-in
@@ -335,7 +335,7 @@ module _ (bits : Width) (c n workers : ℕ) (base : Base bits c n workers) where
   Fit r (Asks w (Begin q)) = Unit {0}
   Fit {m} {h} r (Asks w (Act lose)) = Recent c (markOf c) n (r .ring) (r .pictured .ages w) (look c (stood m w))
 
-  abbrev pub fit-in : (m : Machine) (h : List Event) (r : Reached c n workers m h) → InWindow bits m h → (en : Entry) → Fit r en
+  abbrev pub fit-in : (m : Machine) (h : List Event) (r : Reached c n workers m h) → InWidestWindow bits m h → (en : Entry) → Fit r en
   fit-in m h r window Unreadable = tt
   fit-in m h r window (Asks w (Begin q)) = tt
   fit-in m h r window (Asks w (Act lose)) = recent-in m h r window w
@@ -463,15 +463,15 @@ module _ (bits : Width) (c n workers : ℕ) (base : Base bits c n workers) where
     own-next lose busy young early Q o =
         rw (acted-ages bits c n workers base (r .ring) m (r .pictured) w l lose busy young early, upd-same (r .pictured .ages) w (new-age bits c n workers base (r .ring) m (r .pictured) w l lose busy), acted-stood bits c n workers base (r .ring) m (r .pictured) w l lose busy) o
 
-  abbrev pub entered-in : (m : Machine) (h : List Event) (en : Entry) (next-machine : Machine) (acts : List Event) → Reached c n workers m h → InWindow bits m h
+  abbrev pub entered-in : (m : Machine) (h : List Event) (en : Entry) (next-machine : Machine) (acts : List Event) → Reached c n workers m h → InWidestWindow bits m h
       → Turned bits m en next-machine acts → Reached c n workers next-machine (h ++ acts)
   entered-in m h en next-machine acts r window t = entered m h en next-machine acts r (fit-in m h r window en) t
 
   -- and so does every list of entries that keeps the window
-  pub entries : (s : List ℕ) (m : Machine) (h : List Event) (place : ℕ) → KeepsWindow (ofWidth bits) m h s → Reached c n workers m h
+  pub entries : (s : List ℕ) (m : Machine) (h : List Event) (place : ℕ) → KeepsWidestWindow (ofWidth bits) m h s → Reached c n workers m h
       → Reached c n workers (runAt bits m place s .machine) (h ++ historyAt bits m s)
-  entries = along bits (InWindow bits) (Reached c n workers) entered-in
+  entries = along bits (InWidestWindow bits) (Reached c n workers) entered-in
 
 -- the last beginning is the whole
-pub at-end : (bits : Width) (m : Machine) (h : List Event) (s : List ℕ) → KeepsWindow (ofWidth bits) m h s → InWindow bits (runAt bits m 0 s .machine) (h ++ historyAt bits m s)
+pub at-end : (bits : Width) (m : Machine) (h : List Event) (s : List ℕ) → KeepsWidestWindow (ofWidth bits) m h s → InWidestWindow bits (runAt bits m 0 s .machine) (h ++ historyAt bits m s)
 at-end bits m h s keeps = keeps s [] (sym (append-nil s))

@@ -38,7 +38,7 @@ use Rattle.bounded_machine.specs.Broken.{allIdle}
 use Rattle.bounded_machine.specs.Turn.{beginner, recordAfter, begun, stored, acted, actedBy}
 use Rattle.bounded_machine.specs.History.{movedOf, readsAt, untallied, tallyOf, stockOf, untakenOf}
 use Rattle.bounded_machine.proofs.Kept.{either, exchanged, few-workers}
-use Rattle.bounded_demands.specs.Notions.{withRecords, AllowedWith, InWindow, KeepsWindow, machineAfter, actsOf, Reads, readO4, readF8, tailBy, headBy, tally, stock, unread, unreadBy}
+use Rattle.bounded_demands.specs.Notions.{withRecords, AllowedWith, InWidestWindow, KeepsWidestWindow, machineAfter, actsOf, Reads, readO4, readF8, tailBy, headBy, tally, stock, unread, unreadBy}
 use Rattle.bounded_demands.specs.Demands.{StockRises, StockFalls, StockStays, Stocked, StockUnderEverySchedule}
 use Rattle.bounded_proof_invariant.proofs.Ring.{Cell, Await, Hold, Hand, Mine, Shared}
 use Rattle.bounded_proof_each_act.proofs.Sight.{Age, look, Stands}
@@ -363,7 +363,7 @@ module _ (bits : Width) (c n workers : ℕ) (base : Base bits c n workers) where
             (stay-so (λ e. none (ap (λ (y : Event). movedOf (y .after)) (q .one) ∙ e)) (λ a e. unread a (subst (λ (y : Event). Reads (y .before) a) (sym (q .one)) e)))
         go (inr q) = o .stays earlier (q .left) act (q .was) none unread
 
-  shelved-kept : (m : Machine) (h : List Event) (en : Entry) (next-machine : Machine) (acts : List Event) → Shelved m h → InWindow bits m h → Turned bits m en next-machine acts → Shelved next-machine (h ++ acts)
+  shelved-kept : (m : Machine) (h : List Event) (en : Entry) (next-machine : Machine) (acts : List Event) → Shelved m h → InWidestWindow bits m h → Turned bits m en next-machine acts → Shelved next-machine (h ++ acts)
   shelved-kept m h en next-machine acts o window (began w q l idle) =
       let sits : w < length (m .workers) = omega (arith, o .behind .pictured .workers-long, few-workers m (o .behind .pictured .unbroken)) in
       record {
@@ -436,14 +436,14 @@ fresh-read : (records capacity workers edition : ℕ) → unreadBy (freshWith re
 unfolding freshWith idlers
 fresh-read records capacity workers edition = idlers-read records
 
-pub stock-in : (bits : Width) (records capacity workers edition : ℕ) → AllowedWith records capacity workers edition → (s : List ℕ) → KeepsWindow (withRecords records bits) (freshWith records capacity workers edition) [] s
+pub stock-in : (bits : Width) (records capacity workers edition : ℕ) → AllowedWith records capacity workers edition → (s : List ℕ) → KeepsWidestWindow (withRecords records bits) (freshWith records capacity workers edition) [] s
     → Stocked stock capacity workers (machineAfter (withRecords records bits) capacity workers edition s) (actsOf (withRecords records bits) capacity workers edition s)
 unfolding tallyOf
 stock-in bits records capacity workers edition a s keeps =
     let n = lapsOf bits capacity in
     let base = base-of bits records capacity workers edition a in
     stocked bits capacity n workers base (machineAfter (withRecords records bits) capacity workers edition s) (actsOf (withRecords records bits) capacity workers edition s)
-    (along bits (InWindow bits) (Shelved bits capacity n workers base) (shelved-kept bits capacity n workers base) s (freshWith records capacity workers edition) [] 0 keeps
+    (along bits (InWidestWindow bits) (Shelved bits capacity n workers base) (shelved-kept bits capacity n workers base) s (freshWith records capacity workers edition) [] 0 keeps
     (record {
       behind = fresh-reached bits records capacity workers edition a;
       balance = omega (arith, fresh-read records capacity workers edition);

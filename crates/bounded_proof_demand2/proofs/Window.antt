@@ -32,7 +32,7 @@ since-end w acts [] e = refl
 since-end w acts (a ∷ h) e = since-end w (cond (givesTo w a) [] (acts ++ a ∷ [])) h e
 
 -- no more than there were
-since-few : (w : ℕ) (acts h : List Event) → length (sinceFrom w acts h) ≤ length acts + length h
+pub since-few : (w : ℕ) (acts h : List Event) → length (sinceFrom w acts h) ≤ length acts + length h
 unfolding sinceFrom
 since-few w acts [] = omega arith
 since-few w acts (e ∷ h) = go (givesTo w e) (λ l. since-few w l h)
@@ -55,7 +55,7 @@ tally-more l e =
     (ap (λ (t : Tally). t .tail .0) q ∙ b .0, ap (λ (t : Tally). t .head .0) q ∙ b .1)
 
 -- a claim is an act
-one-claim : (x : Moved) (w : ℕ) → (length (tailBy x w) ≤ 1) × (length (headBy x w) ≤ 1)
+pub one-claim : (x : Moved) (w : ℕ) → (length (tailBy x w) ≤ 1) × (length (headBy x w) ≤ 1)
 one-claim Neither w = omega arith
 one-claim Tail w = omega arith
 one-claim Head w = omega arith
@@ -151,7 +151,7 @@ module _ (bits : Width) (c mark n ed : ℕ) (g : Ground bits c mark n) where
       rw e (digits-div (n * c) big)
 
   pub window-young : (s : Shared) (a : Age) (l : List Event) → Dated s a l
-      → (tally l .tail .0 < turnLength bits (fixed c mark ed) - 2 * c) × (tally l .head .0 < turnLength bits (fixed c mark ed) - 2 * c) → Young c mark n s a
+      → (tally l .tail .0 < turnLength bits (fixed c mark ed) - c) × (tally l .head .0 < turnLength bits (fixed c mark ed) - c) → Young c mark n s a
   window-young s a l d w = (omega (arith, turn-is, d .0, w .0), omega (arith, turn-is, d .1, w .1))
 
   -- where a worker holds no word, or has a slot in hand, its age does not matter

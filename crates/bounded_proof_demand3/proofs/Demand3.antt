@@ -13,13 +13,13 @@ use Rattle.bounded_machine.specs.declared.Did.{Did}
 use Rattle.bounded_machine.specs.declared.Event.{Event}
 use Rattle.bounded_machine.specs.Machine.{freshWith, placeOf, accepted}
 use Rattle.bounded_machine.specs.Run.{runAt}
-use Rattle.bounded_demands.specs.Notions.{withRecords, AllowedWith, acts, machineAfter, actsOf, InWindow, KeepsWindow, mostOf, OtherHand}
+use Rattle.bounded_demands.specs.Notions.{withRecords, AllowedWith, acts, machineAfter, actsOf, InWidestWindow, KeepsWidestWindow, mostOf, OtherHand}
 use Rattle.bounded_demands.specs.Foretold.{foretold}
-use Rattle.bounded_demands.specs.Demands.{Demand3, ScheduledAlone, WithinTheWindow}
+use Rattle.bounded_demands.specs.Demands.{Demand3, ScheduledAlone, Within, WithinTheWindow}
 use Rattle.bounded_proof_demand2.proofs.Turns.{stood}
 use Rattle.bounded_proof_demand2.proofs.Pictured.{Base}
 use Rattle.bounded_proof_demand2.proofs.Reached.{Reached, lapsOf, base-of, recent-in, at-end}
-use Rattle.bounded_proof_demand2.proofs.Always.{always}
+use Rattle.bounded_proof_demand2.proofs.Always.{always, widens}
 use Rattle.bounded_proof_demand2.proofs.Demand2.{reached, demand2-in}
 use Rattle.bounded_proof_demand2.proofs.Lens.{len-in}
 use Rattle.bounded_proof_demand2.proofs.Stock.{stock-in}
@@ -31,7 +31,7 @@ use Rattle.bounded_proof_demand3.proofs.Hand.{lets-go, as-run}
 use Rattle.bounded_proof_demand3.proofs.Queue.{queue-is}
 use Rattle.bounded_proof_demand3.proofs.Way.{other-hand}
 
-module _ (bits : Width) (c n workers : ℕ) (base : Base bits c n workers) (m : Machine) (h : List Event) (r : Reached c n workers m h) (window : InWindow bits m h) where
+module _ (bits : Width) (c n workers : ℕ) (base : Base bits c n workers) (m : Machine) (h : List Event) (r : Reached c n workers m h) (window : InWidestWindow bits m h) where
   ended : (w : ℕ) → viewOf (stood m w) .busy ≡ true → m .meter + 7 ≤ meterMost → (OtherHand m w → ⊥) → Ended bits m h 0 w (mostOf (stood m w)) (foretold bits m w)
   ended w busy left free =
       ends-by bits c n workers base w (mostOf (stood m w)) m h 0 r busy (omega (arith, seven (stood m w))) free (recent-in bits c n workers base m h r window w)
@@ -72,15 +72,16 @@ module _ (bits : Width) (c n workers : ℕ) (base : Base bits c n workers) (m : 
         as-run = as-run records bits m 0;
       }
 
-module _ (bits : Width) (records capacity workers edition : ℕ) (a : AllowedWith records capacity workers edition) (s : List ℕ) (keeps : KeepsWindow (withRecords records bits) (freshWith records capacity workers edition) [] s) where
+module _ (bits : Width) (records capacity workers edition : ℕ) (a : AllowedWith records capacity workers edition) (s : List ℕ) (keeps : KeepsWidestWindow (withRecords records bits) (freshWith records capacity workers edition) [] s) where
   pub demand3-in : Demand3 (withRecords records bits) (machineAfter (withRecords records bits) capacity workers edition s) (actsOf (withRecords records bits) capacity workers edition s)
   demand3-in =
       demanded bits capacity (lapsOf bits capacity) workers (base-of bits records capacity workers edition a) (machineAfter (withRecords records bits) capacity workers edition s)
       (actsOf (withRecords records bits) capacity workers edition s) (reached bits records capacity workers edition a s keeps) (at-end bits (freshWith records capacity workers edition) [] s keeps) records
 
--- all of a schedule that keeps the window
-pub within-the-window : (bits : Width) (records : ℕ) → WithinTheWindow (withRecords records bits)
-within-the-window bits records capacity workers edition a s keeps =
+-- all of a schedule that keeps the widest window
+pub within-in : (bits : Width) (records capacity workers edition : ℕ) → AllowedWith records capacity workers edition → (s : List ℕ)
+    → KeepsWidestWindow (withRecords records bits) (freshWith records capacity workers edition) [] s → Within (withRecords records bits) capacity workers edition s
+within-in bits records capacity workers edition a s keeps =
     record {
       demand2 = demand2-in bits records capacity workers edition a s keeps;
       demand3 = demand3-in bits records capacity workers edition a s keeps;
@@ -91,6 +92,10 @@ within-the-window bits records capacity workers edition a s keeps =
       yes-once = yes-in bits records capacity workers edition a s keeps;
       none-after = none-in bits records capacity workers edition a s keeps;
     }
+
+pub within-the-window : (bits : Width) (records : ℕ) → WithinTheWindow (withRecords records bits)
+within-the-window bits records capacity workers edition a s keeps =
+    within-in bits records capacity workers edition a s (widens (withRecords records bits) (freshWith records capacity workers edition) [] s keeps)
 
 -- of 64 bits every schedule
 pub demand3 : (records : ℕ) → ScheduledAlone (withRecords records SixtyFour)

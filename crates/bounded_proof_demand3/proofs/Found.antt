@@ -99,18 +99,17 @@ module _ (bits : Width) (c mark n ed : ℕ) (g : Ground bits c mark n) (s : Shar
     some : 0 < c
     some = g .laws .some
 
-    lapped : m ≤ s .tail → s .tail + 2 * c < m + n * c → lapBehind bits f (Word (s .head)) (Word m) ≡ true → same (unmarkedOf f (tailWord c mark n (s .tail) b)) (Word m) ≡ true
+    lapped : m ≤ s .tail → s .tail + c < m + n * c → lapBehind bits f (Word (s .head)) (Word m) ≡ true → same (unmarkedOf f (tailWord c mark n (s .tail) b)) (Word m) ≡ true
     lapped le late h =
         let q : s .head + c ≡ m = eqb-true _ _ (sym (behind-is m le (omega (arith, inv .low))) ∙ h) in
         let e : s .tail ≡ m = omega (arith, inv .high) in
         tail-is b m le (omega arith) ∙ eq-eqb _ _ e
 
-    pub finds-tail : m ≤ s .tail → s .tail + 2 * c < m + n * c → (x : Cell) → CellOk c s i x → Loose x → FindsTail bits f (endsOf c mark n s b) (slotOf c mark n x v) (Word m)
+    pub finds-tail : m ≤ s .tail → s .tail + c < m + n * c → (x : Cell) → CellOk c s i x → Loose x → FindsTail bits f (endsOf c mark n s b) (slotOf c mark n x v) (Word m)
     finds-tail le late (Await k) o l =
         let r : Near (n * c) k m = omega (arith, turn, inv .low, inv .high, o .1, o .2) in
-        let r' : Near (n * c) (k + c) m = omega (arith, turn, inv .low, inv .high, o .1, o .2) in
         let here = Stamps.stamp-same bits c mark n g false k m (o .0 ∙ sym at) r in
-        let past = Stamps.stamp-behind bits c mark n g ed false k m (o .0 ∙ sym at) r' in
+        let past = Stamps.stamp-behind bits c mark n g ed false k m (o .0 ∙ sym at) (λ e. absurd (true≢false (sym e))) in
         record {
           decides =
               λ q h d.
@@ -129,7 +128,7 @@ module _ (bits : Width) (c mark n ed : ℕ) (g : Ground bits c mark n) (s : Shar
         let r : Near (n * c) k m = omega (arith, turn, inv .low, inv .high, o .1, o .2) in
         let r' : Near (n * c) (k + c) m = omega (arith, turn, inv .low, inv .high, o .1, o .2) in
         let here = Stamps.stamp-same bits c mark n g true k m (o .0 ∙ sym at) r in
-        let past = Stamps.stamp-behind bits c mark n g ed true k m (o .0 ∙ sym at) r' in
+        let past = Stamps.stamp-behind bits c mark n g ed true k m (o .0 ∙ sym at) (λ e. r') in
         record {
           decides =
               λ q h d.
@@ -148,7 +147,7 @@ module _ (bits : Width) (c mark n ed : ℕ) (g : Ground bits c mark n) (s : Shar
           lapped = lapped le late;
         }
 
-    pub finds-head : m ≤ s .head → s .head + 2 * c < m + n * c → (x : Cell) → CellOk c s i x → Loose x → FindsHead bits f (endsOf c mark n s b) (slotOf c mark n x v) (Word m)
+    pub finds-head : m ≤ s .head → s .head + c < m + n * c → (x : Cell) → CellOk c s i x → Loose x → FindsHead bits f (endsOf c mark n s b) (slotOf c mark n x v) (Word m)
     finds-head le late (Await k) o l =
         let r : Near (n * c) k m = omega (arith, turn, inv .low, inv .high, o .1, o .2) in
         let here = Stamps.stamp-same bits c mark n g false k m (o .0 ∙ sym at) r in
@@ -198,7 +197,7 @@ module _ (bits : Width) (c mark n ed : ℕ) (g : Ground bits c mark n) (s : Shar
       let k = cell-at m (Hold m) (o .1 e) in
       tail-is b (s .head) (inv .low) (omega (arith, turn, inv .high, g .laws .some)) ∙ ne-eqb (s .tail) (s .head) (λ (z : s .tail ≡ s .head). omega (arith, k .2))
 
-  last-load : (b : Bool) (m : ℕ) → m ≤ s .head → s .head + 2 * c < m + n * c → same (unmarkedOf f (tailWord c mark n (s .tail) b)) (Word m) ≡ true
+  last-load : (b : Bool) (m : ℕ) → m ≤ s .head → s .head + c < m + n * c → same (unmarkedOf f (tailWord c mark n (s .tail) b)) (Word m) ≡ true
       → same (unmarkedOf f (tailWord c mark n (s .tail) b)) (Word (s .head)) ≡ true
   last-load b m le late h =
       let e : s .tail ≡ m = eqb-true _ _ (sym (tail-is b m (omega (arith, inv .low)) (omega (arith, inv .high))) ∙ h) in

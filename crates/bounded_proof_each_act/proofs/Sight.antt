@@ -180,10 +180,10 @@ module _ (c mark n : ℕ) where
   Stands s w a (Counts t h) =
       (k : ℕ) × (b : Bool) × (j : ℕ) × (t ≡ tailWord c mark n k b) × (h ≡ W c mark n j) × (k ≤ s .tail) × (s .tail ≡ k → (j ≤ k) × (k ≤ j + c)) × (a .tail ≤ k)
 
-  -- Since a word was given, fewer claims were made at either end than a turn less two capacities. Words of the width wrap; this is all that their
+  -- Since a word was given, fewer claims were made at either end than a turn less one capacity. Words of the width wrap; this is all that their
   -- tests ask.
   abbrev pub Young : Shared → Age → Type 0
-  Young s a = (s .tail + 2 * c < a .tail + n * c) × (s .head + 2 * c < a .head + n * c)
+  Young s a = (s .tail + c < a .tail + n * c) × (s .head + c < a .head + n * c)
 
   -- A worker's word is so; in hand, and without a word, it does not matter.
   abbrev pub Recent : Shared → Age → Look → Type 0
@@ -239,3 +239,14 @@ module _ (c : ℕ) (s : Shared) (inv : Inv c s) (i : ℕ) where
   number-near (Hand Grab k w) o = omega (arith, o .1, inv .low, inv .high)
   number-near (Hand Swap k w) o = omega (arith, o .1, inv .low, inv .high)
   number-near (Hand Swapped k w) o = omega (arith, o .1, inv .low, inv .high)
+
+  -- of a full slot it is below tail
+  pub number-full : (x : Cell) → CellOk c s i x → full x ≡ true → number x < s .tail
+  number-full (Await k) o e = absurd (let y : _≡_ {A = ℕ} 0 1 = cc in omega arith)
+  number-full (Hold k) o e = o .2
+  number-full (Hand Fill k w) o e = o .1 .1
+  number-full (Hand Filled k w) o e = o .1 .1
+  number-full (Hand Take k w) o e = omega (arith, o .1 .0, inv .low)
+  number-full (Hand Grab k w) o e = omega (arith, o .1 .0, inv .low)
+  number-full (Hand Swap k w) o e = omega (arith, o .1 .1)
+  number-full (Hand Swapped k w) o e = omega (arith, o .1 .1)

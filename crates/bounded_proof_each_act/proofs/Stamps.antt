@@ -160,7 +160,7 @@ module _ (bits : Width) (c mark n : ℕ) (g : Ground bits c mark n) where
       (test-is (word c mark n j + 1) (word c mark n k + 1) j k (λ e. ap (λ (z : ℕ). word c mark n z + 1) e)
       (λ e. let q : word c mark n j ≡ word c mark n k = omega arith in word-one c mark n (g .laws) j k r q))
 
-  pub stamp-behind : (ed : ℕ) (b : Bool) (j k : ℕ) → j % c ≡ k % c → Near (n * c) (j + c) k
+  pub stamp-behind : (ed : ℕ) (b : Bool) (j k : ℕ) → j % c ≡ k % c → (b ≡ true → Near (n * c) (j + c) k)
       → lapBehindOnePast bits (fixed c mark ed) (slotWord c mark n b j) (W c mark n k) ≡ cond b (eqb (j + c) k) false
   unfolding lapBehindOnePast lapBehind same
   stamp-behind ed false j k i r =
@@ -168,7 +168,7 @@ module _ (bits : Width) (c mark n : ℕ) (g : Ground bits c mark n) where
   stamp-behind ed true j k i r =
       rw (plus-one k, full-lap j)
       (test-is (word c mark n (j + c) + 1) (word c mark n k + 1) (j + c) k (λ e. ap (λ (z : ℕ). word c mark n z + 1) e)
-      (λ e. let q : word c mark n (j + c) ≡ word c mark n k = omega arith in word-one c mark n (g .laws) (j + c) k r q))
+      (λ e. let q : word c mark n (j + c) ≡ word c mark n k = omega arith in word-one c mark n (g .laws) (j + c) k (r refl) q))
 
   -- two words of tail
   pub tails-one : (j k : ℕ) (b d : Bool) → Near (n * c) j k → same (tailWord c mark n j b) (tailWord c mark n k d) ≡ true → j ≡ k

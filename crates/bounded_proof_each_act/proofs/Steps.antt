@@ -33,7 +33,7 @@ use Rattle.bounded_proof_invariant.proofs.Ring.{Stage, Fill, Filled, Take, Grab
 use Rattle.bounded_proof_invariant.proofs.Effects.{Effect, Still, Tailed, Taken, Grabbed, Forced, Fills, Swaps, Frees, Gives, after, Fits, Loose, loose-mine, ok-at}
 use Rattle.bounded_proof_each_act.proofs.Stamps
 use Rattle.bounded_proof_each_act.proofs.Stamps.{Ground, fixed, W, tailWord}
-use Rattle.bounded_proof_each_act.proofs.Sight.{Age, aged, Tails, look, HandAt, Quiet, tale, answerIn, told, full, endsOf, slotOf, Stands, Young, Recent, see-free, see-full, number-slot, number-near}
+use Rattle.bounded_proof_each_act.proofs.Sight.{Age, aged, Tails, look, HandAt, Quiet, tale, answerIn, told, full, endsOf, slotOf, Stands, Young, Recent, see-free, see-full, number-slot, number-near, number-full}
 
 -- a test that passed, taken apart
 unless : (b t : Bool) → cond b false t ≡ true → (b ≡ false) × (t ≡ true)
@@ -128,7 +128,7 @@ module _ (bits : Width) (c mark n ed : ℕ) (g : Ground bits c mark n) (s : Shar
   abbrev Word : ℕ → Stamp
   Word k = W c mark n k
 
-  -- the number of a word of tail, and of head, is no older than its gift, and that than a turn less two capacities
+  -- the number of a word of tail, and of head, is no older than its gift, and that than a turn less one capacity
   abbrev Late : ℕ → Type 0
   Late m = (age .tail ≤ m) × Young c mark n s age
 
@@ -213,7 +213,8 @@ module _ (bits : Width) (c mark n ed : ℕ) (g : Ground bits c mark n) (s : Shar
       behind : (k : Kind) → lapBehindOnePast bits f (S .stamp) (Word m) ≡ true → Does b (P2 k (Word m) x) (stay (E b) S (fullAt k (Word m) x))
       behind Push d = still b (P2 Push (Word m) x) (P6 (Word m) x) no-hand refl tt (m, refl, le, late .0)
       behind Force d =
-          let r : Near (n * c) (number (s .cell i) + c) m = omega (arith, near, turn, inv .low, inv .high, late) in
+          let r : full (s .cell i) ≡ true → Near (n * c) (number (s .cell i) + c) m =
+          λ h. omega (arith, near, number-full c s inv i (s .cell i) ok-here h, turn, inv .low, inv .high, late) in
           let q = when (full (s .cell i)) _ (sym (Stamps.stamp-behind bits c mark n g ed (full (s .cell i)) (number (s .cell i)) m (same-slot m at) r) ∙ d) in
           let e : number (s .cell i) + c ≡ m = eqb-true _ _ (q .1) in
           let at-j : number (s .cell i) % c ≡ i = number-slot c s inv i (s .cell i) ok-here in

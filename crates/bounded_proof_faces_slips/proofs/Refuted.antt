@@ -62,6 +62,9 @@ refuted =
       list-first = λ r. true≢false (ap (λ (x : Ran). busy (x .machine)) (r .stops m₀ (0 ∷ 5 ∷ []) 1 10 0 [] refl refl refl (readable, tt) refl));
       stays-unbroken = λ r. true≢false (r .step exchanging 9 0 refl);
       only-one = λ r. true≢false (ap (λ (x : Did). busy (x .machine)) (r .step m₀ 8 0 (record { refusal = 5; machine = exchanging }) (record { refusal = 5; machine = m₀ }) refl refl));
+      both-ways-number = λ b. let q : _≡_ {A = ℕ} 0 6 = b .number-kept 6 0 in omega arith;
+      both-ways-back = λ b. let q : _≡_ {A = ℕ} 0 6 = b .number-kept 6 0 in omega arith;
+      both-ways-values = λ b. let q : _≡_ {A = ℕ} 3 2 = ap (λ (v : ℕ × ℕ). v .0) (b .values-kept (2, 3)) in omega arith;
       mixed-run = λ r. true≢false (sym (ap unmetered (r 1 1 1 refl (by-run (0 ∷ 5 ∷ 8 ∷ 0 ∷ []) ∷ []) .0 .machine)));
       mixed-step = λ r. true≢false (ap unmetered (r 1 1 1 refl (by-step 8 0 ∷ []) .0 .machine));
       mixed-in-window = λ r. true≢false (sym (ap unmetered (r 1 1 1 refl (by-run (0 ∷ 5 ∷ 8 ∷ 0 ∷ []) ∷ []) .0 .machine)));

@@ -11,6 +11,10 @@ use Rattle.bounded_machine.specs.Machine.{machineOf, blank}
 use Rattle.bounded_machine.specs.Run.{ran, runFrom, runOf}
 use Rattle.bounded.specs.Bounded as bounded
 use Rattle.bounded_demands.specs.Notions.{Face, sixtyFour, Promises, promisesOf}
+use Rattle.queue_entries.specs.declared.Told.{Told}
+use Rattle.queue_entries.specs.declared.Told.the-variants.{Number}
+use Rattle.bounded_walks.specs.declared.Sized.{Sized}
+use Rattle.bounded_demands.specs.Answers.{sizedValues}
 
 abbrev pub none : ℕ
 none = 0
@@ -110,6 +114,16 @@ promisesWith n = record {
   capacity = promisesOf sixtyFour .capacity;
   broken = promisesOf sixtyFour .broken;
 }
+
+-- Answers that are enums, their numbers and values, with a slip: a refusal has number 0; a refusal's number is taken for a value; a walk's bytes are given for its sequences.
+abbrev pub unnumbered : Told → ℕ
+unnumbered t = 0
+
+abbrev pub neverRefused : ℕ → ℕ → Told
+neverRefused number value = Number value
+
+abbrev pub bytesTwice : Sized → ℕ × ℕ
+bytesTwice s = (sizedValues s .1, sizedValues s .1)
 
 -- With none they are the face and its promises.
 pub record Faithful : Type 1 where

@@ -69,7 +69,7 @@ malformed = record {
 }
 
 -- ---- words that stand, and what they are read as
-abbrev lentIn : Words → Lent
+abbrev pub lentIn : Words → Lent
 lentIn w = lent 0 (meteredIn w) (recordsIn (w .records))
 
 module _ (w : Words) (s : stand w ≡ true) where
@@ -119,10 +119,10 @@ module _ (w : Words) (s : stand w ≡ true) (first second : ℕ) where
   pub stands-after : stand (stepWords w first second .words) ≡ true
   stands-after = ap stand step-words ∙ written-stand (next .ring) (next .records) (step-slots (meteredIn w) (recordsIn (w .records)) first second ∙ all-slots w s)
 
-  ring-after : meteredIn (stepWords w first second .words) ≡ next .ring
+  pub ring-after : meteredIn (stepWords w first second .words) ≡ next .ring
   ring-after = ap meteredIn step-words ∙ same-ring (next .ring) (next .records)
 
-  records-after : recordsIn (stepWords w first second .words .records) ≡ next .records
+  pub records-after : recordsIn (stepWords w first second .words .records) ≡ next .records
   records-after = ap (λ (x : Words). recordsIn (x .records)) step-words ∙ same-records (next .ring) (next .records)
 
   read-after : lent (stepWords w first second .answer) (meteredIn (stepWords w first second .words)) (recordsIn (stepWords w first second .words .records)) ≡ next
@@ -289,15 +289,20 @@ unfolding stepsWords
 one-doing (stepping first second) w s h = (refl, refl)
 one-doing (running e) w s h = (run-as-steps w s h e, run-even w s h e)
 
+-- what was done leaves words that stand for something, and that is not broken
+pub kept : (x : Doing) (w : Words) → stand w ≡ true → brokenLent (meteredIn w) (recordsIn (w .records)) ≡ false
+    → (stand (doneBy face w x) ≡ true) × (brokenLent (meteredIn (doneBy face w x)) (recordsIn (doneBy face w x .records)) ≡ false)
+kept x w s h =
+    let one = one-doing x w s h in
+    (ap stand (one .0) ∙ led (entriesOf face w x) w s .stands, ap (λ (z : Words). brokenLent (meteredIn z) (recordsIn (z .records))) (one .0) ∙ sound-after (entriesOf face w x) w s h)
+
 mixed : (doings : List Doing) (w : Words) → stand w ≡ true → brokenLent (meteredIn w) (recordsIn (w .records)) ≡ false → leftBy face w doings ≡ stepsWords w (entriesBy face w doings)
 unfolding leftBy entriesBy stepsWords
 mixed [] w s h = refl
 mixed (x ∷ rest) w s h =
     let one = one-doing x w s h in
-    let stands-then : stand (doneBy face w x) ≡ true = ap stand (one .0) ∙ led (entriesOf face w x) w s .stands in
-    let sound-then : brokenLent (meteredIn (doneBy face w x)) (recordsIn (doneBy face w x .records)) ≡ false =
-    ap (λ (z : Words). brokenLent (meteredIn z) (recordsIn (z .records))) (one .0) ∙ sound-after (entriesOf face w x) w s h in
-    mixed rest (doneBy face w x) stands-then sound-then
+    let then = kept x w s h in
+    mixed rest (doneBy face w x) (then .0) (then .1)
     ∙ ap (λ (z : Words). stepsWords z (entriesBy face (doneBy face w x) rest)) (one .0)
     ∙ sym (steps-on (entriesOf face w x) (entriesBy face (doneBy face w x) rest) w (one .1))
 
@@ -313,11 +318,11 @@ module _ (w : Words) (capacity edition : ℕ) (made : makeWords w capacity editi
   abbrev x : Lent
   x = makeLent (recordsIn (w .records)) capacity edition
 
-  record Fresh : Type 0 where
-    accepted-too : x .answer ≡ 0
-    words-are : makeWords w capacity edition .words ≡ wordsOf (x .ring) (x .records)
+  pub record Fresh : Type 0 where
+    pub accepted-too : x .answer ≡ 0
+    pub words-are : makeWords w capacity edition .words ≡ wordsOf (x .ring) (x .records)
 
-  fresh : Fresh
+  pub fresh : Fresh
   unfolding makeWords
   fresh = go (shaped w) refl (eqb (x .answer) 0) refl
     where
@@ -340,13 +345,13 @@ module _ (w : Words) (capacity edition : ℕ) (made : makeWords w capacity editi
   abbrev w₀ : Words
   w₀ = makeWords w capacity edition .words
 
-  stands₀ : stand (makeWords w capacity edition .words) ≡ true
+  pub stands₀ : stand (makeWords w capacity edition .words) ≡ true
   stands₀ = ap stand (fresh .words-are) ∙ written-stand (x .ring) (x .records) fresh-slots
 
-  in-is₀ : lentIn (makeWords w capacity edition .words) ≡ lent 0 (x .ring) (x .records)
+  pub in-is₀ : lentIn (makeWords w capacity edition .words) ≡ lent 0 (x .ring) (x .records)
   in-is₀ = (λ i. lentIn (fresh .words-are i)) ∙ (λ i. lent 0 (same-ring (x .ring) (x .records) i) (same-records (x .ring) (x .records) i))
 
-  sound₀ : brokenLent (meteredIn (makeWords w capacity edition .words)) (recordsIn (makeWords w capacity edition .words .records)) ≡ false
+  pub sound₀ : brokenLent (meteredIn (makeWords w capacity edition .words)) (recordsIn (makeWords w capacity edition .words .records)) ≡ false
   sound₀ = ap (λ (z : Lent). brokenLent (z .ring) (z .records)) in-is₀ ∙ sound-fresh (recordsIn (w .records)) capacity edition (fresh .accepted-too)
 
   module _ (doings : List Doing) where

@@ -13,8 +13,9 @@ use Rattle.bounded_words.specs.Words.{stamp, doubled, markOf, markedOf, unmarke
 use Rattle.bounded_places.specs.declared.Worker.{Worker}
 use Rattle.bounded_places.specs.Places.{viewOf, inside}
 use Rattle.bounded_acts.specs.Acts.{stay, losing, exchangeOf, afterTail, tailTo}
+use Rattle.bounded_machine.specs.declared.Machine.{Machine}
 use Rattle.bounded_machine.specs.declared.Did.{Did}
-use Rattle.bounded_machine.specs.Machine.{emptySlots, stamped, freshSlots, idlers, freshWith, blank, refused, accepted}
+use Rattle.bounded_machine.specs.Machine.{placeOf, emptySlots, stamped, freshSlots, idlers, freshWith, blank, refused, accepted}
 use Rattle.bounded_machine.specs.Broken.{byRule, endsFit, placeFits, recordFits, recordsFit, brokenWith}
 use Rattle.bounded_machine.specs.Turn.{recordAfter, begun, stored, actedBy, turnOfBy}
 use Rattle.bounded_machine.specs.Run.{ran}
@@ -25,10 +26,11 @@ use Rattle.bounded_codes.specs.Codes.{triple, placeIn, standsFor}
 use Rattle.bounded_rows.specs.Rows.{Words, words, headOf, slotsOf, recordsOf, wordsOf, fixedIn, endsIn, slotsIn, recordsIn, shaped, placed, stand, After}
 use Rattle.bounded_slices.specs.Slices.{brokenWords}
 use Rattle.bounded_host.specs.Host.{makeWords, stepWords, runWords}
-use Rattle.bounded_demands.specs.Lending.{running}
-use Rattle.bounded_proof_host.specs.Hosted.{Malformed, RefusedWords, OnlyTheActingWords, AsHeldWords, HostedThroughout, leftBy, entriesBy, actsWords}
+use Rattle.bounded_demands.specs.Lending.{stepping, running}
+use Rattle.bounded_proof_host.specs.Hosted.{Malformed, RefusedWords, OnlyTheActingWords, AsHeldWords, HostedThroughout, HostedMixed, leftBy, entriesBy, actsWords, allTakenWords}
 use Rattle.bounded_proof_host.specs.Slips.{Faithful, Stands, Refuted}
 use Rattle.bounded_proof_host.proofs.Hosted.{one-to-one, malformed, refused-words, only-the-acting-words, as-held-words, hosted-throughout}
+use Rattle.bounded_proof_host.proofs.Mixed.{hosted-mixed}
 
 pub faithful : Faithful
 faithful = refl
@@ -41,6 +43,7 @@ stands = (
   subst OnlyTheActingWords (sym faithful) only-the-acting-words,
   subst AsHeldWords (sym faithful) as-held-words,
   subst HostedThroughout (sym faithful) hosted-throughout,
+  subst HostedMixed (sym faithful) hosted-mixed,
 )
 
 -- words that are all 0, with so many words for records
@@ -62,7 +65,7 @@ some-number : (n : ℕ) → eqb n 0 ≡ false → n ≡ 0 → ⊥
 some-number n h e = true≢false (sym (ap (λ (k : ℕ). eqb k 0) e) ∙ h)
 
 pub refuted : Refuted
-unfolding blanks fresh otherLayout code99 inside stepOfBy doubled markOf markedOf unmarkedOf plus minus withMark nextOf same onePast lapBehind lapBehindOnePast strayOf orderOf entryOf stay losing exchangeOf afterTail tailTo emptySlots stamped freshSlots idlers freshWith blank refused accepted inLimits all byRule endsFit placeFits recordFits recordsFit brokenWith recordAfter begun stored actedBy turnOfBy makeRefusal brokenLent stepLent runLent makeLent runBy searchBy scheduleBy ran triple placeIn standsFor headOf slotsOf recordsOf wordsOf fixedIn endsIn slotsIn recordsIn shaped placed stand brokenWords makeWords stepWords runWords leftBy entriesBy actsWords
+unfolding blanks fresh otherLayout code99 inside stepOfBy doubled markOf markedOf unmarkedOf plus minus withMark nextOf same onePast lapBehind lapBehindOnePast strayOf orderOf entryOf stay losing exchangeOf afterTail tailTo emptySlots stamped freshSlots idlers freshWith blank refused accepted inLimits all byRule endsFit placeFits recordFits recordsFit brokenWith recordAfter begun stored actedBy turnOfBy makeRefusal brokenLent stepLent runLent makeLent runBy searchBy scheduleBy ran triple placeIn standsFor headOf slotsOf recordsOf wordsOf fixedIn endsIn slotsIn recordsIn shaped placed stand brokenWords makeWords stepWords runWords leftBy entriesBy actsWords allTakenWords
 refuted =
     record {
       one-to-one = λ r. true≢false (ap (λ (w : Words). eqb (getD (w .records) 0 0) 38) (r .written code99 refl));
@@ -72,4 +75,6 @@ refuted =
       acting = λ r. true≢false (sym (ap (λ (y : Worker). eqb (y .differed) 0) (r .others (fresh 10) 0 5 1 refl (λ e. omega arith))));
       as-held = λ r. true≢false (sym (ap (λ (d : Did). eqb (d .refusal) 0) (r .step (fresh 5) 0 5 refl (omega arith))));
       throughout = λ r. some-number _ refl (sym (r (blanks 5) 1 1 refl (running (0 ∷ 5 ∷ 8 ∷ 0 ∷ []) ∷ []) .0 .meter));
+      mixed = λ r. true≢false (ap (λ (m : Machine). eqb (m .meter) 1) (r (blanks 5) 1 1 refl (running (0 ∷ 5 ∷ 8 ∷ 0 ∷ []) ∷ []) .0 .machine));
+      told = λ r. true≢false (ap (λ (m : Machine). viewOf (placeOf (m .workers) 0) .busy) (r (blanks 5) 1 1 refl (stepping 0 5 ∷ []) .0 .machine));
     }

@@ -25,9 +25,9 @@ use Rattle.bounded_rows.specs.Rows.{Words, wordsOf, meteredIn, recordsIn, stand
 use Rattle.bounded_slices.specs.Slices.{brokenWords}
 use Rattle.bounded_host.specs.declared.Reply.{Reply}
 use Rattle.bounded_host.specs.Host.{reply, makeWords, stepWords, Ended, ended, runWords, capacityWords, Listed, listed, contentsWords}
-use Rattle.bounded_demands.specs.Notions.{withRecords, ranOf}
+use Rattle.bounded_demands.specs.Notions.{withRecords, ranOf, entryUnless}
 use Rattle.bounded_demands.specs.Lending.{holding, holds-did, holds-ran, Doing, stepping, running}
-use Rattle.bounded_demands.specs.Demands.{Demand2, Demand3}
+use Rattle.bounded_demands.specs.Demands.{Demand2, Demand3, AsOneSchedule, Throughout}
 
 -- What each function of the face answers, with the words and the buffer as they are then.
 pub record Hosting : Type 0 where
@@ -115,3 +115,21 @@ HostedThroughout d =
     (actsWords d (d .make w capacity edition .words) (entriesBy d (d .make w capacity edition .words) doings))
     × Demand3 (withRecords (length (recordsIn (w .records))) SixtyFour) (heldWords (leftBy d (d .make w capacity edition .words) doings))
     (actsWords d (d .make w capacity edition .words) (entriesBy d (d .make w capacity edition .words) doings))
+
+-- The entries of it that were accepted; refused ones are passed over.
+abbrev pub takenWords : Hosting → Words → Doing → List ℕ
+takenWords d w (stepping first second) = entryUnless (d .step w first second .answer) first second
+takenWords d w (running s) = ranOf (searchBy entryOf 0 s) (d .run w s .answer .number) s
+
+unfoldable pub allTakenWords : Hosting → Words → List Doing → List ℕ
+allTakenWords d w [] = []
+allTakenWords d w (x ∷ rest) = takenWords d w x ++ allTakenWords d (doneBy d w x) rest
+
+-- Such a host's calls are one schedule, of the entries that were accepted: the words stand for the machine that it leads to. So all of what is said of every schedule holds of them: what an
+-- answer means, that nothing handed in is lost, that calls are one step each, why they go back, demands 2 and 3.
+abbrev pub HostedMixed : Hosting → Type 0
+HostedMixed d =
+    (w : Words) (capacity edition : ℕ) → d .make w capacity edition .answer ≡ 0 → (doings : List Doing)
+    → AsOneSchedule (withRecords (length (recordsIn (w .records))) SixtyFour) capacity (length (recordsIn (w .records))) edition (heldWords (leftBy d (d .make w capacity edition .words) doings))
+    (allTakenWords d (d .make w capacity edition .words) doings)
+    × Throughout (withRecords (length (recordsIn (w .records))) SixtyFour) capacity (length (recordsIn (w .records))) edition (allTakenWords d (d .make w capacity edition .words) doings)

@@ -1,5 +1,5 @@
 -- The host's face with a slip at one point, all else as it is; and words that are let pass.
-use Prim.Native.Nat.{ℕ, _+_, _*_, _/_}
+use Prim.Native.Nat.{ℕ, _+_, _*_, _/_, _%_}
 use mathlib.Core.Bool.{Bool, true, cond}
 use mathlib.Core.List.{List}
 use mathlib.Core.Path.{_≡_}
@@ -8,7 +8,7 @@ use lib.ListN.{set, getD}
 use Rattle.bounded_rows.specs.Rows.{Words, words, stand, After, after}
 use Rattle.bounded_slices.specs.Slices.{brokenWords}
 use Rattle.bounded_host.specs.Host.{makeWords, stepWords, runWords, Ended, ended, capacityWords, contentsWords}
-use Rattle.bounded_proof_host.specs.Hosted.{Hosting, face, OneToOne, Malformed, RefusedWords, OnlyTheActingWords, AsHeldWords, HostedThroughout}
+use Rattle.bounded_proof_host.specs.Hosted.{Hosting, face, OneToOne, Malformed, RefusedWords, OnlyTheActingWords, AsHeldWords, HostedThroughout, HostedMixed}
 
 abbrev pub none : ℕ
 none = 0
@@ -37,6 +37,10 @@ notRun = 5
 abbrev pub otherWorker : ℕ
 otherWorker = 6
 
+-- a push that is begun is told as done at once
+abbrev pub toldAtOnce : ℕ
+toldAtOnce = 7
+
 abbrev withMeter : Words → Words
 withMeter w = words (set (w .head) 6 (getD (w .head) 6 0 + 1)) (w .slots) (w .records)
 
@@ -45,6 +49,9 @@ withMark w = words (set (w .head) 0 (getD (w .head) 0 0 + 1)) (w .slots) (w .rec
 
 abbrev withNeighbour : Words → ℕ → Words
 withNeighbour w first = words (w .head) (w .slots) (set (w .records) ((first / 16 + 1) * 5 + 3) 1)
+
+abbrev withPushed : Words → ℕ → Words
+withPushed w first = words (w .head) (w .slots) (set (set (w .records) (first / 16 * 5) 1) (first / 16 * 5 + 1) 0)
 
 -- the words with the layout number that they should have
 abbrev laidOut : Words → Words
@@ -57,7 +64,8 @@ stepWith n w first second =
     (cond (eqb n neighbourWritten) (after (stepWords w first second .answer) (withNeighbour (stepWords w first second .words) first))
     (cond (eqb n layoutPassed) (stepWords (laidOut w) first second)
     (cond (eqb n otherWorker) (stepWords w (first + 16) second)
-    (stepWords w first second))))
+    (cond (eqb n toldAtOnce) (cond (eqb (first % 16) 0) (after (stepWords w first second .answer) (withPushed (stepWords w first second .words) first)) (stepWords w first second))
+    (stepWords w first second)))))
 
 abbrev makeWith : ℕ → Words → ℕ → ℕ → After
 makeWith n w capacity edition =
@@ -87,7 +95,7 @@ abbrev pub Faithful : Type 0
 Faithful = given ≡ face
 
 abbrev pub Stands : Type 0
-Stands = OneToOne stand × Malformed given × RefusedWords given × OnlyTheActingWords given × AsHeldWords given × HostedThroughout given
+Stands = OneToOne stand × Malformed given × RefusedWords given × OnlyTheActingWords given × AsHeldWords given × HostedThroughout given × HostedMixed given
 
 -- Which statement refuses which slip.
 pub record Refuted : Type 0 where
@@ -98,3 +106,5 @@ pub record Refuted : Type 0 where
   pub acting : OnlyTheActingWords (hostingWith neighbourWritten) → ⊥
   pub as-held : AsHeldWords (hostingWith otherWorker) → ⊥
   pub throughout : HostedThroughout (hostingWith notRun) → ⊥
+  pub mixed : HostedMixed (hostingWith notRun) → ⊥
+  pub told : HostedMixed (hostingWith toldAtOnce) → ⊥

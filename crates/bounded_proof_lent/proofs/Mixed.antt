@@ -15,35 +15,38 @@ use Rattle.bounded_machine.specs.Machine.{freshWith}
 use Rattle.bounded_parts.specs.declared.Metered.{Metered}
 use Rattle.bounded_lent.specs.Lent.{held, brokenLent, Lent, lent, stepLent, runLent, makeLent}
 use Rattle.bounded_lent.proofs.Running.{Whole, turned-whole, held-again}
-use Rattle.bounded_demands.specs.Notions.{withRecords, AllowedWith, KeepsWindow}
+use Rattle.bounded_demands.specs.Notions.{withRecords, AllowedWith, windowLength, widestLength}
 use Rattle.bounded_demands.specs.Lending.{item11, steps, heldIn, Doing, stepping, running, doneLent, leftLent, takenLent, allTakenLent}
-use Rattle.bounded_demands.specs.Demands.{ThroughoutInWindow, Throughout, LentMixed}
+use Rattle.bounded_demands.specs.Demands.{WithinWindowOf, Throughout, LentMixed}
 use Rattle.bounded_demands.proofs.Refusals.{ring-queue}
 use Rattle.bounded_demands.proofs.Mixtures.{Goes, goes-run, goes-on, schedule-goes}
-use Rattle.bounded_proof_demand2.proofs.Always.{always}
+use Rattle.bounded_proof_demand2.proofs.Always.{always, widens}
 use Rattle.bounded_proof_demand2.proofs.Lens.{len-true}
-use Rattle.bounded_proof_demand3.proofs.Demand3.{within-the-window}
-use Rattle.bounded_proof_plain.proofs.Plain.{plain-in-window}
-use Rattle.bounded_proof_plain.proofs.Linearizable.{one-step-in-window}
-use Rattle.bounded_proof_causes.proofs.Alone.{retries-in-window}
+use Rattle.bounded_proof_demand3.proofs.Demand3.{within-in}
+use Rattle.bounded_proof_plain.proofs.Plain.{plain-in}
+use Rattle.bounded_proof_plain.proofs.Linearizable.{one-step-in}
+use Rattle.bounded_proof_causes.proofs.Alone.{retries-in}
 use Rattle.bounded_proof_lent.proofs.Throughout.{next, next-is, held-next, sound-next, stays, allowed, held-fresh, sound-fresh}
 use Rattle.bounded_proof_lent.proofs.Refusals.{by-lender, ranLent, run-sound}
 
 -- all that is said of every schedule, of any number of records
-pub throughout-in-window : (bits : Width) (records capacity workers edition : ℕ) → AllowedWith records capacity workers edition → (s : List ℕ)
-    → KeepsWindow (withRecords records bits) (freshWith records capacity workers edition) [] s → ThroughoutInWindow (withRecords records bits) capacity workers edition s
-throughout-in-window bits records capacity workers edition a s keeps =
+pub within-the-widest : (bits : Width) (records : ℕ) → WithinWindowOf widestLength (withRecords records bits)
+within-the-widest bits records capacity workers edition a s keeps =
     record {
-      within = within-the-window bits records capacity workers edition a s keeps;
-      plain = plain-in-window bits records capacity workers edition a s keeps;
-      one-step = one-step-in-window bits records capacity workers edition a s keeps;
-      retries = λ team. retries-in-window bits records capacity workers edition a team s keeps;
+      within = within-in bits records capacity workers edition a s keeps;
+      plain = plain-in bits records capacity workers edition a s keeps;
+      one-step = one-step-in bits records capacity workers edition a s keeps;
+      retries = λ team. retries-in bits records capacity workers edition a team s keeps;
     }
+
+pub throughout-in-window : (bits : Width) (records : ℕ) → WithinWindowOf windowLength (withRecords records bits)
+throughout-in-window bits records capacity workers edition a s keeps =
+    within-the-widest bits records capacity workers edition a s (widens (withRecords records bits) (freshWith records capacity workers edition) [] s keeps)
 
 pub throughout : (records capacity workers edition : ℕ) → AllowedWith records capacity workers edition → (s : List ℕ) → Throughout (withRecords records SixtyFour) capacity workers edition s
 throughout records capacity workers edition a s =
     record {
-      in-window = throughout-in-window SixtyFour records capacity workers edition a s (always records capacity workers edition a s);
+      in-window = within-the-widest SixtyFour records capacity workers edition a s (always records capacity workers edition a s);
       len = len-true records capacity workers edition a s;
     }
 

@@ -28,7 +28,7 @@ use Rattle.bounded_machine.specs.declared.Event.{Event}
 use Rattle.bounded_machine.specs.Machine.{idler}
 use Rattle.bounded_machine.specs.Turn.{beginner, begun, acted}
 use Rattle.bounded_machine.proofs.Kept.{few-workers}
-use Rattle.bounded_demands.specs.Notions.{InWindow}
+use Rattle.bounded_demands.specs.Notions.{InWidestWindow}
 use Rattle.bounded_demands.specs.Stories.{Story, known, changeOf, actor, oneStep, OnlySuch}
 use Rattle.bounded_proof_invariant.proofs.Ring.{Shared}
 use Rattle.bounded_proof_each_act.proofs.Sight.{Age}
@@ -272,7 +272,7 @@ module _ (bits : Width) (c n workers : ℕ) (base : Base bits c n workers) (ed :
   unfolding begun
   elsewhere m w cl j far = ap (λ (z : Worker). z .place) (getD-set-other (m .workers) w j (beginner (beginOf cl)) idler far)
 
-  pub both-kept : (m : Machine) (st : Story) (en : Entry) (after-it : Machine) (acts : List Event) → Both m st → InWindow bits m (actsIn st) → OnlySuch (oneStep ed) (begunIn en ++ map Does acts) → Turned bits m en after-it acts
+  pub both-kept : (m : Machine) (st : Story) (en : Entry) (after-it : Machine) (acts : List Event) → Both m st → InWidestWindow bits m (actsIn st) → OnlySuch (oneStep ed) (begunIn en ++ map Does acts) → Turned bits m en after-it acts
       → Both after-it (st ++ (begunIn en ++ map Does acts))
   both-kept m st en after-it acts b window only (began w cl l idle) =
       record {
@@ -283,7 +283,7 @@ module _ (bits : Width) (c n workers : ℕ) (base : Base bits c n workers) (ed :
       }
   both-kept m st en after-it acts b window only (did w lose l busy early) =
       let o = b .told in
-      let young = recent-in bits c n workers base m (o .h) (o .reached) (subst (InWindow bits m) (o .acts) window) w in
+      let young = recent-in bits c n workers base m (o .h) (o .reached) (subst (InWidestWindow bits m) (o .acts) window) w in
       subst (λ (e : Event). Both (acted bits m w (stood m w) lose) (st ++ Does e ∷ [])) (sym (same-event bits c n workers base ed m st o w l lose busy young early))
       (record {
         told = told-act bits c n workers base ed m st o w l lose busy young early;

@@ -22,13 +22,13 @@ use Rattle.bounded_machine.specs.Machine.{freshWith}
 use Rattle.bounded_machine.specs.Turn.{turnAt, turnOfBy}
 use Rattle.bounded_machine.specs.Run.{runAt}
 use Rattle.bounded_machine.specs.History.{eventsOf}
-use Rattle.bounded_demands.specs.Notions.{withRecords, AllowedWith, machineAfter, InWindow, KeepsWindow}
+use Rattle.bounded_demands.specs.Notions.{withRecords, AllowedWith, machineAfter, InWidestWindow, KeepsWidestWindow}
 use Rattle.bounded_demands.specs.Stories.{Story, storyOf, oneStep, OnlySuch, momentFrom}
 use Rattle.bounded_demands.specs.Demands.{OneByOne, OneStep, OneStepInWindow}
 use Rattle.bounded_demands.proofs.Refusals.{ring-queue}
 use Rattle.bounded_proof_demand2.proofs.Turns.{turned, stood}
 use Rattle.bounded_proof_demand2.proofs.Reached.{lapsOf, base-of, fresh-record, nil-split}
-use Rattle.bounded_proof_demand2.proofs.Always.{always}
+use Rattle.bounded_proof_demand2.proofs.Always.{always, widens}
 use Rattle.bounded_proof_plain.proofs.Line.{Line, none-one}
 use Rattle.bounded_proof_plain.proofs.Lined.{Asks, Lined}
 use Rattle.bounded_proof_plain.proofs.Linear.{Both, both-kept, only-first, only-last}
@@ -100,24 +100,28 @@ module _ (bits : Width) (records c workers ed : ℕ) (a : AllowedWith records c 
             };
       }
 
-  one-entry : (m : Machine) (st : Story) (i j : ℕ) → Tells m st → InWindow bits m (actsIn st) → turnAt bits m i j .refusal ≡ 0
+  one-entry : (m : Machine) (st : Story) (i j : ℕ) → Tells m st → InWidestWindow bits m (actsIn st) → turnAt bits m i j .refusal ≡ 0
       → Tells (turnAt bits m i j .machine) (st ++ elementsBy (eventsOf bits) m (entryOf i j) (turnAt bits m i j .machine))
   unfolding turnOfBy
   one-entry m st i j o window e only =
       both-kept bits c n workers (base-of bits records c workers ed a) ed m st (entryOf i j) _ _ (o (only-first (oneStep ed) st _ only)) window (only-last (oneStep ed) st _ only) (turned bits m (entryOf i j) e)
 
-  both-after : (s : List ℕ) → KeepsWindow (withRecords records bits) (freshWith records c workers ed) [] s → Tells (machineAfter (withRecords records bits) c workers ed s) (storyOf (withRecords records bits) c workers ed s)
+  both-after : (s : List ℕ) → KeepsWidestWindow (withRecords records bits) (freshWith records c workers ed) [] s → Tells (machineAfter (withRecords records bits) c workers ed s) (storyOf (withRecords records bits) c workers ed s)
   both-after s keeps =
-      entries-lead-while (ring-queue bits) (elementsBy (eventsOf bits)) (λ (m : Machine) (st : Story). InWindow bits m (actsIn st)) Tells one-entry s (freshWith records c workers ed) [] 0
+      entries-lead-while (ring-queue bits) (elementsBy (eventsOf bits)) (λ (m : Machine) (st : Story). InWidestWindow bits m (actsIn st)) Tells one-entry s (freshWith records c workers ed) [] 0
       (λ before after e.
-      subst (InWindow bits (runAt bits (freshWith records c workers ed) 0 before .machine)) (sym (acts-story (λ (d : Did). d .refusal) (λ (d : Did). d .machine) (turnAt bits) (eventsOf bits) before (freshWith records c workers ed)))
+      subst (InWidestWindow bits (runAt bits (freshWith records c workers ed) 0 before .machine)) (sym (acts-story (λ (d : Did). d .refusal) (λ (d : Did). d .machine) (turnAt bits) (eventsOf bits) before (freshWith records c workers ed)))
       (keeps before after e))
       first-both
 
-pub one-step-in-window : (bits : Width) (records : ℕ) → OneStepInWindow (withRecords records bits)
-one-step-in-window bits records c workers ed a s keeps only =
+pub one-step-in : (bits : Width) (records c workers ed : ℕ) → AllowedWith records c workers ed → (s : List ℕ) → KeepsWidestWindow (withRecords records bits) (freshWith records c workers ed) [] s
+    → OnlySuch (oneStep ed) (storyOf (withRecords records bits) c workers ed s) → OneByOne c ed (storyOf (withRecords records bits) c workers ed s)
+one-step-in bits records c workers ed a s keeps only =
     one-by-one c ed _ _ _ _ (both-after bits records c workers ed a s keeps only .lined)
+
+pub one-step-in-window : (bits : Width) (records : ℕ) → OneStepInWindow (withRecords records bits)
+one-step-in-window bits records c workers ed a s keeps = one-step-in bits records c workers ed a s (widens (withRecords records bits) (freshWith records c workers ed) [] s keeps)
 
 -- of 64 bits every schedule
 pub one-step : (records : ℕ) → OneStep (withRecords records SixtyFour)
-one-step records c workers ed a s only = one-step-in-window SixtyFour records c workers ed a s (always records c workers ed a s) only
+one-step records c workers ed a s only = one-step-in SixtyFour records c workers ed a s (always records c workers ed a s) only

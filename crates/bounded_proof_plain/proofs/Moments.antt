@@ -22,6 +22,7 @@ use Rattle.bounded_words.specs.declared.Width.the-variants.{SixtyFour}
 use Rattle.bounded_words.specs.Limits.{wide}
 use Rattle.bounded_places.specs.declared.Place.{Place}
 use Rattle.bounded_machine.specs.declared.Machine.{Machine}
+use Rattle.bounded_machine.specs.Machine.{freshWith}
 use Rattle.bounded_machine.specs.declared.Event.{Event}
 use Rattle.bounded_machine.specs.declared.Moved.{Moved}
 use Rattle.bounded_machine.specs.declared.Moved.the-variants.{Neither, Tail, Head}
@@ -37,7 +38,7 @@ use Rattle.bounded_moments.specs.declared.OfWorker.{OfWorker}
 use Rattle.bounded_moments.specs.declared.Timing.{Timing}
 use Rattle.bounded_moments.specs.declared.Timing.the-variants.{Now, Stays, IfSome, IfRoom}
 use Rattle.bounded_moments.specs.Moments.{timingOf, timedOf, heardOf, ofWorker, momentIn, heardByAll, begunOf, ownOf, namedOf}
-use Rattle.bounded_demands.specs.Notions.{withRecords, AllowedWith, tally}
+use Rattle.bounded_demands.specs.Notions.{withRecords, AllowedWith, KeepsWidestWindow, tally}
 use Rattle.bounded_demands.specs.Stories.{Element, Story, storyOf, known, changeOf, actor, Moment, At, AfterNextTail, AfterNextHead, timed, heard, momentOf, momentFrom, momentsWith, momentsFrom, momentsKept, momentNamed, inStory}
 use Rattle.bounded_demands.specs.Demands.{NamesMoments, MomentsKept, MomentsKeptInWindow}
 use Rattle.bounded_proof_demand2.proofs.Turns.{Turned, began, did, turned}
@@ -45,7 +46,7 @@ use Rattle.bounded_proof_demand2.proofs.Lists.{Last, Earlier, split-end}
 use Rattle.bounded_proof_demand2.proofs.Counts.{tally-end}
 use Rattle.bounded_proof_demand2.proofs.Contents.{untaken-is}
 use Rattle.bounded_proof_demand2.proofs.Reached.{base-of, nil-split}
-use Rattle.bounded_proof_demand2.proofs.Always.{always}
+use Rattle.bounded_proof_demand2.proofs.Always.{always, widens}
 use Rattle.bounded_proof_plain.proofs.Shelf.{moment-own, moment-else, moment-begun}
 use Rattle.bounded_proof_plain.proofs.Plain.{Tells, told-with}
 
@@ -262,10 +263,14 @@ module _ (bits : Width) (records c workers ed : ℕ) (a : AllowedWith records c 
   unfolding turnOfBy
   sound-entry m st i j o s e = sound-kept m st (entryOf i j) _ _ o s (turned bits m (entryOf i j) e)
 
-pub moments-in-window : (bits : Width) (records : ℕ) → MomentsKeptInWindow (withRecords records bits)
-moments-in-window bits records c workers ed a s keeps few =
+pub moments-in : (bits : Width) (records c workers ed : ℕ) → AllowedWith records c workers ed → (s : List ℕ) → KeepsWidestWindow (withRecords records bits) (freshWith records c workers ed) [] s
+    → NamesMoments c ed (storyOf (withRecords records bits) c workers ed s)
+moments-in bits records c workers ed a s keeps few =
     told-with bits records c workers ed a (λ (m : Machine) (st : Story). length st < wide → Sound c ed st) (sound-entry bits records c workers ed a) (λ h. sound-none c ed) s keeps .1 few .names
+
+pub moments-in-window : (bits : Width) (records : ℕ) → MomentsKeptInWindow (withRecords records bits)
+moments-in-window bits records c workers ed a s keeps = moments-in bits records c workers ed a s (widens (withRecords records bits) (freshWith records c workers ed) [] s keeps)
 
 -- of 64 bits every schedule
 pub moments-kept : (records : ℕ) → MomentsKept (withRecords records SixtyFour)
-moments-kept records c workers ed a s = moments-in-window SixtyFour records c workers ed a s (always records c workers ed a s)
+moments-kept records c workers ed a s = moments-in SixtyFour records c workers ed a s (always records c workers ed a s)

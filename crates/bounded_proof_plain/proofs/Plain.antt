@@ -29,7 +29,7 @@ use Rattle.bounded_machine.specs.Machine.{starts, freshWith}
 use Rattle.bounded_machine.specs.Turn.{turnAt, turnOfBy}
 use Rattle.bounded_machine.specs.Run.{runAt}
 use Rattle.bounded_machine.specs.History.{eventsOf}
-use Rattle.bounded_demands.specs.Notions.{withRecords, AllowedWith, machineAfter, itemsOf, takersOf, tally, waiting, InHand, handF7, handF8, handF9, handO4, handO5, InWindow, KeepsWindow}
+use Rattle.bounded_demands.specs.Notions.{withRecords, AllowedWith, machineAfter, actsOf, itemsOf, takersOf, tally, waiting, InHand, handF7, handF8, handF9, handO4, handO5, InWidestWindow, KeepsWidestWindow}
 use Rattle.bounded_demands.specs.Stories.{Story, storyOf, known, changeOf, actor, itemAt, At, momentOf}
 use Rattle.bounded_demands.specs.Demands.{PlainThroughout, AnswersPlain, AnswersPlainInWindow}
 use Rattle.bounded_demands.proofs.Refusals.{ring-queue}
@@ -39,7 +39,7 @@ use Rattle.bounded_proof_demand2.proofs.Turns.{turned, stood}
 use Rattle.bounded_proof_demand2.proofs.Counts.{tally-head}
 use Rattle.bounded_proof_demand2.proofs.Reached.{Reached, lapsOf, base-of, fresh-record, nil-split}
 use Rattle.bounded_proof_demand2.proofs.Contents.{contents-are}
-use Rattle.bounded_proof_demand2.proofs.Always.{always}
+use Rattle.bounded_proof_demand2.proofs.Always.{always, widens}
 use Rattle.bounded_proof_demand2.proofs.Demand2.{fresh-reached}
 use Rattle.bounded_proof_plain.proofs.Work.{task, Due}
 use Rattle.bounded_proof_plain.proofs.Rows.{pushed-item}
@@ -212,7 +212,7 @@ module _ (bits : Width) (records c workers ed : ℕ) (a : AllowedWith records c 
 
   -- ---- along every schedule
 
-  one-entry : (m : Machine) (st : Story) (i j : ℕ) → Tells m st → InWindow bits m (actsIn st) → turnAt bits m i j .refusal ≡ 0
+  one-entry : (m : Machine) (st : Story) (i j : ℕ) → Tells m st → InWidestWindow bits m (actsIn st) → turnAt bits m i j .refusal ≡ 0
       → Tells (turnAt bits m i j .machine) (st ++ elementsBy (eventsOf bits) m (entryOf i j) (turnAt bits m i j .machine))
   unfolding turnOfBy
   one-entry m st i j o window e = told-kept bits c n workers (base-of bits records c workers ed a) ed m st (entryOf i j) _ _ o window (turned bits m (entryOf i j) e)
@@ -220,27 +220,31 @@ module _ (bits : Width) (records c workers ed : ℕ) (a : AllowedWith records c 
   -- with whatever else each entry leads on
   module _ (Q : Machine → Story → Type 0) (step : (m : Machine) (st : Story) (i j : ℕ) → Tells m st → Q m st → turnAt bits m i j .refusal ≡ 0
       → Q (turnAt bits m i j .machine) (st ++ elementsBy (eventsOf bits) m (entryOf i j) (turnAt bits m i j .machine))) (first : Q (freshWith records c workers ed) []) where
-    pub told-with : (s : List ℕ) → KeepsWindow (withRecords records bits) (freshWith records c workers ed) [] s
+    pub told-with : (s : List ℕ) → KeepsWidestWindow (withRecords records bits) (freshWith records c workers ed) [] s
         → Tells (machineAfter (withRecords records bits) c workers ed s) (storyOf (withRecords records bits) c workers ed s)
         × Q (machineAfter (withRecords records bits) c workers ed s) (storyOf (withRecords records bits) c workers ed s)
     told-with s keeps =
-        entries-lead-while (ring-queue bits) (elementsBy (eventsOf bits)) (λ (m : Machine) (st : Story). InWindow bits m (actsIn st)) (λ (m : Machine) (st : Story). Tells m st × Q m st)
+        entries-lead-while (ring-queue bits) (elementsBy (eventsOf bits)) (λ (m : Machine) (st : Story). InWidestWindow bits m (actsIn st)) (λ (m : Machine) (st : Story). Tells m st × Q m st)
         (λ m st i j both window e. (one-entry m st i j (both .0) window e, step m st i j (both .0) (both .1) e)) s (freshWith records c workers ed) [] 0
         (λ before after e.
-        subst (InWindow bits (runAt bits (freshWith records c workers ed) 0 before .machine)) (sym (acts-story (λ (d : Did). d .refusal) (λ (d : Did). d .machine) (turnAt bits) (eventsOf bits) before (freshWith records c workers ed)))
+        subst (InWidestWindow bits (runAt bits (freshWith records c workers ed) 0 before .machine)) (sym (acts-story (λ (d : Did). d .refusal) (λ (d : Did). d .machine) (turnAt bits) (eventsOf bits) before (freshWith records c workers ed)))
         (keeps before after e))
         (told-first, first)
 
-  told-after : (s : List ℕ) → KeepsWindow (withRecords records bits) (freshWith records c workers ed) [] s → Tells (machineAfter (withRecords records bits) c workers ed s) (storyOf (withRecords records bits) c workers ed s)
+  told-after : (s : List ℕ) → KeepsWidestWindow (withRecords records bits) (freshWith records c workers ed) [] s → Tells (machineAfter (withRecords records bits) c workers ed s) (storyOf (withRecords records bits) c workers ed s)
   told-after s keeps = told-with (λ m st. Unit {0}) (λ m st i j o q e. tt) tt s keeps .0
 
-pub plain-in-window : (bits : Width) (records : ℕ) → AnswersPlainInWindow (withRecords records bits)
-plain-in-window bits records c workers ed a s keeps =
+pub plain-in : (bits : Width) (records c workers ed : ℕ) → AllowedWith records c workers ed → (s : List ℕ) → KeepsWidestWindow (withRecords records bits) (freshWith records c workers ed) [] s
+    → PlainThroughout c ed (machineAfter (withRecords records bits) c workers ed s) (actsOf (withRecords records bits) c workers ed s) (storyOf (withRecords records bits) c workers ed s)
+plain-in bits records c workers ed a s keeps =
     let o = told-after bits records c workers ed a s keeps in
     subst (λ (h : List Event). PlainThroughout c ed (machineAfter (withRecords records bits) c workers ed s) h (storyOf (withRecords records bits) c workers ed s))
     (sym (o .acts) ∙ acts-story (λ (d : Did). d .refusal) (λ (d : Did). d .machine) (turnAt bits) (eventsOf bits) s (freshWith records c workers ed))
     (plain-of bits records c workers ed a _ _ o)
 
+pub plain-in-window : (bits : Width) (records : ℕ) → AnswersPlainInWindow (withRecords records bits)
+plain-in-window bits records c workers ed a s keeps = plain-in bits records c workers ed a s (widens (withRecords records bits) (freshWith records c workers ed) [] s keeps)
+
 -- of 64 bits every schedule
 pub answers-plain : (records : ℕ) → AnswersPlain (withRecords records SixtyFour)
-answers-plain records c workers ed a s = plain-in-window SixtyFour records c workers ed a s (always records c workers ed a s)
+answers-plain records c workers ed a s = plain-in SixtyFour records c workers ed a s (always records c workers ed a s)

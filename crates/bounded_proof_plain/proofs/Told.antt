@@ -37,7 +37,7 @@ use Rattle.bounded_machine.specs.Machine.{slot, idler, placeOf}
 use Rattle.bounded_machine.proofs.Kept.{few-workers}
 use Rattle.bounded_machine.specs.Turn.{beginner, begun, acted, actedBy, stored}
 use Rattle.bounded_machine.specs.History.{event, lossAt, movedOf}
-use Rattle.bounded_demands.specs.Notions.{itemIn, InWindow}
+use Rattle.bounded_demands.specs.Notions.{itemIn, InWidestWindow}
 use Rattle.bounded_demands.specs.Stories.{Story, known, changeOf, actor, At, heard, momentOf}
 use Rattle.bounded_demands.specs.Demands.{Answered, Meant, Changes}
 use Rattle.bounded_proof_invariant.proofs.Upd.{upd, upd-same, upd-else}
@@ -384,8 +384,8 @@ module _ (bits : Width) (c n workers : ℕ) (base : Base bits c n workers) (ed :
       begun-behind Q o = begun-after bits c n workers base m _ r w l cl idle (λ (z : Shared) (b : Bool) (ages : ℕ → Age). Q z ages) o
 
   -- every accepted entry leads on
-  pub told-kept : (m : Machine) (st : Story) (en : Entry) (after-it : Machine) (acts : List Event) → Told m st → InWindow bits m (actsIn st) → Turned bits m en after-it acts → Told after-it (st ++ (begunIn en ++ map Does acts))
+  pub told-kept : (m : Machine) (st : Story) (en : Entry) (after-it : Machine) (acts : List Event) → Told m st → InWidestWindow bits m (actsIn st) → Turned bits m en after-it acts → Told after-it (st ++ (begunIn en ++ map Does acts))
   told-kept m st en after-it acts o window (began w cl l idle) = told-begun m st o w l cl idle
   told-kept m st en after-it acts o window (did w lose l busy early) =
-      let young = recent-in bits c n workers base m (o .h) (o .reached) (subst (InWindow bits m) (o .acts) window) w in
+      let young = recent-in bits c n workers base m (o .h) (o .reached) (subst (InWidestWindow bits m) (o .acts) window) w in
       subst (λ (e : Event). Told (acted bits m w (stood m w) lose) (st ++ Does e ∷ [])) (sym (same-event m st o w l lose busy young early)) (told-act m st o w l lose busy young early)

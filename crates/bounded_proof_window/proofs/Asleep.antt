@@ -2,14 +2,19 @@
 use mathlib.Core.Path.{_≡_, refl, sym, ap, _∙_, subst}
 use mathlib.Core.Bool.{Bool, true, false, cond, true≢false}
 use mathlib.Core.List.{List, [], _∷_, _++_, append-assoc, append-nil}
-use Prim.Native.Nat.{ℕ, _+_, _*_, _%_, _≤_, _<_}
+use Prim.Native.Nat.{ℕ, zero, suc, _+_, _*_, _%_, _≤_, _<_}
 use native.Mathlib.Omega.{arith}
 use lib.Dec.{eqb}
-use lib.ListN.{length, getD, drop, replicate}
+use lib.ListN.{length, length-append, getD, drop, replicate}
 use Rattle.queue_entries.specs.Limits.{meterMost}
 use Rattle.queue_entries.specs.Schedules.{runBy, historyBy}
+use Rattle.queue_entries.specs.declared.Order.the-variants.{Begin, Act}
+use Rattle.queue_entries.specs.declared.Entry.{Entry}
+use Rattle.queue_entries.specs.declared.Entry.the-variants.{Unreadable, Asks}
 use Rattle.queue_entries.specs.Entries.{strayOf, orderOf, entryOf}
 use Rattle.bounded_words.specs.declared.Stamp.{Stamp}
+use Rattle.bounded_words.specs.declared.Fixed.{Fixed}
+use Rattle.bounded_words.specs.declared.Width.{Width}
 use Rattle.bounded_words.specs.declared.Width.the-variants.{Sixteen}
 use Rattle.bounded_words.specs.Words.{stamp, doubled, markOf, markedOf, unmarkedOf, plus, withMark, nextOf, same, onePast, lapBehind, lapBehindOnePast}
 use Rattle.bounded_places.specs.declared.Slot.{Slot}
@@ -25,49 +30,52 @@ use Rattle.bounded_acts.specs.Acts.{stay, losing, exchangeOf, afterTail, tailTo
 use Rattle.bounded_machine.specs.declared.Machine.{Machine}
 use Rattle.bounded_machine.specs.declared.Event.{Event}
 use Rattle.bounded_machine.specs.declared.Tally.{Tally}
-use Rattle.bounded_machine.specs.Machine.{slot, emptySlots, stamped, freshSlots, idler, idlers, machineOf, freshWith, freshOf, accepted}
-use Rattle.bounded_machine.specs.Turn.{beginner, recordAfter, begun, stored, acted, actedBy, turnOfBy}
+use Rattle.bounded_machine.specs.Machine.{slot, emptySlots, stamped, freshSlots, idler, idlers, machineOf, freshWith, freshOf, placeOf, accepted}
+use Rattle.bounded_machine.specs.Turn.{beginner, recordAfter, begun, stored, acted, actedBy, turnAt, turnOfBy}
 use Rattle.bounded_machine.specs.Run.{ran, runAt}
-use Rattle.bounded_machine.specs.History.{event, historyAt, untallied, tallyOf}
-use Rattle.bounded_demands.specs.Notions.{ofWidth, machineAfter, actsOf, acts, tally, holdingAt, isNew, givesTo, sinceFrom, since, rounds, sleepingPush, sleepingPop}
+use Rattle.bounded_machine.specs.History.{event, eventsOf, historyAt, untallied, tallyOf}
+use Rattle.bounded_machine.proofs.Kept.{either}
+use Rattle.bounded_demands.specs.Notions.{ofWidth, Allowed, machineAfter, actsOf, acts, tally, holdingAt, holds, isNew, givesTo, sinceFrom, since, turnLength, windowLength, KeepsWindow, KeepsPrompt, rounds, sleepingPush, sleepingPop}
 use Rattle.bounded_demands.specs.Demands.{AnswersTrue, NoneAfterClosed, NotIdle}
 use Rattle.bounded_proof_invariant.proofs.Width.{word}
 use Rattle.bounded_proof_each_act.proofs.Stamps.{Ground, fixed}
-use Rattle.bounded_proof_demand2.proofs.Window.{heads}
+use Rattle.bounded_proof_demand2.proofs.Window.{heads, since-few}
+use Rattle.bounded_proof_demand2.proofs.Demand2.{same-fixed}
 use Rattle.bounded_proof_window.proofs.Paths.{tally-both, Goes, on, ending, Step, Follows, wordsOf, lastOf, doneBy, follows}
-use Rattle.bounded_proof_window.proofs.Rounds.{Own, at, both, Awaiting, Rounds, goes-round}
+use Rattle.bounded_proof_window.proofs.Pushing.{Own}
+use Rattle.bounded_proof_window.proofs.Rounds.{at, both, Awaiting, Rounds, goes-round}
 
-ground : Ground Sixteen 1 2 16384
+pub ground : Ground Sixteen 1 2 16384
 ground = record { laws = record { some = omega arith; room = omega arith; laps = omega arith }; whole = refl }
 
-two : 0 < 2
+pub two : 0 < 2
 two = omega arith
 
-abbrev to : ℕ → ℕ → Machine → Step Sixteen
+abbrev pub to : ℕ → ℕ → Machine → Step Sixteen
 to first second next = record { first = first; second = second; next = next }
 
-abbrev empties : List Slot
+abbrev pub empties : List Slot
 empties = replicate 1023 (slot 0 0)
 
 -- Head, tail, the slot's stamp and value, where the two workers stand, and the meter.
-abbrev stand : ℕ → List Slot → ℕ → ℕ → ℕ → ℕ → Place → Place → ℕ → Machine
+abbrev pub stand : ℕ → List Slot → ℕ → ℕ → ℕ → ℕ → Place → Place → ℕ → Machine
 stand edition slots h t s v p q meter =
     machineOf (fixed 1 2 edition) (record { head = stamp h; tail = stamp t }) (slot s v ∷ slots) (beginner p ∷ beginner q ∷ replicate 14 idler) 2 meter
 
-abbrev fresh : ℕ → Machine
+abbrev pub fresh : ℕ → Machine
 fresh edition = stand edition empties 0 0 0 0 (Idle answer.Nothing) (Idle answer.Nothing) 0
 
-fresh-is : (edition : ℕ) → freshOf 1 2 edition ≡ fresh edition
+pub fresh-is : (edition : ℕ) → freshOf 1 2 edition ≡ fresh edition
 unfolding doubled markOf emptySlots stamped freshSlots idlers freshWith
 fresh-is edition = refl
 
 -- ---- while the second sleeps at q
 module _ (edition : ℕ) (q : Place) where
-  abbrev others : List Worker
+  abbrev pub others : List Worker
   others = beginner q ∷ replicate 14 idler
 
-  abbrev ringAt : ℕ → List Slot → Answer → ℕ → Machine
-  ringAt k slots a meter = at Sixteen (fixed 1 2 edition) others 2 two (both Sixteen 1 2 16384 edition ground others 2 two k) slots (Idle a) meter
+  abbrev pub ringAt : ℕ → List Slot → Answer → ℕ → Machine
+  ringAt k slots a meter = at Sixteen 1 2 16384 edition ground others 2 two (both Sixteen 1 2 16384 edition ground others 2 two k) slots (Idle a) meter
 
   awaits : (k v : ℕ) → Awaiting Sixteen 1 2 16384 edition ground others 2 two k (slot (word 1 2 16384 k) v ∷ empties)
   awaits k v =
@@ -86,7 +94,7 @@ module _ (edition : ℕ) (q : Place) where
 
 -- ---- the push that sleeps at P6
 
-abbrev pushing : List (Step Sixteen)
+abbrev pub pushing : List (Step Sixteen)
 pushing =
     to 0 7 (stand 1 empties 0 0 0 0 (P1 Push 7) (Idle answer.Nothing) 0)
     ∷ to 8 0 (stand 1 empties 0 0 0 0 (P2 Push (stamp 0) 7) (Idle answer.Nothing) 1)
@@ -104,11 +112,11 @@ pushing =
     ∷ to 8 0 (stand 1 empties 4 4 1 7 (O5 (stamp 0) 7) (P6 (stamp 4) 9) 11)
     ∷ to 8 0 (stand 1 empties 4 4 4 7 (Idle (Popped 7)) (P6 (stamp 4) 9) 12) ∷ []
 
-pushes : Follows Sixteen (fresh 1) pushing
+pub pushes : Follows Sixteen (fresh 1) pushing
 unfolding markedOf unmarkedOf plus withMark nextOf same onePast lapBehind lapBehindOnePast strayOf orderOf entryOf stay losing exchangeOf afterTail tailTo headTo stampTo valueTo accepted recordAfter begun stored actedBy turnOfBy
 pushes = (refl, (refl, (refl, (refl, (refl, (refl, (refl, (refl, (refl, (refl, (refl, (refl, (refl, (refl, (refl, tt)))))))))))))))
 
-pushed-on : Rounds Sixteen 1 2 16384 1 ground (others 1 (P6 (stamp 4) 9)) 2 two (ringAt 1 (P6 (stamp 4) 9) 1 (slot (word 1 2 16384 1) 7 ∷ empties) (Popped 7) 12) 16383 16384 163842 []
+pub pushed-on : Rounds Sixteen 1 2 16384 1 ground (others 1 (P6 (stamp 4) 9)) 2 two (ringAt 1 (P6 (stamp 4) 9) 1 (slot (word 1 2 16384 1) 7 ∷ empties) (Popped 7) 12) 16383 16384 163842 []
 pushed-on = sleeps 1 (P6 (stamp 4) 9) 1 7 (Popped 7) 12 (omega arith) []
 
 pushed : Goes Sixteen (fresh 1) (wordsOf Sixteen pushing (rounds 16383 ++ [])) (ringAt 1 (P6 (stamp 4) 9) 16384 (pushed-on .slots) (pushed-on .answer) 163842) []
@@ -125,7 +133,7 @@ unfolding runBy ran
 woken =
     ap (λ (m : Machine). runAt Sixteen m 0 sleepingPush .machine) (fresh-is 1) ∙ ap (λ (s : List ℕ). runAt Sixteen (fresh 1) 0 s .machine) push-words ∙ pushed .run
 
-push-acts : actsOf (ofWidth Sixteen) 1 2 1 sleepingPush ≡ doneBy Sixteen (fresh 1) pushing ++ pushed-on .done
+pub push-acts : actsOf (ofWidth Sixteen) 1 2 1 sleepingPush ≡ doneBy Sixteen (fresh 1) pushing ++ pushed-on .done
 unfolding historyBy
 push-acts =
     ap (λ (m : Machine). historyAt Sixteen m sleepingPush) (fresh-is 1) ∙ ap (historyAt Sixteen (fresh 1)) push-words ∙ pushed .history
@@ -256,12 +264,66 @@ pop-acts =
     ap (λ (m : Machine). historyAt Sixteen m sleepingPop) (fresh-is 2) ∙ ap (historyAt Sixteen (fresh 2)) pop-words ∙ on Sixteen asleep (wakes value rest-slots (popped-on .answer)) .history ∙ append-nil _
     ∙ sym (append-assoc (doneBy Sixteen (fresh 2) popping ++ popped-on .done) (doneBy Sixteen (waking value rest-slots (popped-on .answer)) (closing value rest-slots (popped-on .answer))) last)
 
+-- ---- the push sleeps for fewer acts than there are words in its schedule
+
+rounds-long : (n : ℕ) → length (rounds n) ≡ 24 * n
+unfolding rounds acts
+rounds-long zero = refl
+rounds-long (suc n) = omega (arith, rounds-long n)
+
+push-long : length sleepingPush ≡ 30 + 24 * 16383
+unfolding sleepingPush acts
+push-long = omega (arith, rounds-long 16383)
+
+one-act : (m : Machine) (x : Entry) (next : Machine) → length (eventsOf Sixteen m x next) ≤ 1
+one-act m Unreadable next = omega arith
+one-act m (Asks w (Begin q)) next = omega arith
+one-act m (Asks w (Act lose)) next = omega arith
+
+acts-few : (s : List ℕ) (m : Machine) → length (historyAt Sixteen m s) ≤ length s
+unfolding historyBy
+acts-few [] m = omega arith
+acts-few (first ∷ []) m = omega arith
+acts-few (first ∷ second ∷ rest) m =
+    let next = turnAt Sixteen m first second .machine in
+    let es = eventsOf Sixteen m (entryOf first second) next in
+    either (λ (h : List Event). length h ≤ length (first ∷ second ∷ rest)) (eqb (turnAt Sixteen m first second .refusal) 0) (es ++ historyAt Sixteen next rest) []
+    (λ e. omega (arith, acts-few rest next, one-act m (entryOf first second) next, length-append es (historyAt Sixteen next rest))) (λ e. omega arith)
+
+awhile : Width → Fixed → ℕ
+awhile bits f = 25 * turnLength bits f
+
+pub made-fixed : (s : List ℕ) → machineAfter (ofWidth Sixteen) 1 2 1 s .ring .fixed ≡ fixed 1 2 1
+made-fixed s = same-fixed Sixteen (freshOf 1 2 1) s ∙ ap (λ (m : Machine). m .ring .fixed) (fresh-is 1)
+
+sleeps-on : KeepsPrompt awhile (ofWidth Sixteen) (freshOf 1 2 1) [] sleepingPush
+unfolding awhile
+sleeps-on before after e w held =
+    let h : List Event = actsOf (ofWidth Sixteen) 1 2 1 before in
+    let whole : length sleepingPush ≡ length (before ++ after) = ap length e in
+    subst (λ (f : Fixed). length (since w h) < 25 * turnLength Sixteen f) (sym (made-fixed before))
+    (omega (arith, since-few w [] h, acts-few before (freshOf 1 2 1), whole, length-append before after, push-long))
+
+pub allowed : Allowed 1 2 1
+allowed =
+    record { slot-some = omega arith; slot-most = omega arith; worker-some = omega arith; worker-most = omega arith; edition-some = omega arith; edition-most = omega arith }
+
+out-of-window : KeepsWindow (ofWidth Sixteen) (freshOf 1 2 1) [] sleepingPush → tally (since 1 (actsOf (ofWidth Sixteen) 1 2 1 sleepingPush)) .tail .0 < 16382
+out-of-window keeps =
+    subst (λ (f : Fixed). tally (since 1 (actsOf (ofWidth Sixteen) 1 2 1 sleepingPush)) .tail .0 < windowLength Sixteen f) (made-fixed sleepingPush)
+    (keeps sleepingPush [] (sym (append-nil sleepingPush)) 1 (ap (λ (m : Machine). holds (holdingAt (placeOf (m .workers) 1))) woken) .0)
+
+slept : tally (since 1 (actsOf (ofWidth Sixteen) 1 2 1 sleepingPush)) .tail .0 ≡ 16383
+unfolding tallyOf
+slept = ap (λ (t : Tally). t .tail .0) claimed ∙ pushed-on .tails (tally late)
+
 pub not-idle : NotIdle
-unfolding tallyOf doubled markOf
+unfolding tallyOf doubled markOf awhile
 not-idle =
     record {
-      tails = ap (λ (t : Tally). t .tail .0) claimed ∙ pushed-on .tails (tally late);
+      tails = slept;
       heads = ap (λ (t : Tally). t .head .0) claimed ∙ pushed-on .heads (tally late);
       untrue = λ o. untrue-at (pushed-on .slots) (pushed-on .answer) (subst (AnswersTrue (ofWidth Sixteen)) woken o);
       claimed-yet = λ none. claims-yet value rest-slots (popped-on .answer) earlier (subst NoneAfterClosed pop-acts none);
+      too-late = λ keeps. absurd (omega (arith, slept, out-of-window (keeps 1 2 1 allowed sleepingPush sleeps-on)));
     }

@@ -24,19 +24,19 @@ use Rattle.bounded_proof_demand2.proofs.Reached.{lapsOf, base-of, fresh-long, f
 use Rattle.bounded_proof_window.proofs.Rounds.{at, both, Awaiting, Rounds, goes-round}
 
 module _ (bits : Width) (c edition : ℕ) (a : Allowed c 1 edition) where
-  abbrev laps : ℕ
+  abbrev pub laps : ℕ
   laps = lapsOf bits c
 
-  ground : Ground bits c (markOf c) laps
+  pub ground : Ground bits c (markOf c) laps
   ground = base-of bits workersMost c 1 edition a .ground
 
-  one : 0 < 1
+  pub one : 0 < 1
   one = omega arith
 
-  abbrev first : Machine
-  first = at bits (fixedOf c edition) (replicate 15 idler) 1 one (both bits c (markOf c) laps edition ground (replicate 15 idler) 1 one 0) (freshSlots c) (Idle Nothing) 0
+  abbrev pub first : Machine
+  first = at bits c (markOf c) laps edition ground (replicate 15 idler) 1 one (both bits c (markOf c) laps edition ground (replicate 15 idler) 1 one 0) (freshSlots c) (Idle Nothing) 0
 
-  fresh-is : freshOf c 1 edition ≡ first
+  pub fresh-is : freshOf c 1 edition ≡ first
   unfolding freshWith idlers
   fresh-is =
       ap (λ (x : ℕ). machineOf (fixedOf c edition) (record { head = stamp x; tail = stamp x }) (freshSlots c) (idlers workersMost) 1 0)
@@ -54,17 +54,17 @@ module _ (bits : Width) (c edition : ℕ) (a : Allowed c 1 edition) where
       }
 
   module _ (r : ℕ) (early : 10 * r ≤ meterMost) where
-    made : Rounds bits c (markOf c) laps edition ground (replicate 15 idler) 1 one first r (0 + r) (0 + 10 * r) []
-    made = goes-round bits c (markOf c) laps edition ground (replicate 15 idler) 1 one r 0 (freshSlots c) Nothing 0 awaiting (omega arith) []
+    pub made : (rest : List ℕ) → Rounds bits c (markOf c) laps edition ground (replicate 15 idler) 1 one first r (0 + r) (0 + 10 * r) rest
+    made = goes-round bits c (markOf c) laps edition ground (replicate 15 idler) 1 one r 0 (freshSlots c) Nothing 0 awaiting (omega arith)
 
-    acts-are : actsOf (ofWidth bits) c 1 edition (rounds r) ≡ made .done
+    acts-are : actsOf (ofWidth bits) c 1 edition (rounds r) ≡ made [] .done
     unfolding historyBy
     acts-are =
-        ap (λ (m : Machine). historyAt bits m (rounds r)) fresh-is ∙ ap (historyAt bits first) (sym (append-nil (rounds r))) ∙ made .goes-on .history ∙ append-nil (made .done)
+        ap (λ (m : Machine). historyAt bits m (rounds r)) fresh-is ∙ ap (historyAt bits first) (sym (append-nil (rounds r))) ∙ made [] .goes-on .history ∙ append-nil (made [] .done)
 
     claimed : (tally (actsOf (ofWidth bits) c 1 edition (rounds r)) .tail .0 ≡ r) × (tally (actsOf (ofWidth bits) c 1 edition (rounds r)) .head .0 ≡ r)
     claimed =
-        subst (λ (h : List Event). (tally h .tail .0 ≡ r) × (tally h .head .0 ≡ r)) (sym acts-are) (made .tails untallied ∙ omega arith, made .heads untallied ∙ omega arith)
+        subst (λ (h : List Event). (tally h .tail .0 ≡ r) × (tally h .head .0 ≡ r)) (sym acts-are) (made [] .tails untallied ∙ omega arith, made [] .heads untallied ∙ omega arith)
 
 pub rounds-claim : (bits : Width) → RoundsClaim (ofWidth bits)
 rounds-claim bits c edition a = claimed bits c edition a

@@ -1,4 +1,6 @@
+pub mod Forgets
 pub mod Ways
 pub mod Refuted
 pub mod Faithful
 pub mod RefutedPlain
+pub mod RefutedCounts

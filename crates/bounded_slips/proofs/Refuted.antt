@@ -1,9 +1,10 @@
 -- Each slip, refuted by computing its schedule.
 use Prim.Native.Nat.{ℕ, _≤_}
 use native.Mathlib.Omega.{arith}
-use mathlib.Core.Bool.{true, true≢false}
+use mathlib.Core.Bool.{true, false, true≢false}
 use mathlib.Core.List.{List, [], _∷_, _++_}
 use mathlib.Core.Path.{_≡_, refl, sym, ap}
+use mathlib.Core.Logic.{_≢_}
 use lib.ListN.{getD}
 use Rattle.queue_entries.specs.declared.Entry.the-variants.{Unreadable}
 use Rattle.queue_entries.specs.Schedules.{runBy, searchBy, scheduleBy, historyBy}
@@ -31,9 +32,18 @@ use Rattle.bounded_demands.specs.Notions.{acts, itemsOf, tailersOf, takersOf, h
 use Rattle.bounded_proof_demand2.proofs.Stock.{reading}
 use Rattle.bounded_slips.specs.Slips.{none, actWith, slipped, howMany, emptyUnseen, fullUnseen, closedUnseen, emptyTailFirst, fullHeadFirst, lenLooksOnce, popKeepsItsWord, lostForceKeepsItsWord, lostForceTakesTheHead, unstamped, releasesWithNext, neverLetsGo, handsOutAgain, readsAfterItsStore, stampBeforeValue, pushWritesLate, closedTooSoon}
 use Rattle.bounded_slips.specs.Refuted.{Trial, trial, reached, past, does, popLoses, Refuted, popOfNothing, popLooksLate, pushLooksLate, pushLoses, emptyLooks, fullLooks, popAfterPush, secondLap, popOutOfDate, forceOutOfDate, popInHand, lenLooks, lenOutOfDate, closedBefore}
+use Rattle.bounded_places.specs.declared.Place.{Place}
+use Rattle.bounded_places.specs.declared.Place.the-variants.{P2, Len1}
+use Rattle.bounded_places.specs.declared.Kind.the-variants.{Force}
+use Rattle.bounded_places.specs.Places.{viewOf}
+use Rattle.bounded_causes.specs.Causes.{standOf, goesBackOf, deedOf, sinceWith, ownAct, otherAct, othersHold, watchedTo, watchedOf, causesOf, namedOf}
+use Rattle.bounded_demands.specs.Notions.{rounds, watchesFrom, goingsBack, WayBack, p2-p1, p3-p2, p6-p1, f6-p1, o2-o1, o3-o2, o6-o1, len3-len1}
+use Rattle.bounded_demands.specs.Attained.{Sight, attained, seenBy, sightOf, needed, othersIdle, exactly}
+use Rattle.bounded_demands.specs.Foretold.{Told, tellings, toldOn, toldBy, asForetold}
+use Rattle.bounded_slips.proofs.Forgets.{alone-keeps}
 use Rattle.bounded_slips.proofs.Ways.{busyAt, nowhere, wrong-item, unclaimed, sole, acting, said, no-cons, untouched, quiet, no-hand, stillBusy, late, rests, at-once, busyAlong, holds-on}
 
-one-two : Allowed 1 2 1
+pub one-two : Allowed 1 2 1
 one-two =
     record {
       slot-some = omega arith;
@@ -79,8 +89,33 @@ words-schedule e = let q : _≡_ {A = ℕ} 0 1 = cc in omega arith
 loses-nothing : (t : Stamp) → Reads (O3 (stamp 0)) t → ⊥
 loses-nothing t r = true≢false (sym (reading (O3 (stamp 0)) t r .0))
 
+one-one : Allowed 1 1 1
+one-one =
+    record {
+      slot-some = omega arith;
+      slot-most = omega arith;
+      worker-some = omega arith;
+      worker-most = omega arith;
+      edition-some = omega arith;
+      edition-most = omega arith;
+    }
+
+unscheduled : loss.Nothing ≢ loss.BySchedule
+unscheduled e = let q : _≡_ {A = ℕ} 0 1 = cc in omega arith
+
+-- no way back leads to a place with a slot in hand
+back-free : (p q : Place) → WayBack p q → standOf q .hand ≡ false
+back-free p q p2-p1 = refl
+back-free p q p3-p2 = refl
+back-free p q p6-p1 = refl
+back-free p q f6-p1 = refl
+back-free p q o2-o1 = refl
+back-free p q o3-o2 = refl
+back-free p q o6-o1 = refl
+back-free p q len3-len1 = refl
+
 pub refuted : Refuted
-unfolding forcedTail doubled markOf markedOf unmarkedOf plus minus withMark nextOf same onePast lapBehind lapBehindOnePast inside strayOf orderOf entryOf stay losing exchangeOf afterTail tailTo headTo stampTo valueTo countOf emptySlots stamped freshSlots idlers freshWith refused accepted all inLimits byRule endsFit placeFits recordFits recordsFit brokenWith allIdle countIn wrapped itemAt itemsFrom contentsOf recordAfter begun stored actedBy turnOfBy ran runBy searchBy scheduleBy historyBy tallyOf stockOf untakenOf howMany unreadBy acts itemsOf tailersOf takersOf lostFrom struck passed ownActs nowhere stillBusy busyAlong
+unfolding attained seenBy sightOf needed othersIdle tellings toldOn toldBy rounds goesBackOf deedOf sinceWith ownAct otherAct othersHold watchedTo watchedOf causesOf namedOf watchesFrom goingsBack forcedTail doubled markOf markedOf unmarkedOf plus minus withMark nextOf same onePast lapBehind lapBehindOnePast inside strayOf orderOf entryOf stay losing exchangeOf afterTail tailTo headTo stampTo valueTo countOf emptySlots stamped freshSlots idlers freshWith refused accepted all inLimits byRule endsFit placeFits recordFits recordsFit brokenWith allIdle countIn wrapped itemAt itemsFrom contentsOf recordAfter begun stored actedBy turnOfBy ran runBy searchBy scheduleBy historyBy tallyOf stockOf untakenOf howMany unreadBy acts itemsOf tailersOf takersOf lostFrom struck passed ownActs nowhere stillBusy busyAlong
 refuted =
     record {
       act-by-act = λ a. true≢false (sym (ap (λ (m : Machine). busyAt m 0) (a (freshOf 1 2 1) [] 0 5 refl refl refl .0)));
@@ -146,6 +181,11 @@ refuted =
       in-the-way = λ i. no-hand (reached popAfterPush) 0 refl refl quiet (i 0 (omega arith) refl);
       lets-go = λ l. holds-on (slipped neverLetsGo) (reached popInHand) 0 2 (acts 0 2) refl (l 0 (stamp 0) (acts 0 2) handO4 (let q : 2 ≤ 2 = omega arith in q));
       as-run = λ p. true≢false (ap (λ (m : Machine). busyAt m 0) (p (0 ∷ 5 ∷ []) refl));
+      at-most = λ a. let q : 8 ≤ 7 = a (P2 Force (stamp 0) 0) .0 in omega arith;
+      -- the row of Len3
+      attained = λ a. let q : _≡_ {A = ℕ} 1 4 = ap (λ (l : List Sight). getD l 21 (exactly Len1 0) .acts-needed) a in omega arith;
+      -- a pop of what was pushed after its stamp load
+      foretold = λ f. true≢false (ap (λ (l : List Told). viewOf (getD l 9 (asForetold Yes) .ends-at) .busy) f);
       rises = λ s. let q : _≡_ {A = ℕ} 0 1 = s (actsOf (slipped none) 1 2 1 (does 0 0 5 2)) [] (event 0 (P3 Push (stamp 0) 5) (P4 (stamp 0) 5) loss.Nothing) refl refl in omega arith;
       falls =
           λ s.
@@ -174,4 +214,16 @@ refuted =
           λ o.
           let q = o (actsOf (slipped closedTooSoon) 1 2 1 closedBefore) (event 0 O1 (O2 (stamp 0)) loss.Nothing ∷ event 0 (O2 (stamp 0)) (O3 (stamp 0)) loss.Nothing ∷ event 0 (O3 (stamp 0)) (O4 (stamp 0)) loss.Nothing ∷ []) (event 1 (O6 (stamp 0)) (Idle PopClosed) loss.Nothing) refl refl in
           claimed (q .1 .1 .0);
+      eight-ways =
+          λ e.
+          true≢false (back-free _ _ (e 1 2 1 one-two (popInHand .schedule ++ acts 0 2) (actsOf (slipped neverLetsGo) 1 2 1 (popInHand .schedule ++ acts 0 1)) []
+          (event 0 (O5 (stamp 0) 5) (O4 (stamp 0)) loss.Nothing) refl .0 refl));
+      back-once =
+          λ b.
+          let q : 2 ≤ 1 =
+          b 1 2 1 one-two (popOutOfDate .schedule ++ acts 1 2) (actsOf (slipped popKeepsItsWord) 1 2 1 (popOutOfDate .schedule))
+          (event 1 (O6 (stamp 0)) (O2 (stamp 0)) loss.Nothing ∷ event 1 (O2 (stamp 0)) O1 loss.Nothing ∷ []) [] 1 refl (refl, unscheduled, (refl, unscheduled, tt)) refl in
+          omega arith;
+      alone-keeps = alone-keeps;
+      rounds-claim = λ r. let q : _≡_ {A = ℕ} 0 1 = r 1 1 one-one 1 (omega arith) .1 in omega arith;
     }

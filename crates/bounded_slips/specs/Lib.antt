@@ -1,3 +1,4 @@
 pub mod Slips
 pub mod Refuted
 pub mod RefutedPlain
+pub mod RefutedCounts

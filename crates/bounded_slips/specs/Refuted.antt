@@ -10,7 +10,8 @@ use Rattle.bounded_machine.specs.declared.Event.{Event}
 use Rattle.bounded_machine.specs.Broken.{brokenOf}
 use Rattle.bounded_demands.specs.Notions.{Definition, Words, Plain, machineAfter, actsOf, acts, stock}
 use Rattle.bounded_demands.specs.Demands.{ClaimRule, OnceOut, OneHand, ReadsWritten, AnswersTrue, UntakenCounts, ContentsWait, PlainQueue, EmptyTrue, FullTrue, ActByAct, WholeSchedules, LenTrue, NeverRefused, AloneEnds, InTheWay, HandLetsGo, PassedAsRun, StockRises, StockFalls, StockStays, StockByHands, StockIsNumber, StockMost, EndTold, LossesCounted, CountsAside, OnceClosed, NoneAfterClosed}
-use Rattle.bounded_slips.specs.Slips.{none, lostPushGoesOn, closedUnseen, unwrapped, tailUnmoved, unwritten, unstamped, fullUnseen, tailBeforeHead, lostForceKeepsItsWord, lostForceTakesTheHead, stampBeforeValue, stampUntested, readsAfterItsStore, releasesWithNext, neverLetsGo, emptyUnseen, handsOutAgain, popKeepsItsWord, lenLooksOnce, emptyTailFirst, fullHeadFirst, pushWritesLate, forceForgets, closedTooSoon, fallsWhenTaken, risesWhenWritten, forceUnread, popUncounted, bothBySchedule, forceUncounted, wonCounted, counting, unreset, forgotten, twice, toldBySchedule, weary, slipped, stockWith, deaf, refusing}
+use Rattle.bounded_demands.specs.Demands.{AtMost, AttainedBy, AsForetoldBy, EightWaysBack, AloneBackOnce, AloneKeeps, RoundsClaim}
+use Rattle.bounded_slips.specs.Slips.{none, lostPushGoesOn, closedUnseen, unwrapped, tailUnmoved, unwritten, unstamped, fullUnseen, tailBeforeHead, lostForceKeepsItsWord, lostForceTakesTheHead, stampBeforeValue, stampUntested, readsAfterItsStore, releasesWithNext, neverLetsGo, emptyUnseen, handsOutAgain, popKeepsItsWord, lenLooksOnce, emptyTailFirst, fullHeadFirst, pushWritesLate, forceForgets, closedTooSoon, fallsWhenTaken, risesWhenWritten, forceUnread, popUncounted, bothBySchedule, forceUncounted, wonCounted, counting, unreset, forgotten, twice, toldBySchedule, weary, slipped, stockWith, deaf, refusing, forgetful, slower, actWith}
 
 -- A schedule for a machine of this capacity and edition with two workers, with this slip.
 pub record Trial : Type 0 where
@@ -218,6 +219,9 @@ pub record Refuted : Type 0 where
   pub in-the-way : InTheWay (slipped unstamped) (reached popAfterPush) → ⊥
   pub lets-go : HandLetsGo (slipped neverLetsGo) (reached popInHand) → ⊥
   pub as-run : PassedAsRun deaf (reached (trial none 1 [])) → ⊥
+  pub at-most : AtMost slower → ⊥
+  pub attained : AttainedBy (actWith lenLooksOnce) 1 → ⊥
+  pub foretold : AsForetoldBy SixtyFour (actWith unstamped) 1 → ⊥
   -- stock
   pub rises : StockRises (stockWith risesWhenWritten) (past (trial none 1 (does 0 0 5 3))) → ⊥
   pub falls : StockFalls (stockWith forceUnread) (past (trial none 1 oneForce)) → ⊥
@@ -238,3 +242,9 @@ pub record Refuted : Type 0 where
   -- a close that holds
   pub once-closed : OnceClosed (slipped forceForgets) (reached closedF) → ⊥
   pub closed-last : NoneAfterClosed (past popAfterClosed) → ⊥
+  -- ways back
+  pub eight-ways : EightWaysBack (slipped neverLetsGo) → ⊥
+  pub back-once : AloneBackOnce (slipped popKeepsItsWord) → ⊥
+  -- the window
+  pub alone-keeps : AloneKeeps forgetful → ⊥
+  pub rounds-claim : RoundsClaim (slipped unstamped) → ⊥

@@ -10,7 +10,8 @@ use Rattle.queue_entries.specs.declared.Entry.{Entry}
 use Rattle.queue_entries.specs.declared.Entry.the-variants.{Unreadable, Asks}
 use Rattle.queue_entries.specs.Entries.{entryOf}
 use Rattle.bounded_words.specs.declared.Fixed.{Fixed}
-use Rattle.bounded_words.specs.declared.Width.the-variants.{SixtyFour}
+use Rattle.bounded_words.specs.declared.Width.{Width}
+use Rattle.bounded_words.specs.declared.Width.the-variants.{SixtyFour, Sixteen}
 use Rattle.bounded_words.specs.Words.{plus, minus, nextOf, same, markedOf, unmarkedOf, withMark, lapBehind}
 use Rattle.bounded_places.specs.declared.Slot.{Slot}
 use Rattle.bounded_places.specs.declared.Ends.{Ends}
@@ -30,10 +31,11 @@ use Rattle.bounded_machine.specs.declared.Event.{Event}
 use Rattle.bounded_machine.specs.declared.Moved.{Moved}
 use Rattle.bounded_machine.specs.declared.Moved.the-variants.{Neither, Tail, Head}
 use Rattle.bounded_machine.specs.Machine.{machineOf, recordOf, refused}
-use Rattle.bounded_machine.specs.Turn.{beginner, turnOf}
-use Rattle.bounded_machine.specs.Run.{ran, runWith, runFrom}
-use Rattle.bounded_machine.specs.History.{lossAt, historyWith, historyOf, movedOf, readsAt, untakenOf}
-use Rattle.bounded_demands.specs.Notions.{Definition, byTable, document01, itemIn, tally, stock}
+use Rattle.bounded_machine.specs.Turn.{beginner, turnAt, turnOf}
+use Rattle.bounded_machine.specs.Run.{ran, runWith, runFrom, runAt}
+use Rattle.bounded_machine.specs.declared.Tally.{Tally}
+use Rattle.bounded_machine.specs.History.{lossAt, historyWith, historyOf, movedOf, readsAt, counted, readOn, untakenOf, historyAt}
+use Rattle.bounded_demands.specs.Notions.{Definition, byTable, document01, itemIn, tally, stock, isNew, holdingAt, mostOf}
 use Rattle.bounded_demands.specs.Demands.{UnderEverySchedule, NothingWraps, ActByAct, WholeSchedules, LenTrue, ScheduledAlone, StockUnderEverySchedule, LossesUnderEverySchedule, CountsAside, CloseHolds, ClosedIsLast, AnswersPlain}
 
 -- ---- the slips
@@ -299,12 +301,16 @@ recounted how m (Asks w o) next =
     machineOf (next .ring .fixed) (next .ring .ends) (next .ring .slots) (set (next .workers) w (how (recordOf (m .workers) w) (recordOf (next .workers) w)))
     (next .count) (next .meter)
 
-abbrev turnCounting : (Worker → Worker → Worker) → Machine → ℕ → ℕ → Did
-turnCounting how m first second =
-    record { refusal = turnOf m first second .refusal; machine = recounted how m (entryOf first second) (turnOf m first second .machine) }
+abbrev turnCounting : Width → (Worker → Worker → Worker) → Machine → ℕ → ℕ → Did
+turnCounting bits how m first second =
+    record { refusal = turnAt bits m first second .refusal; machine = recounted how m (entryOf first second) (turnAt bits m first second .machine) }
+
+abbrev pub countingAt : Width → (Worker → Worker → Worker) → Definition
+countingAt bits how =
+    record { width = bits; records = workersMost; turn = turnCounting bits how; run = runWith (turnCounting bits how); history = historyWith bits (turnCounting bits how) }
 
 abbrev pub counting : (Worker → Worker → Worker) → Definition
-counting how = record { width = SixtyFour; records = workersMost; turn = turnCounting how; run = runWith (turnCounting how); history = historyWith SixtyFour (turnCounting how) }
+counting = countingAt SixtyFour
 
 -- a begun call goes on with the counts of the last
 abbrev pub unreset : Worker → Worker → Worker
@@ -363,12 +369,35 @@ stockWith n h =
     (cond (eqb n forceUnread) (tally h .tail .0 - (tally h .reads - howMany displaces h))
     (cond (eqb n popUncounted) (tally h .tail .0 - (howMany takes h + howMany displaces h)) (stock h))))
 
+-- ---- counts of claims and reads with a slip
+
+-- no value read is counted
+abbrev pub unreadTally : Tally → Place → Place → Tally
+unreadTally t before after = counted (movedOf after) t
+
+-- a claim at either end is counted at tail
+abbrev pub tailOnly : Tally → Place → Place → Tally
+tailOnly t before after = readOn (readsAt before) (cond (claimsHead (movedOf after)) (counted Tail t) (counted (movedOf after) t))
+
 -- Two definitions that are wrong beside the tables: one runs no entry of a schedule, one refuses every entry.
 abbrev pub deaf : Definition
 deaf = record { width = SixtyFour; records = workersMost; turn = turnOf; run = λ m place s. ran 0 place m; history = historyOf }
 
 abbrev pub refusing : Definition
 refusing = record { width = SixtyFour; records = workersMost; turn = λ m first second. refused 8 m; run = runFrom; history = historyOf }
+
+-- The machine of sixteen bits with a history that does not tell which acts gave a worker a word of an end.
+unfoldable pub unloaded : List Event → List Event
+unloaded [] = []
+unloaded (e ∷ h) = cond (isNew (holdingAt (e .after))) (unloaded h) (e ∷ unloaded h)
+
+abbrev pub forgetful : Definition
+forgetful =
+    record { width = Sixteen; records = workersMost; turn = turnAt Sixteen; run = runAt Sixteen; history = λ m s. unloaded (historyAt Sixteen m s) }
+
+-- The most acts to a call's end, but one more at each place.
+abbrev pub slower : Place → ℕ
+slower p = mostOf p + 1
 
 -- ---- what stands
 

@@ -12,6 +12,36 @@ fn asked(o: Options) -> replay_single::play::Asked {
     }
 }
 
+fn asked_of_single(o: Options) -> replay_single_explain::Asked {
+    replay_single_explain::Asked {
+        many: o.many,
+        colours: text_explain::terminal::has_colours(),
+        follows: o.follow,
+        item: o.item,
+    }
+}
+
+fn asked_of_unbounded(o: Options) -> replay_unbounded_explain::Asked {
+    replay_unbounded_explain::Asked {
+        many: o.many,
+        colours: text_explain::terminal::has_colours(),
+        follows: o.follow,
+        item: o.item,
+    }
+}
+
+fn asked_in_words(o: Options) -> replay_bounded_explain_lines::lines::Asked {
+    replay_bounded_explain_lines::lines::Asked {
+        edition: o.edition,
+        narrow: o.narrow,
+        lent: o.lent,
+        many: o.many,
+        colours: text_explain::terminal::has_colours(),
+        follows: o.follow,
+        item: o.item,
+    }
+}
+
 // A schedule of the other queues has no capacity; one is put before it, so that all are read alike.
 pub fn before(o: Options) -> usize {
     if o.queue == replay_options::BOUNDED {
@@ -33,6 +63,27 @@ pub fn barred(o: Options) -> u64 {
     }
 }
 
+// In plain words.
+fn explained(
+    o: Options,
+    fd: i32,
+    begun: Reading,
+    whole: Whole,
+    out: &mut [u8],
+    at: usize,
+) -> Played {
+    let queue = o.queue;
+    match queue {
+        replay_options::SINGLE => {
+            replay_single_explain::play(asked_of_single(o), fd, begun, whole, out, at)
+        }
+        replay_options::UNBOUNDED => {
+            replay_unbounded_explain::play(asked_of_unbounded(o), fd, begun, whole, out, at)
+        }
+        _ => replay_bounded_explain::play::play(asked_in_words(o), fd, begun, whole, out, at),
+    }
+}
+
 pub fn play(
     o: Options,
     fd: i32,
@@ -47,6 +98,9 @@ pub fn play(
             at: replay_words::tell(fd, o.many, begun, before(o), out, at),
             refused: false,
         };
+    }
+    if o.explain {
+        return explained(o, fd, begun, whole, out, at);
     }
     match queue {
         replay_options::SINGLE => replay_single::play::play(asked(o), fd, begun, whole, out, at),

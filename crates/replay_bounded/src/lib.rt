@@ -1,4 +1,2 @@
-// What replay of the ring is made of: the entries run and written line by line. Ring and records are words, as a host has them.
-pub mod entries;
-mod machine;
+// Replay of the ring: a schedule read piece by piece, run and written line by line. Ring and records are words, as a host has them.
 pub mod play;

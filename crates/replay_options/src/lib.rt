@@ -48,6 +48,17 @@ pub struct Options {
     pub words: bool,
     // the number of the argument --words-of; 0: there is none
     pub words_at: usize,
+    // a line in plain words for each entry
+    pub explain: bool,
+    // the number of the argument --explain; 0: there is none
+    pub explain_at: usize,
+    // of these only those of one item's life
+    pub follow: bool,
+    pub item: u64,
+    // the number of the argument --follow; 0: there is none
+    pub follow_at: usize,
+    // its value is wanted
+    pub itemizing: bool,
     // the input is a tape, and no text
     pub tape: bool,
     pub help: bool,
@@ -99,6 +110,12 @@ fn none() -> Options {
         many: false,
         words: false,
         words_at: 0,
+        explain: false,
+        explain_at: 0,
+        follow: false,
+        item: 0,
+        follow_at: 0,
+        itemizing: false,
         tape: false,
         help: false,
         tells: false,
@@ -200,8 +217,24 @@ fn with_bits(before: Options, i: usize, word: &[u8]) -> Options {
     o
 }
 
+// The item after --follow.
+fn with_item(before: Options, i: usize, word: &[u8]) -> Options {
+    let mut o = before;
+    o.itemizing = false;
+    let given = number_in(word);
+    if given.ok {
+        o.item = given.number;
+    } else {
+        o.wrong = i;
+    }
+    o
+}
+
 fn with_word(before: Options, i: usize, word: &[u8]) -> Options {
     let mut o = before;
+    if o.itemizing {
+        return with_item(o, i, word);
+    }
     if o.naming != 0 {
         return with_queue(o, i, word);
     }
@@ -268,6 +301,17 @@ fn with_word(before: Options, i: usize, word: &[u8]) -> Options {
         o.words_at = i;
         return o;
     }
+    if equal(word, b"--explain") {
+        o.explain = true;
+        o.explain_at = i;
+        return o;
+    }
+    if equal(word, b"--follow") {
+        o.follow = true;
+        o.follow_at = i;
+        o.itemizing = true;
+        return o;
+    }
     if equal(word, b"--tape") {
         o.tape = true;
         return o;
@@ -305,11 +349,16 @@ fn runs_so(o: Options) -> bool {
     if o.edition_at != 0 || o.bits_at != 0 || o.lent {
         return true;
     }
+    tells_so(o)
+}
+
+// What is asked of lines in numbers.
+fn tells_so(o: Options) -> bool {
     o.quiet || o.causes || o.moments || o.losses || o.stock || o.summary
 }
 
 // An option that is still without its value at the end is of no use; nor is an edition, a width, lent records, causes, moments, losses or a stock of a queue that has none.
-// Lent records are of 64 bits; causes and moments are kept for sixteen workers.
+// Lent records are of 64 bits; moments are kept for sixteen workers.
 pub fn read() -> Options {
     let mut o = arguments();
     if o.naming != 0 {
@@ -324,7 +373,7 @@ pub fn read() -> Options {
     if o.lent && (o.narrow || o.queue != BOUNDED) {
         o.wrong = o.lent_at;
     }
-    if o.causes && (o.lent || o.queue != BOUNDED) {
+    if o.causes && o.queue != BOUNDED {
         o.wrong = o.causes_at;
     }
     if o.moments && (o.lent || o.queue != BOUNDED) {
@@ -336,8 +385,14 @@ pub fn read() -> Options {
     if o.stock && o.queue != BOUNDED {
         o.wrong = o.stock_at;
     }
-    if o.words && runs_so(o) {
+    if o.words && (o.explain || runs_so(o)) {
         o.wrong = o.words_at;
+    }
+    if o.explain && tells_so(o) {
+        o.wrong = o.explain_at;
+    }
+    if o.follow && (o.itemizing || !o.explain) {
+        o.wrong = o.follow_at;
     }
     if o.queue == UNBOUNDED && o.summary {
         o.wrong = o.summary_at;
@@ -363,6 +418,7 @@ pub fn help() -> bool {
         libc::STDOUT_FILENO,
         b"replay [--queue NAME] [--edition N] [--bits N] [--lent] [--quiet] [--causes] [--moments] [--losses] [--stock] [--summary] [--many] [--tape] [FILE]\n\
         replay --words-of [--queue NAME] [--many] [--tape] [FILE]\n\
+        replay --explain [--follow ITEM] [--queue NAME] [--edition N] [--bits N] [--lent] [--many] [--tape] [FILE]\n\
         \n\
         Runs a schedule on the stamped ring, or on another queue. It is read from FILE, or from standard input: unsigned decimal\n\
         numbers separated by white space. The first is the capacity (1 to 1024), the second the number of\n\
@@ -389,7 +445,7 @@ pub fn help() -> bool {
         \x20             code 1 is refusal 9, and 23: no block is free; it has no --summary\n\
         \x20 --edition 2      the ring whose force_push keeps a close (1 unless told)\n\
         \x20 --bits 16   the ring whose head, tail and stamps have sixteen bits, so that they come round (64 unless told)\n\
-        \x20 --lent      ring and records are lent for each entry, as a host's are: up to 64 workers; of 64 bits, and with no --causes or --moments\n\
+        \x20 --lent      ring and records are lent for each entry, as a host's are: up to 64 workers; of 64 bits, and with no --moments\n\
         \x20 --quiet     no line for each entry, one for the whole\n\
         \x20 --causes    after the worker, where its act goes back to an earlier place, because=LIST: schedule (which made its\n\
         \x20             exchange fail), own-end (moved or marked since its word was loaded or found), other-end (moved since\n\
@@ -401,6 +457,9 @@ pub fn help() -> bool {
         \x20 --stock     at the end of each entry's line stock=N: the items claimed at tail whose value is not yet read out\n\
         \x20 --summary   then counts of acts, answers, claims, refusals and retries; with --causes of each cause, with --losses of lost exchanges\n\
         \x20 --many      several schedules, separated by a line with a single %; a line % follows each output\n\
+        \x20 --explain   a line in plain words for each entry, at most 100 columns: claims, the slot in hand, why a worker tries\n\
+        \x20             again, answers; at the end who is busy, what waits, what was lost. Coloured on a terminal, unless NO_COLOR is set\n\
+        \x20 --follow ITEM   with --explain, only the lines of that item's life: from its push to the call that hands it out\n\
         \x20 --words-of  prints the schedule in words, acts in a row gathered, and runs nothing; 9, 11: what no words are for\n\
         \x20 --tape      FILE is a schedule tape (see tape --help); a tape that is refused is told in one line, and nothing is run\n",
     )

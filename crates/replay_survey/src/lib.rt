@@ -41,6 +41,14 @@ fn place_of(pairs: u64, k: u64) -> u64 {
     std::num::wrapping_add_u64(pairs - 1, k)
 }
 
+// So many pairs more. Of words there can be more than a number holds (`act N` is N entries): it stays at the largest then, since 0 says that none is read yet.
+fn more(pairs: u64, count: u64) -> u64 {
+    if u64::MAX - pairs < count {
+        return u64::MAX;
+    }
+    pairs + count
+}
+
 // Of a list of pairs that follow so many.
 fn entries_of(pairs: u64, list: &[u64]) -> &[u64] {
     if pairs == 0 {
@@ -64,7 +72,7 @@ fn with_first(s: Survey, list: &[u64]) -> Survey {
 
 fn searched(s: Survey, list: &[u64]) -> Survey {
     let mut after = with_first(s, list);
-    after.pairs = std::num::wrapping_add_u64(s.pairs, (list.len() / 2) as u64);
+    after.pairs = more(s.pairs, (list.len() / 2) as u64);
     if s.unread {
         return after;
     }
@@ -91,7 +99,7 @@ fn with_pairs(s: Survey, list: &[u64], n: usize) -> Survey {
 fn turn(fd: i32, many: bool, s: Survey, bytes: &mut [u8], list: &mut [u64]) -> Survey {
     let r = replay_input::source::turn(fd, many, s.reading, bytes, list, s.left);
     let mut after = with_pairs(s, list, r.count);
-    after.pairs = std::num::wrapping_add_u64(after.pairs, replay_input::source::owing(r));
+    after.pairs = more(after.pairs, replay_input::source::owing(r));
     after.reading = replay_input::source::owing_none(r);
     after.left = replay_input::source::carry(list, r.count);
     after

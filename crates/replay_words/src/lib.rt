@@ -139,7 +139,6 @@ fn all(
     told
 }
 
-// What follows one of many.
 fn with_mark(out: &mut [u8], at: usize, many: bool) -> usize {
     if many {
         return text_output::text(out, at, b"%\n");
@@ -148,7 +147,7 @@ fn with_mark(out: &mut [u8], at: usize, many: bool) -> usize {
 }
 
 // Of a schedule that can be read; so many numbers, none or one, stand before it that are not told. Answers where the text goes on.
-pub fn tell(
+pub fn lines(
     fd: i32,
     many: bool,
     begun: Reading,
@@ -159,7 +158,19 @@ pub fn tell(
     let mut bytes = [0u8; replay_input::source::BYTES];
     let mut list = [1u64; replay_input::source::NUMBERS];
     let told = all(fd, many, before, begun, &mut bytes, &mut list, out, at);
-    let p = text_words::writing::end(out, told.at, told.row);
+    text_words::writing::end(out, told.at, told.row)
+}
+
+// The same, and what follows one of many.
+pub fn tell(
+    fd: i32,
+    many: bool,
+    begun: Reading,
+    before: usize,
+    out: &mut [u8],
+    at: usize,
+) -> usize {
+    let p = lines(fd, many, begun, before, out, at);
     let q = with_mark(out, p, many);
     text_output::settle(out, q)
 }

@@ -13,6 +13,7 @@ use Rattle.single_machine.specs.Machine.{idlers, freshOf, refused, accepted}
 use Rattle.single_machine.specs.Broken.{recordFits, idleFrom, brokenOf}
 use Rattle.single_machine.specs.Turn.{begun, stored, actedBy, turnOfBy}
 use Rattle.single_machine.specs.Run.{ran}
+use Rattle.single_demands.specs.Notions.{mostOf}
 use Rattle.single_demands.specs.Attained.{attained, seenIn, sightOf, needed, othersIdle}
 use Rattle.single_demands.specs.Demands.{AtMost, Attained}
 
@@ -20,7 +21,7 @@ pub numbers-attained : Attained
 unfolding same pushedIn closedIn unlocked takenOf closedOf strayOf orderOf entryOf stay stateTo valueTo exchanged unlockedIn idlers freshOf refused accepted all inLimits recordFits idleFrom brokenOf begun stored actedBy turnOfBy ran runBy searchBy scheduleBy acts attained seenIn sightOf needed othersIdle
 numbers-attained = refl
 
-pub at-most : AtMost
+pub at-most : AtMost mostOf
 at-most (Idle a) = (omega arith, λ h. omega arith)
 at-most (A1 x) = (omega arith, λ h. absurd (true≢false (sym h)))
 at-most (A2 x) = (omega arith, λ h. omega arith)

@@ -2,3 +2,4 @@ pub mod Refusals
 pub mod Numbers
 pub mod Attained
 pub mod Runs
+pub mod EachNumber

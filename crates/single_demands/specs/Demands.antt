@@ -39,6 +39,7 @@ use Rattle.single_machine.specs.Run.{ran, runFrom, runOf}
 use Rattle.single_machine.specs.History.{eventsOf}
 use Rattle.single.specs.Single.{makeOf, stepOf, beginOf, actOf}
 use Rattle.single_demands.specs.Notions.{Definition, Allowed, machineAfter, actsOf, Acts, AtEach, InHand, OtherHand, Popping, accessOf, isRead, Holds, HandsOut, Stands, Came, waiting, OneSlot, Took, closedBy, queueAnswer, Looks, FullWord, EmptyWord, PopClosedWord, Truth, mostOf, passed, ownActs, LetsGo}
+use Rattle.single_demands.specs.Notions.{freshOne, pushingOne, stockedOne, spentOne}
 use Rattle.single_demands.specs.Stories.{Story, storyOf, changeOf, actor, known, replyOf, putBy, takenBy, givenBack, itemAt, roomTaken, askedAt, momentOf}
 use Rattle.single_demands.specs.Foretold.{foretold}
 use Rattle.single_demands.specs.Attained.{Case, seenIn, attained, exactly}
@@ -162,6 +163,22 @@ pub record Numbered (n : Numbers Machine) : Type 0 where
   pub act : (m : Machine) (first second : ℕ) → has (0 ∷ 3 ∷ 5 ∷ 6 ∷ 7 ∷ 8 ∷ 9 ∷ []) (n .act m first second) ≡ true
   pub run : (m : Machine) (s : List ℕ) → has (0 ∷ 3 ∷ 4 ∷ 5 ∷ 6 ∷ 7 ∷ 8 ∷ 9 ∷ 11 ∷ []) (n .run m s) ≡ true
   pub contents : (m : Machine) (room : ℕ) → has (0 ∷ 4 ∷ 6 ∷ 10 ∷ []) (n .contents m room) ≡ true
+
+-- Each of these numbers is given, by the machines of Notions.antt and the blank one.
+pub record EachNumber (n : Numbers Machine) : Type 0 where
+  pub make : n .make 1 ∷ n .make 0 ∷ [] ≡ 0 ∷ 2 ∷ []
+  pub step :
+      n .step freshOne 0 5 ∷ n .step freshOne 16 5 ∷ n .step pushingOne 0 5 ∷ n .step freshOne 8 0 ∷ n .step blank 0 5 ∷ n .step spentOne 8 0 ∷ n .step pushingOne 9 0 ∷ n .step freshOne 10 0 ∷ []
+      ≡ 0 ∷ 3 ∷ 4 ∷ 5 ∷ 6 ∷ 7 ∷ 8 ∷ 9 ∷ []
+  pub begin : n .begin freshOne 0 5 ∷ n .begin freshOne 16 5 ∷ n .begin pushingOne 0 5 ∷ n .begin blank 0 5 ∷ n .begin freshOne 8 0 ∷ [] ≡ 0 ∷ 3 ∷ 4 ∷ 6 ∷ 9 ∷ []
+  pub act :
+      n .act pushingOne 8 0 ∷ n .act pushingOne 24 0 ∷ n .act freshOne 8 0 ∷ n .act blank 8 0 ∷ n .act spentOne 8 0 ∷ n .act pushingOne 9 0 ∷ n .act freshOne 0 5 ∷ []
+      ≡ 0 ∷ 3 ∷ 5 ∷ 6 ∷ 7 ∷ 8 ∷ 9 ∷ []
+  pub run :
+      n .run freshOne [] ∷ n .run freshOne (16 ∷ 5 ∷ []) ∷ n .run pushingOne (0 ∷ 5 ∷ []) ∷ n .run freshOne (8 ∷ 0 ∷ []) ∷ n .run blank [] ∷ n .run spentOne (8 ∷ 0 ∷ [])
+      ∷ n .run pushingOne (9 ∷ 0 ∷ []) ∷ n .run freshOne (10 ∷ 0 ∷ []) ∷ n .run freshOne (0 ∷ []) ∷ []
+      ≡ 0 ∷ 3 ∷ 4 ∷ 5 ∷ 6 ∷ 7 ∷ 8 ∷ 9 ∷ 11 ∷ []
+  pub contents : n .contents freshOne 0 ∷ n .contents pushingOne 0 ∷ n .contents blank 0 ∷ n .contents stockedOne 0 ∷ [] ≡ 0 ∷ 4 ∷ 6 ∷ 10 ∷ []
 
 -- The list is checked first (document 02, item 7): of a machine that is not broken and a schedule of whole entries.
 pub record ListFirst : Type 0 where
@@ -376,9 +393,9 @@ abbrev pub ScheduledAlone : Definition → Type 0
 ScheduledAlone d = (workers : ℕ) → Allowed workers → (s : List ℕ) → Demand3 d (machineAfter d workers s) (actsOf d workers s)
 
 -- The numbers are four at most, two in hand, and attained: each schedule of the table leads to its place, alone, and the call there needs
--- exactly its number of acts.
-abbrev pub AtMost : Type 0
-AtMost = (p : Place) → (mostOf p ≤ 4) × (InHand p → mostOf p ≤ 2)
+-- exactly its number of acts. The first is said of any numbers, so that it can be said of wrong ones; it is met by `mostOf`.
+abbrev pub AtMost : (Place → ℕ) → Type 0
+AtMost most = (p : Place) → (most p ≤ 4) × (InHand p → most p ≤ 2)
 
 abbrev pub Attained : Type 0
 Attained = map seenIn attained ≡ map (λ (c : Case). exactly (c .place) (c .number)) attained

@@ -6,13 +6,13 @@ use mathlib.Core.List.{List, [], _∷_, _++_}
 use mathlib.Core.Path.{_≡_}
 use mathlib.Core.Logic.{_≢_}
 use lib.ListN.{length}
-use Rattle.queue_entries.specs.Limits.{workersMost}
+use Rattle.queue_entries.specs.Limits.{workersMost, meterMost}
 use Rattle.queue_entries.specs.declared.Call.{Call}
 use Rattle.queue_entries.specs.declared.Call.the-variants as call
 use Rattle.queue_entries.specs.declared.Order.the-variants.{Act}
 use Rattle.queue_entries.specs.declared.Entry.the-variants.{Asks}
 use Rattle.queue_entries.specs.Entries.{entryOf}
-use Rattle.queue_schedules.specs.Alone.{passedBy, ownActsBy}
+use Rattle.queue_schedules.specs.Alone.{acts, passedBy, ownActsBy}
 use Rattle.single_words.specs.declared.State.{State}
 use Rattle.single_words.specs.Words.{pushedIn, closedIn}
 use Rattle.single_places.specs.declared.Answer.{Answer}
@@ -27,8 +27,9 @@ use Rattle.single_machine.specs.declared.Ran.{Ran}
 use Rattle.single_machine.specs.declared.Event.{Event}
 use Rattle.single_machine.specs.Machine.{freshOf, placeOf, accepted}
 use Rattle.single_machine.specs.Turn.{Table, turnOfBy}
-use Rattle.single_machine.specs.Run.{runWith}
+use Rattle.single_machine.specs.Run.{runWith, runOf}
 use Rattle.single_machine.specs.History.{historyWith}
+use Rattle.single.specs.Single.{stepOf}
 
 -- ---- definitions and schedules
 
@@ -66,6 +67,19 @@ pub record Acts (d : Definition) (m : Machine) (w : ℕ) (next : Machine) : Type
   pub lose : Bool
   pub asks : entryOf first second ≡ Asks w (Act lose)
   pub done : d .turn m first second ≡ accepted next
+
+-- Machines of one worker: fresh, with a push begun, with that item in, and with a push begun at the meter's end.
+abbrev pub freshOne : Machine
+freshOne = freshOf 1
+
+abbrev pub pushingOne : Machine
+pushingOne = stepOf freshOne 0 5 .machine
+
+abbrev pub stockedOne : Machine
+stockedOne = runOf freshOne (0 ∷ 5 ∷ acts 0 3) .machine
+
+abbrev pub spentOne : Machine
+spentOne = record { single = pushingOne .single; workers = pushingOne .workers; count = pushingOne .count; meter = meterMost }
 
 -- Of every one of these acts.
 abbrev pub Every : (Event → Type 0) → List Event → Type 0

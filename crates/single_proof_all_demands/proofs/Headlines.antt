@@ -1,10 +1,11 @@
 -- The demands on the one-slot queue, proved. What they say, in the words of request 1 and of document 01, is
 -- crates/single_demands/specs/Demands.antt; the table of runs is Runs.antt beside it.
-use Rattle.single_demands.specs.Notions.{source}
-use Rattle.single_demands.specs.Demands.{AnswersPlain, RoomNeeded, RefusedUnchanged, Numbered, ListFirst, StaysUnbroken, OnlyOne, refusals, UnderEverySchedule, ActByAct, WholeSchedules, ScheduledAlone, AtMost, Attained}
+use Rattle.single_demands.specs.Notions.{source, mostOf}
+use Rattle.single_demands.specs.Demands.{AnswersPlain, RoomNeeded, RefusedUnchanged, Numbered, EachNumber, ListFirst, StaysUnbroken, OnlyOne, refusals, UnderEverySchedule, ActByAct, WholeSchedules, ScheduledAlone, AtMost, Attained}
 use Rattle.single_demands.specs.Runs.{RunsHold}
 use Rattle.single_demands.proofs.Refusals.{refused-unchanged, list-first, stays-unbroken, only-one}
 use Rattle.single_demands.proofs.Numbers.{numbered}
+use Rattle.single_demands.proofs.EachNumber.{each-number}
 use Rattle.single_demands.proofs.Attained.{at-most, numbers-attained}
 use Rattle.single_demands.proofs.Runs.{runs-hold}
 use Rattle.single_proof_demand2.proofs.Demand2.{demand2, act-by-act, whole-schedules}
@@ -21,6 +22,10 @@ what-an-answer-means = (answers-plain, room-needed)
 pub demand-1 : RefusedUnchanged × Numbered refusals × ListFirst × StaysUnbroken × OnlyOne
 demand-1 = (refused-unchanged, numbered, list-first, stays-unbroken, only-one)
 
+-- Each number of it is given.
+pub demand-1-exact : EachNumber refusals
+demand-1-exact = each-number
+
 -- 2. Under every schedule from a fresh machine: each act is the one action of the source; an item goes out at most once, the one of the
 -- latest write; the slot is in at most one hand, and LOCKED while it is; what Empty, Full and Closed mean, exactly.
 pub demand-2 : UnderEverySchedule source × ActByAct source × WholeSchedules source
@@ -28,7 +33,7 @@ demand-2 = (demand2, act-by-act, whole-schedules)
 
 -- 3. Alone, a call ends within four acts with the answer foretold; a worker with the slot in hand lets go within two acts of its own; the
 -- numbers are attained.
-pub demand-3 : ScheduledAlone source × AtMost × Attained
+pub demand-3 : ScheduledAlone source × AtMost mostOf × Attained
 demand-3 = (demand3, at-most, numbers-attained)
 
 -- The table of runs, with what the source does and a plain queue does not.

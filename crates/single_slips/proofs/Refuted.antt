@@ -5,6 +5,7 @@ use mathlib.Core.Bool.{Bool, true, false, true≢false}
 use mathlib.Core.List.{List, [], _∷_, _++_}
 use mathlib.Core.Path.{_≡_, refl, sym, ap, _∙_, subst}
 use borrow.Author.Tests.{eqb-true}
+use lib.ListN.{getD}
 use Rattle.queue_entries.specs.declared.Call.the-variants as call
 use Rattle.queue_entries.specs.declared.Entry.the-variants.{Unreadable}
 use Rattle.queue_entries.specs.Schedules.{runBy, searchBy, scheduleBy, historyBy}
@@ -215,6 +216,8 @@ refuted =
       lookers-empty =
           λ l. let q : _≡_ {A = ℕ} 1 0 = ap tellAt (l 1 (next emptyAfterClose) call.IsEmpty looks-empty (acting (slipped emptyIsZero) (reached emptyAfterClose) 1 refl refl) refl) in omega arith;
       numbered = λ n. true≢false (sym (n .make 1));
+      each-number = λ n. let q : _≡_ {A = ℕ} 1 0 = ap (λ (l : List ℕ). getD l 0 0) (n .make) in omega arith;
+      at-most = λ a. let q : 5 ≤ 4 = a (C1 (state 0)) .0 in omega arith;
       accepted = λ n. let q : _≡_ {A = ℕ} 8 0 = n 1 refl (omega arith) in omega arith;
       alone-push =
           λ a. late (slipped pushWaits) (reached pushOnFull) (past pushOnFull) 1 3 refl (a 1 refl (omega arith) (no-hand (reached pushOnFull) 1 (λ e. refl) (λ e. absurd (e refl)) quiet));

@@ -10,8 +10,8 @@ use Rattle.single_machine.specs.declared.Event.{Event}
 use Rattle.single_machine.specs.Broken.{brokenOf}
 use Rattle.single_demands.specs.Notions.{machineAfter, actsOf}
 use Rattle.single_demands.specs.Stories.{Story, storyOf}
-use Rattle.single_demands.specs.Demands.{PlainThroughout, Numbered, GoesOut, OnceOut, ReadsLatest, ReadsWritten, OneHand, LockedInHand, PushedWaits, ClosedHolds, PlainQueue, TakesOut, ContentsWait, AnswersTrue, Decides, Means, LookersTrue, ActByAct, WholeSchedules, NeverRefused, AloneEnds, InTheWay, HandLetsGo, PassedAsRun}
-use Rattle.single_slips.specs.Slips.{none, pushTakesAny, pushWaits, alwaysFull, unwritten, unlocksFirst, unlockClearsPushed, staysLocked, forceKeepsLocked, forceKeepsItsWord, forceUnclosed, forceNeverDisplaces, forceAlwaysDisplaces, displacesItsOwn, popKeepsLocked, popWaits, popLeavesPushed, emptyUnclosed, popKeepsItsWord, popTakesAny, popPeeks, readsAfterUnlock, neverLetsGo, lenUnlocked, emptyIsZero, closeByStore, closeAdds, pushDrops, pushesAnother, forceDrops, emptyIsLocked, popsAnother, closeIdle, slipped, deaf, refusing, givesOne}
+use Rattle.single_demands.specs.Demands.{PlainThroughout, Numbered, EachNumber, AtMost, GoesOut, OnceOut, ReadsLatest, ReadsWritten, OneHand, LockedInHand, PushedWaits, ClosedHolds, PlainQueue, TakesOut, ContentsWait, AnswersTrue, Decides, Means, LookersTrue, ActByAct, WholeSchedules, NeverRefused, AloneEnds, InTheWay, HandLetsGo, PassedAsRun}
+use Rattle.single_slips.specs.Slips.{none, pushTakesAny, pushWaits, alwaysFull, unwritten, unlocksFirst, unlockClearsPushed, staysLocked, forceKeepsLocked, forceKeepsItsWord, forceUnclosed, forceNeverDisplaces, forceAlwaysDisplaces, displacesItsOwn, popKeepsLocked, popWaits, popLeavesPushed, emptyUnclosed, popKeepsItsWord, popTakesAny, popPeeks, readsAfterUnlock, neverLetsGo, lenUnlocked, emptyIsZero, closeByStore, closeAdds, pushDrops, pushesAnother, forceDrops, emptyIsLocked, popsAnother, closeIdle, slipped, deaf, refusing, givesOne, slower}
 
 -- A schedule for a machine with two workers, with this slip.
 pub record Trial : Type 0 where
@@ -230,7 +230,9 @@ pub record Refuted : Type 0 where
   pub lookers-empty : LookersTrue (slipped emptyIsZero) (reached emptyAfterClose) (past emptyAfterClose) → ⊥
   -- demand 1
   pub numbered : Numbered givesOne → ⊥
+  pub each-number : EachNumber givesOne → ⊥
   -- demand 3
+  pub at-most : AtMost slower → ⊥
   pub accepted : NeverRefused refusing (reached (pushBegun none)) → ⊥
   pub alone-push : AloneEnds (slipped pushWaits) (reached pushOnFull) (past pushOnFull) → ⊥
   pub alone-force : AloneEnds (slipped forceKeepsItsWord) (reached forceOnFull) (past forceOnFull) → ⊥

@@ -16,7 +16,7 @@ use Rattle.single_machine.specs.Machine.{refused}
 use Rattle.single_machine.specs.Turn.{turnOf}
 use Rattle.single_machine.specs.Run.{ran, runFrom}
 use Rattle.single_machine.specs.History.{historyOf}
-use Rattle.single_demands.specs.Notions.{Definition, byTable, source}
+use Rattle.single_demands.specs.Notions.{Definition, byTable, source, mostOf}
 use Rattle.single_demands.specs.Demands.{refusals, AnswersPlain, UnderEverySchedule, ActByAct, WholeSchedules, ScheduledAlone}
 
 -- ---- the slips
@@ -215,6 +215,10 @@ refusing = record { turn = λ m first second. refused 8 m; run = runFrom; histor
 abbrev pub givesOne : Numbers Machine
 givesOne =
     record { make = λ workers. 1; step = refusals .step; begin = refusals .begin; act = refusals .act; run = refusals .run; contents = refusals .contents }
+
+-- The most acts to a call's end, but one more at each place: at a begun call, and with the slot in hand, that is too many.
+abbrev pub slower : Place → ℕ
+slower p = mostOf p + 1
 
 -- ---- what stands
 

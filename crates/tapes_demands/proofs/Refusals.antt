@@ -83,20 +83,20 @@ write-number capacity workers words room =
     (fitted-number room (loadFrom 0 10 words))))
 
 -- of a first field, of a later one, and of what is heard
-abbrev HeadNumber : Head → Type 0
+abbrev pub HeadNumber : Head → Type 0
 HeadNumber (head.Fault number) = OneOf number (12 ∷ 13 ∷ [])
 HeadNumber (head.Makes v capacity workers) = Unit {0}
 
-abbrev FieldNumber : Field → Type 0
+abbrev pub FieldNumber : Field → Type 0
 FieldNumber (field.Fault number) = OneOf number (12 ∷ 13 ∷ 14 ∷ [])
 FieldNumber field.End = Unit {0}
 FieldNumber (field.Entry first item) = Unit {0}
 
-abbrev HeardNumber : Heard → Type 0
+abbrev pub HeardNumber : Heard → Type 0
 HeardNumber (stopped number at) = OneOf number (12 ∷ 13 ∷ 14 ∷ 15 ∷ [])
 HeardNumber (heard words) = Unit {0}
 
-head-number : (s : List ℕ) → HeadNumber (headIn s)
+pub head-number : (s : List ℕ) → HeadNumber (headIn s)
 unfolding headIn headBy
 head-number s =
     either HeadNumber (ltb (length s) 3) (inl refl)
@@ -110,7 +110,7 @@ entry-number v tag long s =
     either FieldNumber (ltb (length s) (3 + long)) (inl refl)
     (either FieldNumber (allowed tag (getD s 3 0 / 16)) tt (inr (inr (inl refl))))
 
-field-number : (v : Variant) (s : List ℕ) → FieldNumber (fieldIn v s)
+pub field-number : (v : Variant) (s : List ℕ) → FieldNumber (fieldIn v s)
 unfolding fieldIn
 field-number v s =
     either FieldNumber (ltb (length s) 3) (inl refl)
@@ -129,7 +129,7 @@ by-number at s (field.Fault number) after p q = one-of-more number (12 ∷ 13 �
 by-number at s field.End after p q = either HeardNumber (eqb (length s) 3) tt (inr (inr (inr (inl refl))))
 by-number at s (field.Entry first item) after p q = joined-number first item after q
 
-heard-number : (more : ℕ) (v : Variant) (at : ℕ) (s : List ℕ) → HeardNumber (hearFrom more v at s)
+pub heard-number : (more : ℕ) (v : Variant) (at : ℕ) (s : List ℕ) → HeardNumber (hearFrom more v at s)
 unfolding hearFrom
 heard-number zero v at s = inl refl
 heard-number (suc more) v at s =

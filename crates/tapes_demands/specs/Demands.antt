@@ -10,7 +10,10 @@ use Rattle.tapes.specs.declared.Writing.{Writing}
 use Rattle.tapes.specs.declared.Writing.the-variants.{Tape}
 use Rattle.tapes.specs.declared.Reading.{Reading}
 use Rattle.tapes.specs.declared.Reading.the-variants as reading
+use Rattle.tapes_fields.specs.declared.Head.the-variants as head
+use Rattle.tapes_fields.specs.declared.Field.the-variants as field
 use Rattle.tapes_fields.specs.Fields.{headOf, endOf}
+use Rattle.tapes_fields.specs.Judged.{headIn, fieldIn}
 use Rattle.tapes.specs.Written.{entriesOf, tapeOf, writeOf, writtenOf}
 use Rattle.tapes.specs.Written as writing
 use Rattle.tapes.specs.Heard.{readOf, readInto}
@@ -35,6 +38,20 @@ pub record OnlyOne : Type 0 where
       → (y ≡ writeOf capacity workers words (length before)) × (b ≡ writtenOf v capacity workers words before) → (x ≡ y) × (a ≡ b)
   pub read : (s before : List ℕ) (x y : Reading) (a b : List ℕ)
       → (x ≡ readOf s (length before)) × (a ≡ readInto s before) → (y ≡ readOf s (length before)) × (b ≡ readInto s before) → (x ≡ y) × (a ≡ b)
+
+-- "The reader goes left to right and gives the first fault." Of any reader, so that it can be said of one with a slip; it is met by `readOf`.
+pub record FirstFault (read : List ℕ → ℕ → Reading) : Type 0 where
+  -- The first field's fault is the answer, at byte 0.
+  pub first : (s : List ℕ) (room number : ℕ) → headIn s ≡ head.Fault number → read s room ≡ reading.Refused number 0
+  -- Where the bytes before a place are a tape once an end is put behind them, the fault of the field there is the answer, at that place: whatever follows it, and whatever room there is.
+  pub later : (s rest : List ℕ) (v : Variant) (capacity workers space n room number : ℕ) → Below 256 s → read (s ++ endOf v) space ≡ reading.Schedule v capacity workers n
+      → fieldIn v rest ≡ field.Fault number → read (s ++ rest) room ≡ reading.Refused number (length s)
+  -- The same of bytes after the end.
+  pub past : (s more : List ℕ) (v : Variant) (capacity workers space n room b : ℕ) → Below 256 s → read (s ++ endOf v) space ≡ reading.Schedule v capacity workers n
+      → read (s ++ (endOf v ++ b ∷ more)) room ≡ reading.Refused 15 (length s + 3)
+  -- "the reader gives 16 only for a tape with no other fault"
+  pub short : (s : List ℕ) (room count : ℕ) → read s room ≡ reading.Refused 16 count
+      → (v : Variant) × (capacity : ℕ) × (workers : ℕ) × (read s count ≡ reading.Schedule v capacity workers count)
 
 -- An accepted tape is as long as its answer says and as its entries say, stands at the buffer's start, and past it nothing changes.
 abbrev pub Length : Type 0

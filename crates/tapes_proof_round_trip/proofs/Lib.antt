@@ -3,4 +3,5 @@ pub mod Fields
 pub mod Tapes
 pub mod Back
 pub mod Pieces
+pub mod Faults
 pub mod Headlines

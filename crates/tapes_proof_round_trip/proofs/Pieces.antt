@@ -149,7 +149,7 @@ module _ (s rest : List ℕ) (v : Variant) (capacity workers : ℕ) (lent : List
       let long : length first ≡ length s = omega (arith, ap length is, length-append s (endOf v), length-append first (endOf v)) in
       sym (take-at s (endOf v) (length s) refl) ∙ ap (take (length s)) is ∙ take-at first (endOf v) (length s) long
 
-  s-long : length s ≡ 7 + length (entriesOf v words)
+  pub s-long : length s ≡ 7 + length (entriesOf v words)
   s-long = ap length s-is ∙ length-append (headOf v capacity workers) (entriesOf v words) ∙ ap (λ (k : ℕ). k + length (entriesOf v words)) (length-head v capacity workers)
 
   whole-is : s ++ rest ≡ headOf v capacity workers ++ (entriesOf v words ++ rest)
@@ -158,7 +158,7 @@ module _ (s rest : List ℕ) (v : Variant) (capacity workers : ℕ) (lent : List
   makes : (r : List ℕ) → headIn (headOf v capacity workers ++ r) ≡ head.Makes v capacity workers
   makes r = head-found v capacity workers r (fits .narrow) (fits .few)
 
-  past-head : (r : List ℕ) → drop 7 (headOf v capacity workers ++ r) ≡ r
+  pub past-head : (r : List ℕ) → drop 7 (headOf v capacity workers ++ r) ≡ r
   past-head r = drop-at (headOf v capacity workers) r 7 (length-head v capacity workers)
 
   heard-whole : hearIn v (s ++ rest) ≡ after words (length s - 7) (hearIn v (headOf v capacity workers ++ rest))
@@ -178,7 +178,7 @@ module _ (s rest : List ℕ) (v : Variant) (capacity workers : ℕ) (lent : List
   whole-read room =
       ap (readAfter (s ++ rest) room) (ap headIn whole-is ∙ makes (entriesOf v words ++ rest)) ∙ ap (λ (x : Heard). readBy room v capacity workers (countIn x)) heard-whole
 
-  rest-read : (room : ℕ) → readOf (headOf v capacity workers ++ rest) room ≡ readBy room v capacity workers (countIn (hearIn v (headOf v capacity workers ++ rest)))
+  pub rest-read : (room : ℕ) → readOf (headOf v capacity workers ++ rest) room ≡ readBy room v capacity workers (countIn (hearIn v (headOf v capacity workers ++ rest)))
   unfolding readOf readAfter
   rest-read room = ap (readAfter (headOf v capacity workers ++ rest) room) (makes rest)
 

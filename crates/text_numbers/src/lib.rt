@@ -212,55 +212,6 @@ pub fn stop_of(event: u64) -> u64 {
     if event < MARK { NOTHING } else { event }
 }
 
-// Digits in a row: their number, and where they end.
-struct Digits {
-    value: u64,
-    end: usize,
-}
-
-struct Next {
-    digit: bool,
-    value: u64,
-}
-
-// A digit more, as long as the sum surely fits 64 bits; digits past that are read byte by byte.
-fn with_next(v: u64, b: u8) -> Next {
-    if v < 100000000000000000 {
-        if 48 <= b {
-            if b <= 57 {
-                return Next {
-                    digit: true,
-                    value: 10 * v + digit_of(b),
-                };
-            }
-        }
-    }
-    Next {
-        digit: false,
-        value: v,
-    }
-}
-
-fn digits_at(bytes: &[u8], from: usize) -> Digits {
-    let mut value = 0;
-    let mut i = from;
-    while i < bytes.len() {
-        let next = with_next(value, bytes[i]);
-        if next.digit {} else {
-            return Digits {
-                value: value,
-                end: i,
-            };
-        }
-        value = next.value;
-        i += 1;
-    }
-    Digits {
-        value: value,
-        end: i,
-    }
-}
-
 pub fn is_between(s: Scan) -> bool {
     let state = s.state;
     match state {
@@ -271,56 +222,129 @@ pub fn is_between(s: Scan) -> bool {
     }
 }
 
-// A whole number with the byte that ends it, which is what most text is made of; the place after it is 0 where there is none.
-struct Plain {
-    scan: Scan,
-    value: u64,
+// Whole numbers in a row, each ended by one space or by a line's end, which is what most text is made of.
+struct Row {
+    // behind the last of them, and where it began
     next: usize,
+    last: usize,
+    // how many numbers are kept
+    count: usize,
+    // how many lines have ended, and where the next one began
+    lines: u64,
+    begun: usize,
 }
 
-fn no_plain(s: Scan) -> Plain {
-    Plain {
-        scan: s,
-        value: 0,
-        next: 0,
-    }
+// What a byte is to the digits before it, of which the number surely fits 64 bits: one more, the end of their number, or what is read otherwise.
+enum Next {
+    Digit(u64),
+    Ends(bool),
+    Other,
 }
 
-fn ended_by(s: Scan, d: Digits, from: usize, b: u8) -> Plain {
-    let next = std::num::wrapping_add_usize(d.end, 1);
-    if b == b'\n' {
-        return Plain {
-            scan: start(up(s.line)),
-            value: d.value,
-            next: next,
-        };
+fn next_of(v: u64, b: u8) -> Next {
+    if b < 48 {
+        if b == b' ' {
+            return Next::Ends(false);
+        }
+        if b == b'\n' {
+            return Next::Ends(true);
+        }
+        return Next::Other;
     }
-    if b == b' ' {
-        let wide = std::num::wrapping_sub_usize(next, from) as u64;
-        return Plain {
-            scan: Scan {
-                state: State::Between,
-                value: 0,
-                line: s.line,
-                column: std::num::wrapping_add_u64(s.column, wide),
-                start: s.column,
-            },
-            value: d.value,
-            next: next,
-        };
-    }
-    no_plain(s)
-}
-
-fn plain_at(s: Scan, bytes: &[u8], from: usize) -> Plain {
-    if is_between(s) {
-        let d = digits_at(bytes, from);
-        let end = d.end;
-        if from < end && end < bytes.len() {
-            return ended_by(s, d, from, bytes[end]);
+    if b <= 57 {
+        if v < 100000000000000000 {
+            return Next::Digit(10 * v + digit_of(b));
         }
     }
-    no_plain(s)
+    Next::Other
+}
+
+fn row_from(bytes: &[u8], from: usize, list: &mut [u64], count: usize) -> Row {
+    let mut r = Row {
+        next: from,
+        last: from,
+        count: count,
+        lines: 0,
+        begun: from,
+    };
+    let mut value = 0;
+    let mut i = from;
+    while i < bytes.len() {
+        let b = next_of(value, bytes[i]);
+        match b {
+            Next::Digit(v) => {
+                value = v;
+                i += 1;
+            }
+            Next::Ends(line) => {
+                if r.next == i {
+                    return r;
+                }
+                let kept = keep(list, r.count, NUMBER, value);
+                i += 1;
+                r = ended_at(r, kept, i, line);
+                value = 0;
+            }
+            Next::Other => {
+                return r;
+            }
+        }
+    }
+    r
+}
+
+// The row with one number more, which ends before this place.
+fn ended_at(r: Row, count: usize, next: usize, line: bool) -> Row {
+    if line {
+        return Row {
+            next: next,
+            last: r.next,
+            count: count,
+            lines: up(r.lines),
+            begun: next,
+        };
+    }
+    Row {
+        next: next,
+        last: r.next,
+        count: count,
+        lines: r.lines,
+        begun: r.begun,
+    }
+}
+
+// The column of a byte of the line that began at this place with this column.
+fn column_of(begun: usize, column: u64, at: usize) -> u64 {
+    std::num::wrapping_add_u64(column, std::num::wrapping_sub_usize(at, begun) as u64)
+}
+
+// Where reading stands after a row.
+fn after_row(s: Scan, r: Row) -> Scan {
+    if r.next == r.begun {
+        return start(std::num::wrapping_add_u64(s.line, r.lines));
+    }
+    let column = if r.lines == 0 { s.column } else { 1 };
+    Scan {
+        state: State::Between,
+        value: 0,
+        line: std::num::wrapping_add_u64(s.line, r.lines),
+        column: column_of(r.begun, column, r.next),
+        start: column_of(r.begun, column, r.last),
+    }
+}
+
+// The row that begins here; none where reading stands within something.
+fn row_at(s: Scan, bytes: &[u8], from: usize, list: &mut [u64], count: usize) -> Row {
+    if is_between(s) {
+        return row_from(bytes, from, list, count);
+    }
+    Row {
+        next: from,
+        last: from,
+        count: count,
+        lines: 0,
+        begun: from,
+    }
 }
 
 // A piece of text, to its end or to the first event that is no number. The list has room for a number to each two bytes.
@@ -331,13 +355,12 @@ pub fn read_piece(s: Scan, many: bool, bytes: &[u8], list: &mut [u64], count: us
     let mut i = 0;
     let n = bytes.len();
     while i < n && event < MARK {
-        let plain = plain_at(scan, bytes, i);
-        if i < plain.next {
-            let after = plain.scan;
-            scan = after;
+        let row = row_at(scan, bytes, i, list, kept);
+        if i < row.next {
+            scan = after_row(scan, row);
             event = NUMBER;
-            kept = keep(list, kept, event, plain.value);
-            i = plain.next;
+            kept = row.count;
+            i = row.next;
         } else {
             let saw = byte(scan, many, bytes[i]);
             let after = saw.scan;

@@ -51,9 +51,14 @@ pub fn end(out: &mut [u8], at: usize, row: Row) -> usize {
     text_output::form(out, p, b" #\n", &[row.times])
 }
 
+// Whether so many acts more are one row with these: a row's number holds them all.
+fn goes_on(row: Row, first: u64, times: u64) -> bool {
+    row.times != 0 && row.first == first && times <= u64::MAX - row.times
+}
+
 // So many acts more.
 pub fn acts(out: &mut [u8], at: usize, row: Row, first: u64, times: u64) -> Written {
-    if row.times != 0 && row.first == first {
+    if goes_on(row, first, times) {
         let all = std::num::wrapping_add_u64(row.times, times);
         return at_row(
             at,

@@ -3,3 +3,4 @@ pub mod Numbers
 pub mod Blocks
 pub mod Pool
 pub mod Runs
+pub mod Answers

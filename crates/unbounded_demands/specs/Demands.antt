@@ -2,9 +2,10 @@
 -- defined in Notions.antt and Waiting.antt. The proofs are gathered in crates/unbounded_proof_all_demands/proofs/Headlines.antt.
 use Prim.Native.Nat.{ℕ, suc, _+_, _*_, _%_, _≤_, _<_}
 use mathlib.Core.Bool.{Bool, true, false, cond}
-use mathlib.Core.List.{List, [], _∷_, _++_}
+use mathlib.Core.List.{List, [], _∷_, _++_, map}
 use mathlib.Core.Logic.{_↔_, _⊎_}
 use mathlib.Core.Path.{_≡_}
+use lib.Dec.{eqb}
 use lib.ListN.{length, take}
 use Rattle.queue_entries.specs.declared.Told.{Told}
 use Rattle.queue_entries.specs.Told.{told}
@@ -45,7 +46,13 @@ use Rattle.unbounded_machine.specs.History.{eventsOf}
 use Rattle.unbounded.specs.declared.Bound.{Bound}
 use Rattle.unbounded.specs.Unbounded.{makeOf, stepOf, beginOf, actOf, capacityOf}
 use Rattle.unbounded_demands.specs.Notions.{Definition, Allowed, machineAfter, actsOf, Acts, Asking, Pushing, Popping, Reads, valueAt, stateAt, takingsOf, freeingsOf, signOf, HandsOut, itemsOf, takersOf, LatestIn, ItemIn, waiting, Fifo, position, Truth, chained}
-use Rattle.unbounded_demands.specs.Waiting.{PushingIn, PoppingIn, OneSlot, Crossing, Tying, Leaving, Fronting, pushLeft, passed, ownActs, Holding, popMost, pushMost}
+use Rattle.unbounded_demands.specs.Waiting.{PushingIn, PoppingIn, OneSlot, Crossing, Tying, Leaving, Fronting, pushLeft, passed, ownActs, Holding, popMost, pushMost, lookMost}
+use Rattle.unbounded_demands.specs.Attained.{Case, seenBy, exactly, oldPops, crossingPops, endingPops, beginningPushes, goingPushes, endingPushes}
+use Rattle.unbounded_demands.specs.Notions.{freshTwo, pushingTwo, spentTwo, wantingTwo, freshOne, stockedOne}
+use Rattle.unbounded_machine.specs.Turn.{Table}
+use Rattle.unbounded.specs.declared.Bound.the-variants as bound
+use Rattle.queue_entries.specs.declared.Told.the-variants as answer
+use Rattle.queue_numbers.specs.Answers.{BothWays, numberIn, valueIn}
 use Rattle.unbounded_demands.specs.Claims.{CallClaim, WrittenIn, closedBy, ClosesYes, NoClaims}
 use Rattle.unbounded_demands.specs.Stories.{Story, storyOf, taskOf, Takes, itemIn, changeOf, actor, known, queueAt, replyOf, putBy, takenBy, givenBack, At, AfterNextTail, momentOf, placeIn, Emptying, Filling, lastClaimed, asksLen, asksEmpty}
 
@@ -214,6 +221,37 @@ pub record Numbered (n : Numbers Machine) : Type 0 where
   pub act : (m : Machine) (first second : ℕ) → numbers.has (0 ∷ 3 ∷ 5 ∷ 6 ∷ 7 ∷ 8 ∷ 9 ∷ 23 ∷ []) (n .act m first second) ≡ true
   pub run : (m : Machine) (s : List ℕ) → numbers.has (0 ∷ 3 ∷ 4 ∷ 5 ∷ 6 ∷ 7 ∷ 8 ∷ 9 ∷ 11 ∷ 23 ∷ []) (n .run m s) ≡ true
   pub contents : (m : Machine) (room : ℕ) → numbers.has (0 ∷ 4 ∷ 6 ∷ 10 ∷ []) (n .contents m room) ≡ true
+
+-- Each of these numbers is given, by the machines of Notions.antt and the blank one.
+pub record EachNumber (n : Numbers Machine) : Type 0 where
+  pub make : n .make 1 ∷ n .make 0 ∷ [] ≡ 0 ∷ 2 ∷ []
+  pub step :
+      n .step freshTwo 0 5 ∷ n .step freshTwo 32 5 ∷ n .step pushingTwo 0 5 ∷ n .step freshTwo 8 0 ∷ n .step (blank sizes) 0 5 ∷ n .step spentTwo 8 0 ∷ n .step wantingTwo 9 0 ∷ n .step freshTwo 10 0
+      ∷ n .step wantingTwo 8 0 ∷ []
+      ≡ 0 ∷ 3 ∷ 4 ∷ 5 ∷ 6 ∷ 7 ∷ 8 ∷ 9 ∷ 23 ∷ []
+  pub begin : n .begin freshTwo 0 5 ∷ n .begin freshTwo 32 5 ∷ n .begin pushingTwo 0 5 ∷ n .begin (blank sizes) 0 5 ∷ n .begin freshTwo 8 0 ∷ [] ≡ 0 ∷ 3 ∷ 4 ∷ 6 ∷ 9 ∷ []
+  pub act :
+      n .act pushingTwo 8 0 ∷ n .act pushingTwo 40 0 ∷ n .act freshTwo 8 0 ∷ n .act (blank sizes) 8 0 ∷ n .act spentTwo 8 0 ∷ n .act wantingTwo 9 0 ∷ n .act freshTwo 0 5 ∷ n .act wantingTwo 8 0 ∷ []
+      ≡ 0 ∷ 3 ∷ 5 ∷ 6 ∷ 7 ∷ 8 ∷ 9 ∷ 23 ∷ []
+  pub run :
+      n .run freshTwo [] ∷ n .run freshTwo (32 ∷ 5 ∷ []) ∷ n .run pushingTwo (0 ∷ 5 ∷ []) ∷ n .run freshTwo (8 ∷ 0 ∷ []) ∷ n .run (blank sizes) [] ∷ n .run spentTwo (8 ∷ 0 ∷ [])
+      ∷ n .run wantingTwo (9 ∷ 0 ∷ []) ∷ n .run freshTwo (10 ∷ 0 ∷ []) ∷ n .run freshTwo (0 ∷ []) ∷ n .run wantingTwo (8 ∷ 0 ∷ []) ∷ []
+      ≡ 0 ∷ 3 ∷ 4 ∷ 5 ∷ 6 ∷ 7 ∷ 8 ∷ 9 ∷ 11 ∷ 23 ∷ []
+  pub contents : n .contents freshOne 0 ∷ n .contents freshTwo 0 ∷ n .contents (blank sizes) 0 ∷ n .contents stockedOne 0 ∷ [] ≡ 0 ∷ 4 ∷ 6 ∷ 10 ∷ []
+
+-- "Where an answer is an enum, a definition gives this paper's number and values for each of the enum's cases": there and back, inverse to each other, of what `contents` answers and of what
+-- `capacity` does, which has no value; and the promises use it.
+abbrev pub boundNumber : Bound → ℕ
+boundNumber bound.None = 0
+boundNumber (bound.Refused number) = number
+
+abbrev pub boundOf : ℕ → Unit {0} → Bound
+boundOf number value = cond (eqb number 0) bound.None (bound.Refused number)
+
+pub record EnumsBothWays : Type 0 where
+  pub numbers-back : BothWays answer.Refused numberIn valueIn told
+  pub bounds-back : BothWays bound.Refused boundNumber (λ (b : Bound). tt) boundOf
+  pub bound-is : (m : Machine) → capacityOf sizes m ≡ boundOf (cond (brokenOf sizes m) 6 0) tt
 
 -- Only one answer meets a promise: of the whole answer, the machine and the lent buffer.
 pub record OnlyOne : Type 0 where
@@ -444,3 +482,24 @@ PushAlone d m =
 
 abbrev pub PushesEndAlone : Definition → Type 0
 PushesEndAlone d = (workers : ℕ) → Allowed workers → (s : List ℕ) → PushAlone d (machineAfter d workers s)
+
+-- A len, is_empty, is_full, close or is_closed that alone is scheduled ends, whoever else is under way: it waits for nobody.
+abbrev pub LookAlone : Definition → Machine → Type 0
+LookAlone d m =
+    (w : ℕ) → 0 < lookMost (placeOf (m .workers) w) → m .meter + lookMost (placeOf (m .workers) w) ≤ meterMost → EndsAlone d m w (lookMost (placeOf (m .workers) w))
+
+abbrev pub LooksEndAlone : Definition → Type 0
+LooksEndAlone d = (workers : ℕ) → Allowed workers → (s : List ℕ) → LookAlone d (machineAfter d workers s)
+
+-- The numbers of pushes and pops alone are attained: each schedule of the table leads to its place, alone, and the call there needs exactly its number of acts. By any table of what an act does at
+-- each place, so that it can be said of one with a slip; it is met by the source's.
+abbrev pub AttainedIn : Table → List Case → Type 0
+AttainedIn table cases = map (seenBy table) cases ≡ map (λ (c : Case). exactly (c .place) (c .number)) cases
+
+pub record AttainedBy (table : Table) : Type 0 where
+  pub old-pops : AttainedIn table oldPops
+  pub crossing-pops : AttainedIn table crossingPops
+  pub ending-pops : AttainedIn table endingPops
+  pub beginning-pushes : AttainedIn table beginningPushes
+  pub going-pushes : AttainedIn table goingPushes
+  pub ending-pushes : AttainedIn table endingPushes

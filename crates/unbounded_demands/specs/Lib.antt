@@ -4,3 +4,4 @@ pub mod Claims
 pub mod Waiting
 pub mod Demands
 pub mod Runs
+pub mod Attained

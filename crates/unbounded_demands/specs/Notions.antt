@@ -5,14 +5,14 @@ use mathlib.Core.List.{List, [], _∷_, _++_}
 use mathlib.Core.Logic.{_≢_}
 use mathlib.Core.Path.{_≡_}
 use lib.Dec.{eqb}
-use lib.ListN.{getD, length, drop}
+use lib.ListN.{getD, length, drop, replicate}
 use Rattle.queue_entries.specs.Limits.{workersMost, meterMost}
 use Rattle.queue_entries.specs.declared.Order.the-variants.{Act}
 use Rattle.queue_entries.specs.declared.Entry.the-variants.{Asks}
 use Rattle.unbounded_words.specs.declared.Index.{Index}
 use Rattle.unbounded_words.specs.declared.Pointer.{Pointer}
 use Rattle.unbounded_words.specs.declared.Pointer.the-variants.{None, To}
-use Rattle.unbounded_words.specs.Words.{Sizes, offsetOf, markedOf, numberOf}
+use Rattle.unbounded_words.specs.Words.{Sizes, sizes, index, offsetOf, markedOf, numberOf}
 use Rattle.unbounded_places.specs.declared.Ends.{Ends}
 use Rattle.unbounded_places.specs.declared.Block.{Block}
 use Rattle.unbounded_places.specs.declared.Answer.{Answer}
@@ -20,12 +20,13 @@ use Rattle.unbounded_places.specs.declared.Answer.the-variants.{Nothing, Pushed
 use Rattle.unbounded_places.specs.declared.Place.{Place}
 use Rattle.unbounded_places.specs.declared.Place.the-variants.{Idle, U1, U2, U3, U4, U5, U6, U7, U8, U9, U10, U11, U12, U13, U14, U15, V1, V2, V3, V4, V5, V6, V7, V8, V9, V10, V11, V12, V13, V14, V15, Len1, Len2, Len3, Empty1, Empty2, Full1, Close1, IsClosed1}
 use Rattle.unbounded_places.specs.Places.{viewOf}
+use Rattle.unbounded_acts.specs.Acts.{actOf, newBlock}
 use Rattle.unbounded_machine.specs.declared.Machine.{Machine}
 use Rattle.unbounded_machine.specs.declared.Did.{Did}
 use Rattle.unbounded_machine.specs.declared.Ran.{Ran}
 use Rattle.unbounded_machine.specs.declared.Event.{Event}
 use Rattle.unbounded_machine.specs.Machine.{slotAt, blockAt, freshOf, placeOf, accepted}
-use Rattle.unbounded_machine.specs.Turn.{entryHere, Table, turnWith}
+use Rattle.unbounded_machine.specs.Turn.{entryHere, Table, begun, turnWith}
 use Rattle.unbounded_machine.specs.Run.{runWith}
 use Rattle.unbounded_machine.specs.History.{historyWith}
 
@@ -74,6 +75,27 @@ pub record Asking (d : Definition) (m : Machine) (w first second : ℕ) : Type 0
 unfoldable pub acts : ℕ → ℕ → List ℕ
 acts worker zero = []
 acts worker (suc n) = (16 * worker + 8) ∷ 0 ∷ acts worker n
+
+-- Machines of two workers, of whom the second has begun is_full: fresh; with a push begun; with a push begun at the meter's end; with a push that wants a block where none is free. And machines of
+-- one worker: fresh, and with an item in.
+abbrev pub freshTwo : Machine
+freshTwo = begun (freshOf sizes 2) 1 Full1
+
+abbrev pub pushingTwo : Machine
+pushingTwo = begun freshTwo 0 (U1 None 5)
+
+abbrev pub spentTwo : Machine
+spentTwo = record { ends = pushingTwo .ends; blocks = pushingTwo .blocks; slots = pushingTwo .slots; workers = pushingTwo .workers; count = 2; meter = meterMost }
+
+abbrev pub wantingTwo : Machine
+wantingTwo =
+    record { ends = freshTwo .ends; blocks = replicate 64 newBlock; slots = freshTwo .slots; workers = begun freshTwo 0 (U4 None (index 0) 5) .workers; count = 2; meter = 0 }
+
+abbrev pub freshOne : Machine
+freshOne = freshOf sizes 1
+
+abbrev pub stockedOne : Machine
+stockedOne = machineAfter (definition sizes actOf) 1 (0 ∷ 5 ∷ acts 0 8)
 
 -- ---- hands and places
 

@@ -4,10 +4,11 @@ use Rattle.unbounded_words.specs.Words.{sizes}
 use Rattle.unbounded_acts.specs.Acts.{actOf}
 use Rattle.unbounded_machine.specs.Turn.{lowestFree}
 use Rattle.unbounded_demands.specs.Notions.{Definition, definition}
-use Rattle.unbounded_demands.specs.Demands.{RefusedUnchanged, Numbered, refusals, ListFirst, OnlyOne, UnderEverySchedule, ActByAct, WholeSchedules, NoBlock, LowestFirst, TwentyThree, PoolUnderEverySchedule, ProgressUnderEverySchedule, PushEnds, PopsEndAlone, PushesEndAlone, AnswersPlain, ClosesAndClaims}
+use Rattle.unbounded_demands.specs.Demands.{RefusedUnchanged, Numbered, refusals, ListFirst, OnlyOne, UnderEverySchedule, ActByAct, WholeSchedules, NoBlock, LowestFirst, TwentyThree, PoolUnderEverySchedule, ProgressUnderEverySchedule, PushEnds, PopsEndAlone, PushesEndAlone, LooksEndAlone, AttainedBy, EachNumber, EnumsBothWays, AnswersPlain, ClosesAndClaims}
 use Rattle.unbounded_demands.specs.Runs.{Runs}
 use Rattle.unbounded_demands.proofs.Refusals.{refused-unchanged, list-first, only-one}
 use Rattle.unbounded_demands.proofs.Numbers.{numbered}
+use Rattle.unbounded_demands.proofs.Answers.{enums-both-ways}
 use Rattle.unbounded_demands.proofs.Blocks.{blocks-run-out}
 use Rattle.unbounded_demands.proofs.Pool.{lowest-first, twenty-three}
 use Rattle.unbounded_demands.proofs.Runs.{runs}
@@ -19,6 +20,9 @@ use Rattle.unbounded_proof_progress.proofs.Progress.{progress}
 use Rattle.unbounded_proof_progress.proofs.PushEnds.{push-ends}
 use Rattle.unbounded_proof_progress.proofs.PopAlone.{pops-end-alone}
 use Rattle.unbounded_proof_progress.proofs.PushAlone.{pushes-end-alone}
+use Rattle.unbounded_proof_progress.proofs.LookAlone.{looks-end-alone}
+use Rattle.unbounded_proof_attained.proofs.Attained.{attained-by}
+use Rattle.unbounded_proof_attained.proofs.EachNumber.{each-number}
 
 -- The source's table, over a pool of 64 blocks of 31 slots.
 abbrev pub source : Definition
@@ -33,6 +37,10 @@ plain-queue = (answers-plain, closes-and-claims)
 pub demand-1 : RefusedUnchanged × Numbered refusals × ListFirst × OnlyOne
 demand-1 = (refused-unchanged, numbered, list-first, only-one)
 
+-- Each number of it is given; and answers that are enums have document 01's numbers and values, there and back.
+pub demand-1-exact : EachNumber refusals × EnumsBothWays
+demand-1-exact = (each-number, enums-both-ways)
+
 -- 2. Under every schedule from a fresh machine: each act is the one action of the source; the claim rule; no slot in two hands, no act on a free block; what Empty
 -- and Closed mean; a block freed once for each taking; contents in order; no machine is broken.
 pub demand-2 : UnderEverySchedule source × ActByAct source × WholeSchedules source
@@ -44,9 +52,9 @@ pub pool : NoBlock source × LowestFirst lowestFree × TwentyThree source × Poo
 pool = (blocks-run-out, lowest-first, twenty-three, pool-kept)
 
 -- Progress: an act of a call under way is refused by 7 or 23 alone; whoever waits has a holder; a push with a slot in hand ends within five acts of its own;
--- alone, with no holder, a pop ends within 43 acts, and with a free block a push within 10.
-pub goes-on : ProgressUnderEverySchedule source × PushEnds source × PopsEndAlone source × PushesEndAlone source
-goes-on = (progress, push-ends, pops-end-alone, pushes-end-alone)
+-- alone, with no holder, a pop ends within 43 acts, and with a free block a push within 10; both numbers are attained, at each place of the call. Any other call ends alone within five.
+pub goes-on : ProgressUnderEverySchedule source × PushEnds source × PopsEndAlone source × PushesEndAlone source × LooksEndAlone source × AttainedBy actOf
+goes-on = (progress, push-ends, pops-end-alone, pushes-end-alone, looks-end-alone, attained-by)
 
 -- The table of runs.
 pub on-paper : Runs

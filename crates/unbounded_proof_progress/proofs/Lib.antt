@@ -7,3 +7,4 @@ pub mod PopAlone
 pub mod PushRank
 pub mod PushAlone
 pub mod Progress
+pub mod LookAlone

@@ -18,7 +18,7 @@ use Rattle.unbounded_words.specs.Words.{index, pastSlots, lastSlot, markedOf, u
 use Rattle.unbounded_places.specs.declared.Worker.{Worker}
 use Rattle.unbounded_places.specs.declared.Answer.the-variants.{Nothing}
 use Rattle.unbounded_places.specs.declared.Place.{Place}
-use Rattle.unbounded_places.specs.declared.Place.the-variants.{Idle}
+use Rattle.unbounded_places.specs.declared.Place.the-variants.{Idle, V1}
 use Rattle.unbounded_places.specs.Places.{viewOf}
 use Rattle.unbounded_acts.specs.Acts.{leave, headTo, frontTo, tailTo, backTo, nextTo, freed, stateTo, valueTo, has, with, firstOr, answered, lacksNext, pushFrom, setAside, claimed, takeOr, popFrom, newHead, taken, nextIndex, destroyFrom, readOut, destroyIf}
 use Rattle.unbounded_machine.specs.declared.Machine.{Machine}
@@ -29,15 +29,19 @@ use Rattle.unbounded_machine.specs.Run.{ran}
 use Rattle.unbounded_demands.specs.Notions.{Definition, acts, itemsOf, takersOf, takingsOf, freeingsOf, push12}
 use Rattle.unbounded_demands.specs.Waiting.{in12, Holding, pushLeft, passed}
 use Rattle.unbounded_demands.specs.Notions as notions
-use Rattle.unbounded_demands.specs.Demands.{WantsBlock, OneAside, OneHandInPool, RefusedByMeterOrPool, Holders, AnswersPushed, PushEnds, EndsAlone, PopAlone, PushAlone}
+use Rattle.unbounded_demands.specs.Demands.{WantsBlock, OneAside, OneHandInPool, RefusedByMeterOrPool, Holders, AnswersPushed, PushEnds, EndsAlone, PopAlone, PushAlone, LookAlone, AttainedBy}
+use Rattle.unbounded_demands.specs.Attained.{Sight, needed, sightOf, exactly, endingPushes}
+use Rattle.unbounded_demands.specs.Attained as table
+use Rattle.unbounded_machine.specs.declared.Ran.{Ran}
+use Rattle.unbounded_proof_attained.proofs.First.{run-first}
 use Rattle.unbounded_demands.specs.Runs.{short}
 use Rattle.unbounded_words.specs.Words.{sizes}
 use Rattle.unbounded_proof_progress.proofs.PopRank.{holdsAt, holding-at, in-left}
 use Rattle.unbounded_proof_progress.proofs.PushRank.{cross-left}
-use Rattle.unbounded_slips.specs.Slips.{asideFirst, unset, writesOn, freesOn, givesOn}
+use Rattle.unbounded_slips.specs.Slips.{asideFirst, unset, writesOn, freesOn, givesOn, looksAgain, actWith}
 use Rattle.unbounded_slips.specs.Whole.{whole, pushes, pops, stingyWhole}
 use Rattle.unbounded_slips.proofs.Whole.{ends, lastFree, machine-is}
-use Rattle.unbounded_slips.specs.Further.{FurtherRefuted, refusing, losesTwice, blockAgain, pushBegun, popWaitsOn, pushWrites, popFrees, pushGives}
+use Rattle.unbounded_slips.specs.Further.{FurtherRefuted, refusing, losesTwice, blockAgain, pushBegun, popWaitsOn, pushWrites, popFrees, pushGives, emptyLooks}
 
 abbrev busyAt : Machine → ℕ → Bool
 busyAt m w = viewOf sizes (placeOf (m .workers) w) .busy
@@ -150,6 +154,26 @@ push-alone p =
     (p 0 (omega arith) (omega arith) (λ v t ne c. cross-left (placeOf (ends pushGives .workers) v) t c
     (but-one pushLeft (ends pushGives .workers) refl refl refl (λ u. refl) v ne)) (63, omega arith, refl))
 
+look-alone : LookAlone (whole looksAgain) (ends emptyLooks) → ⊥
+unfolding pastSlots lastSlot markedOf unmarkedOf withMark later same samePosition sameBlock minus settled behind countOf strayOf orderOf entryOf leave headTo
+    frontTo tailTo backTo nextTo freed stateTo valueTo has with firstOr answered lacksNext pushFrom setAside claimed takeOr popFrom newHead taken nextIndex
+    destroyFrom readOut destroyIf live freeBlocks emptySlots idlers freshOf blank refused accepted all inLimits recordFits recordsFit allIdle dropFits brokenIn
+    entryBut lowestFrom lowestFree clearedFrom cleared begun stored actedAt movedBy turnWith ran runBy searchBy scheduleBy historyBy acts one-by-one.acts
+look-alone l = no-end (whole looksAgain) (ends emptyLooks) 0 refl (l 0 (omega arith) (omega arith))
+
+-- the row of U14: its act is done, and again
+attained : AttainedBy (actWith givesOn) → ⊥
+unfolding pastSlots lastSlot markedOf unmarkedOf withMark later same samePosition sameBlock minus settled behind countOf strayOf orderOf entryOf leave headTo
+    frontTo tailTo backTo nextTo freed stateTo valueTo has with firstOr answered lacksNext pushFrom setAside claimed takeOr popFrom newHead taken nextIndex
+    destroyFrom readOut destroyIf live freeBlocks emptySlots idlers freshOf blank refused accepted all inLimits recordFits recordsFit allIdle dropFits brokenIn
+    entryBut lowestFrom lowestFree clearedFrom cleared begun stored actedAt movedBy turnWith ran runBy searchBy scheduleBy historyBy acts needed sightOf table.pushes endingPushes
+attained a =
+    let row : List ℕ = getD endingPushes 3 (record { schedule = []; place = V1; number = 0 }) .schedule in
+    let q : _≡_ {A = ℕ} 50 1 =
+    sym (ap (λ (r : Ran). sightOf (actWith givesOn) (r .machine) .acts-needed) (run-first (actWith givesOn) row))
+    ∙ ap (λ (l : List Sight). getD l 3 (exactly V1 0) .acts-needed) (a .ending-pushes) in
+    omega arith
+
 pub further-refuted : FurtherRefuted
 unfolding pastSlots lastSlot markedOf unmarkedOf withMark later same samePosition sameBlock minus settled behind countOf strayOf orderOf entryOf leave headTo
     frontTo tailTo backTo nextTo freed stateTo valueTo has with firstOr answered lacksNext pushFrom setAside claimed takeOr popFrom newHead taken nextIndex
@@ -168,6 +192,10 @@ further-refuted =
       push-ends = push-ends;
       pop-alone = λ p. pop-alone (subst (PopAlone (whole freesOn)) (machine-is popFrees) p);
       push-alone = λ p. push-alone (subst (PushAlone (whole givesOn)) (machine-is pushGives) p);
+      look-alone = λ l. look-alone (subst (LookAlone (whole looksAgain)) (machine-is emptyLooks) l);
+      attained = attained;
+      each-number = λ n. let q : _≡_ {A = ℕ} 1 0 = ap (λ (l : List ℕ). getD l 0 0) (n .make) in omega arith;
+      both-ways = λ b. let q : _≡_ {A = ℕ} 0 6 = b .number-kept 6 tt in omega arith;
     }
   where
     eight : {m : ℕ} → (_≡_ {A = ℕ} 8 0) ⊎ ((_≡_ {A = ℕ} 8 7 × (4294967295 ≤ m)) ⊎ (_≡_ {A = ℕ} 8 23)) → ⊥

@@ -41,7 +41,8 @@ use Rattle.unbounded_places.specs.declared.Slot.{Slot}
 use Rattle.unbounded_places.specs.declared.Block.{Block}
 use Rattle.unbounded_places.specs.declared.Answer.the-variants.{Closed, Popped, Empty}
 use Rattle.unbounded_places.specs.declared.Place.the-variants.{Full1, U4, V1, V2, V3, V12}
-use Rattle.unbounded_proof_demand2.proofs.Demand2.{unbroken, fresh-reached, whole-schedules}
+use Rattle.unbounded_proof_demand2.proofs.Demand2.{whole-schedules}
+use Rattle.unbounded_proof_attained.proofs.First.{start, three, run-first, past-first}
 use Rattle.unbounded_slips.specs.Slips.{readsEarly, skipsReader, emptyUnseen, closedUnseen, keepsBlock, asideKept, untied, unwritten, actWith}
 use Rattle.unbounded_slips.specs.Refuted.{Trial, does, twoPushes, pushLoses, popLooks, twoPops, popOfNothing, popWaits, popReads}
 use Rattle.unbounded_slips.specs.Whole.{whole, wholeMachine, wholePast, pushes, pops, firstPush, blockFull, onePush, closedAside, readerWaits, blockDone, RefutedWhole}
@@ -49,28 +50,6 @@ use Rattle.unbounded_slips.proofs.Refuted.{sole, other-item, said, bala
 
 abbrev busyAt : Machine → ℕ → Bool
 busyAt m w = viewOf sizes (placeOf (m .workers) w) .busy
-
--- the third worker has begun
-abbrev pub start : Machine
-start = begun (freshOf sizes 3) 2 Full1
-
-three : Allowed 3
-three = record { worker-some = omega arith; worker-most = omega arith }
-
-module _ (table : Table) (s : List ℕ) where
-  turn-first : turnWith sizes table (freshOf sizes 3) 37 0 ≡ accepted start
-  unfolding turnWith entryBut strayOf orderOf entryOf freshOf idlers begun
-  turn-first =
-      sym (pick.no (brokenOf sizes (freshOf sizes 3)) false (accepted start) (refused 6 (freshOf sizes 3)) _ (sym (unbroken 3 three (freshOf sizes 3) [] (fresh-reached 3))) refl refl)
-
-  run-first : runWith (turnWith sizes table) (freshOf sizes 3) 0 (37 ∷ 0 ∷ s) ≡ runWith (turnWith sizes table) start 1 s
-  unfolding runBy accepted
-  run-first =
-      ap (λ (d : Did). cond (eqb (d .refusal) 0) (runWith (turnWith sizes table) (d .machine) 1 s) (ran (d .refusal) 0 (freshOf sizes 3))) turn-first
-
-  past-first : historyWith (turnWith sizes table) (freshOf sizes 3) (37 ∷ 0 ∷ s) ≡ historyWith (turnWith sizes table) start s
-  unfolding historyBy accepted strayOf orderOf entryOf
-  past-first = ap (λ (d : Did). cond (eqb (d .refusal) 0) (historyWith (turnWith sizes table) (d .machine) s) []) turn-first
 
 abbrev pub ends : Trial → Machine
 ends t = runWith (turnWith sizes (actWith (t .slip))) start 1 (t .schedule) .machine

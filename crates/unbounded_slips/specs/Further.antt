@@ -11,8 +11,11 @@ use Rattle.unbounded_machine.specs.Run.{runWith}
 use Rattle.unbounded_machine.specs.History.{historyWith}
 use Rattle.unbounded_machine.specs.Turn.{turnWith}
 use Rattle.unbounded_demands.specs.Notions.{Definition, acts}
-use Rattle.unbounded_demands.specs.Demands.{refusals, Numbered, LowestFirst, TwentyThree, OneAside, OneHandInPool, RefusedByMeterOrPool, Holders, PushEnds, PopAlone, PushAlone}
-use Rattle.unbounded_slips.specs.Slips.{none, asideFirst, takesAgain, unset, writesOn, freesOn, givesOn}
+use Rattle.unbounded_demands.specs.Demands.{refusals, Numbered, LowestFirst, TwentyThree, OneAside, OneHandInPool, RefusedByMeterOrPool, Holders, PushEnds, PopAlone, PushAlone, LookAlone, AttainedBy, EachNumber, boundOf}
+use Rattle.queue_numbers.specs.Answers.{BothWays}
+use Rattle.unbounded.specs.declared.Bound.{Bound}
+use Rattle.unbounded.specs.declared.Bound.the-variants as bound
+use Rattle.unbounded_slips.specs.Slips.{none, asideFirst, takesAgain, unset, writesOn, freesOn, givesOn, looksAgain, actWith}
 use Rattle.unbounded_slips.specs.Refuted.{Trial, trial, does}
 use Rattle.unbounded_slips.specs.Whole.{whole, wholeMachine, pushes, pops, allButLast, allPushed, stingyWhole}
 
@@ -63,6 +66,10 @@ popFrees = trial freesOn (allPushed ++ does 0 2 0 7 ++ pops 0 29 ++ does 0 2 0 3
 abbrev pub pushGives : Trial
 pushGives = trial givesOn (allButLast ++ does 0 0 6 3 ++ does 1 6 0 1 ++ acts 0 2)
 
+-- an is_empty has loaded head
+abbrev pub emptyLooks : Trial
+emptyLooks = trial looksAgain (does 0 4 0 1)
+
 pub record FurtherRefuted : Type 0 where
   pub numbered : Numbered givesOne → ⊥
   pub lowest-first : LowestFirst lastOne → ⊥
@@ -74,3 +81,8 @@ pub record FurtherRefuted : Type 0 where
   pub push-ends : PushEnds (whole writesOn) → ⊥
   pub pop-alone : PopAlone (whole freesOn) (wholeMachine popFrees) → ⊥
   pub push-alone : PushAlone (whole givesOn) (wholeMachine pushGives) → ⊥
+  pub look-alone : LookAlone (whole looksAgain) (wholeMachine emptyLooks) → ⊥
+  pub attained : AttainedBy (actWith givesOn) → ⊥
+  pub each-number : EachNumber givesOne → ⊥
+  -- a refusal of `capacity` has number 0
+  pub both-ways : BothWays bound.Refused (λ (b : Bound). 0) (λ (b : Bound). tt) boundOf → ⊥

@@ -138,6 +138,10 @@ freesOn = 35
 abbrev pub givesOn : ℕ
 givesOn = 36
 
+-- is_empty's second load goes back to its first
+abbrev pub looksAgain : ℕ
+looksAgain = 37
+
 -- The row of the table, but for this slip.
 abbrev but : ℕ → ℕ → Acted → Acted → Acted
 but n slip wrong right = cond (eqb n slip) wrong right
@@ -189,7 +193,7 @@ actWith m z e k g s Len1 lose = actOf z e k g s Len1 lose
 actWith m z e k g s (Len2 t) lose = actOf z e k g s (Len2 t) lose
 actWith m z e k g s (Len3 t h) lose = but m lenNone (leave e g s (Idle (Len 0))) (actOf z e k g s (Len3 t h) lose)
 actWith m z e k g s Empty1 lose = actOf z e k g s Empty1 lose
-actWith m z e k g s (Empty2 h) lose = but m emptyYes (leave e g s (Idle Yes)) (but m emptyNo (leave e g s (Idle No)) (actOf z e k g s (Empty2 h) lose))
+actWith m z e k g s (Empty2 h) lose = but m emptyYes (leave e g s (Idle Yes)) (but m emptyNo (leave e g s (Idle No)) (but m looksAgain (leave e g s Empty1) (actOf z e k g s (Empty2 h) lose)))
 actWith m z e k g s Full1 lose = but m fullYes (leave e g s (Idle Yes)) (actOf z e k g s Full1 lose)
 actWith m z e k g s Close1 lose = but m closeIdle (leave e g s (Idle Yes)) (actOf z e k g s Close1 lose)
 actWith m z e k g s IsClosed1 lose = but m closedYes (leave e g s (Idle Yes)) (actOf z e k g s IsClosed1 lose)

@@ -78,11 +78,14 @@ fn look(o: Options, fd: i32, name: &[u8], from: Next) -> Next {
     }
 }
 
-fn asked(o: Options) -> Asked {
+fn asked(o: Options, fd: i32) -> Asked {
     Asked {
         depth: o.depth,
         list: o.list,
         many: o.many,
+        explain: o.explain != 0,
+        ending: o.ending,
+        fd: fd,
     }
 }
 
@@ -95,7 +98,7 @@ fn play(o: Options, fd: i32, begun: Reading, whole: Whole, out: &mut [u8], at: u
         };
     }
     let m = l.words;
-    walk_play::tell::walk(out, at, asked(o), m)
+    walk_play::tell::walk(out, at, asked(o, fd), m)
 }
 
 fn mark(out: &mut [u8], at: usize, many: bool) -> usize {

@@ -1,5 +1,12 @@
 // The arguments of walk.
 
+// Which number is wanted.
+const EDITION: u64 = 0;
+
+const DEPTH: u64 = 1;
+
+const ENDING: u64 = 2;
+
 pub struct Options {
     // handed to making as it stands
     pub edition: u64,
@@ -7,9 +14,12 @@ pub struct Options {
     pub depth: u64,
     // the number of the argument whose value is wanted; 0: none is
     pub wanting: usize,
-    // it is the depth that is wanted, and not the edition
-    pub deep: bool,
+    pub which: u64,
     pub list: bool,
+    // the number of the argument that asks for endings in words; 0: none does
+    pub explain: usize,
+    // only this one of them, from 1; 0: all
+    pub ending: u64,
     pub many: bool,
     pub help: bool,
     // the starter asks for the status on a descriptor
@@ -25,8 +35,10 @@ fn none() -> Options {
         edition: 1,
         depth: 12,
         wanting: 0,
-        deep: false,
+        which: EDITION,
         list: false,
+        explain: 0,
+        ending: 0,
         many: false,
         help: false,
         tells: false,
@@ -52,27 +64,49 @@ fn named(before: Options, i: usize, word: &[u8]) -> Options {
     o
 }
 
+fn with_ending(before: Options, i: usize, number: u64) -> Options {
+    let mut o = before;
+    if number == 0 {
+        o.wrong = i;
+        return o;
+    }
+    o.ending = number;
+    o
+}
+
+fn with_value(before: Options, i: usize, number: u64) -> Options {
+    let mut o = before;
+    let which = o.which;
+    match which {
+        EDITION => o.edition = number,
+        DEPTH => o.depth = number,
+        _ => return with_ending(o, i, number),
+    }
+    o
+}
+
 // The number that is wanted, read as the numbers of a schedule are.
 fn with_number(before: Options, i: usize, word: &[u8]) -> Options {
     let mut o = before;
     o.wanting = 0;
     let given = replay_options::number_in(word);
     if given.ok {
-        if o.deep {
-            o.depth = given.number;
-        } else {
-            o.edition = given.number;
-        }
-    } else {
-        o.wrong = i;
+        return with_value(o, i, given.number);
     }
+    o.wrong = i;
     o
 }
 
-fn wanting(before: Options, i: usize, deep: bool) -> Options {
+fn wanting(before: Options, i: usize, which: u64) -> Options {
     let mut o = before;
     o.wanting = i;
-    o.deep = deep;
+    o.which = which;
+    o
+}
+
+fn explaining(before: Options, i: usize) -> Options {
+    let mut o = before;
+    o.explain = i;
     o
 }
 
@@ -82,14 +116,20 @@ fn with_word(before: Options, i: usize, word: &[u8]) -> Options {
         return with_number(o, i, word);
     }
     if check::same(word, b"--edition") {
-        return wanting(o, i, false);
+        return wanting(o, i, EDITION);
     }
     if check::same(word, b"--depth") {
-        return wanting(o, i, true);
+        return wanting(o, i, DEPTH);
     }
     if check::same(word, b"--list") {
         o.list = true;
         return o;
+    }
+    if check::same(word, b"--explain") {
+        return explaining(o, i);
+    }
+    if check::same(word, b"--ending") {
+        return wanting(explaining(o, i), i, ENDING);
     }
     if check::same(word, b"--many") {
         o.many = true;
@@ -123,9 +163,20 @@ fn arguments() -> Options {
     o
 }
 
+// Endings in words are a text of their own, of one schedule.
+fn but_words(before: Options) -> Options {
+    let mut o = before;
+    if o.explain != 0 {
+        if o.list || o.many {
+            o.wrong = o.explain;
+        }
+    }
+    o
+}
+
 // An option that is still without its value at the end is of no use.
 pub fn read() -> Options {
-    let mut o = arguments();
+    let mut o = but_words(arguments());
     if o.wanting != 0 {
         o.wrong = o.wanting;
     }
@@ -136,7 +187,7 @@ pub fn read() -> Options {
 pub fn help() -> bool {
     io::write_all(
         libc::STDOUT_FILENO,
-        b"walk [--edition N] [--depth D] [--list] [--many] [SCHEDULE]\n\
+        b"walk [--edition N] [--depth D] [--list] [--many] [--explain] [--ending N] [SCHEDULE]\n\
         \n\
         Runs a schedule on the stamped ring, then tries every sequence of acts from there: of exactly so many acts, or ending sooner\n\
         because all workers are idle. There are 1 to 3 workers, and each must have a call under way. The schedule is read from SCHEDULE,\n\
@@ -161,6 +212,9 @@ pub fn help() -> bool {
         \x20 --depth D     the most acts of a sequence, 0 to 12: 12 unless told\n\
         \x20 --list        nothing but the sequences, one a line, as the entries of a schedule; one of no act is an empty line\n\
         \x20 --many        several schedules, separated by a line with a single %; a line % follows each output, and what is refused is\n\
-        \x20               told in its place\n",
+        \x20               told in its place\n\
+        \x20 --explain     the ways that all workers together end in, in plain words, and for each the first of the shortest schedules that\n\
+        \x20               end so, whole and in words; all else is comments and a line % after each, so that replay --many runs it\n\
+        \x20 --ending N    of these only the N-th, from 1, without %, for replay to run\n",
     )
 }

@@ -21,12 +21,6 @@ pub fn meaning(out: &mut [u8], at: usize, refusal: u64, numbers: &[u64]) -> usiz
     text_output::nth(out, at, list, refusal as usize, numbers)
 }
 
-pub fn on_error(text: &[u8], n: usize) {
-    if n <= text.len() {
-        io::write_all(libc::STDERR_FILENO, &text[..n]);
-    }
-}
-
 // On standard error; one of many is told in its place.
 pub fn tell(out: &mut [u8], at: usize, many: bool, refusal: u64, numbers: &[u64]) -> usize {
     if many {
@@ -36,6 +30,6 @@ pub fn tell(out: &mut [u8], at: usize, many: bool, refusal: u64, numbers: &[u64]
     let mut text = [0u8; 256];
     let p = meaning(&mut text, 0, refusal, numbers);
     let q = text_output::byte(&mut text, p, b'\n');
-    on_error(&text, q);
+    walk_lists::said::on_error(&text, q);
     at
 }

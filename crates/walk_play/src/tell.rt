@@ -11,6 +11,10 @@ pub struct Asked {
     pub depth: u64,
     pub list: bool,
     pub many: bool,
+    // in words (walk_explain): every ending, 0, or this one; and the file of the schedule that was run
+    pub explain: bool,
+    pub ending: u64,
+    pub fd: i32,
 }
 
 fn played(at: usize, refused: bool) -> Played {
@@ -41,6 +45,23 @@ fn refused(out: &mut [u8], at: usize, o: Asked, m: [u64; WORDS], refusal: u64) -
     played(p, true)
 }
 
+fn explained(
+    out: &mut [u8],
+    at: usize,
+    o: Asked,
+    m: [u64; WORDS],
+    sequences: u64,
+    list: &[u8],
+) -> Played {
+    let asked = walk_explain::Asked {
+        depth: o.depth,
+        ending: o.ending,
+        fd: o.fd,
+    };
+    let t = walk_explain::tell(out, at, asked, m, sequences, list);
+    played(t.at, t.found == false)
+}
+
 fn told(
     out: &mut [u8],
     at: usize,
@@ -48,9 +69,12 @@ fn told(
     m: [u64; WORDS],
     sequences: u64,
     list: &[u8],
-) -> usize {
+) -> Played {
     if o.list {
-        return crate::list::lines(out, at, list);
+        return played(walk_lists::lines(out, at, list), false);
+    }
+    if o.explain {
+        return explained(out, at, o, m, sequences, list);
     }
     let p = text_output::form(
         out,
@@ -58,7 +82,7 @@ fn told(
         b"walked depth=# sequences=# bytes=#\n",
         &[o.depth, sequences, list.len() as u64],
     );
-    crate::ends::lines(out, p, m, list)
+    played(crate::ends::lines(out, p, m, list), false)
 }
 
 fn told_first(
@@ -69,11 +93,11 @@ fn told_first(
     sequences: u64,
     buffer: &[u8],
     n: usize,
-) -> usize {
+) -> Played {
     if n <= buffer.len() {
         return told(out, at, o, m, sequences, &buffer[..n]);
     }
-    at
+    played(at, false)
 }
 
 fn listed(
@@ -83,10 +107,10 @@ fn listed(
     m: [u64; WORDS],
     n: usize,
     buffer: &mut [u8],
-) -> usize {
+) -> Played {
     match bounded_walks::walk(bounded_text_faces::machine::read(m), o.depth, buffer) {
         Told::Number(sequences) => told_first(out, at, o, m, sequences, buffer, n),
-        Told::Refused(_) => at,
+        Told::Refused(_) => played(at, false),
     }
 }
 
@@ -95,7 +119,7 @@ fn room() -> [u8; BUFFER] {
     [0; BUFFER]
 }
 
-fn walked(out: &mut [u8], at: usize, o: Asked, m: [u64; WORDS], n: usize) -> usize {
+fn walked(out: &mut [u8], at: usize, o: Asked, m: [u64; WORDS], n: usize) -> Played {
     let mut buffer = room();
     listed(out, at, o, m, n, &mut buffer)
 }
@@ -115,7 +139,7 @@ pub fn walk(out: &mut [u8], at: usize, o: Asked, m: [u64; WORDS]) -> Played {
                 );
                 return played(p, true);
             }
-            played(walked(out, at, o, m, bytes as usize), false)
+            walked(out, at, o, m, bytes as usize)
         }
     }
 }

@@ -20,13 +20,17 @@
 //! # Ok::<(), fernmoldew::Refusal>(())
 //! ```
 //!
-//! A [`Tape`] is a schedule as bytes, for an archive.
+//! A [`OneSlot`] is the torque station's one-slot queue, in the same way. A [`Tape`] is a schedule as bytes, for an archive.
 //!
-//! The library behind it is compiled from proved Rattle (crates/bounded_host, crates/tapes_host); its promises are of the words that a [`Ring`] and its [`Workers`] hold, and of a tape's bytes and words.
+//! The library behind it is compiled from proved Rattle (crates/bounded_host, crates/single_host, crates/tapes_host); its promises are of the words that a [`Ring`] and its [`Workers`], or a [`OneSlot`], hold, and of a tape's bytes and words.
 //! They hold if a ring is lent the same workers throughout, as this crate's borrows leave to you: lend another ring's and refusal 6 alone judges them.
 
 use std::error::Error;
 use std::fmt;
+
+mod one_slot;
+
+pub use one_slot::{OneSlot, ONE_SLOT_HEAD_WORDS, ONE_SLOT_RECORDS_WORDS, ONE_SLOT_RECORD_WORDS};
 
 #[repr(C)]
 struct Reply {
@@ -257,6 +261,24 @@ pub enum Answer {
     Len(u64),
 }
 
+/// What a record's code and first word answer; none of a busy worker's.
+fn answer_of(code: u64, value: u64) -> Option<Answer> {
+    Some(match code {
+        0 => Answer::Nothing,
+        1 => Answer::Pushed,
+        2 => Answer::Empty,
+        3 => Answer::PopClosed,
+        4 => Answer::Yes,
+        5 => Answer::No,
+        6 => Answer::Full(value),
+        7 => Answer::Closed(value),
+        8 => Answer::Displaced(value),
+        9 => Answer::Popped(value),
+        10 => Answer::Len(value),
+        _ => return None,
+    })
+}
+
 /// Where one worker stands.
 #[derive(Clone, Copy, Debug, PartialEq, Eq)]
 pub struct Worker {
@@ -271,21 +293,7 @@ impl Worker {
 
     /// What its last call answered; none while it is busy.
     pub fn answer(&self) -> Option<Answer> {
-        let value = self.words[1];
-        Some(match self.words[0] {
-            0 => Answer::Nothing,
-            1 => Answer::Pushed,
-            2 => Answer::Empty,
-            3 => Answer::PopClosed,
-            4 => Answer::Yes,
-            5 => Answer::No,
-            6 => Answer::Full(value),
-            7 => Answer::Closed(value),
-            8 => Answer::Displaced(value),
-            9 => Answer::Popped(value),
-            10 => Answer::Len(value),
-            _ => return None,
-        })
+        answer_of(self.words[0], self.words[1])
     }
 
     /// How many exchanges its present or last call lost because the words differed.

@@ -1,5 +1,7 @@
 //! A second reading of the words that a host keeps, written from hosts/c/fernmoldew.h and document 01 alone: what a record's words stand for, and which words a plain machine has.
 
+pub mod slot;
+
 use plain::{Answer, Machine, Place};
 
 /// The words of a place of the plain machine.

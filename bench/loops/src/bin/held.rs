@@ -1,7 +1,7 @@
 //! held FILE...: the proved `run` beside the plain one, on words in memory.
 
 use loops::{called, race, Told};
-use plain::Machine;
+use plain::{Machine, Queue};
 
 extern "C" {
     fn bench_run(capacity: u64, workers: u64, edition: u64, schedule: *const u64, length: usize, told: *mut [u64; 4]) -> u64;

@@ -1,7 +1,7 @@
 //! host FILE...: `run` of the face that a host links, on words in the host's memory; both test once whether the ring is broken.
 
 use loops::{race, words, Told};
-use plain::Machine;
+use plain::{Machine, Queue};
 
 fn proved(list: &[u64]) -> Told {
     let mut host = words::Host::new(list[0], list[1]);

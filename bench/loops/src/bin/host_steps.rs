@@ -1,7 +1,7 @@
 //! host_steps FILE...: the same entry by entry, a call of `step` for each: both test before each whether the ring is broken, over all records.
 
 use loops::{race, words, Told};
-use plain::{unreadable, Machine};
+use plain::{stray, Machine, Queue};
 
 fn proved(list: &[u64]) -> Told {
     let mut host = words::Host::new(list[0], list[1]);
@@ -20,7 +20,7 @@ fn step(m: &mut Machine, entry: &[u64]) -> u64 {
     if m.broken() {
         return 6;
     }
-    if unreadable(entry).is_some() {
+    if stray(entry[0], entry[1]) {
         return 9;
     }
     m.step(entry[0], entry[1])

@@ -1,7 +1,8 @@
 //! schedule [--tape] MODE CAPACITY WORKERS ACTS: a schedule with so many act entries, on standard output, as text or as a tape of the first variant.
+//! single or unbounded in place of CAPACITY: a schedule of that queue, as text.
 //! MODE calls: one call after another, each to its end. MODE mixed: workers act in random turns, and one weak exchange in eight fails.
 
-use plain::{Machine, Place};
+use plain::{single, unbounded, Machine, Queue};
 use std::io::{self, BufWriter, Write};
 use std::process::exit;
 
@@ -34,7 +35,8 @@ struct Writing<W: Write> {
 }
 
 impl<W: Write> Writing<W> {
-    fn made(&mut self, capacity: u64, workers: u64) -> io::Result<()> {
+    fn made(&mut self, capacity: Option<u64>, workers: u64) -> io::Result<()> {
+        let Some(capacity) = capacity else { return writeln!(self.out, "{workers}") };
         if self.tape {
             self.out.write_all(&[1, 0, 4, (capacity >> 8) as u8, capacity as u8, 0, workers as u8])
         } else {
@@ -60,27 +62,27 @@ impl<W: Write> Writing<W> {
     }
 }
 
-fn write(mixed: bool, capacity: u64, workers: u64, acts: u64, to: &mut Writing<impl Write>) -> io::Result<()> {
-    let mut m = Machine::of_at_most(64, capacity, workers, 1).unwrap_or_else(|refusal| {
+fn write<Q: Queue>(mixed: bool, made: Result<Q, u64>, capacity: Option<u64>, workers: u64, acts: u64, to: &mut Writing<impl Write>) -> io::Result<()> {
+    let mut m = made.unwrap_or_else(|refusal| {
         eprintln!("schedule: no such machine: refusal {refusal}");
         exit(1)
     });
     to.made(capacity, workers)?;
-    let mut random = Random(0x9E37_79B9_7F4A_7C15 ^ capacity ^ workers << 32);
+    let mut random = Random(0x9E37_79B9_7F4A_7C15 ^ capacity.unwrap_or(0) ^ workers << 32);
     let (mut w, mut done) = (0, 0);
     while done < acts {
-        let place = m.workers[w as usize].place;
-        let (code, item) = if matches!(place, Place::Idle(_)) {
+        let (code, item) = if m.idle(w) {
             let code = call(&mut random);
+            // of the unbounded queue, which has no force_push, a pop, so that it does not grow
+            let code = if Q::unreadable(code, 0) { 2 } else { code };
             (code, if code < 2 { 1 + random.below(9_999) } else { 0 })
         } else {
             done += 1;
-            let weak = matches!(place, Place::P3 { .. } | Place::F6 { .. } | Place::O3 { .. });
-            (if mixed && weak && random.below(8) == 0 { 9 } else { 8 }, 0)
+            (if mixed && m.weak(w) && random.below(8) == 0 { 9 } else { 8 }, 0)
         };
         to.entry(w, code, item)?;
         m.step(16 * w + code, item);
-        if mixed || matches!(m.workers[w as usize].place, Place::Idle(_)) {
+        if mixed || m.idle(w) {
             w = random.below(workers);
         }
     }
@@ -93,13 +95,26 @@ fn main() {
     if tape {
         args.remove(0);
     }
-    let numbers: Vec<u64> = args.iter().skip(1).filter_map(|a| a.parse().ok()).collect();
-    let (Some(mode @ ("calls" | "mixed")), &[capacity, workers, acts]) = (args.first().map(String::as_str), &numbers[..]) else {
-        eprintln!("usage: schedule [--tape] calls|mixed CAPACITY WORKERS ACTS");
-        exit(2)
+    let words: Vec<&str> = args.iter().map(String::as_str).collect();
+    let (mode, queue, workers, acts) = match words[..] {
+        [mode @ ("calls" | "mixed"), queue, workers, acts] => (mode, queue, workers.parse(), acts.parse()),
+        _ => usage(),
     };
+    let (Ok(workers), Ok(acts)) = (workers, acts) else { usage() };
     let mut to = Writing { out: BufWriter::with_capacity(1 << 16, io::stdout().lock()), tape };
-    if write(mode == "mixed", capacity, workers, acts, &mut to).is_err() {
+    let mixed = mode == "mixed";
+    let written = match (queue, queue.parse()) {
+        ("single", _) if !tape => write(mixed, single::Machine::new(workers), None, workers, acts, &mut to),
+        ("unbounded", _) if !tape => write(mixed, unbounded::Machine::new(workers), None, workers, acts, &mut to),
+        (_, Ok(capacity)) => write(mixed, Machine::of_at_most(64, capacity, workers, 1), Some(capacity), workers, acts, &mut to),
+        _ => usage(),
+    };
+    if written.is_err() {
         exit(1)
     }
+}
+
+fn usage() -> ! {
+    eprintln!("usage: schedule [--tape] calls|mixed CAPACITY|single|unbounded WORKERS ACTS");
+    exit(2)
 }

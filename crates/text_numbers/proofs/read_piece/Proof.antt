@@ -6,9 +6,10 @@ use Rattle.text_numbers.proofs.read_piece.Statement.{statement}
 use Rattle.text_numbers.proofs.read_piece.Tie as tie
 use Rattle.text_numbers.proofs.read_piece.Reads as reads
 use Rattle.text_numbers.proofs.read_piece.Lts as lts
+use Rattle.text_numbers.proofs.after_row.Reads as after-row-reads
 use Rattle.text_numbers.proofs.byte.Reads as byte-reads
 use Rattle.text_numbers.proofs.keep.Reads as keep-reads
-use Rattle.text_numbers.proofs.plain_at.Reads as plain-at-reads
+use Rattle.text_numbers.proofs.row_at.Reads as row-at-reads
 use Rattle.text_numbers.proofs.stop_of.Reads as stop-of-reads
 
 abbrev Inv-loop : tie.InvT-loop
@@ -22,12 +23,11 @@ loop-holds : tie.Need-loop-holds Inv-loop μ-loop
 loop-holds c = search needs
 
 -- src/lib.rt:306:13
-plain-at-requires : tie.Need-plain-at-requires Inv-loop μ-loop
-plain-at-requires c κs = search needs
+row-at-requires : tie.Need-row-at-requires Inv-loop μ-loop
+row-at-requires c κs = search needs
 
--- src/lib.rt:311:13
-keep-requires : tie.Need-keep-requires Inv-loop μ-loop
-keep-requires c κs = search needs
+after-row-requires : tie.Need-after-row-requires Inv-loop μ-loop
+after-row-requires c κs = search needs
 
 -- src/lib.rt:305:5
 loop-less : tie.Need-loop-less Inv-loop μ-loop
@@ -46,8 +46,8 @@ byte-requires : tie.Need-byte-requires Inv-loop μ-loop
 byte-requires c κs = search needs
 
 -- src/lib.rt:318:13
-keep-requires-2 : tie.Need-keep-requires-2 Inv-loop μ-loop
-keep-requires-2 c κs = search needs
+keep-requires : tie.Need-keep-requires Inv-loop μ-loop
+keep-requires c κs = search needs
 
 -- src/lib.rt:319:13
 add-i : tie.Need-add-i Inv-loop μ-loop
@@ -80,13 +80,13 @@ read-piece-spec =
     Inv-loop
     μ-loop
     loop-holds
-    plain-at-requires
-    keep-requires
+    row-at-requires
+    after-row-requires
     loop-less
     loop-again
     shared-slice-read-byte
     byte-requires
-    keep-requires-2
+    keep-requires
     add-i
     loop-less-2
     loop-again-2

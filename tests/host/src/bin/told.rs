@@ -3,6 +3,7 @@
 
 use fernmoldew::{Refusal, Ring, Stopped, Workers, HEAD_WORDS, SLOT_WORDS};
 use host::told;
+use plain::Queue;
 use std::fmt::Write as _;
 use std::io::{self, BufWriter, Read, Write};
 
@@ -21,7 +22,7 @@ fn whole_refused(entries: &[u64]) -> Option<(u64, u64)> {
     if entries.len() % 2 == 1 {
         return Some((11, 0));
     }
-    plain::unreadable(entries).map(|place| (9, place))
+    plain::Machine::unreadable_at(entries).map(|place| (9, place))
 }
 
 /// A schedule in pieces of seven entries, each a call of `run`: refusal and place.

@@ -3,7 +3,7 @@
 
 use fernmoldew::{Edition, Refusal, Ring, Stopped, Workers};
 use host::words_of;
-use plain::{unreadable, Machine};
+use plain::{Machine, Queue};
 use std::process::exit;
 
 struct Random(u64);
@@ -50,7 +50,7 @@ fn entry(random: &mut Random, m: &Machine) -> [u64; 2] {
 }
 
 fn step(m: &mut Machine, [first, second]: [u64; 2]) -> u64 {
-    if unreadable(&[first, second]).is_some() { 9 } else { m.step(first, second) }
+    if Machine::unreadable(first, second) { 9 } else { m.step(first, second) }
 }
 
 /// The words of both, compared.

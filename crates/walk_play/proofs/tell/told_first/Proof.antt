@@ -5,6 +5,7 @@ use Rattle.walk_play.proofs.tell.told_first.Statement.{statement}
 use Rattle.walk_play.proofs.tell.told_first.Tie as tie
 use Rattle.walk_play.proofs.tell.told_first.Reads as reads
 use Rattle.walk_play.proofs.tell.told_first.Lts as lts
+use Rattle.walk_play.proofs.tell.played.Reads as played-reads
 use Rattle.walk_play.proofs.tell.told.Reads as told-reads
 
 -- src/tell.rt:67:47
@@ -23,10 +24,15 @@ same-length c = search needs
 returns : tie.Need-returns
 returns c = search needs
 
+-- src/tell.rt:97:5
+played-requires : tie.Need-played-requires
+played-requires c κs = search needs
+
 -- src/tell.rt:57:1
 returns-2 : tie.Need-returns-2
 returns-2 c = search needs
 
 pub told-first-spec : {M : Type 1} → statement M
 told-first-spec =
-    tie.close (tie.spec slice-aggregate-told told-requires same-length returns returns-2)
+    tie.close
+    (tie.spec slice-aggregate-told told-requires same-length returns played-requires returns-2)

@@ -1,0 +1,22 @@
+//! single FILE...: the proved `run` of the one-slot queue beside the plain one, on words in memory.
+
+use loops::{called_by_workers, race, Told};
+use plain::{single::Machine, Queue};
+
+extern "C" {
+    fn bench_single(workers: u64, schedule: *const u64, length: usize, told: *mut [u64; 4]) -> u64;
+}
+
+fn proved(list: &[u64]) -> Told {
+    called_by_workers(bench_single, list)
+}
+
+fn plain(list: &[u64]) -> Told {
+    let mut m = Machine::new(list[0]).expect("a machine");
+    let (refusal, place) = m.run(&list[1..]);
+    (refusal, [place, m.state, m.value, m.meter])
+}
+
+fn main() {
+    race(proved, plain);
+}

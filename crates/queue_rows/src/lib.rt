@@ -1,0 +1,1 @@
+// Laws of rows that a loop fills: see proofs/.

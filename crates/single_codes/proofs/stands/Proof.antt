@@ -1,0 +1,31 @@
+use Rattle.single_codes.proofs.Standing.{other-code, other-first, by-second}
+use borrow.Author.Needs.{needs}
+use Rattle.single_codes.proofs.stands.Statement.{statement}
+use Rattle.single_codes.proofs.stands.Tie as tie
+use Rattle.single_codes.proofs.stands.Reads as reads
+use Rattle.single_codes.proofs.stands.Lts as lts
+use Rattle.single_codes.proofs.code_of.Reads as code-of-reads
+use Rattle.single_codes.proofs.place_in.Reads as place-in-reads
+
+-- src/lib.rt:121:21
+place-in-requires : tie.Need-place-in-requires
+place-in-requires c κs = search needs
+
+-- src/lib.rt:121:9
+code-of-requires : tie.Need-code-of-requires
+code-of-requires c κs = search needs
+
+-- src/lib.rt:123:9
+returns : tie.Need-returns
+returns c = search (needs, other-code)
+
+-- src/lib.rt:126:9
+returns-2 : tie.Need-returns-2
+returns-2 c = search (needs, other-first)
+
+-- src/lib.rt:118:1
+returns-3 : tie.Need-returns-3
+returns-3 c = search (needs, by-second)
+
+pub stands-spec : {M : Type 1} → statement M
+stands-spec = tie.close (tie.spec place-in-requires code-of-requires returns returns-2 returns-3)

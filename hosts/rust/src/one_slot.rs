@@ -1,0 +1,152 @@
+use crate::{act_entry, answer_of, judged, told, Answer, Call, Refusal, Reply, Stopped};
+
+extern "C" {
+    fn fern_slot_make(head: *mut u64, n: usize, records: *mut u64, k: usize, workers: u64) -> u64;
+    fn fern_slot_step(head: *mut u64, n: usize, records: *mut u64, k: usize, first: u64, second: u64) -> u64;
+    fn fern_slot_run(head: *mut u64, n: usize, records: *mut u64, k: usize, schedule: *const u64, length: usize) -> Reply;
+    fn fern_slot_contents(head: *const u64, n: usize, records: *const u64, k: usize, buffer: *mut u64, room: usize) -> Reply;
+    fn fern_slot_broken(head: *const u64, n: usize, records: *const u64, k: usize) -> u64;
+}
+
+/// The words of a one-slot queue but for its records, of a record, and of all sixteen.
+pub const ONE_SLOT_HEAD_WORDS: usize = 5;
+pub const ONE_SLOT_RECORD_WORDS: usize = 3;
+pub const ONE_SLOT_RECORDS_WORDS: usize = 48;
+
+/// The torque station's one-slot queue (`single.rs` of concurrent-queue) with its workers' records, stepped one atomic action at a time.
+///
+/// ```
+/// use fernmoldew::{Answer, Call, OneSlot};
+///
+/// let mut slot = OneSlot::new(2)?;
+/// assert_eq!(slot.call(0, Call::Push(240))?, Some(Answer::Pushed));
+/// assert_eq!(slot.call(0, Call::ForcePush(255))?, Some(Answer::Displaced(240)));
+/// // worker 1 pops, and has not let go yet: a push answers Full, although nothing waits
+/// slot.begin(1, Call::Pop)?;
+/// slot.act(1)?;
+/// assert_eq!(slot.call(0, Call::Push(260))?, Some(Answer::Full(260)));
+/// slot.act(1)?;
+/// slot.act(1)?;
+/// assert_eq!(slot.answer(1), Some(Answer::Popped(255)));
+/// # Ok::<(), fernmoldew::Refusal>(())
+/// ```
+#[derive(Clone, Debug, PartialEq, Eq)]
+pub struct OneSlot {
+    head: [u64; ONE_SLOT_HEAD_WORDS],
+    records: [u64; ONE_SLOT_RECORDS_WORDS],
+}
+
+impl OneSlot {
+    /// A fresh queue of 1 to 16 workers, all idle.
+    pub fn new(workers: u64) -> Result<OneSlot, Refusal> {
+        let mut slot = OneSlot::from_words([0; ONE_SLOT_HEAD_WORDS], [0; ONE_SLOT_RECORDS_WORDS]);
+        slot.make(workers)?;
+        Ok(slot)
+    }
+
+    /// A queue of these words, as fernmoldew.h lays them out: another's, an archive's. They are judged with each call.
+    pub fn from_words(head: [u64; ONE_SLOT_HEAD_WORDS], records: [u64; ONE_SLOT_RECORDS_WORDS]) -> OneSlot {
+        OneSlot { head, records }
+    }
+
+    pub fn head_words(&self) -> &[u64; ONE_SLOT_HEAD_WORDS] {
+        &self.head
+    }
+
+    pub fn record_words(&self) -> &[u64; ONE_SLOT_RECORDS_WORDS] {
+        &self.records
+    }
+
+    /// Makes it anew. Refusal 2.
+    pub fn make(&mut self, workers: u64) -> Result<(), Refusal> {
+        let OneSlot { head, records } = self;
+        // SAFETY: two slices that are borrowed apart, each as long as is said; no other call runs on them.
+        judged(unsafe { fern_slot_make(head.as_mut_ptr(), head.len(), records.as_mut_ptr(), records.len(), workers) })
+    }
+
+    /// One entry of two words, as schedules have them.
+    pub fn step(&mut self, first: u64, second: u64) -> Result<(), Refusal> {
+        let OneSlot { head, records } = self;
+        // SAFETY: as above.
+        judged(unsafe { fern_slot_step(head.as_mut_ptr(), head.len(), records.as_mut_ptr(), records.len(), first, second) })
+    }
+
+    /// A schedule, two words an entry, to its end: how many entries it has. Refusals 6, 11 and 9 come before anything is run; of any other the entries before it stand.
+    pub fn run(&mut self, schedule: &[u64]) -> Result<u64, Stopped> {
+        let OneSlot { head, records } = self;
+        // SAFETY: as above; the schedule is read alone.
+        let Reply { refusal, number } = unsafe { fern_slot_run(head.as_mut_ptr(), head.len(), records.as_mut_ptr(), records.len(), schedule.as_ptr(), schedule.len()) };
+        judged(refusal).map(|()| number).map_err(|refusal| Stopped { refusal, place: number })
+    }
+
+    /// A worker begins a call: no act yet.
+    pub fn begin(&mut self, worker: usize, call: Call) -> Result<(), Refusal> {
+        let [first, second] = call.entry(worker);
+        self.step(first, second)
+    }
+
+    /// The one atomic action that comes next in a worker's call.
+    pub fn act(&mut self, worker: usize) -> Result<(), Refusal> {
+        let [first, second] = act_entry(worker);
+        self.step(first, second)
+    }
+
+    /// A whole call, nobody else acting meanwhile. It ends within four acts unless another worker has the slot in hand; then it is left under way, and there is no answer.
+    pub fn call(&mut self, worker: usize, call: Call) -> Result<Option<Answer>, Refusal> {
+        self.begin(worker, call)?;
+        for _ in 0..4 {
+            self.act(worker)?;
+            if !self.busy(worker) {
+                break;
+            }
+        }
+        Ok(self.answer(worker))
+    }
+
+    fn record(&self, worker: usize) -> &[u64] {
+        &self.records[ONE_SLOT_RECORD_WORDS * worker..][..ONE_SLOT_RECORD_WORDS]
+    }
+
+    /// Whether a worker has a call under way.
+    ///
+    /// # Panics
+    /// Where there is no such record.
+    pub fn busy(&self, worker: usize) -> bool {
+        self.answer(worker).is_none()
+    }
+
+    /// What a worker's last call answered; none while it is busy.
+    ///
+    /// # Panics
+    /// Where there is no such record.
+    pub fn answer(&self, worker: usize) -> Option<Answer> {
+        let record = self.record(worker);
+        answer_of(record[0], record[1])
+    }
+
+    /// The item, if there is one. Nothing is removed. Refusals 6 and 4.
+    pub fn contents(&self) -> Result<Option<u64>, Refusal> {
+        let mut item = [0];
+        Ok((self.contents_into(&mut item)? == 1).then_some(item[0]))
+    }
+
+    /// The same into a buffer, of which the rest is left as it was: how many. Refusal 10 for a buffer that is too short.
+    pub fn contents_into(&self, buffer: &mut [u64]) -> Result<usize, Refusal> {
+        let OneSlot { head, records } = self;
+        // SAFETY: the two are read alone, and the buffer is borrowed apart from them; each is as long as is said.
+        let count = told(unsafe { fern_slot_contents(head.as_ptr(), head.len(), records.as_ptr(), records.len(), buffer.as_mut_ptr(), buffer.len()) })?;
+        Ok(count as usize)
+    }
+
+    /// Whether every call would be refused for the words.
+    pub fn broken(&self) -> bool {
+        let OneSlot { head, records } = self;
+        // SAFETY: the two are read alone, each as long as is said.
+        unsafe { fern_slot_broken(head.as_ptr(), head.len(), records.as_ptr(), records.len()) != 0 }
+    }
+
+    /// How many acts were accepted since it was made.
+    pub fn meter(&self) -> u64 {
+        self.head[3]
+    }
+}
