@@ -32,6 +32,7 @@ use Rattle.bounded_steps.proofs.Steps.{turn-unchanged}
 use Rattle.bounded_parts.specs.declared.Metered.{Metered}
 use Rattle.bounded_parts.specs.declared.Report.{Report}
 use Rattle.bounded_parts.specs.Parts.{recordsMost, meteredOf, unlessRefused, report, readThrough, judgedOf}
+use Rattle.bounded_parts.proofs.Making.{reads-through}
 use Rattle.bounded_lent.specs.Lent.{held, brokenLent, Lent, lent, lentOf, turnLent, Gone, gone, goneOf, runLent}
 use Rattle.bounded_lent.proofs.Turning.{unbroken-lent, few-lent, lent-unbroken}
 
@@ -106,9 +107,10 @@ module _ (l : Metered) (ys : List Worker) (s : List ℕ) (whole : Report) (n : �
       go false eb false eo (UnreadableAt p) ef = let k = met false eb false eo (UnreadableAt p) ef in stopped (so-many (report 9 p) (k .0)) (ap (λ (r : Report). gone r l ys) (k .0) ∙ k .1)
       go false eb false eo AllRead ef =
           let k = met false eb false eo AllRead ef in
-          let half : n ≡ length s / 2 = so-many (report 0 (length s / 2)) (k .0) in
+          let through : whole ≡ report 0 (length s / 2) = k .0 ∙ sym (reads-through s) in
+          let half : n ≡ length s / 2 = so-many (report 0 (length s / 2)) through in
           let even = eqb-false (length s % 2) 1 eo in
-          running (record { to-end = k .0 ∙ ap (report 0) (sym half); long = even-long half even; sound = eb; rest = k .1 })
+          running (record { to-end = through ∙ ap (report 0) (sym half); long = even-long half even; sound = eb; rest = k .1 })
         where
           even-long : n ≡ length s / 2 → (length s % 2 ≡ 1 → ⊥) → length s ≡ 2 * n
           even-long half even = go-on (length s % 2) refl
