@@ -38,7 +38,8 @@ capacity-is m b r e h = h ∙ ap (λ (x : Bool). capacityTold x (m .ring .fixed)
 pub ring-sound : (m : Machine) (b : Bool) → b ≡ brokenOf m → b ≡ false → ringFits (m .ring .fixed) (m .ring .ends) ≡ true
 ring-sound m b e h = ring-in m (unbroken-of m (sym e ∙ h))
 
-module _ (m : Machine) (before after : List ℕ) (r : Told) (b idle : Bool) (eb : b ≡ brokenOf m) (ei : idle ≡ allIdle (m .workers)) (h : filled r after ≡ contentsBy b idle (m .ring) before) where
+module _ (m : Machine) (before after : List ℕ) (r : Told) (b idle : Bool) (eb : b ≡ brokenOf m) (ei : idle ≡ allIdle (m .workers))
+    (h : filled r after ≡ contentsBy b idle (m .ring) before) where
   whole : filled r after ≡ filled (told (contentsRefusal m (length before)) (countIn m)) (written m before)
   unfolding contentsBy contentsRefusal written
   whole = h ∙ (λ i. contentsBy (eb i) (ei i) (m .ring) before)

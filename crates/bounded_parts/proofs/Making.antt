@@ -89,7 +89,8 @@ module _ (number count : ℕ) where
   is-refused z = other number 0 _ _ _ z refl
 
 -- entries that do nothing are run to the end
-runs-through : (s : List ℕ) (place : ℕ) → report 0 (place + length s / 2) ≡ runBy (λ (none : Unit {0}). 0) (λ none. none) (λ none first second. none) (λ number k none. report number k) tt place s
+runs-through : (s : List ℕ) (place : ℕ) → report 0 (place + length s / 2)
+    ≡ runBy (λ (none : Unit {0}). 0) (λ none. none) (λ none first second. none) (λ number k none. report number k) tt place s
 unfolding runBy
 runs-through [] place = let e : place + 0 / 2 ≡ place = omega arith in ap (report 0) e
 runs-through (x ∷ []) place = let e : place + 1 / 2 ≡ place = omega arith in ap (report 0) e

@@ -71,7 +71,10 @@ same-length c = search needs
 
 -- src/lib.rt:53:1
 returns-4 : tie.Need-returns-4 Inv-loop μ-loop
-returns-4 c = listed _ _ _ _ (search needs) (search needs) (c .before .before .before .count-in .result) (c .before .before .before .count-in .ensures) _ (c .before .loop .k) (omega arith) (omega arith) (c .before .loop .inv .3)
+returns-4 c =
+    let n = c .before .before .before .count-in in
+    let l = c .before .loop in
+    listed _ _ _ _ (search needs) (search needs) (n .result) (n .ensures) _ (l .k) (omega arith) (omega arith) (l .inv .3)
 
 pub contents-by-spec : {M : Type 1} → statement M
 contents-by-spec =
