@@ -1,3 +1,4 @@
 pub mod Fitting
 pub mod Making
+pub mod Judging
 pub mod Listing
