@@ -1,23 +1,17 @@
 -- Making, and entries one at a time, of 64 bits.
 use Prim.Native.Nat.{ℕ}
-use mathlib.Core.Bool.{cond}
-use Rattle.queue_entries.specs.Limits.{workersMost, inLimits}
+use Rattle.queue_entries.specs.Limits.{workersMost}
 use Rattle.bounded_words.specs.declared.Width.the-variants.{SixtyFour}
-use Rattle.bounded_words.specs.Limits.{slotsMost, editionsMost}
 use Rattle.bounded_acts.specs.Acts as acts
 use Rattle.bounded_machine.specs.declared.Machine.{Machine}
 use Rattle.bounded_machine.specs.declared.Did.{Did}
 use Rattle.bounded_machine.specs.Machine.{freshOf, blank, refused, accepted}
+use Rattle.bounded_parts.specs.Parts.{makeBy}
 use Rattle.bounded_steps.specs.Steps.{stepOfBy, beginOfBy, actOfBy}
 
--- Order: making 1, 2, 18. A refused making returns the blank machine.
+-- A fresh machine, or the blank one with the number of the refusal: 1, 2 or 18, in this order.
 unfoldable pub makeOf : ℕ → ℕ → ℕ → Did
-makeOf capacity workers edition =
-    cond (inLimits capacity slotsMost)
-    (cond (inLimits workers workersMost)
-    (cond (inLimits edition editionsMost) (accepted (freshOf capacity workers edition)) (refused 18 blank))
-    (refused 2 blank))
-    (refused 1 blank)
+makeOf capacity workers edition = makeBy workersMost (λ (number : ℕ). refused number blank) (accepted (freshOf capacity workers edition)) capacity workers edition
 
 -- One entry of a schedule by itself; one that begins; one that acts.
 abbrev pub stepOf : Machine → ℕ → ℕ → Did

@@ -16,16 +16,17 @@ use queue_entries::Told;
 pub fn make(capacity: u64, workers: u64, edition: u64) -> Did
     ensures { λ r. ⌜ r ≡ makeOf capacity workers edition ⌝ }
 {
-    if queue_entries::in_limits(capacity, bounded_words::SLOTS as u64) {} else {
-        return bounded_machine::refuse(bounded_machine::blank(), 1);
+    let number = bounded_parts::make_refusal(
+        queue_entries::WORKERS as u64,
+        capacity,
+        workers,
+        edition,
+    );
+    if number == 0 {
+        bounded_machine::accept(bounded_machine::fresh(capacity, workers, edition))
+    } else {
+        bounded_machine::refuse(bounded_machine::blank(), number)
     }
-    if queue_entries::in_limits(workers, queue_entries::WORKERS as u64) {} else {
-        return bounded_machine::refuse(bounded_machine::blank(), 2);
-    }
-    if queue_entries::in_limits(edition, bounded_words::EDITIONS) {} else {
-        return bounded_machine::refuse(bounded_machine::blank(), 18);
-    }
-    bounded_machine::accept(bounded_machine::fresh(capacity, workers, edition))
 }
 
 pub fn broken(m: Machine) -> bool
@@ -37,12 +38,9 @@ pub fn broken(m: Machine) -> bool
 pub fn capacity(m: Machine) -> Told
     ensures { λ r. ⌜ r ≡ capacityOf m ⌝ }
 {
-    if bounded_machine::broken(m) {
-        return Told::Refused(6);
-    }
     let ring = m.ring;
     let f = ring.fixed;
-    Told::Number(f.capacity)
+    bounded_parts::capacity_told(bounded_machine::broken(m), f)
 }
 
 // The items as `Drop` would meet them, written at the buffer's start. Nothing is removed.
@@ -50,23 +48,10 @@ pub fn contents(m: Machine, buffer: &mut [u64]) -> Told
     ensures answer { λ r. ⌜ r ≡ told (contentsRefusal m (length (now (buffer .entry)))) (countIn m) ⌝ }
     ensures lent { λ r. ⌜ now (buffer .exit) ≡ written m (now (buffer .entry)) ⌝ }
 {
-    if bounded_machine::broken(m) {
-        return Told::Refused(6);
-    }
+    let ring = m.ring;
     let workers = m.workers;
-    if bounded_machine::all_idle(workers) {} else {
-        return Told::Refused(4);
-    }
-    let n = bounded_machine::count_in(m);
-    if buffer.len() < (n as usize) {
-        return Told::Refused(10);
-    }
-    let mut k = 0;
-    while k < n {
-        buffer[k as usize] = bounded_machine::item_at(m, k);
-        k += 1;
-    }
-    Told::Number(n)
+    let idle = bounded_machine::all_idle(workers);
+    bounded_parts::contents_by(bounded_machine::broken(m), idle, ring, buffer)
 }
 
 // A schedule, entry by entry, to its end or to the first refusal.

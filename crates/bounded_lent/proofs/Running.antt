@@ -7,22 +7,18 @@ use native.Mathlib.Omega.{arith}
 use lib.Dec.{eqb, leb, ltb}
 use lib.ListN.{length, getD, drop, length-set}
 use borrow.Author.Tests.{eqb-true, eqb-false, ne-eqb}
-use Rattle.queue_entries.specs.declared.Finding.{Finding}
-use Rattle.queue_entries.specs.declared.Finding.the-variants.{AllRead, UnreadableAt}
 use Rattle.queue_entries.specs.declared.Entry.{Entry}
 use Rattle.queue_entries.specs.declared.Entry.the-variants.{Unreadable, Asks}
 use Rattle.queue_entries.specs.declared.Verdict.{Verdict}
 use Rattle.queue_entries.specs.declared.Verdict.the-variants.{Refuse, Start, Move}
 use Rattle.queue_entries.specs.Entries.{entryOf}
-use Rattle.queue_entries.specs.Schedules.{runBy, searchBy, searched, scheduleBy}
+use Rattle.queue_entries.specs.Schedules.{runBy}
 use Rattle.queue_entries.proofs.Searching.{two-words}
 use Rattle.bounded_words.specs.declared.Width.the-variants.{SixtyFour}
 use Rattle.bounded_places.specs.declared.Worker.{Worker}
-use Rattle.bounded_places.specs.Places.{beginOf}
 use Rattle.bounded_acts.specs.Acts.{actOf}
 use Rattle.bounded_machine.specs.declared.Machine.{Machine}
 use Rattle.bounded_machine.specs.declared.Did.{Did}
-use Rattle.bounded_machine.specs.declared.Ran.{Ran}
 use Rattle.bounded_machine.specs.Machine.{placeOf, refused, accepted}
 use Rattle.bounded_machine.specs.Turn.{verdictOf, begun, stored, actedBy, carried, turn, turnOf, turnOfBy}
 use Rattle.bounded_machine.specs.Run.{ran, runAt}
@@ -31,8 +27,10 @@ use Rattle.bounded_machine.proofs.Turns.{turn-of-unbroken, ended}
 use Rattle.bounded_steps.proofs.Steps.{turn-unchanged}
 use Rattle.bounded_parts.specs.declared.Metered.{Metered}
 use Rattle.bounded_parts.specs.declared.Report.{Report}
-use Rattle.bounded_parts.specs.Parts.{recordsMost, meteredOf, unlessRefused, report, readThrough, judgedOf}
-use Rattle.bounded_lent.specs.Lent.{held, brokenLent, Lent, lent, lentOf, turnLent, Gone, gone, goneOf, runLent}
+use Rattle.bounded_parts.specs.Parts.{recordsMost, meteredOf, unlessRefused, report, judgedOf}
+use Rattle.bounded_parts.proofs.Making.{not-refused, is-refused}
+use Rattle.bounded_parts.proofs.Judging.{judged-stops, judged-goes}
+use Rattle.bounded_lent.specs.Lent.{held, brokenLent, Lent, lent, turnLent, gone, goneOf, runLent}
 use Rattle.bounded_lent.proofs.Turning.{unbroken-lent, few-lent, lent-unbroken}
 
 -- ---- an entry leaves as many records as there were, and the count is theirs
@@ -79,42 +77,19 @@ module _ (l : Metered) (ys : List Worker) (s : List ℕ) (whole : Report) (n : �
     running : Left i h zs → Going i h zs
 
   pub begins : whole ≡ judgedOf (brokenLent l ys) s → n ≡ unlessRefused (whole .refusal) (whole .place) → Going 0 l ys
-  unfolding judgedOf unlessRefused runLent scheduleBy ran
-  begins e is-n = go (brokenLent l ys) refl (eqb (length s % 2) 1) refl (searchBy entryOf 0 s) refl
+  unfolding runLent ran
+  begins e is-n = go (eqb (whole .refusal) 0) refl
     where
-      so-many : (r : Report) → whole ≡ r → n ≡ unlessRefused (r .refusal) (r .place)
-      so-many r q = is-n ∙ ap (λ (z : Report). unlessRefused (z .refusal) (z .place)) q
-
-      -- what is reported and what is run, by the three tests
-      reports : Bool → Bool → Finding → Report
-      reports b o f = cond b (report 6 0) (cond o (report 11 0) (readThrough s f))
-
-      leaves : Bool → Bool → Finding → Ran
-      leaves b o f =
-          cond b (ran 6 0 (held l ys)) (cond o (ran 11 0 (held l ys)) (searched (λ (d : Did). d .refusal) (λ (d : Did). d .machine) turnOf ran (held l ys) s f))
-
-      Met : Bool → Bool → Finding → Type 0
-      Met b o f = (whole ≡ reports b o f) × (goneOf (leaves b o f) ≡ runLent l ys s)
-
-      met : (b : Bool) → brokenLent l ys ≡ b → (o : Bool) → eqb (length s % 2) 1 ≡ o → (f : Finding) → searchBy entryOf 0 s ≡ f → Met b o f
-      met b eb o eo f ef =
-          subst (λ (z : Bool). Met z o f) eb (subst (λ (z : Bool). Met (brokenLent l ys) z f) eo (subst (λ (z : Finding). Met (brokenLent l ys) (eqb (length s % 2) 1) z) ef (e, refl)))
-
-      go : (b : Bool) → brokenLent l ys ≡ b → (o : Bool) → eqb (length s % 2) 1 ≡ o → (f : Finding) → searchBy entryOf 0 s ≡ f → Going 0 l ys
-      go true eb o eo f ef = let k = met true eb o eo f ef in stopped (so-many (report 6 0) (k .0)) (ap (λ (r : Report). gone r l ys) (k .0) ∙ k .1)
-      go false eb true eo f ef = let k = met false eb true eo f ef in stopped (so-many (report 11 0) (k .0)) (ap (λ (r : Report). gone r l ys) (k .0) ∙ k .1)
-      go false eb false eo (UnreadableAt p) ef = let k = met false eb false eo (UnreadableAt p) ef in stopped (so-many (report 9 p) (k .0)) (ap (λ (r : Report). gone r l ys) (k .0) ∙ k .1)
-      go false eb false eo AllRead ef =
-          let k = met false eb false eo AllRead ef in
-          let half : n ≡ length s / 2 = so-many (report 0 (length s / 2)) (k .0) in
-          let even = eqb-false (length s % 2) 1 eo in
-          running (record { to-end = k .0 ∙ ap (report 0) (sym half); long = even-long half even; sound = eb; rest = k .1 })
-        where
-          even-long : n ≡ length s / 2 → (length s % 2 ≡ 1 → ⊥) → length s ≡ 2 * n
-          even-long half even = go-on (length s % 2) refl
-            where
-              go-on : (r : ℕ) → length s % 2 ≡ r → length s ≡ 2 * n
-              go-on r h = omega (arith, half, even)
+      go : (b : Bool) → eqb (whole .refusal) 0 ≡ b → Going 0 l ys
+      go false h =
+          let ne = eqb-false (whole .refusal) 0 h in
+          stopped (is-n ∙ sym (is-refused (whole .refusal) (whole .place) ne))
+          (ap goneOf (judged-stops (λ (d : Did). d .refusal) (λ (d : Did). d .machine) turnOf ran (λ (m : Machine). brokenLent l ys) (held l ys) s whole e ne))
+      go true h =
+          let z = eqb-true (whole .refusal) 0 h in
+          let g = judged-goes (λ (d : Did). d .refusal) (λ (d : Did). d .machine) turnOf ran (λ (m : Machine). brokenLent l ys) (held l ys) s whole e z in
+          let p : whole .place ≡ n = not-refused (whole .refusal) (whole .place) z ∙ sym is-n in
+          running (record { to-end = λ i. report (z i) (p i); long = g .long ∙ ap (λ (k : ℕ). 2 * k) p; sound = g .sound; rest = ap goneOf (g .rest) })
 
   module _ (i : ℕ) (h : Metered) (zs : List Worker) where
     pub left-of : Going i h zs → i < n → Left i h zs

@@ -9,40 +9,30 @@ use lib.ListN.{length}
 use borrow.Author.Tests.{lt-ltb, le-leb}
 use Rattle.queue_entries.specs.Limits.{inLimits, all}
 use Rattle.queue_entries.proofs.Limits.{limit-some}
-use Rattle.queue_entries.proofs.Pick.{both-left, both-right}
+use Rattle.queue_entries.proofs.Pick.{both-right}
 use Rattle.bounded_words.specs.declared.Fixed.{Fixed}
-use Rattle.bounded_words.specs.Limits.{slotsMost, editionsMost}
+use Rattle.bounded_words.specs.Limits.{slotsMost}
 use Rattle.bounded_words.specs.Words.{Fair}
-use Rattle.bounded_words.proofs.Marks.{fair}
 use Rattle.bounded_places.specs.declared.Ends.{Ends}
 use Rattle.bounded_places.specs.declared.Worker.{Worker}
 use Rattle.bounded_machine.specs.Machine.{recordOf}
-use Rattle.bounded_machine.specs.Broken.{byRule, endsFit, recordFits, recordsFit, brokenWith}
-use Rattle.bounded_machine.proofs.Laws.{ruled-of}
+use Rattle.bounded_machine.specs.Broken.{ringFits, recordFits, recordsFit, brokenWith}
+use Rattle.bounded_machine.proofs.Laws as machine
 use Rattle.bounded_machine.proofs.Kept.{UnbrokenWith, unbroken-of, of-unbroken, ruled-in, fair-in}
-use Rattle.bounded_parts.specs.Parts.{recordsMost, ringFits}
+use Rattle.bounded_parts.specs.Parts.{recordsMost, ringFitsLent}
 use Rattle.bounded_entries.specs.Entries.{slotOf}
 use Rattle.bounded_entries.proofs.Resting.{slot-below}
 use Rattle.bounded_parts.specs.declared.Metered.{Metered}
 use Rattle.bounded_lent.specs.Lent.{eachFits, brokenLent, held, lent, turnLent, stepLent}
 
 -- ---- broken, as the code finds it out
-shape : (e c k r d x : Bool) → cond e (cond c (cond k (cond r (cond d (not x) true) true) true) true) true ≡ not (cond (cond e (cond c (cond k (cond r d false) false) false) false) x false)
-shape false c k r d x = refl
-shape true false k r d x = refl
-shape true true false r d x = refl
-shape true true true false d x = refl
-shape true true true true false x = refl
-shape true true true true true x = refl
-
-shape-far : (e c r d x : Bool) → true ≡ not (cond (cond e (cond c (cond false (cond r d false) false) false) false) x false)
-shape-far false c r d x = refl
-shape-far true false r d x = refl
-shape-far true true r d x = refl
-
-none : (x : Bool) → cond x false false ≡ false
-none true = refl
-none false = refl
+shape : (few none ring x : Bool) → cond few (cond ring (cond (cond none false true) (not x) true) true) true ≡ not (cond (cond (cond none false few) ring false) x false)
+shape true true true x = refl
+shape true true false x = refl
+shape true false true x = refl
+shape true false false x = refl
+shape false true ring x = refl
+shape false false ring x = refl
 
 -- the same tests pass
 pub all-same : (n i : ℕ) (test same : ℕ → Bool) → ((k : ℕ) → i ≤ k → k < i + n → test k ≡ same k) → all n i test ≡ all n i same
@@ -59,35 +49,24 @@ module _ (l : Metered) (ys : List Worker) where
   abbrev Fit : Bool
   Fit = recordsFit (length ys) (l .ring .fixed) (length ys) (l .meter) ys
 
-  broken-is : brokenLent l ys ≡ not (cond (ringFits (l .ring .fixed) (l .ring .ends) (length ys)) Fit false)
-  unfolding brokenLent brokenWith ringFits inLimits
-  broken-is = go (leb (length ys) recordsMost) refl
-    where
-      with-limit : Bool → Bool
-      with-limit k =
-          not (cond (cond (inLimits (l .ring .fixed .edition) editionsMost) (cond (inLimits (l .ring .fixed .capacity) slotsMost) (cond k (cond (byRule (l .ring .fixed)) (endsFit (l .ring .fixed) (l .ring .ends)) false) false) false) false) Fit false)
+  abbrev Ring : Bool
+  Ring = ringFits (l .ring .fixed) (l .ring .ends)
 
-      go : (t : Bool) → leb (length ys) recordsMost ≡ t → cond t (brokenWith (length ys) (held l ys)) true ≡ with-limit (inLimits (length ys) recordsMost)
-      go true h =
-          shape (inLimits (l .ring .fixed .edition) editionsMost) (inLimits (l .ring .fixed .capacity) slotsMost) (inLimits (length ys) (length ys)) (byRule (l .ring .fixed)) (endsFit (l .ring .fixed) (l .ring .ends)) Fit
-          ∙ ap (λ (k : Bool). with-limit (cond (eqb (length ys) 0) false k)) (le-leb (length ys) (length ys) (omega arith) ∙ sym h)
-      go false h =
-          shape-far (inLimits (l .ring .fixed .edition) editionsMost) (inLimits (l .ring .fixed .capacity) slotsMost) (byRule (l .ring .fixed)) (endsFit (l .ring .fixed) (l .ring .ends)) Fit
-          ∙ ap with-limit (sym (ap (cond (eqb (length ys) 0) false) h ∙ none (eqb (length ys) 0)))
+  broken-is : brokenLent l ys ≡ not (cond (ringFitsLent (l .ring .fixed) (l .ring .ends) (length ys)) Fit false)
+  unfolding brokenLent brokenWith ringFitsLent inLimits
+  broken-is =
+      ap (λ (k : Bool). cond (leb (length ys) recordsMost) (cond Ring (cond (cond (eqb (length ys) 0) false k) (not Fit) true) true) true) (le-leb (length ys) (length ys) (omega arith))
+      ∙ shape (leb (length ys) recordsMost) (eqb (length ys) 0) Ring Fit
 
-  pub ring-broken : ringFits (l .ring .fixed) (l .ring .ends) (length ys) ≡ false → true ≡ brokenLent l ys
+  pub ring-broken : ringFitsLent (l .ring .fixed) (l .ring .ends) (length ys) ≡ false → true ≡ brokenLent l ys
   ring-broken h = ap (λ (b : Bool). not (cond b Fit false)) (sym h) ∙ sym broken-is
 
-  pub records-broken : ringFits (l .ring .fixed) (l .ring .ends) (length ys) ≡ true → (r : Bool) → r ≡ eachFits (l .ring .fixed) (l .meter) true ys → not r ≡ brokenLent l ys
+  pub records-broken : ringFitsLent (l .ring .fixed) (l .ring .ends) (length ys) ≡ true → (r : Bool) → r ≡ eachFits (l .ring .fixed) (l .meter) true ys → not r ≡ brokenLent l ys
   records-broken h r e = ap not (e ∙ each-counted (l .ring .fixed) (l .meter) ys) ∙ ap (λ (b : Bool). not (cond b Fit false)) (sym h) ∙ sym broken-is
 
-pub ring-fair : (f : Fixed) (e : Ends) (n : ℕ) → ringFits f e n ≡ true → Fair f
-unfolding ringFits
-ring-fair f e n h =
-    let past-edition = both-right (inLimits (f .edition) editionsMost) _ h in
-    let past-capacity = both-right (inLimits (f .capacity) slotsMost) _ past-edition in
-    let past-count = both-right (inLimits n recordsMost) _ past-capacity in
-    fair f (ruled-of f (both-left (inLimits (f .capacity) slotsMost) _ past-edition) (both-left (byRule f) _ past-count))
+pub ring-fair : (f : Fixed) (e : Ends) (n : ℕ) → ringFitsLent f e n ≡ true → Fair f
+unfolding ringFitsLent
+ring-fair f e n h = machine.ring-fair f e (both-right (inLimits n recordsMost) _ h)
 
 -- ---- what is not broken
 then-so : (t b : Bool) → cond t b true ≡ false → (t ≡ true) × (b ≡ false)

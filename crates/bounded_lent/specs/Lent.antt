@@ -1,11 +1,10 @@
 -- A ring and records that are lent: what is broken, what making and an entry make of them, and what a schedule, capacity and contents are.
 use Prim.Native.Nat.{ℕ}
 use mathlib.Core.Bool.{Bool, true, cond}
-use mathlib.Core.List.{List, _++_}
-use lib.Dec.{ltb, leb, eqb}
-use lib.ListN.{length, drop}
+use mathlib.Core.List.{List}
+use lib.Dec.{leb, eqb}
+use lib.ListN.{length}
 use Rattle.queue_entries.specs.Limits.{all}
-use Rattle.queue_entries.specs.Told.{told}
 use Rattle.queue_entries.specs.declared.Told.{Told}
 use Rattle.queue_entries.specs.Entries.{entryOf}
 use Rattle.queue_entries.specs.Schedules.{scheduleBy}
@@ -15,10 +14,9 @@ use Rattle.bounded_machine.specs.declared.Did.{Did}
 use Rattle.bounded_machine.specs.declared.Ran.{Ran}
 use Rattle.bounded_machine.specs.Machine.{machineOf, recordOf, freshWith, blank, accepted}
 use Rattle.bounded_machine.specs.Broken.{recordFits, brokenWith, allIdle}
-use Rattle.bounded_machine.specs.Contents.{countIn, contentsOf}
 use Rattle.bounded_machine.specs.Turn.{turnOf}
 use Rattle.bounded_machine.specs.Run.{ran}
-use Rattle.bounded_parts.specs.Parts.{recordsMost, makeRefusal, meteredOf, report, capacityTold, Filled, filled}
+use Rattle.bounded_parts.specs.Parts.{recordsMost, makeRefusal, meteredOf, report, capacityTold, Filled, contentsBy}
 use Rattle.bounded_words.specs.declared.Fixed.{Fixed}
 use Rattle.bounded_parts.specs.declared.Metered.{Metered}
 use Rattle.bounded_parts.specs.declared.Report.{Report}
@@ -81,12 +79,6 @@ capacityLent l ys = capacityTold (brokenLent l ys) (l .ring .fixed)
 unfoldable pub eachFits : Fixed → ℕ → Bool → List Worker → Bool
 eachFits f meter counted ys = all (length ys) 0 (λ (i : ℕ). recordFits f meter (recordOf ys i) counted)
 
--- Order: contents 6, 4, 10 (4: while any is busy; 10: buffer shorter than the list).
-unfoldable pub contentsRefusalLent : Metered → List Worker → ℕ → ℕ
-contentsRefusalLent l ys room = cond (brokenLent l ys) 6 (cond (allIdle ys) (cond (ltb room (countIn (held l ys))) 10 0) 4)
-
--- the answer is the count; the items are written at the buffer's start, the rest untouched
+-- the answer is the count, or 6, 4 or 10; the items are written at the buffer's start, the rest untouched
 unfoldable pub contentsLent : Metered → List Worker → List ℕ → Filled
-contentsLent l ys buffer =
-    filled (told (contentsRefusalLent l ys (length buffer)) (countIn (held l ys)))
-    (cond (eqb (contentsRefusalLent l ys (length buffer)) 0) (contentsOf (held l ys) ++ drop (countIn (held l ys)) buffer) buffer)
+contentsLent l ys = contentsBy (brokenLent l ys) (allIdle ys) (l .ring)

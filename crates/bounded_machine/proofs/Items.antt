@@ -8,6 +8,7 @@ use native.Mathlib.Decide.{decLt}
 use lib.Dec.{ltb}
 use lib.ListN.{getD}
 use borrow.Author.Tests.{ltb-true, lt-ltb, le-ltb}
+use Rattle.queue_entries.proofs.Limits.{limit-most}
 use Rattle.bounded_words.specs.declared.Stamp.{Stamp}
 use Rattle.bounded_words.specs.declared.Fixed.{Fixed}
 use Rattle.bounded_words.specs.Limits.{slotsMost}
@@ -16,24 +17,29 @@ use Rattle.bounded_places.specs.Places.{inside}
 use Rattle.bounded_acts.specs.Acts.{countOf, Within}
 use mir.Val.{Fits}
 use mir.Syntax.{w64}
-use Rattle.bounded_machine.specs.declared.Machine.{Machine}
+use Rattle.bounded_machine.specs.declared.Ring.{Ring}
 use Rattle.bounded_machine.specs.Machine.{slot}
-use Rattle.bounded_machine.specs.Broken.{brokenOf}
-use Rattle.bounded_machine.specs.Contents.{wrapped, itemAt, countIn, Counted}
-use Rattle.bounded_machine.proofs.Kept.{Unbroken, unbroken-of, ruled-in, fair-in, head-plain, tail-inside, either}
+use Rattle.bounded_machine.specs.Broken.{ringFits}
+use Rattle.bounded_machine.specs.Contents.{wrapped, itemOn, countOn, Counted}
+use Rattle.bounded_machine.proofs.Laws.{fitting, ring-fair}
+use Rattle.bounded_machine.proofs.Kept.{head-plain, tail-inside, either}
 
-pub fair-at : (m : Machine) → brokenOf m ≡ false → Fair (m .ring .fixed)
-fair-at m h = fair-in m (unbroken-of m h)
+module _ (r : Ring) (h : ringFits (r .fixed) (r .ends) ≡ true) where
+  pub fair-at : Fair (r .fixed)
+  fair-at = ring-fair (r .fixed) (r .ends) h
 
-pub within-at : (m : Machine) → brokenOf m ≡ false → Within (m .ring .fixed) (m .ring .ends .tail) (m .ring .ends .head)
-unfolding inside
-within-at m h =
-    let u = unbroken-of m h in
-    record {
-      fair = fair-in m u;
-      low = head-plain (m .ring .fixed) (m .ring .ends) (u .ends) .low;
-      high = ltb-true _ _ (tail-inside (m .ring .fixed) (m .ring .ends) (u .ends));
-    }
+  few-slots : r .fixed .capacity ≤ slotsMost
+  few-slots = limit-most (r .fixed .capacity) slotsMost true (sym (fitting (r .fixed) (r .ends) h .capacity)) refl
+
+  pub within-at : Within (r .fixed) (r .ends .tail) (r .ends .head)
+  unfolding inside
+  within-at =
+      let o = fitting (r .fixed) (r .ends) h in
+      record {
+        fair = fair-at;
+        low = head-plain (r .fixed) (r .ends) (o .ends) .low;
+        high = ltb-true _ _ (tail-inside (r .fixed) (r .ends) (o .ends));
+      }
 
 -- no more than capacity
 pub count-most : (f : Fixed) (t h : Stamp) → Within f t h → countOf f t h ≤ f .capacity
@@ -45,25 +51,31 @@ count-most f t h w =
     (λ d. omega (arith, w .low, ltb-true (indexOf f t) (indexOf f h) d))
     (λ d. either (λ (n : ℕ). n ≤ f .capacity) (same (unmarkedOf f t) h) 0 (f .capacity) (λ g. omega arith) (λ g. omega arith)))
 
-pub counted-at : (m : Machine) (n : ℕ) → brokenOf m ≡ false → n ≡ countOf (m .ring .fixed) (m .ring .ends .tail) (m .ring .ends .head) → Counted m n
-unfolding countIn
-counted-at m n h e = record { is = e; most = subst (λ (k : ℕ). k ≤ m .ring .fixed .capacity) (sym e) (count-most _ _ _ (within-at m h)) }
+module _ (r : Ring) (h : ringFits (r .fixed) (r .ends) ≡ true) where
+  pub counted-at : (n : ℕ) → n ≡ countOf (r .fixed) (r .ends .tail) (r .ends .head) → Counted r n
+  unfolding countOn
+  counted-at n e = record { is = e; most = subst (λ (k : ℕ). k ≤ r .fixed .capacity) (sym e) (count-most _ _ _ (within-at r h)) }
 
--- a place behind the head, wrapped once, is a slot
-pub wrapped-below : (m : Machine) (i k r : ℕ) → brokenOf m ≡ false → k < slotsMost → Indexed (m .ring .fixed) (m .ring .ends .head) i → r ≡ wrapped (m .ring .fixed .capacity) (i + k) → r < slotsMost
-unfolding wrapped
-wrapped-below m i k r h l x e =
-    let b : i < m .ring .fixed .capacity = omega (arith, within-at m h .low, x .is) in
-    let c : m .ring .fixed .capacity ≤ slotsMost = ruled-in m (unbroken-of m h) .most in
-    subst (λ (n : ℕ). n < slotsMost) (sym e)
-    (either (λ (n : ℕ). n < slotsMost) (ltb (i + k) (m .ring .fixed .capacity)) (i + k) (i + k - m .ring .fixed .capacity)
-    (λ q. omega (arith, ltb-true (i + k) (m .ring .fixed .capacity) q)) (λ q. omega arith))
+  -- an item of the list is one of the slots
+  pub small-count : (n k : ℕ) → Counted r n → k < n → k < slotsMost
+  small-count n k c l = omega (arith, c .most, few-slots r h)
 
-pub item-is : (m : Machine) (i k r : ℕ) → Indexed (m .ring .fixed) (m .ring .ends .head) i → r ≡ wrapped (m .ring .fixed .capacity) (i + k) → getD (m .ring .slots) r (slot 0 0) .value ≡ itemAt m k
-unfolding itemAt
-item-is m i k r x e = rw (e, x .is)
+  module _ (i k : ℕ) (l : k < slotsMost) (x : Indexed (r .fixed) (r .ends .head) i) where
+    -- a place behind the head, wrapped once, is a slot
+    pub wrapped-below : (at : ℕ) → at ≡ wrapped (r .fixed .capacity) (i + k) → at < slotsMost
+    unfolding wrapped
+    wrapped-below at e =
+        let b : i < r .fixed .capacity = omega (arith, within-at r h .low, x .is) in
+        let c : r .fixed .capacity ≤ slotsMost = few-slots r h in
+        subst (λ (n : ℕ). n < slotsMost) (sym e)
+        (either (λ (n : ℕ). n < slotsMost) (ltb (i + k) (r .fixed .capacity)) (i + k) (i + k - r .fixed .capacity)
+        (λ q. omega (arith, ltb-true (i + k) (r .fixed .capacity) q)) (λ q. omega arith))
 
-pub index-small : (m : Machine) (i k : ℕ) → brokenOf m ≡ false → k < slotsMost → Indexed (m .ring .fixed) (m .ring .ends .head) i → Fits w64 (i + k)
-index-small m i k h l x =
-    let c : m .ring .fixed .capacity ≤ slotsMost = ruled-in m (unbroken-of m h) .most in
-    record { fits = omega (arith, within-at m h .low, x .is) }
+    pub index-small : Fits w64 (i + k)
+    index-small =
+        let c : r .fixed .capacity ≤ slotsMost = few-slots r h in
+        record { fits = omega (arith, within-at r h .low, x .is) }
+
+pub item-is : (r : Ring) (i k at : ℕ) → Indexed (r .fixed) (r .ends .head) i → at ≡ wrapped (r .fixed .capacity) (i + k) → getD (r .slots) at (slot 0 0) .value ≡ itemOn r k
+unfolding itemOn
+item-is r i k at x e = rw (e, x .is)

@@ -38,9 +38,9 @@ use Rattle.bounded_acts.specs.declared.Acted.{Acted}
 use Rattle.bounded_acts.specs.Acts.{stay, losing, exchangeOf, afterTail, endP3, endF6, endO3, tailTo, headTo, stampTo, valueTo, forcedTail, actOf, fullAt, yesNo, countOf}
 use Rattle.bounded_machine.specs.declared.Machine.{Machine}
 use Rattle.bounded_machine.specs.Machine.{recordOf, placeOf, idler}
-use Rattle.bounded_machine.specs.Broken.{byRule, endsFit, placeFits, recordFits, recordsFit, brokenWith}
+use Rattle.bounded_machine.specs.Broken.{byRule, endsFit, ringFits, placeFits, recordFits, recordsFit, brokenWith}
 use Rattle.bounded_machine.specs.Turn.{beginner, byWords, bySchedule, recordAfter, begun, stored, acted, actedBy}
-use Rattle.bounded_machine.proofs.Laws.{ruled-of}
+use Rattle.bounded_machine.proofs.Laws.{ruled-of, fitting}
 
 -- ---- tests and facts
 
@@ -119,25 +119,28 @@ pass a b p q = either (λ (x : Bool). x ≡ false) a b true (λ h. q) (λ h. abs
 pub unbroken-of : {records : ℕ} (m : Machine) → brokenWith records m ≡ false → UnbrokenWith records m
 unfolding brokenWith recordsFit
 unbroken-of {records} m h =
-    let x = passes (inLimits (m .ring .fixed .edition) editionsMost) _ h in
-    let a = passes (inLimits (m .ring .fixed .capacity) slotsMost) _ (x .1) in
-    let b = passes (inLimits (m .count) records) _ (a .1) in
-    let c = passes (byRule (m .ring .fixed)) _ (b .1) in
-    let d = passes (endsFit (m .ring .fixed) (m .ring .ends)) _ (c .1) in
+    let x = passes (ringFits (m .ring .fixed) (m .ring .ends)) _ h in
+    let b = passes (inLimits (m .count) records) _ (x .1) in
+    let ring = fitting (m .ring .fixed) (m .ring .ends) (x .0) in
     record {
-      capacity = a .0;
+      capacity = ring .capacity;
       count = b .0;
-      edition = x .0;
-      rule = c .0;
-      ends = d .0;
-      fits = (λ i l. every records 0 (λ (k : ℕ). recordFits (m .ring .fixed) (m .meter) (recordOf (m .workers) k) (ltb k (m .count))) (not-false _ (d .1)) i (omega arith) (omega arith));
+      edition = ring .edition;
+      rule = ring .rule;
+      ends = ring .ends;
+      fits = (λ i l. every records 0 (λ (k : ℕ). recordFits (m .ring .fixed) (m .meter) (recordOf (m .workers) k) (ltb k (m .count))) (not-false _ (b .1)) i (omega arith) (omega arith));
     }
+
+-- its ring fits
+pub ring-in : {records : ℕ} (m : Machine) → UnbrokenWith records m → ringFits (m .ring .fixed) (m .ring .ends) ≡ true
+unfolding ringFits
+ring-in m u = both _ _ (u .edition) (both _ _ (u .capacity) (both _ _ (u .rule) (u .ends)))
 
 pub of-unbroken : {records : ℕ} (m : Machine) → UnbrokenWith records m → brokenWith records m ≡ false
 unfolding brokenWith recordsFit
 of-unbroken {records} m u =
-    pass _ _ (u .edition) (pass _ _ (u .capacity) (pass _ _ (u .count) (pass _ _ (u .rule) (pass _ _ (u .ends)
-    (ap not (all-of records 0 (λ (k : ℕ). recordFits (m .ring .fixed) (m .meter) (recordOf (m .workers) k) (ltb k (m .count))) (λ k l g. u .fits k (omega arith))))))))
+    pass _ _ (ring-in m u) (pass _ _ (u .count)
+    (ap not (all-of records 0 (λ (k : ℕ). recordFits (m .ring .fixed) (m .meter) (recordOf (m .workers) k) (ltb k (m .count))) (λ k l g. u .fits k (omega arith)))))
 
 module _ {records : ℕ} (m : Machine) (u : UnbrokenWith records m) where
   pub ruled-in : Ruled (m .ring .fixed)

@@ -14,6 +14,7 @@ use Rattle.bounded_words.specs.declared.Fixed.{Fixed}
 use Rattle.bounded_words.specs.Limits.{slotsMost, editionsMost}
 use Rattle.bounded_words.specs.Words.{markOf, lapOf, Indexed, Fair}
 use Rattle.bounded_words.proofs.Marks.{Ruled, ruled, fair}
+use Rattle.bounded_places.specs.declared.Ends.{Ends}
 use Rattle.bounded_places.specs.declared.Loss.{Loss}
 use Rattle.bounded_places.specs.declared.Place.{Place}
 use Rattle.bounded_places.specs.declared.Worker.{Worker}
@@ -23,7 +24,7 @@ use Rattle.bounded_places.specs.declared.View.{View}
 use Rattle.bounded_places.specs.Places.{viewOf, fitsOf}
 use Rattle.bounded_places.specs.declared.Slot.{Slot}
 use Rattle.bounded_machine.specs.declared.Machine.{Machine}
-use Rattle.bounded_machine.specs.Broken.{byRule, endsFit, placeFits, recordsFit, brokenWith, brokenOf}
+use Rattle.bounded_machine.specs.Broken.{byRule, endsFit, ringFits, placeFits, recordsFit, brokenWith, brokenOf}
 use Rattle.bounded_machine.specs.Turn.{spotOf, byWords, bySchedule, recordAfter}
 use Rattle.bounded_machine.specs.Machine.{machineOf, starts, freshSlots, freshWith, freshOf, idler, idlers}
 
@@ -78,42 +79,71 @@ ruled-of f l r =
 pub fair-of : (f : Fixed) (b d : Bool) → b ≡ inLimits (f .capacity) slotsMost → b ≡ true → d ≡ byRule f → d ≡ true → Fair f
 fair-of f b d e h k l = fair f (ruled-of f (sym e ∙ h) (sym k ∙ l))
 
+-- a ring fits or not, by the first test that fails
+module _ (f : Fixed) (e : Ends) (x : Bool) (ex : x ≡ inLimits (f .edition) editionsMost) where
+  pub no-edition : x ≡ false → false ≡ ringFits f e
+  unfolding ringFits
+  no-edition h = no _ x _ _ _ ex h refl
+
+  module _ (hx : x ≡ true) (a : Bool) (ea : a ≡ inLimits (f .capacity) slotsMost) where
+    pub no-capacity : a ≡ false → false ≡ ringFits f e
+    unfolding ringFits
+    no-capacity h = yes _ x _ _ _ ex hx (no _ a _ _ _ ea h refl)
+
+    module _ (ha : a ≡ true) (d : Bool) (ed : d ≡ byRule f) where
+      pub no-rule : d ≡ false → false ≡ ringFits f e
+      unfolding ringFits
+      no-rule h = yes _ x _ _ _ ex hx (yes _ a _ _ _ ea ha (no _ d _ _ _ ed h refl))
+
+      pub by-ends : (r : Bool) → d ≡ true → r ≡ endsFit f e → r ≡ ringFits f e
+      unfolding ringFits
+      by-ends r h q = yes _ x _ _ _ ex hx (yes _ a _ _ _ ea ha (yes _ d _ _ _ ed h q))
+
+-- what a ring that fits has passed
+pub record Fitting (f : Fixed) (e : Ends) : Type 0 where
+  pub edition : inLimits (f .edition) editionsMost ≡ true
+  pub capacity : inLimits (f .capacity) slotsMost ≡ true
+  pub rule : byRule f ≡ true
+  pub ends : endsFit f e ≡ true
+
+pub fitting : (f : Fixed) (e : Ends) → ringFits f e ≡ true → Fitting f e
+unfolding ringFits
+fitting f e h =
+    let past-edition = both-right (inLimits (f .edition) editionsMost) _ h in
+    let past-capacity = both-right (inLimits (f .capacity) slotsMost) _ past-edition in
+    record {
+      edition = both-left (inLimits (f .edition) editionsMost) _ h;
+      capacity = both-left (inLimits (f .capacity) slotsMost) _ past-edition;
+      rule = both-left (byRule f) _ past-capacity;
+      ends = both-right (byRule f) _ past-capacity;
+    }
+
+pub ring-fair : (f : Fixed) (e : Ends) → ringFits f e ≡ true → Fair f
+ring-fair f e h = let o = fitting f e h in fair f (ruled-of f (o .capacity) (o .rule))
+
+pub fair-by : (f : Fixed) (e : Ends) (b : Bool) → b ≡ ringFits f e → b ≡ true → Fair f
+fair-by f e b k h = ring-fair f e (sym k ∙ h)
+
 -- broken, by the first test that fails, or unbroken
-module _ (m : Machine) (x : Bool) (ex : x ≡ inLimits (m .ring .fixed .edition) editionsMost) where
-  pub broken-edition : x ≡ false → true ≡ brokenOf m
+module _ (m : Machine) (x : Bool) (ex : x ≡ ringFits (m .ring .fixed) (m .ring .ends)) where
+  pub broken-ring : x ≡ false → true ≡ brokenOf m
   unfolding brokenWith
-  broken-edition h = no _ x _ _ _ ex h refl
+  broken-ring h = no _ x _ _ _ ex h refl
 
-  module _ (hx : x ≡ true) (a : Bool) (ea : a ≡ inLimits (m .ring .fixed .capacity) slotsMost) where
-    pub broken-capacity : a ≡ false → true ≡ brokenOf m
+  module _ (hx : x ≡ true) (b : Bool) (eb : b ≡ inLimits (m .count) workersMost) where
+    pub broken-count : b ≡ false → true ≡ brokenOf m
     unfolding brokenWith
-    broken-capacity h = yes _ x _ _ _ ex hx (no _ a _ _ _ ea h refl)
+    broken-count h = yes _ x _ _ _ ex hx (no _ b _ _ _ eb h refl)
 
-    module _ (ha : a ≡ true) (b : Bool) (eb : b ≡ inLimits (m .count) workersMost) where
-      pub broken-count : b ≡ false → true ≡ brokenOf m
-      unfolding brokenWith
-      broken-count h = yes _ x _ _ _ ex hx (yes _ a _ _ _ ea ha (no _ b _ _ _ eb h refl))
+    broken-records : (k : Bool) → b ≡ true → k ≡ recordsFit workersMost (m .ring .fixed) (m .count) (m .meter) (m .workers) → not k ≡ brokenOf m
+    unfolding brokenWith
+    broken-records k h e = yes _ x _ _ _ ex hx (yes _ b _ _ _ eb h (ap not e))
 
-      module _ (hb : b ≡ true) (d : Bool) (ed : d ≡ byRule (m .ring .fixed)) where
-        pub broken-rule : d ≡ false → true ≡ brokenOf m
-        unfolding brokenWith
-        broken-rule h = yes _ x _ _ _ ex hx (yes _ a _ _ _ ea ha (yes _ b _ _ _ eb hb (no _ d _ _ _ ed h refl)))
+    pub broken-record : (k : Bool) → b ≡ true → k ≡ recordsFit workersMost (m .ring .fixed) (m .count) (m .meter) (m .workers) → k ≡ false → true ≡ brokenOf m
+    broken-record k h e l = sym (ap not l) ∙ broken-records k h e
 
-        module _ (hd : d ≡ true) (g : Bool) (eg : g ≡ endsFit (m .ring .fixed) (m .ring .ends)) where
-          pub broken-ends : g ≡ false → true ≡ brokenOf m
-          unfolding brokenWith
-          broken-ends h = yes _ x _ _ _ ex hx (yes _ a _ _ _ ea ha (yes _ b _ _ _ eb hb (yes _ d _ _ _ ed hd (no _ g _ _ _ eg h refl))))
-
-          pub broken-records : (k : Bool) → g ≡ true → k ≡ recordsFit workersMost (m .ring .fixed) (m .count) (m .meter) (m .workers) → not k ≡ brokenOf m
-          unfolding brokenWith
-          broken-records k h e =
-              yes _ x _ _ _ ex hx (yes _ a _ _ _ ea ha (yes _ b _ _ _ eb hb (yes _ d _ _ _ ed hd (yes _ g _ _ _ eg h (ap not e)))))
-
-          pub broken-record : (k : Bool) → g ≡ true → k ≡ recordsFit workersMost (m .ring .fixed) (m .count) (m .meter) (m .workers) → k ≡ false → true ≡ brokenOf m
-          broken-record k h e l = sym (ap not l) ∙ broken-records k h e
-
-          pub unbroken : (k : Bool) → g ≡ true → k ≡ recordsFit workersMost (m .ring .fixed) (m .count) (m .meter) (m .workers) → k ≡ true → false ≡ brokenOf m
-          unbroken k h e l = sym (ap not l) ∙ broken-records k h e
+    pub unbroken : (k : Bool) → b ≡ true → k ≡ recordsFit workersMost (m .ring .fixed) (m .count) (m .meter) (m .workers) → k ≡ true → false ≡ brokenOf m
+    unbroken k h e l = sym (ap not l) ∙ broken-records k h e
 
 -- a fresh machine, from its mark and its slots
 pub fresh-is : (capacity workers edition m : ℕ) (s : List Slot) → m ≡ markOf capacity → s ≡ freshSlots capacity → machineOf (record { mark = m; lap = 2 * m; capacity = capacity; edition = edition }) starts s (replicate workersMost idler) workers 0 ≡ freshOf capacity workers edition

@@ -6,13 +6,11 @@ use mathlib.Core.List.{List, _∷_}
 use native.Mathlib.Omega.{arith}
 use lib.Dec.{ltb}
 use lib.ListN.{getD, set, length, drop, drop-of-length-le}
-use borrow.Author.Tests.{ne-eqb, eq-eqb, ltb-true}
-use Rattle.queue_entries.specs.declared.Finding.{Finding}
-use Rattle.queue_entries.specs.declared.Finding.the-variants.{AllRead, UnreadableAt}
-use Rattle.queue_entries.specs.Schedules.{runBy, searchBy, scheduleBy}
+use borrow.Author.Tests.{ne-eqb, ltb-true}
+use Rattle.queue_entries.specs.Schedules.{runBy}
 use Rattle.queue_entries.proofs.Searching.{two-words}
 use Rattle.queue_entries.specs.Limits.{meterMost}
-use Rattle.queue_entries.proofs.Pick.{below, above, yes, no}
+use Rattle.queue_entries.proofs.Pick.{below, above, no}
 use Rattle.queue_entries.specs.declared.Call.{Call}
 use Rattle.queue_entries.specs.declared.Order.{Order}
 use Rattle.queue_entries.specs.declared.Order.the-variants.{Begin, Act}
@@ -35,9 +33,8 @@ use Rattle.bounded_machine.specs.declared.Machine.{Machine}
 use Rattle.bounded_machine.specs.declared.Did.{Did}
 use Rattle.bounded_machine.specs.declared.Ran.{Ran}
 use Rattle.bounded_machine.specs.Machine.{slot, machineOf, recordOf, placeOf, refused, accepted}
-use Rattle.bounded_machine.specs.Broken.{brokenOf}
 use Rattle.bounded_machine.specs.Turn.{verdictOf, spotOf, recordAfter, begun, stored, actedBy, carried, turn, turnAt, turnOfBy}
-use Rattle.bounded_machine.specs.Run.{ran, runAt, runOfBy}
+use Rattle.bounded_machine.specs.Run.{ran, runAt}
 use Rattle.bounded_machine.proofs.Kept.{UnbrokenWith, fair-in, ruled-in, few-workers, few-lost, begun-unbroken, stored-unbroken, acted-unbroken, Ok, keeps, word-fits-in, fits-plain, either}
 
 -- ---- what a verdict tells: a refusal has a number, a move is a busy worker's in time
@@ -126,26 +123,7 @@ module _ (bits : Width) (s : List ℕ) (n i : ℕ) (m : Machine) (whole : Ran) (
             went (kept m w sp a r)
             (near bits m _ _ x ex w o h v g e ∙ ap (carried bits m w (placeOf (m .workers) w)) k ∙ ap accepted (rw (ea, es)) ∙ ap accepted (as-stored m w sp a r er))
 
--- ---- before and after the loop
-module _ (bits : Width) (m : Machine) (s : List ℕ) (b : Bool) (e : b ≡ brokenOf m) where
-  pub broken-run : b ≡ true → ran 6 0 m ≡ runOfBy (actOf bits) m s
-  unfolding scheduleBy
-  broken-run h = yes _ b _ _ _ e h refl
-
-  module _ (h : b ≡ false) where
-    pub odd-run : length s % 2 ≡ 1 → ran 11 0 m ≡ runOfBy (actOf bits) m s
-    unfolding scheduleBy
-    odd-run k = no _ b _ _ _ e h (sym (simp (eq-eqb _ _ k)))
-
-    module _ (k : length s % 2 ≡ 1 → ⊥) (f : Finding) (g : f ≡ searchBy entryOf 0 s) where
-      pub unread-run : (i : ℕ) → f ≡ UnreadableAt i → ran 9 i m ≡ runOfBy (actOf bits) m s
-      unfolding scheduleBy
-      unread-run i z = no _ b _ _ _ e h (sym (simp (ne-eqb _ _ k, sym g ∙ z)))
-
-      pub read-run : f ≡ AllRead → runAt bits m 0 (drop 0 s) ≡ runOfBy (actOf bits) m s
-      unfolding scheduleBy
-      read-run z = no _ b _ _ _ e h (sym (simp (ne-eqb _ _ k, sym g ∙ z)))
-
+-- ---- after the loop
 pub ended : (bits : Width) (s : List ℕ) (n i : ℕ) (m : Machine) (whole : Ran) → runAt bits m i (drop (2 * i) s) ≡ whole → length s ≡ 2 * n → n ≤ i → ran 0 i m ≡ whole
 unfolding runBy
 ended bits s n i m whole back len ge = sym (ap (runAt bits m i) (drop-of-length-le s {i = 2 * i} (omega arith))) ∙ back

@@ -35,16 +35,18 @@ recordFits f meter r counted =
 unfoldable pub recordsFit : ℕ → Fixed → ℕ → ℕ → List Worker → Bool
 recordsFit records f count meter ws = all records 0 (λ (i : ℕ). recordFits f meter (recordOf ws i) (ltb i count))
 
--- an edition that is neither 1 nor 2, and the rest, of a machine with so many records; there are no more workers than records
+-- a ring that is not broken, whatever its records: an edition that is 1 or 2, a capacity within its limits, and the above
+unfoldable pub ringFits : Fixed → Ends → Bool
+ringFits f e =
+    cond (inLimits (f .edition) editionsMost) (cond (inLimits (f .capacity) slotsMost) (cond (byRule f) (endsFit f e) false) false) false
+
+-- the ring and the rest, of a machine with so many records; there are no more workers than records
 unfoldable pub brokenWith : ℕ → Machine → Bool
 brokenWith records m =
-    cond (inLimits (m .ring .fixed .edition) editionsMost)
-    (cond (inLimits (m .ring .fixed .capacity) slotsMost)
+    cond (ringFits (m .ring .fixed) (m .ring .ends))
     (cond (inLimits (m .count) records)
-    (cond (byRule (m .ring .fixed))
-    (cond (endsFit (m .ring .fixed) (m .ring .ends))
     (not (recordsFit records (m .ring .fixed) (m .count) (m .meter) (m .workers)))
-    true) true) true) true) true
+    true) true
 
 -- document 01's machine has 16 of them
 abbrev pub brokenOf : Machine → Bool

@@ -1,6 +1,6 @@
 -- "Contents" of document 01, as `Drop` walks, and `capacity`.
 use Prim.Native.Nat.{ℕ, zero, suc, _+_, _≤_, _-_}
-use mathlib.Core.Bool.{cond}
+use mathlib.Core.Bool.{Bool, cond}
 use mathlib.Core.List.{List, [], _∷_, _++_}
 use mathlib.Core.Path.{_≡_}
 use lib.Dec.{ltb, eqb}
@@ -9,40 +9,57 @@ use Rattle.queue_entries.specs.Told.{told}
 use Rattle.queue_entries.specs.declared.Told.{Told}
 use Rattle.bounded_words.specs.Words.{indexOf}
 use Rattle.bounded_acts.specs.Acts.{countOf}
+use Rattle.bounded_machine.specs.declared.Ring.{Ring}
 use Rattle.bounded_machine.specs.declared.Machine.{Machine}
 use Rattle.bounded_machine.specs.Machine.{slot}
 use Rattle.bounded_machine.specs.Broken.{brokenOf, allIdle}
 
--- `len`'s count of items
-unfoldable pub countIn : Machine → ℕ
-countIn m = countOf (m .ring .fixed) (m .ring .ends .tail) (m .ring .ends .head)
+-- `len`'s count of items: the ring's, and so the machine's
+unfoldable pub countOn : Ring → ℕ
+countOn r = countOf (r .fixed) (r .ends .tail) (r .ends .head)
+
+abbrev pub countIn : Machine → ℕ
+countIn m = countOn (m .ring)
 
 -- wrapping at capacity
 unfoldable pub wrapped : ℕ → ℕ → ℕ
 wrapped capacity i = cond (ltb i capacity) i (i - capacity)
 
 -- the k-th item from index(head)
-unfoldable pub itemAt : Machine → ℕ → ℕ
-itemAt m k = getD (m .ring .slots) (wrapped (m .ring .fixed .capacity) (indexOf (m .ring .fixed) (m .ring .ends .head) + k)) (slot 0 0) .value
+unfoldable pub itemOn : Ring → ℕ → ℕ
+itemOn r k = getD (r .slots) (wrapped (r .fixed .capacity) (indexOf (r .fixed) (r .ends .head) + k)) (slot 0 0) .value
+
+abbrev pub itemAt : Machine → ℕ → ℕ
+itemAt m = itemOn (m .ring)
 
 -- so many items, the k-th of them first
-unfoldable pub itemsFrom : Machine → ℕ → ℕ → List ℕ
-itemsFrom m zero k = []
-itemsFrom m (suc more) k = itemAt m k ∷ itemsFrom m more (k + 1)
+unfoldable pub itemsOn : Ring → ℕ → ℕ → List ℕ
+itemsOn r zero k = []
+itemsOn r (suc more) k = itemOn r k ∷ itemsOn r more (k + 1)
+
+abbrev pub itemsFrom : Machine → ℕ → ℕ → List ℕ
+itemsFrom m = itemsOn (m .ring)
 
 -- from index(head), `len`'s count of items
-unfoldable pub contentsOf : Machine → List ℕ
-contentsOf m = itemsFrom m (countIn m) 0
+unfoldable pub listOn : Ring → List ℕ
+listOn r = itemsOn r (countOn r) 0
 
--- Order: contents 6, 4, 10 (4: while any is busy; 10: buffer shorter than the list).
+abbrev pub contentsOf : Machine → List ℕ
+contentsOf m = listOn (m .ring)
+
+-- Order: contents 6, 4, 10 (4: while any is busy; 10: buffer shorter than the list), of so many items; 0 where it is not refused.
+abbrev pub contentsRefusalBy : Bool → Bool → ℕ → ℕ → ℕ
+contentsRefusalBy broken idle count room = cond broken 6 (cond idle (cond (ltb room count) 10 0) 4)
+
 unfoldable pub contentsRefusal : Machine → ℕ → ℕ
-contentsRefusal m room =
-    cond (brokenOf m) 6 (cond (allIdle (m .workers)) (cond (ltb room (countIn m)) 10 0) 4)
+contentsRefusal m = contentsRefusalBy (brokenOf m) (allIdle (m .workers)) (countIn m)
 
--- written at the buffer's start; the rest untouched
+-- written at the buffer's start, unless it is refused; the rest untouched
+abbrev pub writtenBy : ℕ → Ring → List ℕ → List ℕ
+writtenBy number r buffer = cond (eqb number 0) (listOn r ++ drop (countOn r) buffer) buffer
+
 unfoldable pub written : Machine → List ℕ → List ℕ
-written m buffer =
-    cond (eqb (contentsRefusal m (length buffer)) 0) (contentsOf m ++ drop (countIn m) buffer) buffer
+written m buffer = writtenBy (contentsRefusal m (length buffer)) (m .ring) buffer
 
 -- `capacity`: 6, else the machine's capacity at any time
 unfoldable pub capacityRefusal : Machine → ℕ
@@ -51,7 +68,7 @@ capacityRefusal m = cond (brokenOf m) 6 0
 unfoldable pub capacityOf : Machine → Told
 capacityOf m = told (capacityRefusal m) (m .ring .fixed .capacity)
 
--- the count of an unbroken machine, and its bound
-pub record Counted (m : Machine) (n : ℕ) : Type 0 where
-  pub is : n ≡ countIn m
-  pub most : n ≤ m .ring .fixed .capacity
+-- the count of an unbroken ring, and its bound
+pub record Counted (r : Ring) (n : ℕ) : Type 0 where
+  pub is : n ≡ countOn r
+  pub most : n ≤ r .fixed .capacity

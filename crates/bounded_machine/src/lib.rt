@@ -6,9 +6,9 @@ ghost use Rattle.bounded_words.specs.Limits.{slotsMost};
 ghost use Rattle.bounded_words.specs.Words.{Fair};
 ghost use Rattle.bounded_machine.specs.Machine.{freshSlots, freshOf, blank, refused, accepted};
 ghost use Rattle.queue_entries.specs.Limits.{inLimits};
-ghost use Rattle.bounded_machine.specs.Broken.{byRule, endsFit, placeFits, recordFits, recordsFit, allIdle, brokenOf};
-ghost use mathlib.Core.Bool.{false};
-ghost use Rattle.bounded_machine.specs.Contents.{wrapped, itemAt, Counted};
+ghost use Rattle.bounded_machine.specs.Broken.{byRule, endsFit, ringFits, placeFits, recordFits, recordsFit, allIdle, brokenOf};
+ghost use mathlib.Core.Bool.{true};
+ghost use Rattle.bounded_machine.specs.Contents.{wrapped, itemOn, Counted};
 ghost use Rattle.bounded_machine.specs.Turn.{spotOf, verdictOf, recordAfter};
 use bounded_acts::Acted;
 use bounded_places::Answer;
@@ -176,7 +176,7 @@ pub fn blank() -> Machine
 
 // Broken, part by part.
 
-pub fn by_rule(f: Fixed) -> bool
+fn by_rule(f: Fixed) -> bool
     requires { ⌜ f .capacity ≤ slotsMost ⌝ }
     ensures { λ r. ⌜ r ≡ byRule f ⌝ }
 {
@@ -188,7 +188,7 @@ pub fn by_rule(f: Fixed) -> bool
     }
 }
 
-pub fn ends_fit(f: Fixed, e: Ends) -> bool
+fn ends_fit(f: Fixed, e: Ends) -> bool
     requires { ⌜ Fair f ⌝ }
     ensures { λ r. ⌜ r ≡ endsFit f e ⌝ }
 {
@@ -202,6 +202,22 @@ pub fn ends_fit(f: Fixed, e: Ends) -> bool
     } else {
         false
     }
+}
+
+// Whether a ring is not broken, whatever its records.
+pub fn ring_fits(f: Fixed, e: Ends) -> bool
+    ensures { λ r. ⌜ r ≡ ringFits f e ⌝ }
+{
+    if queue_entries::in_limits(f.edition, bounded_words::EDITIONS) {} else {
+        return false;
+    }
+    if queue_entries::in_limits(f.capacity, bounded_words::SLOTS as u64) {} else {
+        return false;
+    }
+    if by_rule(f) {} else {
+        return false;
+    }
+    ends_fit(f, e)
 }
 
 fn place_fits(f: Fixed, p: Place, counted: bool) -> bool
@@ -257,19 +273,10 @@ pub fn broken(m: Machine) -> bool
     let f = ring.fixed;
     let e = ring.ends;
     let workers = m.workers;
-    if queue_entries::in_limits(f.edition, bounded_words::EDITIONS) {} else {
-        return true;
-    }
-    if queue_entries::in_limits(f.capacity, bounded_words::SLOTS as u64) {} else {
+    if ring_fits(f, e) {} else {
         return true;
     }
     if queue_entries::in_limits(m.count, queue_entries::WORKERS as u64) {} else {
-        return true;
-    }
-    if by_rule(f) {} else {
-        return true;
-    }
-    if ends_fit(f, e) {} else {
         return true;
     }
     if records_fit(f, m.count, m.meter, workers) {
@@ -296,11 +303,10 @@ pub fn all_idle(workers: [Worker; queue_entries::WORKERS]) -> bool
 }
 
 // The items between the ends.
-pub fn count_in(m: Machine) -> u64
-    requires { ⌜ brokenOf m ≡ false ⌝ }
-    ensures { λ r. ⌜ Counted m r ⌝ }
+pub fn count_in(ring: Ring) -> u64
+    requires { ⌜ ringFits (ring .fixed) (ring .ends) ≡ true ⌝ }
+    ensures { λ r. ⌜ Counted ring r ⌝ }
 {
-    let ring = m.ring;
     let f = ring.fixed;
     let e = ring.ends;
     bounded_acts::count(f, e.tail, e.head)
@@ -314,12 +320,11 @@ fn wrap(capacity: u64, i: u64) -> u64
 }
 
 // The k-th item from index(head).
-pub fn item_at(m: Machine, k: u64) -> u64
-    requires { ⌜ brokenOf m ≡ false ⌝ }
+pub fn item_at(ring: Ring, k: u64) -> u64
+    requires { ⌜ ringFits (ring .fixed) (ring .ends) ≡ true ⌝ }
     requires { ⌜ k < slotsMost ⌝ }
-    ensures { λ r. ⌜ r ≡ itemAt m k ⌝ }
+    ensures { λ r. ⌜ r ≡ itemOn ring k ⌝ }
 {
-    let ring = m.ring;
     let f = ring.fixed;
     let e = ring.ends;
     let slots = ring.slots;

@@ -1,2 +1,4 @@
 pub mod Fitting
 pub mod Making
+pub mod Judging
+pub mod Listing

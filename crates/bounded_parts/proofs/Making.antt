@@ -1,14 +1,14 @@
 -- Making, judging and telling, test by test.
-use Prim.Native.Nat.{ℕ, _%_, _/_, _≤_}
+use Prim.Native.Nat.{ℕ, suc, _+_, _%_, _/_, _≤_}
 use mathlib.Core.Path.{_≡_, refl, sym, ap, _∙_}
 use mathlib.Core.Bool.{Bool, true, false, cond}
-use mathlib.Core.List.{List}
+use mathlib.Core.List.{List, [], _∷_}
 use native.Mathlib.Omega.{arith}
 use lib.Dec.{eqb}
 use lib.ListN.{length}
 use borrow.Author.Tests.{eq-eqb, ne-eqb}
 use Rattle.queue_entries.specs.Limits.{inLimits}
-use Rattle.queue_entries.specs.Schedules.{searchBy}
+use Rattle.queue_entries.specs.Schedules.{runBy, searchBy, scheduleBy}
 use Rattle.queue_entries.specs.Entries.{entryOf}
 use Rattle.queue_entries.specs.declared.Finding.{Finding}
 use Rattle.queue_entries.specs.declared.Finding.the-variants.{AllRead, UnreadableAt}
@@ -20,38 +20,55 @@ use Rattle.queue_entries.proofs.Limits.{limit-most}
 use Rattle.bounded_words.specs.declared.Fixed.{Fixed}
 use Rattle.bounded_words.specs.Limits.{slotsMost, editionsMost}
 use Rattle.bounded_machine.specs.declared.Machine.{Machine}
-use Rattle.bounded_machine.specs.declared.Ring.{Ring}
 use Rattle.bounded_machine.specs.Machine.{freshOf, blank}
-use Rattle.bounded_machine.specs.Contents.{countIn, contentsRefusal, written}
 use Rattle.bounded_machine.proofs.Kept.{either}
 use Rattle.bounded_parts.specs.declared.Made.{Made}
 use Rattle.bounded_parts.specs.declared.Report.{Report}
-use Rattle.bounded_parts.specs.Parts.{recordsMost, makeRefusal, madeFrom, madeOf, unlessRefused, report, readThrough, judgedOf, capacityTold, quiet, filled, contentsOn}
+use Rattle.bounded_parts.specs.Parts.{makeBy, makeRefusalWith, makeRefusal, madeFrom, madeOf, unlessRefused, report, readThrough, judgedOf, capacityTold}
 
-module _ (count capacity edition : ℕ) (a : Bool) (ea : a ≡ inLimits capacity slotsMost) where
-  pub refuses-1 : a ≡ false → 1 ≡ makeRefusal count capacity edition
-  unfolding makeRefusal
+module _ (most capacity workers edition : ℕ) (a : Bool) (ea : a ≡ inLimits capacity slotsMost) where
+  pub refuses-1 : a ≡ false → 1 ≡ makeRefusalWith most capacity workers edition
+  unfolding makeRefusalWith
   refuses-1 h = no _ a _ _ _ ea h refl
 
-  module _ (ha : a ≡ true) (b : Bool) (eb : b ≡ inLimits count recordsMost) where
-    pub refuses-2 : b ≡ false → 2 ≡ makeRefusal count capacity edition
-    unfolding makeRefusal
+  module _ (ha : a ≡ true) (b : Bool) (eb : b ≡ inLimits workers most) where
+    pub refuses-2 : b ≡ false → 2 ≡ makeRefusalWith most capacity workers edition
+    unfolding makeRefusalWith
     refuses-2 h = yes _ a _ _ _ ea ha (no _ b _ _ _ eb h refl)
 
     module _ (hb : b ≡ true) (c : Bool) (ec : c ≡ inLimits edition editionsMost) where
-      pub refuses-18 : c ≡ false → 18 ≡ makeRefusal count capacity edition
-      unfolding makeRefusal
+      pub refuses-18 : c ≡ false → 18 ≡ makeRefusalWith most capacity workers edition
+      unfolding makeRefusalWith
       refuses-18 h = yes _ a _ _ _ ea ha (yes _ b _ _ _ eb hb (no _ c _ _ _ ec h refl))
 
-      pub refuses-none : c ≡ true → 0 ≡ makeRefusal count capacity edition
-      unfolding makeRefusal
+      pub refuses-none : c ≡ true → 0 ≡ makeRefusalWith most capacity workers edition
+      unfolding makeRefusalWith
       refuses-none h = yes _ a _ _ _ ea ha (yes _ b _ _ _ eb hb (yes _ c _ _ _ ec h refl))
 
 -- what is not refused has its slots
-pub slots-few : (count capacity edition number : ℕ) → number ≡ makeRefusal count capacity edition → number ≡ 0 → capacity ≤ slotsMost
-unfolding makeRefusal
-slots-few count capacity edition number e z =
+pub slots-few : (most capacity workers edition number : ℕ) → number ≡ makeRefusalWith most capacity workers edition → number ≡ 0 → capacity ≤ slotsMost
+unfolding makeRefusalWith
+slots-few most capacity workers edition number e z =
     either (λ (n : ℕ). n ≡ 0 → capacity ≤ slotsMost) (inLimits capacity slotsMost) _ 1 (λ h k. limit-most capacity slotsMost true (sym h) refl) (λ h k. absurd (omega arith)) (sym e ∙ z)
+
+-- what is made, by the refusal's number
+module _ {A : Type 0} (refuse : ℕ → A) (made : A) where
+  by-tests : (a b c : Bool) → cond a (cond b (cond c made (refuse 18)) (refuse 2)) (refuse 1) ≡ cond (eqb (cond a (cond b (cond c 0 18) 2) 1) 0) made (refuse (cond a (cond b (cond c 0 18) 2) 1))
+  by-tests false b c = refl
+  by-tests true false c = refl
+  by-tests true true false = refl
+  by-tests true true true = refl
+
+  module _ (most capacity workers edition number : ℕ) (e : number ≡ makeRefusalWith most capacity workers edition) where
+    numbered : makeBy most refuse made capacity workers edition ≡ cond (eqb number 0) made (refuse number)
+    unfolding makeRefusalWith
+    numbered = rw e (by-tests (inLimits capacity slotsMost) (inLimits workers most) (inLimits edition editionsMost))
+
+    pub made-unrefused : number ≡ 0 → made ≡ makeBy most refuse made capacity workers edition
+    made-unrefused z = equal number 0 _ _ _ z refl ∙ sym numbered
+
+    pub refused-by : (number ≡ 0 → ⊥) → refuse number ≡ makeBy most refuse made capacity workers edition
+    refused-by z = other number 0 _ _ _ z refl ∙ sym numbered
 
 module _ (count capacity edition number : ℕ) (e : number ≡ makeRefusal count capacity edition) (m : Machine) (r : Made) where
   pub fresh-made : number ≡ 0 → m ≡ freshOf capacity count edition → r ≡ madeFrom 0 m → r ≡ madeOf count capacity edition
@@ -71,26 +88,38 @@ module _ (number count : ℕ) where
   unfolding unlessRefused
   is-refused z = other number 0 _ _ _ z refl
 
+-- entries that do nothing are run to the end
+runs-through : (s : List ℕ) (place : ℕ) → report 0 (place + length s / 2)
+    ≡ runBy (λ (none : Unit {0}). 0) (λ none. none) (λ none first second. none) (λ number k none. report number k) tt place s
+unfolding runBy
+runs-through [] place = let e : place + 0 / 2 ≡ place = omega arith in ap (report 0) e
+runs-through (x ∷ []) place = let e : place + 1 / 2 ≡ place = omega arith in ap (report 0) e
+runs-through (x ∷ y ∷ rest) place =
+    let e : place + suc (suc (length rest)) / 2 ≡ place + 1 + length rest / 2 = omega arith in ap (report 0) e ∙ runs-through rest (place + 1)
+
+pub reads-through : (s : List ℕ) → report 0 (length s / 2) ≡ readThrough s AllRead
+reads-through s = let e : length s / 2 ≡ 0 + length s / 2 = omega arith in ap (report 0) e ∙ runs-through s 0
+
 module _ (broken : Bool) (s : List ℕ) where
   pub judged-6 : broken ≡ true → report 6 0 ≡ judgedOf broken s
-  unfolding judgedOf
+  unfolding judgedOf scheduleBy
   judged-6 h = yes _ broken _ _ _ refl h refl
 
   module _ (h : broken ≡ false) where
     pub judged-11 : length s % 2 ≡ 1 → report 11 0 ≡ judgedOf broken s
-    unfolding judgedOf
+    unfolding judgedOf scheduleBy
     judged-11 k = no _ broken _ _ _ refl h (equal (length s % 2) 1 _ _ _ k refl)
 
     module _ (k : length s % 2 ≡ 1 → ⊥) (f : Finding) (g : f ≡ searchBy entryOf 0 s) where
       found : readThrough s f ≡ judgedOf broken s
-      unfolding judgedOf
+      unfolding judgedOf scheduleBy
       found = no _ broken _ _ _ refl h (other (length s % 2) 1 _ _ _ k (ap (readThrough s) g))
 
       pub judged-9 : (i : ℕ) → f ≡ UnreadableAt i → report 9 i ≡ judgedOf broken s
       judged-9 i z = ap (readThrough s) (sym z) ∙ found
 
       pub judged-read : f ≡ AllRead → report 0 (length s / 2) ≡ judgedOf broken s
-      judged-read z = ap (readThrough s) (sym z) ∙ found
+      judged-read z = reads-through s ∙ ap (readThrough s) (sym z) ∙ found
 
 module _ (broken : Bool) (f : Fixed) where
   pub told-6 : broken ≡ true → Refused 6 ≡ capacityTold broken f
@@ -100,15 +129,3 @@ module _ (broken : Bool) (f : Fixed) where
   pub told-capacity : broken ≡ false → Number (f .capacity) ≡ capacityTold broken f
   unfolding capacityTold told
   told-capacity h = rw h refl
-
--- ---- contents
-module _ (idle : Bool) (r : Ring) (before after : List ℕ) where
-  pub busy-refused : idle ≡ false → after ≡ before → filled (Refused 4) after ≡ contentsOn idle r before
-  unfolding contentsOn
-  busy-refused h e = no _ idle _ _ _ refl h (ap (filled (Refused 4)) e)
-
-  pub quiet-contents : (m : Machine) (t : Told) → idle ≡ true → m ≡ quiet r → t ≡ told (contentsRefusal m (length before)) (countIn m) → after ≡ written m before → filled t after ≡ contentsOn idle r before
-  unfolding contentsOn
-  quiet-contents m t h q et ea =
-      yes _ idle _ _ _ refl h (ap (λ (z : Told). filled z after) et ∙ ap (filled (told (contentsRefusal m (length before)) (countIn m))) ea
-      ∙ ap (λ (z : Machine). filled (told (contentsRefusal z (length before)) (countIn z)) (written z before)) q)

@@ -1,25 +1,23 @@
--- What a host needs that keeps ring and records in its own memory, but for the records.
-use Prim.Native.Nat.{ℕ, _/_, _%_}
-use mathlib.Core.Bool.{Bool, false, cond}
+-- What the faces share, whoever keeps ring and records: making, schedules and contents, but for the records.
+use Prim.Native.Nat.{ℕ}
+use mathlib.Core.Bool.{Bool, false, cond, not}
 use mathlib.Core.List.{List}
 use lib.Dec.{eqb}
 use lib.ListN.{length}
-use Rattle.queue_entries.specs.Limits.{workersMost, inLimits}
+use Rattle.queue_entries.specs.Limits.{inLimits}
 use Rattle.queue_entries.specs.Entries.{entryOf}
 use Rattle.queue_entries.specs.declared.Finding.{Finding}
-use Rattle.queue_entries.specs.declared.Finding.the-variants.{AllRead, UnreadableAt}
 use Rattle.queue_entries.specs.declared.Told.{Told}
-use Rattle.queue_entries.specs.declared.Told.the-variants.{Refused}
 use Rattle.queue_entries.specs.Told.{told}
-use Rattle.queue_entries.specs.Schedules.{searchBy}
+use Rattle.queue_entries.specs.Schedules.{searched, scheduleBy}
 use Rattle.bounded_words.specs.declared.Fixed.{Fixed}
 use Rattle.bounded_words.specs.Limits.{slotsMost, editionsMost}
 use Rattle.bounded_places.specs.declared.Ends.{Ends}
 use Rattle.bounded_machine.specs.declared.Machine.{Machine}
 use Rattle.bounded_machine.specs.declared.Ring.{Ring}
-use Rattle.bounded_machine.specs.Machine.{machineOf, idlers, freshOf, blank}
-use Rattle.bounded_machine.specs.Contents.{countIn, contentsRefusal, written}
-use Rattle.bounded_machine.specs.Broken.{byRule, endsFit}
+use Rattle.bounded_machine.specs.Machine.{freshOf, blank}
+use Rattle.bounded_machine.specs.Contents.{countOn, contentsRefusalBy, writtenBy}
+use Rattle.bounded_machine.specs.Broken.{ringFits}
 use Rattle.bounded_parts.specs.declared.Metered.{Metered}
 use Rattle.bounded_parts.specs.declared.Made.{Made}
 use Rattle.bounded_parts.specs.declared.Report.{Report}
@@ -28,17 +26,27 @@ use Rattle.bounded_parts.specs.declared.Report.{Report}
 abbrev pub recordsMost : ℕ
 recordsMost = 64
 
--- a ring that is not broken, with so many records: all that `brokenOf` asks but of the records
-unfoldable pub ringFits : Fixed → Ends → ℕ → Bool
-ringFits f e count =
-    cond (inLimits (f .edition) editionsMost)
-    (cond (inLimits (f .capacity) slotsMost) (cond (inLimits count recordsMost) (cond (byRule f) (endsFit f e) false) false) false) false
+-- a ring that is not broken, lent with so many records, which are another matter
+unfoldable pub ringFitsLent : Fixed → Ends → ℕ → Bool
+ringFitsLent f e count = cond (inLimits count recordsMost) (ringFits f e) false
 
 -- ---- making
--- Order: making 1, 2, 18; 0 where it is not refused.
-unfoldable pub makeRefusal : ℕ → ℕ → ℕ → ℕ
-makeRefusal count capacity edition =
-    cond (inLimits capacity slotsMost) (cond (inLimits count recordsMost) (cond (inLimits edition editionsMost) 0 18) 2) 1
+-- Order: making 1, 2, 18, where there are at most so many records: what is made, or what the refusal's number gives.
+abbrev pub makeBy : {A : Type 0} → ℕ → (ℕ → A) → A → ℕ → ℕ → ℕ → A
+makeBy most refuse made capacity workers edition =
+    cond (inLimits capacity slotsMost)
+    (cond (inLimits workers most)
+    (cond (inLimits edition editionsMost) made (refuse 18))
+    (refuse 2))
+    (refuse 1)
+
+-- The number; 0 where it is not refused.
+unfoldable pub makeRefusalWith : ℕ → ℕ → ℕ → ℕ → ℕ
+makeRefusalWith most = makeBy most (λ (number : ℕ). number) 0
+
+-- of so many lent records
+abbrev pub makeRefusal : ℕ → ℕ → ℕ → ℕ
+makeRefusal count capacity edition = makeRefusalWith recordsMost capacity count edition
 
 abbrev pub meteredOf : Machine → Metered
 meteredOf m = record { ring = m .ring; meter = m .meter }
@@ -59,23 +67,18 @@ unlessRefused number count = cond (eqb number 0) count 0
 abbrev pub report : ℕ → ℕ → Report
 report number place = record { refusal = number; place = place }
 
+-- What a schedule reports if no entry of it is refused, by every schedule's order (6, 11, 9): of no machine, whose entries do nothing.
 abbrev pub readThrough : List ℕ → Finding → Report
-readThrough s AllRead = report 0 (length s / 2)
-readThrough s (UnreadableAt place) = report 9 place
+readThrough = searched (λ (none : Unit {0}). 0) (λ none. none) (λ none first second. none) (λ number place none. report number place) tt
 
--- What a schedule reports if no entry of it is refused. Order: schedule 6, 11, 9 (6 and 11 of the whole: place 0).
 unfoldable pub judgedOf : Bool → List ℕ → Report
-judgedOf broken s = cond broken (report 6 0) (cond (eqb (length s % 2) 1) (report 11 0) (readThrough s (searchBy entryOf 0 s)))
+judgedOf broken = scheduleBy (λ (none : Unit {0}). 0) (λ none. none) (λ none first second. none) (λ number place none. report number place) (λ none. broken) entryOf tt
 
 -- ---- capacity
 unfoldable pub capacityTold : Bool → Fixed → Told
 capacityTold broken f = told (cond broken 6 0) (f .capacity)
 
 -- ---- contents
--- A machine of this ring, with idle workers alone.
-unfoldable pub quiet : Ring → Machine
-quiet r = machineOf (r .fixed) (r .ends) (r .slots) (idlers workersMost) 1 0
-
 -- what is answered, and the buffer after it
 pub record Filled : Type 0 where
   pub answer : Told
@@ -84,7 +87,11 @@ pub record Filled : Type 0 where
 abbrev pub filled : Told → List ℕ → Filled
 filled t buffer = record { answer = t; buffer = buffer }
 
--- 4: contents while any is busy.
+-- of a ring that is broken or not, whose workers are all idle or not
+unfoldable pub contentsBy : Bool → Bool → Ring → List ℕ → Filled
+contentsBy broken idle r buffer =
+    filled (told (contentsRefusalBy broken idle (countOn r) (length buffer)) (countOn r)) (writtenBy (contentsRefusalBy broken idle (countOn r) (length buffer)) r buffer)
+
+-- of a ring by itself
 unfoldable pub contentsOn : Bool → Ring → List ℕ → Filled
-contentsOn idle r buffer =
-    cond idle (filled (told (contentsRefusal (quiet r) (length buffer)) (countIn (quiet r))) (written (quiet r) buffer)) (filled (Refused 4) buffer)
+contentsOn idle r = contentsBy (not (ringFits (r .fixed) (r .ends))) idle r

@@ -1,8 +1,10 @@
-// What a host needs that keeps ring and records in its own memory, but for the records: making, schedules, capacity and contents. One entry is bounded_entries'.
+// What the faces share, whoever keeps ring and records: making, schedules, capacity and contents, but for the records. One entry is bounded_entries'.
 ghost use mathlib.Core.Path.{_≡_};
-ghost use Rattle.bounded_parts.specs.Parts.{ringFits, makeRefusal, madeFrom, madeOf, unlessRefused, judgedOf, capacityTold, quiet, filled, contentsOn};
+ghost use mathlib.Core.Bool.{true, false};
+ghost use Rattle.bounded_parts.specs.Parts.{ringFitsLent, makeRefusalWith, madeFrom, madeOf, unlessRefused, judgedOf, capacityTold, filled, contentsBy, contentsOn};
 ghost use Rattle.queue_entries.specs.declared.Told.the-variants.{Refused};
 ghost use Rattle.bounded_machine.specs.Machine.{idler};
+ghost use Rattle.bounded_machine.specs.Broken.{ringFits};
 use bounded_machine::Machine;
 use bounded_machine::Ring;
 use bounded_places::Answer;
@@ -34,32 +36,24 @@ pub struct Report {
 // The most records that are lent.
 pub const RECORDS: usize = 64;
 
-// Whether the ring is not broken, with so many records; the records are another matter.
+// Whether a ring is not broken, lent with so many records; the records are another matter.
 pub fn ring_fits(f: Fixed, e: Ends, count: usize) -> bool
-    ensures { λ r. ⌜ r ≡ ringFits f e count ⌝ }
+    ensures { λ r. ⌜ r ≡ ringFitsLent f e count ⌝ }
 {
-    if queue_entries::in_limits(f.edition, bounded_words::EDITIONS) {} else {
-        return false;
-    }
-    if queue_entries::in_limits(f.capacity, bounded_words::SLOTS as u64) {} else {
-        return false;
-    }
     if queue_entries::in_limits(count as u64, RECORDS as u64) {} else {
         return false;
     }
-    if bounded_machine::by_rule(f) {} else {
-        return false;
-    }
-    bounded_machine::ends_fit(f, e)
+    bounded_machine::ring_fits(f, e)
 }
 
-fn make_refusal(count: usize, capacity: u64, edition: u64) -> u64
-    ensures { λ r. ⌜ r ≡ makeRefusal count capacity edition ⌝ }
+// The number of the refusal where there are at most so many records; 0 where making is not refused.
+pub fn make_refusal(most: u64, capacity: u64, workers: u64, edition: u64) -> u64
+    ensures { λ r. ⌜ r ≡ makeRefusalWith most capacity workers edition ⌝ }
 {
     if queue_entries::in_limits(capacity, bounded_words::SLOTS as u64) {} else {
         return 1;
     }
-    if queue_entries::in_limits(count as u64, RECORDS as u64) {} else {
+    if queue_entries::in_limits(workers, most) {} else {
         return 2;
     }
     if queue_entries::in_limits(edition, bounded_words::EDITIONS) {} else {
@@ -84,7 +78,7 @@ fn made_from(number: u64, m: Machine) -> Made
 pub fn make(count: usize, capacity: u64, edition: u64) -> Made
     ensures { λ r. ⌜ r ≡ madeOf count capacity edition ⌝ }
 {
-    let number = make_refusal(count, capacity, edition);
+    let number = make_refusal(RECORDS as u64, capacity, count as u64, edition);
     if number == 0 {
         made_from(0, bounded_machine::fresh(capacity, count as u64, edition))
     } else {
@@ -158,27 +152,35 @@ pub fn refused(number: u64) -> Told
     Told::Refused(number)
 }
 
-fn quiet(ring: Ring) -> Machine
-    ensures { λ r. ⌜ r ≡ quiet ring ⌝ }
+// The items between the ends, written at the buffer's start, of a ring that is broken or not, whose workers are all idle or not.
+pub fn contents_by(broken: bool, idle: bool, ring: Ring, buffer: &mut [u64]) -> Told
+    requires { ⌜ (broken ≡ false → ringFits (ring .fixed) (ring .ends) ≡ true) ⌝ }
+    ensures { λ r. ⌜ filled r (now (buffer .exit)) ≡ contentsBy broken idle ring (now (buffer .entry)) ⌝ }
 {
-    Machine {
-        ring: ring,
-        workers: [Worker {
-            place: Place::Idle(Answer::Nothing),
-            differed: 0,
-            failed: 0,
-        }; queue_entries::WORKERS],
-        count: 1,
-        meter: 0,
+    if broken {
+        return Told::Refused(6);
     }
-}
-
-// The items between the ends, written at the buffer's start.
-pub fn contents_on(idle: bool, ring: Ring, buffer: &mut [u64]) -> Told
-    ensures { λ r. ⌜ filled r (now (buffer .exit)) ≡ contentsOn idle ring (now (buffer .entry)) ⌝ }
-{
     if idle {} else {
         return Told::Refused(4);
     }
-    bounded::contents(quiet(ring), buffer)
+    let n = bounded_machine::count_in(ring);
+    if buffer.len() < (n as usize) {
+        return Told::Refused(10);
+    }
+    let mut k = 0;
+    while k < n {
+        buffer[k as usize] = bounded_machine::item_at(ring, k);
+        k += 1;
+    }
+    Told::Number(n)
+}
+
+// The same of a ring by itself.
+pub fn contents_on(idle: bool, ring: Ring, buffer: &mut [u64]) -> Told
+    ensures { λ r. ⌜ filled r (now (buffer .exit)) ≡ contentsOn idle ring (now (buffer .entry)) ⌝ }
+{
+    let f = ring.fixed;
+    let e = ring.ends;
+    let fits = bounded_machine::ring_fits(f, e);
+    contents_by(!fits, idle, ring, buffer)
 }

@@ -21,7 +21,7 @@ use Rattle.bounded_machine.specs.declared.Machine.{Machine}
 use Rattle.bounded_machine.specs.declared.Event.{Event}
 use Rattle.bounded_machine.specs.Machine.{slot, placeOf, idler}
 use Rattle.bounded_machine.specs.Broken.{allIdle}
-use Rattle.bounded_machine.specs.Contents.{countIn, wrapped, itemAt, itemsFrom, contentsOf}
+use Rattle.bounded_machine.specs.Contents.{countIn, countOn, wrapped, itemAt, itemOn, itemsFrom, itemsOn, contentsOf, listOn}
 use Rattle.bounded_machine.specs.History.{untakenOf}
 use Rattle.bounded_machine.proofs.Kept.{every}
 use Rattle.bounded_demands.specs.Notions.{itemsOf, tally, waiting}
@@ -46,7 +46,7 @@ idle-at ws e w = go (decLt w (length ws))
 module _ (bits : Width) (c n workers : ℕ) (base : Base bits c n workers) (m : Machine) (h : List Event) (r : Reached c n workers m h) where
   -- `len`'s count of the machine's own ends
   pub count-in : countIn m ≡ r .ring .tail - r .ring .head
-  unfolding countIn
+  unfolding countOn
   count-in =
       let pic = r .pictured in
       ap (λ (f : Fixed). countOf f (m .ring .ends .tail) (m .ring .ends .head)) (pic .rule)
@@ -91,7 +91,7 @@ module _ (bits : Width) (c n workers : ℕ) (base : Base bits c n workers) (m : 
         go (Hand st j w) e = absurd (loose (k % c) (mod-lt k some) w (subst (Mine w) (sym e) refl))
 
     item-at : (d : ℕ) → d < r .ring .tail - r .ring .head → itemAt m d ≡ getD (itemsOf h) (r .ring .head + d) 0
-    unfolding itemAt
+    unfolding itemOn
     item-at d l =
         let pic = r .pictured in
         let some = base .ground .laws .some in
@@ -112,7 +112,7 @@ module _ (bits : Width) (c n workers : ℕ) (base : Base bits c n workers) (m : 
         ∙ sym (r .logged .lists .items-are .at (r .ring .head + d) high)
 
     items-from : (more d : ℕ) → d + more ≡ r .ring .tail - r .ring .head → itemsFrom m more d ≡ drop (r .ring .head + d) (itemsOf h)
-    unfolding itemsFrom
+    unfolding itemsOn
     items-from zero d e =
         let past : length (itemsOf h) ≤ r .ring .head + d = omega (arith, r .logged .lists .items-are .long, r .pictured .inv .low) in
         sym (drop-of-length-le (itemsOf h) past)
@@ -122,7 +122,7 @@ module _ (bits : Width) (c n workers : ℕ) (base : Base bits c n workers) (m : 
         rw (drop-cons (itemsOf h) (r .ring .head + d) 0 here, item-at d (omega arith), items-from more (d + 1) (omega arith), up)
 
     pub contents-are : contentsOf m ≡ waiting h
-    unfolding contentsOf
+    unfolding listOn
     contents-are =
         let z : r .ring .head + 0 ≡ tally h .head .0 = omega (arith, tally-head h, r .logged .lists .takers-are .long) in
         ap (λ (k : ℕ). itemsFrom m k 0) count-in ∙ items-from (r .ring .tail - r .ring .head) 0 (omega arith) ∙ ap (λ (k : ℕ). drop k (itemsOf h)) z

@@ -24,7 +24,7 @@ use Rattle.bounded_acts.specs.Acts.{countOf, yesNo}
 use Rattle.bounded_machine.specs.declared.Machine.{Machine}
 use Rattle.bounded_machine.specs.declared.Event.{Event}
 use Rattle.bounded_machine.specs.Machine.{slot}
-use Rattle.bounded_machine.specs.Contents.{countIn}
+use Rattle.bounded_machine.specs.Contents.{countOn}
 use Rattle.bounded_demands.specs.Notions.{itemsOf, tally, waiting, OtherHand, valueAt, queueAnswer}
 use Rattle.bounded_demands.specs.Foretold.{foretoldOf, ownValue, foretold}
 use Rattle.bounded_proof_invariant.proofs.Width.{near-one, turn-long}
@@ -136,7 +136,7 @@ module _ (bits : Width) (c n workers : ℕ) (base : Base bits c n workers) (m : 
 
   pub queue-is : (k : Call) → stood m w ≡ beginOf k → viewOf (stood m w) .busy ≡ true → (OtherHand m w → ⊥)
       → foretold bits m w ≡ queueAnswer k (markedOf (m .ring .fixed) (m .ring .ends .tail)) (m .ring .fixed .capacity) (waiting h)
-  unfolding countIn
+  unfolding countOn
   queue-is k e busy free =
       let pic = r .pictured in
       let f = m .ring .fixed in

@@ -19,7 +19,7 @@ use Rattle.bounded_machine.specs.declared.Machine.{Machine}
 use Rattle.bounded_machine.specs.declared.Did.{Did}
 use Rattle.bounded_machine.specs.declared.Ran.{Ran}
 use Rattle.bounded_machine.specs.Machine.{placeOf, emptySlots, stamped, freshSlots, idlers, freshWith, freshOf, blank, refused, accepted}
-use Rattle.bounded_machine.specs.Broken.{byRule, endsFit, placeFits, recordFits, recordsFit, brokenWith}
+use Rattle.bounded_machine.specs.Broken.{byRule, endsFit, placeFits, recordFits, recordsFit, ringFits, brokenWith}
 use Rattle.bounded_machine.specs.Turn.{recordAfter, begun, stored, actedBy, turnOfBy}
 use Rattle.bounded_machine.specs.Run.{ran}
 use Rattle.bounded_steps.specs.Steps.{stepOfBy, beginOfBy}
@@ -52,7 +52,7 @@ unfolding strayOf orderOf entryOf
 readable e = let q : _≡_ {A = ℕ} 0 1 = cc in omega arith
 
 pub refuted : Refuted
-unfolding m₀ exchanging busy unmetered inside doubled markOf markedOf unmarkedOf plus minus withMark nextOf same onePast lapBehind lapBehindOnePast strayOf orderOf entryOf stay losing exchangeOf afterTail tailTo emptySlots stamped freshSlots idlers freshWith blank refused accepted inLimits all byRule endsFit placeFits recordFits recordsFit brokenWith recordAfter begun stored actedBy turnOfBy ran runBy searchBy scheduleBy stepOfBy beginOfBy makeOf has leftByAll takenByAll
+unfolding m₀ exchanging busy unmetered inside doubled markOf markedOf unmarkedOf plus minus withMark nextOf same onePast lapBehind lapBehindOnePast strayOf orderOf entryOf stay losing exchangeOf afterTail tailTo emptySlots stamped freshSlots idlers freshWith blank refused accepted inLimits all byRule endsFit placeFits recordFits recordsFit brokenWith ringFits recordAfter begun stored actedBy turnOfBy ran runBy searchBy scheduleBy stepOfBy beginOfBy makeOf has leftByAll takenByAll
 refuted =
     record {
       unchanged = λ r. true≢false (sym (ap unmetered (r .step m₀ 8 0 (λ e. omega (arith, e)))));

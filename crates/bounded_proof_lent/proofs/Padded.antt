@@ -36,13 +36,13 @@ use Rattle.bounded_machine.specs.Run.{ran, runAt, runOf}
 use Rattle.bounded_acts.specs.Acts.{actOf}
 use Rattle.bounded_machine.proofs.Kept.{every, all-of, UnbrokenWith, unbroken-of, of-unbroken}
 use Rattle.bounded_parts.specs.declared.Metered.{Metered}
-use Rattle.bounded_parts.specs.Parts.{recordsMost, makeRefusal, meteredOf, capacityTold, filled}
+use Rattle.bounded_parts.specs.Parts.{recordsMost, makeRefusalWith, makeRefusal, meteredOf, capacityTold, filled, contentsBy}
 use Rattle.bounded_steps.specs.Steps.{stepOfBy}
 use Rattle.bounded.specs.Bounded.{makeOf, stepOf}
-use Rattle.bounded_lent.specs.Lent.{held, brokenLent, Lent, lent, lentOf, turnLent, stepLent, Gone, goneOf, runLent, makeLent, capacityLent, contentsRefusalLent, contentsLent}
+use Rattle.bounded_lent.specs.Lent.{held, brokenLent, Lent, lent, lentOf, turnLent, stepLent, Gone, goneOf, runLent, makeLent, capacityLent, contentsLent}
 use Rattle.bounded_lent.proofs.Turning.{unbroken-lent, lent-unbroken}
 use Rattle.bounded_lent.proofs.Running.{Whole, turned-whole}
-use Rattle.bounded_lent.proofs.Listing.{idle-fits, count-of-ring, contents-of-ring}
+use Rattle.bounded_lent.proofs.Listing.{idle-fits}
 use Rattle.bounded_demands.specs.Lending.{item11, holding, holds-did, holds-ran}
 use Rattle.bounded_demands.specs.Demands.{AsHeld, SixtyFourRecords}
 use Rattle.bounded_demands.proofs.Refusals.{ring-queue}
@@ -231,9 +231,9 @@ module _ (l : Metered) (ys : List Worker) (few : length ys ≤ workersMost) wher
   capacity-held = ap (λ (b : Bool). told (cond b 6 0) (l .ring .fixed .capacity)) broken-held
 
   contents-held : (buffer : List ℕ) → contentsLent l ys buffer ≡ filled (told (contentsRefusal (holding l ys) (length buffer)) (countIn (holding l ys))) (written (holding l ys) buffer)
-  unfolding contentsLent contentsRefusalLent contentsRefusal written
+  unfolding contentsLent contentsBy contentsRefusal written
   contents-held buffer =
-      rw (broken-held, idle-padded ys (workersMost - length ys), count-of-ring (holding l ys) (held l ys) refl, contents-of-ring (holding l ys) (held l ys) refl) refl
+      (λ i. contentsBy (broken-held i) (sym (idle-padded ys (workersMost - length ys)) i) (l .ring) buffer)
 
 -- ---- making
 limit-same : (n a b : ℕ) → n ≤ a → n ≤ b → inLimits n a ≡ inLimits n b
@@ -255,7 +255,7 @@ module _ (ys : List Worker) (capacity edition : ℕ) (few : length ys ≤ worker
   did-by x y z = cond x (cond y (cond z (accepted (freshOf capacity n edition)) (refused 18 blank)) (refused 2 blank)) (refused 1 blank)
 
   by-tests : (P : Lent → Did → Type 0) → ((x y z : Bool) → P (lent-by (code x y z)) (did-by x y z)) → P (makeLent ys capacity edition) (makeOf capacity n edition)
-  unfolding makeLent makeRefusal makeOf
+  unfolding makeLent makeRefusalWith makeOf
   by-tests P p =
       subst (λ (y : Bool). P (lent-by (code (inLimits capacity slotsMost) (inLimits n recordsMost) (inLimits edition editionsMost))) (did-by (inLimits capacity slotsMost) y (inLimits edition editionsMost)))
       (limit-same n recordsMost workersMost (omega arith) few)
@@ -333,5 +333,5 @@ with-count : (n number : ℕ) → makeRefusal n 1 1 ≡ number → (ys : List Wo
 with-count n number h ys e = answer-is ys 1 1 ∙ ap (λ (k : ℕ). makeRefusal k 1 1) e ∙ h
 
 pub sixty-four-records : SixtyFourRecords item11
-unfolding makeRefusal inLimits
+unfolding makeRefusalWith inLimits
 sixty-four-records = record { none = with-count 0 2 refl; one = with-count 1 0 refl; most = with-count 64 0 refl; more = with-count 65 2 refl }

@@ -22,14 +22,14 @@ use Rattle.bounded_machine.specs.declared.Did.{Did}
 use Rattle.bounded_machine.specs.declared.Ran.{Ran}
 use Rattle.bounded_machine.specs.Machine.{freshWith, blank, accepted}
 use Rattle.bounded_machine.specs.Broken.{allIdle}
-use Rattle.bounded_machine.specs.Contents.{countIn, contentsOf}
+use Rattle.bounded_machine.specs.Contents.{countOn, contentsOf, contentsRefusalBy}
 use Rattle.bounded_machine.specs.Turn.{turnOf}
 use Rattle.bounded_machine.specs.Run.{ran, runAt}
 use Rattle.bounded_machine.proofs.Kept.{either, UnbrokenWith}
 use Rattle.bounded_machine.proofs.Turns.{turn-of-unbroken}
 use Rattle.bounded_parts.specs.declared.Metered.{Metered}
-use Rattle.bounded_parts.specs.Parts.{recordsMost, makeRefusal, meteredOf, report, capacityTold}
-use Rattle.bounded_lent.specs.Lent.{held, brokenLent, Lent, lent, lentOf, turnLent, stepLent, Gone, gone, goneOf, runLent, makeLent, contentsRefusalLent, contentsLent}
+use Rattle.bounded_parts.specs.Parts.{recordsMost, makeRefusalWith, makeRefusal, meteredOf, report, capacityTold, contentsBy}
+use Rattle.bounded_lent.specs.Lent.{held, brokenLent, Lent, lent, lentOf, turnLent, stepLent, Gone, gone, goneOf, runLent, makeLent, contentsLent}
 use Rattle.bounded_lent.proofs.Turning.{unbroken-lent, few-lent}
 use Rattle.bounded_lent.proofs.Running.{Whole, turned-whole, held-again}
 use Rattle.bounded_demands.specs.Notions.{has}
@@ -75,10 +75,10 @@ module _ (l : Metered) (ys : List Worker) where
   run-unread s h = same-parts (ranLent s .machine) (schedule-unread (ring-queue SixtyFour) by-lender (held l ys) s h)
 
   contents-kept : (buffer : List ℕ) → (refusalOf (contentsLent l ys buffer .answer) ≡ 0 → ⊥) → contentsLent l ys buffer .buffer ≡ buffer
-  unfolding contentsLent
+  unfolding contentsLent contentsBy
   contents-kept buffer h =
-      let r = contentsRefusalLent l ys (length buffer) in
-      let none : eqb r 0 ≡ false = ne-eqb r 0 (λ z. h (told-back r (countIn (held l ys)) ∙ z)) in
+      let r = contentsRefusalBy (brokenLent l ys) (allIdle ys) (countOn (l .ring)) (length buffer) in
+      let none : eqb r 0 ≡ false = ne-eqb r 0 (λ z. h (told-back r (countOn (l .ring)) ∙ z)) in
       rw none refl
 
   -- ---- numbered
@@ -96,10 +96,10 @@ module _ (l : Metered) (ys : List Worker) where
   Listed k = has (0 ∷ 4 ∷ 6 ∷ 10 ∷ []) k ≡ true
 
   contents-among : (buffer : List ℕ) → Listed (refusalOf (contentsLent l ys buffer .answer))
-  unfolding contentsLent contentsRefusalLent has
+  unfolding contentsLent contentsBy has
   contents-among buffer =
-      rw (told-back (contentsRefusalLent l ys (length buffer)) (countIn (held l ys)))
-      (picked Listed (brokenLent l ys) 6 _ refl (picked Listed (allIdle ys) _ 4 (picked Listed (ltb (length buffer) (countIn (held l ys))) 10 0 refl refl) refl))
+      rw (told-back (contentsRefusalBy (brokenLent l ys) (allIdle ys) (countOn (l .ring)) (length buffer)) (countOn (l .ring)))
+      (picked Listed (brokenLent l ys) 6 _ refl (picked Listed (allIdle ys) _ 4 (picked Listed (ltb (length buffer) (countOn (l .ring))) 10 0 refl refl) refl))
 
   capacity-among : has (0 ∷ 6 ∷ []) (refusalOf (capacityTold (brokenLent l ys) (l .ring .fixed))) ≡ true
   unfolding capacityTold has
@@ -116,7 +116,7 @@ module _ (l : Metered) (ys : List Worker) where
       (schedule-keeps (ring-queue SixtyFour) by-lender (UnbrokenWith (length ys)) (λ m a b u. turn-of-unbroken SixtyFour m u a b) (held l ys) s (unbroken-lent l ys sound))
 
 make-among : (ys : List Worker) (capacity edition : ℕ) → has (0 ∷ 1 ∷ 2 ∷ 18 ∷ []) (makeLent ys capacity edition .answer) ≡ true
-unfolding makeRefusal has
+unfolding makeRefusalWith has
 make-among ys capacity edition =
     rw (answer-is ys capacity edition)
     (picked Made (inLimits capacity slotsMost) _ 1 (picked Made (inLimits (length ys) recordsMost) _ 2 (picked Made (inLimits edition editionsMost) 0 18 refl refl) refl) refl)

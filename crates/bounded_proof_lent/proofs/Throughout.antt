@@ -24,7 +24,7 @@ use Rattle.bounded_machine.specs.History.{eventsOf, historyAt}
 use Rattle.bounded_machine.proofs.Kept.{either, UnbrokenWith}
 use Rattle.bounded_machine.proofs.Turns.{turn-of-unbroken}
 use Rattle.bounded_parts.specs.declared.Metered.{Metered}
-use Rattle.bounded_parts.specs.Parts.{recordsMost, makeRefusal, meteredOf}
+use Rattle.bounded_parts.specs.Parts.{recordsMost, makeRefusalWith, makeRefusal, meteredOf}
 use Rattle.bounded_lent.specs.Lent.{held, brokenLent, Lent, lent, lentOf, turnLent, stepLent, makeLent}
 use Rattle.bounded_lent.proofs.Turning.{unbroken-lent, few-lent, lent-unbroken, step-turned}
 use Rattle.bounded_lent.proofs.Running.{Whole, turned-whole, held-again, unchanged}
@@ -143,7 +143,7 @@ module _ (ys : List Worker) (capacity edition : ℕ) (made : makeLent ys capacit
       go false h = ap (λ (b : Bool). cond b (lentOf (accepted (freshWith n capacity n edition))) (lent (makeRefusal n capacity edition) (meteredOf blank) ys) .answer) (sym h) ∙ made
 
   passed : Passed
-  unfolding makeRefusal
+  unfolding makeRefusalWith
   passed = go (inLimits capacity slotsMost) refl (inLimits n recordsMost) refl (inLimits edition editionsMost) refl zero-refusal
     where
       go : (a : Bool) → inLimits capacity slotsMost ≡ a → (b : Bool) → inLimits n recordsMost ≡ b → (c : Bool) → inLimits edition editionsMost ≡ c → _≡_ {A = ℕ} (cond a (cond b (cond c 0 18) 2) 1) 0 → Passed

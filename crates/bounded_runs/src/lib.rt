@@ -12,7 +12,6 @@ use bounded_places::Worker;
 use bounded_words::Fixed;
 use bounded_words::Width;
 use queue_entries::Entry;
-use queue_entries::Finding;
 use queue_entries::Verdict;
 
 fn ran(
@@ -54,19 +53,20 @@ pub fn run(bits: Width, m: Machine, schedule: &[u64]) -> Ran
     let mut workers = m.workers;
     let count = m.count;
     let mut meter = m.meter;
-    if bounded_machine::broken(m) {
-        return ran(6, 0, f, ends, slots, workers, count, meter);
+    let whole = bounded_parts::judged(bounded_machine::broken(m), schedule);
+    if whole.refusal != 0 {
+        return ran(
+            whole.refusal,
+            whole.place as usize,
+            f,
+            ends,
+            slots,
+            workers,
+            count,
+            meter,
+        );
     }
-    if schedule.len() % 2 == 1 {
-        return ran(11, 0, f, ends, slots, workers, count, meter);
-    }
-    match queue_entries::search(schedule) {
-        Finding::UnreadableAt(place) => {
-            return ran(9, place, f, ends, slots, workers, count, meter);
-        }
-        Finding::AllRead => {}
-    }
-    let n = schedule.len() / 2;
+    let n = whole.place as usize;
     let mut i = 0;
     while i < n {
         let Entry::Asks(worker, order) = queue_entries::entry_of(

@@ -21,7 +21,7 @@ use Rattle.bounded_places.specs.Places.{viewOf, fitsOf}
 use Rattle.bounded_machine.specs.Broken.{placeFits, recordFits}
 use Rattle.bounded_codes.specs.Codes.{placeIn, standsFor}
 use Rattle.bounded_codes.proofs.Ranges.{busy-is}
-use Rattle.bounded_parts.specs.Parts.{ringFits}
+use Rattle.bounded_parts.specs.Parts.{ringFitsLent}
 use Rattle.bounded_lent.specs.Lent.{eachFits, brokenLent}
 use Rattle.bounded_lent.proofs.Turning.{ring-broken, records-broken, ring-fair}
 use Rattle.bounded_rows.specs.Rows.{words, layout, fixedIn, endsIn, recordAt, placedAt, recordsIn, meteredIn, shaped, placed, stand}
@@ -179,9 +179,9 @@ module _ (h ss rs : List ℕ) (s : Bool) (es : s ≡ shaped (words h ss rs)) whe
     unfolding brokenWords stand
     no-layout ne = rw (sym es ∙ hs, ne-eqb (getD h 7 0) layout ne) refl
 
-    module _ (laid : getD h 7 0 ≡ layout) (f : Fixed) (ef : f ≡ fixedIn h) (e : Ends) (ee : e ≡ endsIn h) (b : Bool) (eb : b ≡ ringFits f e (length rs / 5)) where
-      asked : b ≡ ringFits (fixedIn h) (endsIn h) (length (recordsIn rs))
-      asked = eb ∙ (λ i. ringFits (ef i) (ee i) (sym (many rs) i))
+    module _ (laid : getD h 7 0 ≡ layout) (f : Fixed) (ef : f ≡ fixedIn h) (e : Ends) (ee : e ≡ endsIn h) (b : Bool) (eb : b ≡ ringFitsLent f e (length rs / 5)) where
+      asked : b ≡ ringFitsLent (fixedIn h) (endsIn h) (length (recordsIn rs))
+      asked = eb ∙ (λ i. ringFitsLent (ef i) (ee i) (sym (many rs) i))
 
       stands : stand (words h ss rs) ≡ placed rs
       unfolding stand

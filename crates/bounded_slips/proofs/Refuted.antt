@@ -23,8 +23,8 @@ use Rattle.bounded_machine.specs.declared.Machine.{Machine}
 use Rattle.bounded_machine.specs.declared.Moved.the-variants.{Neither, Tail, Head}
 use Rattle.bounded_machine.specs.declared.Ran.{Ran}
 use Rattle.bounded_machine.specs.Machine.{emptySlots, stamped, freshSlots, idlers, freshWith, freshOf, refused, accepted}
-use Rattle.bounded_machine.specs.Broken.{byRule, endsFit, placeFits, recordFits, recordsFit, brokenWith, allIdle}
-use Rattle.bounded_machine.specs.Contents.{countIn, wrapped, itemAt, itemsFrom, contentsOf}
+use Rattle.bounded_machine.specs.Broken.{byRule, endsFit, placeFits, recordFits, recordsFit, ringFits, brokenWith, allIdle}
+use Rattle.bounded_machine.specs.Contents.{countOn, wrapped, itemOn, itemsOn, listOn}
 use Rattle.bounded_machine.specs.Turn.{recordAfter, begun, stored, actedBy, turnOfBy}
 use Rattle.bounded_machine.specs.Run.{ran}
 use Rattle.bounded_machine.specs.History.{event, tallyOf, stockOf, untakenOf}
@@ -115,7 +115,7 @@ back-free p q o6-o1 = refl
 back-free p q len3-len1 = refl
 
 pub refuted : Refuted
-unfolding attained seenBy sightOf needed othersIdle tellings toldOn toldBy rounds goesBackOf deedOf sinceWith ownAct otherAct othersHold watchedTo watchedOf causesOf namedOf watchesFrom goingsBack forcedTail doubled markOf markedOf unmarkedOf plus minus withMark nextOf same onePast lapBehind lapBehindOnePast inside strayOf orderOf entryOf stay losing exchangeOf afterTail tailTo headTo stampTo valueTo countOf emptySlots stamped freshSlots idlers freshWith refused accepted all inLimits byRule endsFit placeFits recordFits recordsFit brokenWith allIdle countIn wrapped itemAt itemsFrom contentsOf recordAfter begun stored actedBy turnOfBy ran runBy searchBy scheduleBy historyBy tallyOf stockOf untakenOf howMany unreadBy acts itemsOf tailersOf takersOf lostFrom struck passed ownActs nowhere stillBusy busyAlong
+unfolding attained seenBy sightOf needed othersIdle tellings toldOn toldBy rounds goesBackOf deedOf sinceWith ownAct otherAct othersHold watchedTo watchedOf causesOf namedOf watchesFrom goingsBack forcedTail doubled markOf markedOf unmarkedOf plus minus withMark nextOf same onePast lapBehind lapBehindOnePast inside strayOf orderOf entryOf stay losing exchangeOf afterTail tailTo headTo stampTo valueTo countOf emptySlots stamped freshSlots idlers freshWith refused accepted all inLimits byRule endsFit placeFits recordFits recordsFit brokenWith ringFits allIdle countOn wrapped itemOn itemsOn listOn recordAfter begun stored actedBy turnOfBy ran runBy searchBy scheduleBy historyBy tallyOf stockOf untakenOf howMany unreadBy acts itemsOf tailersOf takersOf lostFrom struck passed ownActs nowhere stillBusy busyAlong
 refuted =
     record {
       act-by-act = λ a. true≢false (sym (ap (λ (m : Machine). busyAt m 0) (a (freshOf 1 2 1) [] 0 5 refl refl refl .0)));

@@ -19,7 +19,7 @@ use Rattle.bounded_acts.specs.Acts.{forcedTail, stay, losing, exchangeOf, after
 use Rattle.bounded_machine.specs.declared.Machine.{Machine}
 use Rattle.bounded_machine.specs.declared.Event.{Event}
 use Rattle.bounded_machine.specs.Machine.{slot, machineOf, emptySlots, stamped, freshSlots, idlers, freshWith, refused, accepted}
-use Rattle.bounded_machine.specs.Broken.{byRule, endsFit, placeFits, recordFits, recordsFit, brokenWith}
+use Rattle.bounded_machine.specs.Broken.{byRule, endsFit, placeFits, recordFits, recordsFit, ringFits, brokenWith}
 use Rattle.bounded_machine.specs.Turn.{beginner, recordAfter, begun, stored, actedBy, turnOfBy}
 use Rattle.bounded_machine.specs.Run.{ran}
 use Rattle.bounded_machine.specs.History.{event, tallyOf, stockOf, untakenOf}
@@ -50,7 +50,7 @@ unfolding nearEnd
 short = record { head = omega arith; tail = omega arith; slots = one-short }
 
 pub refuted-counts : RefutedCounts
-unfolding read taken nearEnd forcedTail doubled markOf markedOf unmarkedOf plus minus withMark nextOf same onePast lapBehind lapBehindOnePast inside strayOf orderOf entryOf stay losing exchangeOf afterTail tailTo headTo stampTo valueTo emptySlots stamped freshSlots idlers freshWith refused accepted all inLimits byRule endsFit placeFits recordFits recordsFit brokenWith recordAfter begun stored actedBy turnOfBy ran runBy historyBy tallyOf stockOf untakenOf acts talliedFrom readsIn takersOf lostFrom cutTo pushes forces
+unfolding read taken nearEnd forcedTail doubled markOf markedOf unmarkedOf plus minus withMark nextOf same onePast lapBehind lapBehindOnePast inside strayOf orderOf entryOf stay losing exchangeOf afterTail tailTo headTo stampTo valueTo emptySlots stamped freshSlots idlers freshWith refused accepted all inLimits byRule endsFit placeFits recordFits recordsFit brokenWith ringFits recordAfter begun stored actedBy turnOfBy ran runBy historyBy tallyOf stockOf untakenOf acts talliedFrom readsIn takersOf lostFrom cutTo pushes forces
 refuted-counts =
     record {
       reads = λ t. let q : _≡_ {A = ℕ} 0 1 = t .reads read (omega arith) in omega arith;

@@ -41,7 +41,7 @@ use denote.Exit.{yes}
 use base.Logic.{via}
 use Rattle.bounded_words.specs.Words.{Fair}
 use Rattle.bounded_places.specs.declared.Worker.{Worker}
-use Rattle.bounded_parts.specs.Parts.{ringFits}
+use Rattle.bounded_parts.specs.Parts.{ringFitsLent}
 use Rattle.bounded_parts.specs.declared.Metered.{Metered}
 use Rattle.bounded_lent.specs.Lent.{eachFits, brokenLent}
 use Rattle.bounded_lent.proofs.Holes.{inside, known-in, part-look, part-is, look-by, knows, looks-part, shuts-part}
@@ -143,7 +143,7 @@ module _ {M : Type 1} (𝓤 : URA M) (H : Heap 𝓤) (A : Atoms 𝓤) (W : Given
         assigns ! (of-opd ! (load ! (from ! (fld ! refl (stop !))) (look-in ! 18 (sub ! 1 refl (whole !))))) (from ! (stop !)) (init ! 10 refl (tt, record { fits = room .0 })) $
         calls-value ! fm ring-fits.ended (ring-fits.clauses 𝓤 H A at-mem run) known-ring (tt, tt, tt, (h .ring .fixed, (h .ring .ends, (n, tt))), (fixed-known .val (h .ring .fixed) ∷ [], (ends-known .val (h .ring .ends) ∷ [], (vint w64 n ∷ [], tt)))) tt
         (asks 𝓤 (owns-make 𝓤 H A (F.the-row ∷ E.the-row ∷ usize ∷ []) (Ises (F.the-row ∷ E.the-row ∷ usize ∷ [])) (fixed-known .makes 𝓤 H A W, (ends-known .makes 𝓤 H A W, (uint-makes 𝓤 H A W w64, tt))) (h .ring .fixed, (h .ring .ends, (n, tt))) _ (gf, (ge, ((refl, room .0), tt)))))
-        bool-known (λ r. r ≡ ringFits (h .ring .fixed) (h .ring .ends) n) (λ r e. refl) (and-then ! (load ! (from ! (stop !)) (look ! 16 refl)) (and-then ! (load ! (from ! (stop !)) (look ! 12 refl)) (and-then ! (load ! (from ! (stop !)) (look ! 10 refl)) (no-more !)))) (λ t et gt.
+        bool-known (λ r. r ≡ ringFitsLent (h .ring .fixed) (h .ring .ends) n) (λ r e. refl) (and-then ! (load ! (from ! (stop !)) (look ! 16 refl)) (and-then ! (load ! (from ! (stop !)) (look ! 12 refl)) (and-then ! (load ! (from ! (stop !)) (look ! 10 refl)) (no-more !)))) (λ t et gt.
         land ! (from ! (stop !)) (init ! 14 refl (tt, tt)) $
         first ! $ branches ! (load ! (from ! (stop !)) (look ! 14 refl))
         (λ good. skips ! $ exec ! C Λ ((tyBool, l₀) ∷ (τR, l₁) ∷ (τS, l₂) ∷ (lone (F.the-row .mir), l₃) ∷ (tyBool, l₄) ∷ (lone (E.the-row .mir), l₅) ∷ (tyInt w64, l₆) ∷ (tyBool, l₇) ∷ (tyInt w64, l₈) ∷ []) m.t-6 (atRet ((tyBool, l₀) ∷ (τR, l₁) ∷ (τS, l₂) ∷ (lone (F.the-row .mir), l₃) ∷ (tyBool, l₄) ∷ (lone (E.the-row .mir), l₅) ∷ (tyInt w64, l₆) ∷ (tyBool, l₇) ∷ (tyInt w64, l₈) ∷ []) Post) $

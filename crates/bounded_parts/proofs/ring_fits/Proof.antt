@@ -1,66 +1,27 @@
 use borrow.Author.Needs.{needs}
-use Rattle.queue_entries.proofs.Limits.{limit-most}
-use Rattle.bounded_machine.proofs.Laws.{fair-of}
-use Rattle.bounded_parts.proofs.Fitting.{no-edition, no-capacity, no-count, no-rule, by-ends}
+use Rattle.bounded_parts.proofs.Fitting.{no-count, by-ring}
 use Rattle.bounded_parts.proofs.ring_fits.Statement.{statement}
 use Rattle.bounded_parts.proofs.ring_fits.Tie as tie
 use Rattle.bounded_parts.proofs.ring_fits.Reads as reads
 use Rattle.bounded_parts.proofs.ring_fits.Lts as lts
-use Rattle.bounded_machine.proofs.by_rule.Reads as by-rule-reads
-use Rattle.bounded_machine.proofs.ends_fit.Reads as ends-fit-reads
+use Rattle.bounded_machine.proofs.ring_fits.Reads as machine-ring-fits-reads
 use Rattle.queue_entries.proofs.in_limits.Reads as in-limits-reads
 
--- src/lib.rt:31:8
+-- src/lib.rt:43:8
 in-limits-requires : tie.Need-in-limits-requires
 in-limits-requires c κs = search needs
 
--- src/lib.rt:32:9
+-- src/lib.rt:44:9
 returns : tie.Need-returns
-returns c = search (needs, no-edition)
+returns c = search (needs, no-count)
 
--- src/lib.rt:34:8
-in-limits-requires-2 : tie.Need-in-limits-requires-2
-in-limits-requires-2 c κs = search needs
+-- src/lib.rt:46:5
+ring-fits-requires : tie.Need-ring-fits-requires
+ring-fits-requires c κs = search needs
 
--- src/lib.rt:35:9
+-- src/lib.rt:40:1
 returns-2 : tie.Need-returns-2
-returns-2 c = search (needs, no-capacity)
-
--- src/lib.rt:37:8
-in-limits-requires-3 : tie.Need-in-limits-requires-3
-in-limits-requires-3 c κs = search needs
-
--- src/lib.rt:38:9
-returns-3 : tie.Need-returns-3
-returns-3 c = search (needs, no-count)
-
--- src/lib.rt:40:8
-by-rule-requires : tie.Need-by-rule-requires
-by-rule-requires c κs = search (needs, limit-most)
-
--- src/lib.rt:41:9
-returns-4 : tie.Need-returns-4
-returns-4 c = search (needs, no-rule)
-
--- src/lib.rt:43:5
-ends-fit-requires : tie.Need-ends-fit-requires
-ends-fit-requires c κs = search (needs, fair-of)
-
--- src/lib.rt:28:1
-returns-5 : tie.Need-returns-5
-returns-5 c = search (needs, by-ends)
+returns-2 c = search (needs, by-ring)
 
 pub ring-fits-spec : {M : Type 1} → statement M
-ring-fits-spec =
-    tie.close
-    (tie.spec
-    in-limits-requires
-    returns
-    in-limits-requires-2
-    returns-2
-    in-limits-requires-3
-    returns-3
-    by-rule-requires
-    returns-4
-    ends-fit-requires
-    returns-5)
+ring-fits-spec = tie.close (tie.spec in-limits-requires returns ring-fits-requires returns-2)
