@@ -9,16 +9,16 @@ use denote.Ref.{RefT}
 use Rattle.queue_entries.specs.declared.Told.{Told}
 use Rattle.bounded_places.specs.declared.Loss.{Loss}
 use Rattle.bounded_places.specs.declared.Place.{Place}
+use Rattle.bounded_places.specs.declared.Moved.{Moved}
+use Rattle.bounded_places.specs.declared.Stand.{Stand}
 use Rattle.bounded_machine.specs.declared.Machine.{Machine}
 use Rattle.bounded_machine.specs.declared.Did.{Did}
 use Rattle.bounded_machine.specs.declared.Ran.{Ran}
-use Rattle.bounded_machine.specs.declared.Moved.{Moved}
 use Rattle.bounded_machine.specs.declared.Tally.{Tally}
 use Rattle.bounded_widths.specs.declared.Machine as widths
 use Rattle.bounded_widths.specs.declared.Did as widths-did
 use Rattle.bounded_widths.specs.declared.Ran as widths-ran
 use Rattle.bounded_walks.specs.declared.Sized.{Sized}
-use Rattle.bounded_causes.specs.declared.Stand.{Stand}
 use Rattle.bounded_causes.specs.declared.Watches.{Watches}
 use Rattle.bounded_causes.specs.declared.Named.{Named}
 use Rattle.bounded_moments.specs.declared.Moments.{Moments}
