@@ -290,7 +290,8 @@ pub fn name_causes(ws: Watches, w: u64, before: Place, after: Place, loss: Loss)
     let stands = bounded_places::view_of(after);
     let s = stood.stand;
     let t = stands.stand;
-    let d = deed_of(s, t, stands.moved);
+    let moved = stands.moved;
+    let d = deed_of(s, t, moved);
     let xs = ws.each;
     let ys = watch_all(xs, w, d);
     let x = watch_of(xs, w);

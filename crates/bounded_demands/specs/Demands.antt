@@ -272,6 +272,7 @@ pub record OnlyOneCount : Type 0 where
   pub kept : (x y : Watches) → x ≡ causes.start → y ≡ causes.start → x ≡ y
   pub named : (ws : Watches) (w : ℕ) (p q : Place) (l : Loss) (x y : Named) → x ≡ namedOf ws w p q l → y ≡ namedOf ws w p q l → x ≡ y
   pub stands : (p : Place) (x y : Stand) → x ≡ causes.standOf p → y ≡ causes.standOf p → x ≡ y
+  pub goes-back : (s t : Stand) (x y : Bool) → x ≡ causes.goesBackOf s t → y ≡ causes.goesBackOf s t → x ≡ y
   pub at-tail : (m : Moved) (x y : Bool) → x ≡ causes.claimsTail m → y ≡ causes.claimsTail m → x ≡ y
   pub at-head : (m : Moved) (x y : Bool) → x ≡ causes.claimsHead m → y ≡ causes.claimsHead m → x ≡ y
   pub moments-kept : (capacity : ℕ) (x y : Moments) → x ≡ moments.start capacity → y ≡ moments.start capacity → x ≡ y

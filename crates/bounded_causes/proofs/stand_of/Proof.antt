@@ -11,7 +11,7 @@ view-of-requires : tie.Need-view-of-requires
 view-of-requires c κs = search needs
 
 returns : tie.Need-returns
-returns c = ap (λ (v : View). v .stand) (c .view-of .ensures)
+returns c = ap (λ (v : View). v .stand) (c .before .view-of .ensures)
 
 pub stand-of-spec : {M : Type 1} → statement M
 stand-of-spec = tie.close (tie.spec view-of-requires returns)
