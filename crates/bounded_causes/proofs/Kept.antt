@@ -10,18 +10,16 @@ use lib.ListN.{set}
 use Rattle.queue_entries.proofs.Pick.{along}
 use Rattle.bounded_places.specs.declared.Loss.{Loss}
 use Rattle.bounded_places.specs.declared.Place.{Place}
-use Rattle.bounded_machine.specs.declared.Moved.{Moved}
-use Rattle.bounded_machine.specs.History.{movedOf}
-use Rattle.bounded_causes.specs.declared.Stand.{Stand}
+use Rattle.bounded_places.specs.declared.Moved.{Moved}
+use Rattle.bounded_places.specs.declared.Stand.{Stand}
+use Rattle.bounded_places.specs.declared.View.{View}
+use Rattle.bounded_places.specs.Places.{viewOf}
 use Rattle.bounded_causes.specs.declared.Deed.{Deed}
 use Rattle.bounded_causes.specs.declared.Since.{Since}
 use Rattle.bounded_causes.specs.declared.Watch.{Watch}
 use Rattle.bounded_causes.specs.declared.Watches.{Watches}
 use Rattle.bounded_causes.specs.declared.Causes.{Causes}
-use Rattle.bounded_causes.specs.Causes.{watchedMost, standOf, goesBackOf, claimsTail, claimsHead, deedOf, untouched, sinceWith, ownAct, otherAct, watchWith, watchOf, othersHold, watchedTo, watchedOf, ownIn, otherIn, scheduled, causesOf, namedOf}
-
-pub along-stand : (p q : Place) (r : Stand) → p ≡ q → r ≡ standOf q → r ≡ standOf p
-along-stand = along standOf
+use Rattle.bounded_causes.specs.Causes.{watchedMost, goesBackOf, claimsTail, claimsHead, deedOf, untouched, sinceWith, ownAct, otherAct, watchWith, watchOf, othersHold, watchedTo, watchedOf, ownIn, otherIn, scheduled, causesOf, namedOf}
 
 pub along-own : (s : Since) (p q : Moved) (r : Bool) → p ≡ q → r ≡ ownIn q s → r ≡ ownIn p s
 along-own s = along (λ (m : Moved). ownIn m s)
@@ -68,8 +66,8 @@ watched-all n w others d xs now l g e f =
     f ∙ rw (q, e)
 
 -- The answer put together.
-pub named-is : (ws : Watches) (w : ℕ) (p q : Place) (l : Loss) (s t : Stand) (m : Moved) (d : Deed) (ys : List Watch) (x y : Watch) (c : Causes) (b : Bool)
-    → s ≡ standOf p → t ≡ standOf q → m ≡ movedOf q → d ≡ deedOf s t m → ys ≡ watchedOf w d (ws .each) → x ≡ watchOf (ws .each) w → y ≡ watchOf ys w
-    → c ≡ causesOf s x y l → b ≡ goesBackOf s t → record { watches = record { each = ys }; back = b; causes = c } ≡ namedOf ws w p q l
+pub named-is : (ws : Watches) (w : ℕ) (p q : Place) (l : Loss) (v u : View) (d : Deed) (ys : List Watch) (x y : Watch) (c : Causes) (b : Bool)
+    → v ≡ viewOf p → u ≡ viewOf q → d ≡ deedOf (v .stand) (u .stand) (u .moved) → ys ≡ watchedOf w d (ws .each) → x ≡ watchOf (ws .each) w → y ≡ watchOf ys w
+    → c ≡ causesOf (v .stand) x y l → b ≡ goesBackOf (v .stand) (u .stand) → record { watches = record { each = ys }; back = b; causes = c } ≡ namedOf ws w p q l
 unfolding namedOf
-named-is ws w p q l s t m d ys x y c b es et em ed eys ex ey ec eb = rw (ec, ex, ey, eys, ed, eb, es, et, em)
+named-is ws w p q l v u d ys x y c b ev eu ed eys ex ey ec eb = rw (ec, ex, ey, eys, ed, eb, ev, eu)

@@ -5,17 +5,15 @@ use mathlib.Core.List.{List}
 use lib.Dec.{ltb, eqb}
 use lib.ListN.{set, getD, replicate}
 use Rattle.queue_entries.specs.Limits.{all}
-use Rattle.bounded_places.specs.declared.Answer.{Answer}
-use Rattle.bounded_places.specs.declared.Answer.the-variants.{Nothing, Pushed, Full, Closed, Displaced, Popped, Empty, PopClosed, Len, Yes, No}
 use Rattle.bounded_places.specs.declared.Loss.{Loss}
 use Rattle.bounded_places.specs.declared.Loss.the-variants as loss
 use Rattle.bounded_places.specs.declared.Loss.the-variants.{ByWords, BySchedule}
 use Rattle.bounded_places.specs.declared.Place.{Place}
-use Rattle.bounded_places.specs.declared.Place.the-variants.{Idle, P1, P2, P3, P4, P5, P6, F6, F7, F8, F9, O1, O2, O3, O4, O5, O6, Len1, Len2, Len3, Empty1, Empty2, Full1, Full2, Close1, IsClosed1}
-use Rattle.bounded_machine.specs.declared.Moved.{Moved}
-use Rattle.bounded_machine.specs.declared.Moved.the-variants.{Neither, Tail, Head}
+use Rattle.bounded_places.specs.declared.Moved.{Moved}
+use Rattle.bounded_places.specs.declared.Moved.the-variants.{Neither, Tail, Head}
+use Rattle.bounded_places.specs.declared.Stand.{Stand}
+use Rattle.bounded_places.specs.Places.{viewOf}
 use Rattle.bounded_machine.specs.History.{movedOf}
-use Rattle.bounded_causes.specs.declared.Stand.{Stand}
 use Rattle.bounded_causes.specs.declared.Deed.{Deed}
 use Rattle.bounded_causes.specs.declared.Since.{Since}
 use Rattle.bounded_causes.specs.declared.Watch.{Watch}
@@ -25,62 +23,8 @@ use Rattle.bounded_causes.specs.declared.Named.{Named}
 
 -- ---- places
 
-abbrev pub saysYes : Answer → Bool
-saysYes Nothing = false
-saysYes Pushed = false
-saysYes (Full x) = false
-saysYes (Closed x) = false
-saysYes (Displaced v) = false
-saysYes (Popped v) = false
-saysYes Empty = false
-saysYes PopClosed = false
-saysYes (Len k) = false
-saysYes Yes = true
-saysYes No = false
-
-abbrev pub idle : Answer → Stand
-idle a = record { end = Neither; stamps = false; far = 0; hand = false; close = false; yes = saysYes a }
-
--- In a call that may go back, with its own end; len loads no stamp.
-abbrev pub works : Moved → Bool → ℕ → Stand
-works end stamps far = record { end = end; stamps = stamps; far = far; hand = false; close = false; yes = false }
-
--- With a slot in hand.
-abbrev pub holds : Moved → ℕ → Stand
-holds end far = record { end = end; stamps = true; far = far; hand = true; close = false; yes = false }
-
--- In a call that never goes back; close's act sets the mark.
-abbrev pub looks : Bool → ℕ → Stand
-looks close far = record { end = Neither; stamps = false; far = far; hand = false; close = close; yes = false }
-
--- "its own end (tail for push, force_push and len, head for pop)"
 abbrev pub standOf : Place → Stand
-standOf (Idle a) = idle a
-standOf (P1 k x) = works Tail true 1
-standOf (P2 k t x) = works Tail true 2
-standOf (P3 k t x) = works Tail true 3
-standOf (P4 t x) = holds Tail 4
-standOf (P5 t) = holds Tail 5
-standOf (P6 t x) = works Tail true 3
-standOf (F6 t x) = works Tail true 3
-standOf (F7 t x) = holds Tail 4
-standOf (F8 t x) = holds Tail 5
-standOf (F9 t old) = holds Tail 6
-standOf O1 = works Head true 1
-standOf (O2 h) = works Head true 2
-standOf (O3 h) = works Head true 3
-standOf (O4 h) = holds Head 4
-standOf (O5 h v) = holds Head 5
-standOf (O6 h) = works Head true 3
-standOf Len1 = works Tail false 1
-standOf (Len2 t) = works Tail false 2
-standOf (Len3 t h) = works Tail false 3
-standOf Empty1 = looks false 1
-standOf (Empty2 h) = looks false 2
-standOf Full1 = looks false 1
-standOf (Full2 t) = looks false 2
-standOf Close1 = looks true 1
-standOf IsClosed1 = looks false 1
+standOf p = viewOf p .stand
 
 -- An act that leads from the one to the other goes back to an earlier place of its call.
 unfoldable pub goesBackOf : Stand → Stand → Bool

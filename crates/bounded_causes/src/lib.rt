@@ -1,30 +1,14 @@
 // Why a call goes back to an earlier place, kept along a run: document 02's item 9.
 ghost use mathlib.Core.Path.{_≡_};
 ghost use mathlib.Core.Bool.{true, false, cond};
-ghost use Rattle.bounded_causes.specs.Causes.{saysYes, idle, works, holds, looks, standOf, goesBackOf, claimsTail, claimsHead, deedOf, untouched, sinceWith, ownAct, otherAct, watchWith, start, watchOf, othersHold, watchedOf, ownIn, otherIn, scheduled, causesOf, namedOf};
-use bounded_machine::Moved;
-use bounded_places::Answer;
+ghost use Rattle.bounded_causes.specs.Causes.{standOf, goesBackOf, claimsTail, claimsHead, deedOf, untouched, sinceWith, ownAct, otherAct, watchWith, start, watchOf, othersHold, watchedOf, ownIn, otherIn, scheduled, causesOf, namedOf};
 use bounded_places::Loss;
+use bounded_places::Moved;
 use bounded_places::Place;
+use bounded_places::Stand;
 
 // So many workers are watched: as many as can be lent (document 02, item 11).
 pub const WATCHED: usize = 64;
-
-// What going back asks of a place.
-pub struct Stand {
-    // the call's own end
-    pub end: Moved,
-    // the call loads stamps
-    pub stamps: bool,
-    // how far the call is; 0 is idle
-    pub far: u64,
-    // a slot is in hand
-    pub hand: bool,
-    // close's act is next
-    pub close: bool,
-    // idle, having answered yes
-    pub yes: bool,
-}
 
 // What an act did.
 pub struct Deed {
@@ -76,110 +60,15 @@ pub struct Named {
     pub causes: Causes,
 }
 
-fn says_yes(a: Answer) -> bool
-    ensures { λ r. ⌜ r ≡ saysYes a ⌝ }
-{
-    match a {
-        Answer::Nothing => false,
-        Answer::Pushed => false,
-        Answer::Full(_) => false,
-        Answer::Closed(_) => false,
-        Answer::Displaced(_) => false,
-        Answer::Popped(_) => false,
-        Answer::Empty => false,
-        Answer::PopClosed => false,
-        Answer::Len(_) => false,
-        Answer::Yes => true,
-        Answer::No => false,
-    }
-}
-
-fn idle(a: Answer) -> Stand
-    ensures { λ r. ⌜ r ≡ idle a ⌝ }
-{
-    Stand {
-        end: Moved::Neither,
-        stamps: false,
-        far: 0,
-        hand: false,
-        close: false,
-        yes: says_yes(a),
-    }
-}
-
-fn works(end: Moved, stamps: bool, far: u64) -> Stand
-    ensures { λ r. ⌜ r ≡ works end stamps far ⌝ }
-{
-    Stand {
-        end: end,
-        stamps: stamps,
-        far: far,
-        hand: false,
-        close: false,
-        yes: false,
-    }
-}
-
-fn holds(end: Moved, far: u64) -> Stand
-    ensures { λ r. ⌜ r ≡ holds end far ⌝ }
-{
-    Stand {
-        end: end,
-        stamps: true,
-        far: far,
-        hand: true,
-        close: false,
-        yes: false,
-    }
-}
-
-fn looks(close: bool, far: u64) -> Stand
-    ensures { λ r. ⌜ r ≡ looks close far ⌝ }
-{
-    Stand {
-        end: Moved::Neither,
-        stamps: false,
-        far: far,
-        hand: false,
-        close: close,
-        yes: false,
-    }
-}
-
 pub fn stand_of(p: Place) -> Stand
     ensures { λ r. ⌜ r ≡ standOf p ⌝ }
 {
-    match p {
-        Place::Idle(a) => idle(a),
-        Place::P1(_, _) => works(Moved::Tail, true, 1),
-        Place::P2(_, _, _) => works(Moved::Tail, true, 2),
-        Place::P3(_, _, _) => works(Moved::Tail, true, 3),
-        Place::P4(_, _) => holds(Moved::Tail, 4),
-        Place::P5(_) => holds(Moved::Tail, 5),
-        Place::P6(_, _) => works(Moved::Tail, true, 3),
-        Place::F6(_, _) => works(Moved::Tail, true, 3),
-        Place::F7(_, _) => holds(Moved::Tail, 4),
-        Place::F8(_, _) => holds(Moved::Tail, 5),
-        Place::F9(_, _) => holds(Moved::Tail, 6),
-        Place::O1 => works(Moved::Head, true, 1),
-        Place::O2(_) => works(Moved::Head, true, 2),
-        Place::O3(_) => works(Moved::Head, true, 3),
-        Place::O4(_) => holds(Moved::Head, 4),
-        Place::O5(_, _) => holds(Moved::Head, 5),
-        Place::O6(_) => works(Moved::Head, true, 3),
-        Place::Len1 => works(Moved::Tail, false, 1),
-        Place::Len2(_) => works(Moved::Tail, false, 2),
-        Place::Len3(_, _) => works(Moved::Tail, false, 3),
-        Place::Empty1 => looks(false, 1),
-        Place::Empty2(_) => looks(false, 2),
-        Place::Full1 => looks(false, 1),
-        Place::Full2(_) => looks(false, 2),
-        Place::Close1 => looks(true, 1),
-        Place::IsClosed1 => looks(false, 1),
-    }
+    let view = bounded_places::view_of(p);
+    view.stand
 }
 
-fn goes_back(s: Stand, t: Stand) -> bool
+// An act that leads from the one to the other goes back to an earlier place of its call: a retry.
+pub fn goes_back(s: Stand, t: Stand) -> bool
     ensures { λ r. ⌜ r ≡ goesBackOf s t ⌝ }
 {
     if t.far == 0 { false } else { t.far < s.far }
@@ -397,9 +286,12 @@ fn causes_of(s: Stand, x: Watch, y: Watch, l: Loss) -> Causes
 pub fn name_causes(ws: Watches, w: u64, before: Place, after: Place, loss: Loss) -> Named
     ensures { λ r. ⌜ r ≡ namedOf ws w before after loss ⌝ }
 {
-    let s = stand_of(before);
-    let t = stand_of(after);
-    let d = deed_of(s, t, bounded_stock::moved_by(after));
+    let stood = bounded_places::view_of(before);
+    let stands = bounded_places::view_of(after);
+    let s = stood.stand;
+    let t = stands.stand;
+    let moved = stands.moved;
+    let d = deed_of(s, t, moved);
     let xs = ws.each;
     let ys = watch_all(xs, w, d);
     let x = watch_of(xs, w);

@@ -67,6 +67,7 @@ only-one-count =
       kept = one _;
       named = λ ws w p q l. one _;
       stands = λ p. one _;
+      goes-back = λ s t. one _;
       at-tail = λ m. one _;
       at-head = λ m. one _;
       moments-kept = λ capacity. one _;

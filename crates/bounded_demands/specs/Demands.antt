@@ -33,12 +33,13 @@ use Rattle.bounded_places.specs.declared.Loss.the-variants.{ByWords, BySchedule
 use Rattle.bounded_places.specs.declared.Place.{Place}
 use Rattle.bounded_places.specs.declared.Place.the-variants.{Idle, F7, Empty2, Full2, Len3}
 use Rattle.bounded_places.specs.declared.Worker.{Worker}
+use Rattle.bounded_places.specs.declared.Moved.{Moved}
+use Rattle.bounded_places.specs.declared.Moved.the-variants.{Neither, Tail}
+use Rattle.bounded_places.specs.declared.Stand.{Stand}
 use Rattle.bounded_places.specs.Places as places
 use Rattle.bounded_acts.specs.Acts as tables
 use Rattle.bounded_machine.specs.declared.Machine.{Machine}
 use Rattle.bounded_machine.specs.declared.Event.{Event}
-use Rattle.bounded_machine.specs.declared.Moved.{Moved}
-use Rattle.bounded_machine.specs.declared.Moved.the-variants.{Neither, Tail}
 use Rattle.bounded_machine.specs.declared.Tally.{Tally}
 use Rattle.bounded_machine.specs.Machine.{freshOf, recordOf, placeOf, blank, freshWith, idler}
 use Rattle.bounded_machine.specs.Broken.{brokenOf, allIdle, brokenWith}
@@ -47,7 +48,6 @@ use Rattle.bounded_machine.specs.Turn.{byWords, bySchedule}
 use Rattle.bounded_machine.specs.Turn.{Table}
 use Rattle.bounded_machine.specs.Run.{runFrom, runOfBy, runOf}
 use Rattle.bounded_machine.specs.History.{eventsOf, movedOf, readsAt, stockOf, untakenOf}
-use Rattle.bounded_causes.specs.declared.Stand.{Stand}
 use Rattle.bounded_causes.specs.declared.Deed.{Deed}
 use Rattle.bounded_causes.specs.declared.Causes.{Causes}
 use Rattle.bounded_causes.specs.declared.Watches.{Watches}
@@ -67,7 +67,7 @@ use Rattle.bounded_walkers.specs.Walkers.{walkOf}
 use Rattle.bounded_walks.specs.declared.Sized.{Sized}
 use Rattle.bounded_walks.specs.declared.Sized.the-variants.{Sequences}
 use Rattle.bounded_walks.specs.Walks.{walkRefusal, walkTold, listed, sizeOf}
-use Rattle.bounded_demands.specs.Notions.{Tried, entriesOf, Face, Definition, ofWidth, Allowed, machineAfter, actsOf, Acts, acts, InHand, HandsOut, Reads, Truth, itemsOf, tailersOf, takersOf, LatestIn, ItemIn, WrittenIn, CallClaim, tally, talliedBy, readsIn, waiting, stock, unreadBy, lesser, Exchanges, lostIn, struck, Fifo, Words, Plain, since, turnLength, windowLength, widestLength, KeepsWindow, KeepsWindowOf, KeepsWidestWindow, KeepsPrompt, rounds, sleepingPush, sleepingPop, valueAt, queueAnswer, LenAnswers, mostOf, OtherHand, passed, ownActs, LetsGo, has, ClosesYes, NoClaims, ClaimsOn, withRecords, AllowedWith, Asking, leftByAll, takenByAll, Promises, freshIn, pushingIn, stockedIn}
+use Rattle.bounded_demands.specs.Notions.{Tried, entriesOf, Face, Definition, ofWidth, Allowed, machineAfter, actsOf, Acts, acts, InHand, HandsOut, Reads, Truth, itemAt, itemsOf, tailersOf, takersOf, LatestIn, ItemIn, WrittenIn, CallClaim, tally, talliedBy, readsIn, waiting, stock, unreadBy, lesser, Exchanges, lostIn, struck, Fifo, Words, Plain, since, turnLength, windowLength, widestLength, KeepsWindow, KeepsWindowOf, KeepsWidestWindow, KeepsPrompt, rounds, sleepingPush, sleepingPop, valueAt, queueAnswer, LenAnswers, mostOf, OtherHand, passed, ownActs, LetsGo, has, ClosesYes, NoClaims, ClaimsOn, withRecords, AllowedWith, Asking, leftByAll, takenByAll, Promises, freshIn, pushingIn, stockedIn}
 use Rattle.bounded_walks.specs.Walks.{sizeRefusal}
 use Rattle.bounded_walks.specs.declared.Sized.the-variants as sized
 use Rattle.queue_entries.specs.declared.Told.the-variants as answer
@@ -77,7 +77,7 @@ use Rattle.bounded.specs.Bounded.{makeOf, stepOf}
 use Rattle.bounded_parts.specs.declared.Metered.{Metered}
 use Rattle.bounded_parts.specs.Parts.{recordsMost, meteredOf, Filled, filled, report}
 use Rattle.bounded_lent.specs.Lent.{Lent, Gone, gone}
-use Rattle.bounded_demands.specs.Stories.{Story, storyOf, oneStep, OnlySuch, twoCloses, known, queueAt, changeOf, actor, replyOf, putBy, takenBy, givenBack, itemAt, At, momentOf, momentNamed, inStory}
+use Rattle.bounded_demands.specs.Stories.{Story, storyOf, oneStep, OnlySuch, twoCloses, known, queueAt, changeOf, actor, replyOf, putBy, takenBy, givenBack, At, momentOf, momentNamed, inStory}
 use Rattle.bounded_demands.specs.Lending.{Lending, Promise, promised, holding, holds-did, holds-ran, steps, heldIn, actsLent, refusalOf, stepByStep, Doing, leftLent, allTakenLent, stepOn, runOn, freshLent, pushingLent, stockedLent, noneLent, spentLent}
 use Rattle.bounded_demands.specs.Foretold.{foretold, Telling, toldBy, toldIn, tellings, asForetold}
 use Rattle.bounded_demands.specs.Eight.{closedF, caseF}
@@ -272,6 +272,7 @@ pub record OnlyOneCount : Type 0 where
   pub kept : (x y : Watches) → x ≡ causes.start → y ≡ causes.start → x ≡ y
   pub named : (ws : Watches) (w : ℕ) (p q : Place) (l : Loss) (x y : Named) → x ≡ namedOf ws w p q l → y ≡ namedOf ws w p q l → x ≡ y
   pub stands : (p : Place) (x y : Stand) → x ≡ causes.standOf p → y ≡ causes.standOf p → x ≡ y
+  pub goes-back : (s t : Stand) (x y : Bool) → x ≡ causes.goesBackOf s t → y ≡ causes.goesBackOf s t → x ≡ y
   pub at-tail : (m : Moved) (x y : Bool) → x ≡ causes.claimsTail m → y ≡ causes.claimsTail m → x ≡ y
   pub at-head : (m : Moved) (x y : Bool) → x ≡ causes.claimsHead m → y ≡ causes.claimsHead m → x ≡ y
   pub moments-kept : (capacity : ℕ) (x y : Moments) → x ≡ moments.start capacity → y ≡ moments.start capacity → x ≡ y

@@ -5,7 +5,7 @@ use mathlib.Core.Bool.{Bool, true, false, cond}
 use mathlib.Core.List.{List, [], _∷_, _++_, map}
 use mathlib.Core.Path.{_≡_}
 use mathlib.Core.Logic.{_≢_}
-use lib.Dec.{eqb, leb}
+use lib.Dec.{eqb, ltb, leb}
 use lib.ListN.{length, getD, drop, take}
 use Rattle.queue_entries.specs.Limits.{workersMost, meterMost}
 use Rattle.queue_entries.specs.declared.Call.{Call}
@@ -37,14 +37,14 @@ use Rattle.bounded_places.specs.declared.Loss.the-variants.{BySchedule}
 use Rattle.bounded_places.specs.declared.Place.{Place}
 use Rattle.bounded_places.specs.declared.Place.the-variants.{Idle, P1, P2, P3, P4, P5, P6, F6, F7, F8, F9, O1, O2, O3, O4, O5, O6, Len1, Len2, Len3, Empty1, Empty2, Full1, Full2, Close1, IsClosed1}
 use Rattle.bounded_places.specs.declared.Worker.{Worker}
+use Rattle.bounded_places.specs.declared.Moved.{Moved}
+use Rattle.bounded_places.specs.declared.Moved.the-variants.{Neither, Tail, Head}
 use Rattle.bounded_places.specs.Places.{viewOf}
 use Rattle.bounded_acts.specs.Acts.{yesNo, actOf}
 use Rattle.bounded_machine.specs.declared.Machine.{Machine}
 use Rattle.bounded_machine.specs.declared.Did.{Did}
 use Rattle.bounded_machine.specs.declared.Ran.{Ran}
 use Rattle.bounded_machine.specs.declared.Event.{Event}
-use Rattle.bounded_machine.specs.declared.Moved.{Moved}
-use Rattle.bounded_machine.specs.declared.Moved.the-variants.{Neither, Tail, Head}
 use Rattle.bounded_machine.specs.declared.Tally.{Tally}
 use Rattle.bounded_machine.specs.Machine.{slot, machineOf, freshOf, blank, placeOf, accepted, freshWith}
 use Rattle.bounded_machine.specs.Broken.{allIdle, brokenOf}
@@ -62,7 +62,7 @@ use Rattle.bounded_causes.specs.declared.Deed.{Deed}
 use Rattle.bounded_causes.specs.declared.Watches.{Watches}
 use Rattle.bounded_causes.specs.declared.Causes.{Causes}
 use Rattle.bounded_causes.specs.Causes as causes
-use Rattle.bounded_causes.specs.Causes.{standOf, goesBackOf, deedOf, othersHold, namedOf}
+use Rattle.bounded_causes.specs.Causes.{standOf, goesBackOf, claimsTail, claimsHead, deedOf, othersHold, namedOf}
 
 -- ---- faces
 
@@ -315,34 +315,38 @@ Truth bits f e No = Unit {0}
 
 -- ---- claims of a history
 
+-- The item that a push or force_push under way has in its record, up to the write.
+abbrev pub itemAt : Place → List ℕ
+itemAt (Idle a) = []
+itemAt (P1 k x) = x ∷ []
+itemAt (P2 k t x) = x ∷ []
+itemAt (P3 k t x) = x ∷ []
+itemAt (P4 t x) = x ∷ []
+itemAt (P5 t) = []
+itemAt (P6 t x) = x ∷ []
+itemAt (F6 t x) = x ∷ []
+itemAt (F7 t x) = x ∷ []
+itemAt (F8 t x) = x ∷ []
+itemAt (F9 t old) = []
+itemAt O1 = []
+itemAt (O2 h) = []
+itemAt (O3 h) = []
+itemAt (O4 h) = []
+itemAt (O5 h v) = []
+itemAt (O6 h) = []
+itemAt Len1 = []
+itemAt (Len2 t) = []
+itemAt (Len3 t h) = []
+itemAt Empty1 = []
+itemAt (Empty2 h) = []
+itemAt Full1 = []
+itemAt (Full2 t) = []
+itemAt Close1 = []
+itemAt IsClosed1 = []
+
 -- The item of a tail claim: a won P3 goes to P4, and F7 to F8.
 abbrev pub itemIn : Place → List ℕ
-itemIn (Idle a) = []
-itemIn (P1 k x) = []
-itemIn (P2 k t x) = []
-itemIn (P3 k t x) = []
-itemIn (P4 t x) = x ∷ []
-itemIn (P5 t) = []
-itemIn (P6 t x) = []
-itemIn (F6 t x) = []
-itemIn (F7 t x) = []
-itemIn (F8 t x) = x ∷ []
-itemIn (F9 t old) = []
-itemIn O1 = []
-itemIn (O2 h) = []
-itemIn (O3 h) = []
-itemIn (O4 h) = []
-itemIn (O5 h v) = []
-itemIn (O6 h) = []
-itemIn Len1 = []
-itemIn (Len2 t) = []
-itemIn (Len3 t h) = []
-itemIn Empty1 = []
-itemIn (Empty2 h) = []
-itemIn Full1 = []
-itemIn (Full2 t) = []
-itemIn Close1 = []
-itemIn IsClosed1 = []
+itemIn p = cond (claimsTail (movedOf p)) (itemAt p) []
 
 abbrev pub tailBy : Moved → ℕ → List ℕ
 tailBy Neither w = []
@@ -431,32 +435,7 @@ readsIn (e ∷ h) = cond (readsAt (e .before)) 1 0 + readsIn h
 
 -- A head claim is made whose value is still to be read out: at O4, F7 and F8.
 abbrev pub unread : Place → Bool
-unread (Idle a) = false
-unread (P1 k x) = false
-unread (P2 k t x) = false
-unread (P3 k t x) = false
-unread (P4 t x) = false
-unread (P5 t) = false
-unread (P6 t x) = false
-unread (F6 t x) = false
-unread (F7 t x) = true
-unread (F8 t x) = true
-unread (F9 t old) = false
-unread O1 = false
-unread (O2 h) = false
-unread (O3 h) = false
-unread (O4 h) = true
-unread (O5 h v) = false
-unread (O6 h) = false
-unread Len1 = false
-unread (Len2 t) = false
-unread (Len3 t h) = false
-unread Empty1 = false
-unread (Empty2 h) = false
-unread Full1 = false
-unread (Full2 t) = false
-unread Close1 = false
-unread IsClosed1 = false
+unread p = cond (claimsHead (movedOf p)) true (readsAt p)
 
 -- How many of these workers stand there.
 unfoldable pub unreadBy : List Worker → ℕ
@@ -546,33 +525,9 @@ pub record Plain (m : Machine) (h : List Event) : Type 0 where
 pub data Holding : Type 0 where
   NoWord NewWord OldWord : Holding
 
+-- The first load or exchange that finds a word leads to the second place of a call.
 abbrev pub holdingAt : Place → Holding
-holdingAt (Idle a) = NoWord
-holdingAt (P1 k x) = NoWord
-holdingAt (P2 k t x) = NewWord
-holdingAt (P3 k t x) = OldWord
-holdingAt (P4 t x) = OldWord
-holdingAt (P5 t) = OldWord
-holdingAt (P6 t x) = OldWord
-holdingAt (F6 t x) = OldWord
-holdingAt (F7 t x) = OldWord
-holdingAt (F8 t x) = OldWord
-holdingAt (F9 t old) = OldWord
-holdingAt O1 = NoWord
-holdingAt (O2 h) = NewWord
-holdingAt (O3 h) = OldWord
-holdingAt (O4 h) = OldWord
-holdingAt (O5 h v) = OldWord
-holdingAt (O6 h) = OldWord
-holdingAt Len1 = NoWord
-holdingAt (Len2 t) = NewWord
-holdingAt (Len3 t h) = OldWord
-holdingAt Empty1 = NoWord
-holdingAt (Empty2 h) = NewWord
-holdingAt Full1 = NoWord
-holdingAt (Full2 t) = NewWord
-holdingAt Close1 = NoWord
-holdingAt IsClosed1 = NoWord
+holdingAt p = cond (ltb (standOf p .far) 2) NoWord (cond (eqb (standOf p .far) 2) NewWord OldWord)
 
 abbrev pub holds : Holding → Bool
 holds NoWord = false

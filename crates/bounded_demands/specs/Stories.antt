@@ -15,7 +15,6 @@ use Rattle.queue_plain.specs.Story.{Begun, Does, Change, Known, elementsBy, fre
 use Rattle.bounded_places.specs.declared.Answer.{Answer}
 use Rattle.bounded_places.specs.declared.Answer.the-variants.{Nothing, Pushed, Full, Closed, Displaced, Popped, Empty, PopClosed, Len, Yes, No}
 use Rattle.bounded_places.specs.declared.Place.{Place}
-use Rattle.bounded_places.specs.declared.Place.the-variants.{Idle, P1, P2, P3, P4, P5, P6, F6, F7, F8, F9, O1, O2, O3, O4, O5, O6, Len1, Len2, Len3, Empty1, Empty2, Full1, Full2, Close1, IsClosed1}
 use Rattle.bounded_machine.specs.declared.Machine.{Machine}
 use Rattle.bounded_machine.specs.declared.Did.{Did}
 use Rattle.bounded_machine.specs.declared.Event.{Event}
@@ -88,35 +87,6 @@ takenBy a = plain.meaningOf plain.takenBy (replyOf a)
 
 abbrev pub givenBack : Answer → List ℕ
 givenBack a = plain.meaningOf plain.givenBack (replyOf a)
-
--- The item that a push or force_push under way has in its record, up to the write.
-abbrev pub itemAt : Place → List ℕ
-itemAt (Idle a) = []
-itemAt (P1 k x) = x ∷ []
-itemAt (P2 k t x) = x ∷ []
-itemAt (P3 k t x) = x ∷ []
-itemAt (P4 t x) = x ∷ []
-itemAt (P5 t) = []
-itemAt (P6 t x) = x ∷ []
-itemAt (F6 t x) = x ∷ []
-itemAt (F7 t x) = x ∷ []
-itemAt (F8 t x) = x ∷ []
-itemAt (F9 t old) = []
-itemAt O1 = []
-itemAt (O2 h) = []
-itemAt (O3 h) = []
-itemAt (O4 h) = []
-itemAt (O5 h v) = []
-itemAt (O6 h) = []
-itemAt Len1 = []
-itemAt (Len2 t) = []
-itemAt (Len3 t h) = []
-itemAt Empty1 = []
-itemAt (Empty2 h) = []
-itemAt Full1 = []
-itemAt (Full2 t) = []
-itemAt Close1 = []
-itemAt IsClosed1 = []
 
 -- ---- moments
 

@@ -11,13 +11,13 @@ use Rattle.bounded_words.specs.declared.Width.the-variants.{SixtyFour}
 use Rattle.bounded_words.specs.Words.{claim}
 use Rattle.bounded_places.specs.declared.Loss.{Loss}
 use Rattle.bounded_places.specs.declared.Place.{Place}
-use Rattle.bounded_places.specs.declared.Place.the-variants.{Idle, P1, P2, P3, P4, P5, P6, F6, F7, F8, F9, O1, O2, O3, O4, O5, O6, Len1, Len2, Len3, Empty1, Empty2, Full1, Full2, Close1, IsClosed1}
+use Rattle.bounded_places.specs.declared.Moved.{Moved}
+use Rattle.bounded_places.specs.declared.Moved.the-variants.{Neither, Tail, Head}
+use Rattle.bounded_places.specs.Places.{viewOf}
 use Rattle.bounded_acts.specs.Acts.{actOf}
 use Rattle.bounded_machine.specs.declared.Machine.{Machine}
 use Rattle.bounded_machine.specs.declared.Did.{Did}
 use Rattle.bounded_machine.specs.declared.Event.{Event}
-use Rattle.bounded_machine.specs.declared.Moved.{Moved}
-use Rattle.bounded_machine.specs.declared.Moved.the-variants.{Neither, Tail, Head}
 use Rattle.bounded_machine.specs.declared.Tally.{Tally}
 use Rattle.bounded_machine.specs.Machine.{placeOf}
 use Rattle.bounded_machine.specs.Turn.{actAt, turnAt}
@@ -45,64 +45,13 @@ historyAt bits = historyWith bits (turnAt bits)
 abbrev pub historyOf : Machine → List ℕ → List Event
 historyOf = historyAt SixtyFour
 
--- Tail claims are won P3 and F7; head claims are won O3 and F6. A won P3 goes to P4 and a won O3 to O4, F7 to F8, and a
--- won F6 to F7; no other act goes there.
+-- Tail claims are won P3 and F7; head claims are won O3 and F6: the end that the act that led to this place moved.
 abbrev pub movedOf : Place → Moved
-movedOf (Idle a) = Neither
-movedOf (P1 k x) = Neither
-movedOf (P2 k t x) = Neither
-movedOf (P3 k t x) = Neither
-movedOf (P4 t x) = Tail
-movedOf (P5 t) = Neither
-movedOf (P6 t x) = Neither
-movedOf (F6 t x) = Neither
-movedOf (F7 t x) = Head
-movedOf (F8 t x) = Tail
-movedOf (F9 t old) = Neither
-movedOf O1 = Neither
-movedOf (O2 h) = Neither
-movedOf (O3 h) = Neither
-movedOf (O4 h) = Head
-movedOf (O5 h v) = Neither
-movedOf (O6 h) = Neither
-movedOf Len1 = Neither
-movedOf (Len2 t) = Neither
-movedOf (Len3 t h) = Neither
-movedOf Empty1 = Neither
-movedOf (Empty2 h) = Neither
-movedOf Full1 = Neither
-movedOf (Full2 t) = Neither
-movedOf Close1 = Neither
-movedOf IsClosed1 = Neither
+movedOf p = viewOf p .moved
 
 -- A value is read out at O4 and at F8.
 abbrev pub readsAt : Place → Bool
-readsAt (Idle a) = false
-readsAt (P1 k x) = false
-readsAt (P2 k t x) = false
-readsAt (P3 k t x) = false
-readsAt (P4 t x) = false
-readsAt (P5 t) = false
-readsAt (P6 t x) = false
-readsAt (F6 t x) = false
-readsAt (F7 t x) = false
-readsAt (F8 t x) = true
-readsAt (F9 t old) = false
-readsAt O1 = false
-readsAt (O2 h) = false
-readsAt (O3 h) = false
-readsAt (O4 h) = true
-readsAt (O5 h v) = false
-readsAt (O6 h) = false
-readsAt Len1 = false
-readsAt (Len2 t) = false
-readsAt (Len3 t h) = false
-readsAt Empty1 = false
-readsAt (Empty2 h) = false
-readsAt Full1 = false
-readsAt (Full2 t) = false
-readsAt Close1 = false
-readsAt IsClosed1 = false
+readsAt p = viewOf p .reads
 
 -- Claim number k is the k-th move of tail (or head) since the machine was made.
 abbrev pub counted : Moved → Tally → Tally

@@ -61,13 +61,6 @@ pub struct Event {
     pub loss: Loss,
 }
 
-// Which end an act moved.
-pub enum Moved {
-    Neither,
-    Tail,
-    Head,
-}
-
 // How many claims there were at each end, and how many values were read out.
 pub struct Tally {
     pub tail: Claim,

@@ -15,12 +15,12 @@ use Rattle.bounded_places.specs.declared.Answer.the-variants.{No}
 use Rattle.bounded_places.specs.declared.Place.{Place}
 use Rattle.bounded_places.specs.declared.Place.the-variants.{Idle}
 use Rattle.bounded_places.specs.declared.View.{View}
+use Rattle.bounded_places.specs.declared.Moved.{Moved}
+use Rattle.bounded_places.specs.declared.Stand.{Stand}
 use Rattle.bounded_places.specs.Places.{viewOf}
-use Rattle.bounded_machine.specs.declared.Moved.{Moved}
 use Rattle.bounded_machine.specs.declared.Tally.{Tally}
 use Rattle.bounded_machine.specs.History.{movedOf, untakenOf}
 use Rattle.bounded_stock.specs.Stock.{oneMore, talliedOf}
-use Rattle.bounded_causes.specs.declared.Stand.{Stand}
 use Rattle.bounded_causes.specs.Causes.{standOf, claimsTail, claimsHead}
 use Rattle.bounded_moments.specs.declared.Moment.{Moment}
 use Rattle.bounded_moments.specs.declared.Moment.the-variants.{Before, After, AfterNextTail, AfterNextHead}

@@ -9,8 +9,8 @@ use Rattle.bounded_places.specs.declared.Answer.{Answer}
 use Rattle.bounded_places.specs.declared.Answer.the-variants.{Nothing, Pushed, Full, Closed, Displaced, Popped, Empty, PopClosed, Len, Yes, No}
 use Rattle.bounded_places.specs.declared.Place.{Place}
 use Rattle.bounded_places.specs.declared.Place.the-variants.{Idle, P1, P2, P3, P4, P5, P6, F6, F7, F8, F9, O1, O2, O3, O4, O5, O6, Len1, Len2, Len3, Empty1, Empty2, Full1, Full2, Close1, IsClosed1}
+use Rattle.bounded_places.specs.declared.Moved.{Moved}
 use Rattle.bounded_places.specs.Places.{viewOf}
-use Rattle.bounded_machine.specs.declared.Moved.{Moved}
 use Rattle.bounded_machine.specs.declared.Tally.{Tally}
 use Rattle.bounded_machine.specs.History.{movedOf, untallied, untakenOf}
 use Rattle.bounded_stock.specs.Stock.{oneMore, talliedOf}

@@ -4,9 +4,9 @@ ghost use mathlib.Core.Bool.{cond};
 ghost use lib.ListN.{set};
 ghost use Rattle.bounded_machine.specs.History.{untakenOf};
 ghost use Rattle.bounded_moments.specs.Moments.{timingSaid, timingOf, timedOf, heardOf, ofWorker, start, momentIn, heardByAll, begunOf, ownOf, namedOf};
-use bounded_machine::Moved;
 use bounded_machine::Tally;
 use bounded_places::Answer;
+use bounded_places::Moved;
 use bounded_places::Place;
 use bounded_words::Claim;
 

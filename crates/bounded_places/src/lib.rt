@@ -2,7 +2,7 @@
 ghost use mathlib.Core.Path.{_≡_};
 ghost use mathlib.Core.Bool.{true, false};
 ghost use Rattle.bounded_words.specs.Words.{Fair};
-ghost use Rattle.bounded_places.specs.Places.{at, viewOf, inside, fitsOf, beginOf};
+ghost use Rattle.bounded_places.specs.Places.{saysYes, idle, works, holds, counts, looks, viewOf, inside, fitsOf, beginOf};
 use bounded_words::Fixed;
 use bounded_words::Stamp;
 use queue_entries::Call;
@@ -130,21 +130,162 @@ pub enum Held {
     Both(Stamp, Stamp),
 }
 
-// What every rule asks of a place.
+// An end of the ring: the one that an act moved, or a call's own.
+pub enum Moved {
+    Neither,
+    Tail,
+    Head,
+}
+
+// What going back asks of a place.
+pub struct Stand {
+    // the call's own end
+    pub end: Moved,
+    // the call loads stamps
+    pub stamps: bool,
+    // how far the call is; 0 is idle
+    pub far: u64,
+    // a slot is in hand
+    pub hand: bool,
+    // close's act is next
+    pub close: bool,
+    // idle, having answered yes
+    pub yes: bool,
+}
+
+// What every rule asks of a place: its row of the one table of places.
 pub struct View {
     pub busy: bool,
     // its action is a weak exchange
     pub weak: bool,
     pub held: Held,
+    // which end the act that led here moved
+    pub moved: Moved,
+    // its action reads a value out
+    pub reads: bool,
+    pub stand: Stand,
 }
 
-fn at(weak: bool, held: Held) -> View
-    ensures { λ r. ⌜ r ≡ at weak held ⌝ }
+fn says_yes(a: Answer) -> bool
+    ensures { λ r. ⌜ r ≡ saysYes a ⌝ }
 {
+    match a {
+        Answer::Nothing => false,
+        Answer::Pushed => false,
+        Answer::Full(_) => false,
+        Answer::Closed(_) => false,
+        Answer::Displaced(_) => false,
+        Answer::Popped(_) => false,
+        Answer::Empty => false,
+        Answer::PopClosed => false,
+        Answer::Len(_) => false,
+        Answer::Yes => true,
+        Answer::No => false,
+    }
+}
+
+fn idle(a: Answer) -> View
+    ensures { λ r. ⌜ r ≡ idle a ⌝ }
+{
+    let stand = Stand {
+        end: Moved::Neither,
+        stamps: false,
+        far: 0,
+        hand: false,
+        close: false,
+        yes: says_yes(a),
+    };
+    View {
+        busy: false,
+        weak: false,
+        held: Held::Nothing,
+        moved: Moved::Neither,
+        reads: false,
+        stand: stand,
+    }
+}
+
+fn works(end: Moved, far: u64, weak: bool, held: Held) -> View
+    ensures { λ r. ⌜ r ≡ works end far weak held ⌝ }
+{
+    let stand = Stand {
+        end: end,
+        stamps: true,
+        far: far,
+        hand: false,
+        close: false,
+        yes: false,
+    };
     View {
         busy: true,
         weak: weak,
         held: held,
+        moved: Moved::Neither,
+        reads: false,
+        stand: stand,
+    }
+}
+
+fn holds(end: Moved, far: u64, w: Stamp, moved: Moved, reads: bool) -> View
+    ensures { λ r. ⌜ r ≡ holds end far w moved reads ⌝ }
+{
+    let stand = Stand {
+        end: end,
+        stamps: true,
+        far: far,
+        hand: true,
+        close: false,
+        yes: false,
+    };
+    View {
+        busy: true,
+        weak: false,
+        held: Held::End(w),
+        moved: moved,
+        reads: reads,
+        stand: stand,
+    }
+}
+
+fn counts(far: u64, held: Held) -> View
+    ensures { λ r. ⌜ r ≡ counts far held ⌝ }
+{
+    let stand = Stand {
+        end: Moved::Tail,
+        stamps: false,
+        far: far,
+        hand: false,
+        close: false,
+        yes: false,
+    };
+    View {
+        busy: true,
+        weak: false,
+        held: held,
+        moved: Moved::Neither,
+        reads: false,
+        stand: stand,
+    }
+}
+
+fn looks(close: bool, far: u64) -> View
+    ensures { λ r. ⌜ r ≡ looks close far ⌝ }
+{
+    let stand = Stand {
+        end: Moved::Neither,
+        stamps: false,
+        far: far,
+        hand: false,
+        close: close,
+        yes: false,
+    };
+    View {
+        busy: true,
+        weak: false,
+        held: Held::Nothing,
+        moved: Moved::Neither,
+        reads: false,
+        stand: stand,
     }
 }
 
@@ -152,36 +293,32 @@ pub fn view_of(p: Place) -> View
     ensures { λ r. ⌜ r ≡ viewOf p ⌝ }
 {
     match p {
-        Place::Idle(_) => View {
-            busy: false,
-            weak: false,
-            held: Held::Nothing,
-        },
-        Place::P1(_, _) => at(false, Held::Nothing),
-        Place::P2(_, t, _) => at(false, Held::End(t)),
-        Place::P3(_, t, _) => at(true, Held::End(t)),
-        Place::P4(t, _) => at(false, Held::End(t)),
-        Place::P5(t) => at(false, Held::End(t)),
-        Place::P6(t, _) => at(false, Held::End(t)),
-        Place::F6(t, _) => at(true, Held::End(t)),
-        Place::F7(t, _) => at(false, Held::End(t)),
-        Place::F8(t, _) => at(false, Held::End(t)),
-        Place::F9(t, _) => at(false, Held::End(t)),
-        Place::O1 => at(false, Held::Nothing),
-        Place::O2(h) => at(false, Held::End(h)),
-        Place::O3(h) => at(true, Held::End(h)),
-        Place::O4(h) => at(false, Held::End(h)),
-        Place::O5(h, _) => at(false, Held::End(h)),
-        Place::O6(h) => at(false, Held::End(h)),
-        Place::Len1 => at(false, Held::Nothing),
-        Place::Len2(t) => at(false, Held::Tail(t)),
-        Place::Len3(t, h) => at(false, Held::Both(t, h)),
-        Place::Empty1 => at(false, Held::Nothing),
-        Place::Empty2(_) => at(false, Held::Nothing),
-        Place::Full1 => at(false, Held::Nothing),
-        Place::Full2(_) => at(false, Held::Nothing),
-        Place::Close1 => at(false, Held::Nothing),
-        Place::IsClosed1 => at(false, Held::Nothing),
+        Place::Idle(a) => idle(a),
+        Place::P1(_, _) => works(Moved::Tail, 1, false, Held::Nothing),
+        Place::P2(_, t, _) => works(Moved::Tail, 2, false, Held::End(t)),
+        Place::P3(_, t, _) => works(Moved::Tail, 3, true, Held::End(t)),
+        Place::P4(t, _) => holds(Moved::Tail, 4, t, Moved::Tail, false),
+        Place::P5(t) => holds(Moved::Tail, 5, t, Moved::Neither, false),
+        Place::P6(t, _) => works(Moved::Tail, 3, false, Held::End(t)),
+        Place::F6(t, _) => works(Moved::Tail, 3, true, Held::End(t)),
+        Place::F7(t, _) => holds(Moved::Tail, 4, t, Moved::Head, false),
+        Place::F8(t, _) => holds(Moved::Tail, 5, t, Moved::Tail, true),
+        Place::F9(t, _) => holds(Moved::Tail, 6, t, Moved::Neither, false),
+        Place::O1 => works(Moved::Head, 1, false, Held::Nothing),
+        Place::O2(h) => works(Moved::Head, 2, false, Held::End(h)),
+        Place::O3(h) => works(Moved::Head, 3, true, Held::End(h)),
+        Place::O4(h) => holds(Moved::Head, 4, h, Moved::Head, true),
+        Place::O5(h, _) => holds(Moved::Head, 5, h, Moved::Neither, false),
+        Place::O6(h) => works(Moved::Head, 3, false, Held::End(h)),
+        Place::Len1 => counts(1, Held::Nothing),
+        Place::Len2(t) => counts(2, Held::Tail(t)),
+        Place::Len3(t, h) => counts(3, Held::Both(t, h)),
+        Place::Empty1 => looks(false, 1),
+        Place::Empty2(_) => looks(false, 2),
+        Place::Full1 => looks(false, 1),
+        Place::Full2(_) => looks(false, 2),
+        Place::Close1 => looks(true, 1),
+        Place::IsClosed1 => looks(false, 1),
     }
 }
 

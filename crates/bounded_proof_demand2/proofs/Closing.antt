@@ -18,12 +18,12 @@ use Rattle.bounded_places.specs.declared.Ends.{Ends}
 use Rattle.bounded_places.specs.declared.Answer.the-variants.{Yes, No, PopClosed}
 use Rattle.bounded_places.specs.declared.Place.{Place}
 use Rattle.bounded_places.specs.declared.Place.the-variants.{Idle, Close1}
+use Rattle.bounded_places.specs.declared.Moved.the-variants.{Neither}
 use Rattle.bounded_places.specs.Places.{viewOf}
 use Rattle.bounded_acts.specs.declared.Acted.{Acted}
 use Rattle.bounded_acts.specs.Acts.{stay, tailTo, actOf}
 use Rattle.bounded_machine.specs.declared.Machine.{Machine}
 use Rattle.bounded_machine.specs.declared.Event.{Event}
-use Rattle.bounded_machine.specs.declared.Moved.the-variants.{Neither}
 use Rattle.bounded_machine.specs.Machine.{slot, freshWith}
 use Rattle.bounded_machine.specs.Turn.{acted}
 use Rattle.bounded_machine.specs.History.{movedOf}

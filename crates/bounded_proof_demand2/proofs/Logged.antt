@@ -13,9 +13,9 @@ use Rattle.bounded_places.specs.declared.Answer.the-variants.{Nothing, Pushed, 
 use Rattle.bounded_places.specs.declared.Loss.{Loss}
 use Rattle.bounded_places.specs.declared.Place.{Place}
 use Rattle.bounded_places.specs.declared.Place.the-variants.{Idle, P1, P2, P3, P4, P5, P6, F6, F7, F8, F9, O1, O2, O3, O4, O5, O6, Len1, Len2, Len3, Empty1, Empty2, Full1, Full2, Close1, IsClosed1}
+use Rattle.bounded_places.specs.declared.Moved.{Moved}
+use Rattle.bounded_places.specs.declared.Moved.the-variants as end
 use Rattle.bounded_machine.specs.declared.Event.{Event}
-use Rattle.bounded_machine.specs.declared.Moved.{Moved}
-use Rattle.bounded_machine.specs.declared.Moved.the-variants as end
 use Rattle.bounded_machine.specs.History.{event, movedOf}
 use Rattle.bounded_demands.specs.Notions.{HandsOut, popped, displaced, Writes, itemIn, tailBy, headBy, itemsOf, tailersOf, takersOf, LatestIn, ItemIn, WrittenIn, Unanswered, CallClaim, waiting, Fifo, enqueue, dequeue, rest}
 use Rattle.bounded_proof_invariant.proofs.Upd.{upd-else, upd-same}

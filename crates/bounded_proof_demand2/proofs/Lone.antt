@@ -39,6 +39,8 @@ use Rattle.bounded_machine.specs.History.{movedOf, tallyOf}
 use Rattle.bounded_machine.proofs.Kept.{either, exchanged}
 use Rattle.bounded_demands.specs.Notions.{ofWidth, tally, Holding, NoWord, NewWord, OldWord, holdingAt, holds, isNew, givesTo, since, turnLength}
 use Rattle.bounded_demands.specs.Demands.{AloneKeeps}
+use Rattle.bounded_proof_invariant.proofs.Ring.{Stage, Fill, Filled, Take, Grab, Swap, Swapped, taking, View, Tail, Head, Awaits, Holds, Forces, Rests, Owns, Keeps}
+use Rattle.bounded_proof_each_act.proofs.Sight.{Look, Calm, Sees, Laps, Tails, Counts, look}
 use Rattle.bounded_proof_each_act.proofs.Stamps.{fixed}
 use Rattle.bounded_proof_demand2.proofs.Turns.{Turned, began, did, stood, eventOf}
 use Rattle.bounded_proof_demand2.proofs.Window.{tails, heads, since-end, tally-more, turn-is}
@@ -47,90 +49,59 @@ use Rattle.bounded_proof_demand2.proofs.Reached.{lapsOf, base-of, many,
 
 -- ---- one act, by the table
 
+-- with the slot at this stage in its hand a call has claimed at tail; at head: `taking`
+abbrev tailing : Stage → Bool
+tailing Fill = true
+tailing Filled = true
+tailing Take = false
+tailing Grab = false
+tailing Swap = true
+tailing Swapped = true
+
+module _ (claimed : Stage → Bool) where
+  abbrev claimsBy : View → ℕ
+  claimsBy (Tail t) = 0
+  claimsBy (Head h) = 0
+  claimsBy (Awaits t) = 0
+  claimsBy (Holds h) = 0
+  claimsBy (Forces h) = 0
+  claimsBy (Rests h) = 0
+  claimsBy (Owns st k) = cond (claimed st) 1 0
+  claimsBy (Keeps st k a m) = cond (claimed st) 1 0
+
+  abbrev claimsIn : Look → ℕ
+  claimsIn (Calm a) = 0
+  claimsIn (Sees t v) = claimsBy (v 0)
+  claimsIn (Laps t v) = claimsBy (v 0)
+  claimsIn (Tails t) = 0
+  claimsIn (Counts t h) = 0
+
+  one-by : (v : View) → claimsBy v ≤ 1
+  one-by (Tail t) = omega arith
+  one-by (Head h) = omega arith
+  one-by (Awaits t) = omega arith
+  one-by (Holds h) = omega arith
+  one-by (Forces h) = omega arith
+  one-by (Rests h) = omega arith
+  one-by (Owns st k) = either (λ (n : ℕ). n ≤ 1) (claimed st) 1 0 (λ b. omega arith) (λ b. omega arith)
+  one-by (Keeps st k a m) = either (λ (n : ℕ). n ≤ 1) (claimed st) 1 0 (λ b. omega arith) (λ b. omega arith)
+
+  one-in : (l : Look) → claimsIn l ≤ 1
+  one-in (Calm a) = omega arith
+  one-in (Sees t v) = one-by (v 0)
+  one-in (Laps t v) = one-by (v 0)
+  one-in (Tails t) = omega arith
+  one-in (Counts t h) = omega arith
+
 -- the claims that a call has made with the word that it holds
 abbrev tailsAt : Place → ℕ
-tailsAt (Idle a) = 0
-tailsAt (P1 k x) = 0
-tailsAt (P2 k t x) = 0
-tailsAt (P3 k t x) = 0
-tailsAt (P4 t x) = 1
-tailsAt (P5 t) = 1
-tailsAt (P6 t x) = 0
-tailsAt (F6 t x) = 0
-tailsAt (F7 t x) = 0
-tailsAt (F8 t x) = 1
-tailsAt (F9 t old) = 1
-tailsAt O1 = 0
-tailsAt (O2 h) = 0
-tailsAt (O3 h) = 0
-tailsAt (O4 h) = 0
-tailsAt (O5 h v) = 0
-tailsAt (O6 h) = 0
-tailsAt Len1 = 0
-tailsAt (Len2 t) = 0
-tailsAt (Len3 t h) = 0
-tailsAt Empty1 = 0
-tailsAt (Empty2 h) = 0
-tailsAt Full1 = 0
-tailsAt (Full2 t) = 0
-tailsAt Close1 = 0
-tailsAt IsClosed1 = 0
+tailsAt p = claimsIn tailing (look 0 p)
 
 abbrev headsAt : Place → ℕ
-headsAt (Idle a) = 0
-headsAt (P1 k x) = 0
-headsAt (P2 k t x) = 0
-headsAt (P3 k t x) = 0
-headsAt (P4 t x) = 0
-headsAt (P5 t) = 0
-headsAt (P6 t x) = 0
-headsAt (F6 t x) = 0
-headsAt (F7 t x) = 1
-headsAt (F8 t x) = 1
-headsAt (F9 t old) = 1
-headsAt O1 = 0
-headsAt (O2 h) = 0
-headsAt (O3 h) = 0
-headsAt (O4 h) = 1
-headsAt (O5 h v) = 1
-headsAt (O6 h) = 0
-headsAt Len1 = 0
-headsAt (Len2 t) = 0
-headsAt (Len3 t h) = 0
-headsAt Empty1 = 0
-headsAt (Empty2 h) = 0
-headsAt Full1 = 0
-headsAt (Full2 t) = 0
-headsAt Close1 = 0
-headsAt IsClosed1 = 0
+headsAt p = claimsIn taking (look 0 p)
 
 few-at : (p : Place) → (tailsAt p ≤ 1) × (headsAt p ≤ 1)
-few-at (Idle a) = omega arith
-few-at (P1 k x) = omega arith
-few-at (P2 k t x) = omega arith
-few-at (P3 k t x) = omega arith
-few-at (P4 t x) = omega arith
-few-at (P5 t) = omega arith
-few-at (P6 t x) = omega arith
-few-at (F6 t x) = omega arith
-few-at (F7 t x) = omega arith
-few-at (F8 t x) = omega arith
-few-at (F9 t old) = omega arith
-few-at O1 = omega arith
-few-at (O2 h) = omega arith
-few-at (O3 h) = omega arith
-few-at (O4 h) = omega arith
-few-at (O5 h v) = omega arith
-few-at (O6 h) = omega arith
-few-at Len1 = omega arith
-few-at (Len2 t) = omega arith
-few-at (Len3 t h) = omega arith
-few-at Empty1 = omega arith
-few-at (Empty2 h) = omega arith
-few-at Full1 = omega arith
-few-at (Full2 t) = omega arith
-few-at Close1 = omega arith
-few-at IsClosed1 = omega arith
+few-at p = (one-in tailing (look 0 p), one-in taking (look 0 p))
 
 -- from p an act leads to q: with a new word there are none, and an old one was held before
 abbrev Follows : Holding → Place → Place → Type 0

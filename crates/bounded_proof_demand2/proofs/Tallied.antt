@@ -7,8 +7,8 @@ use native.Mathlib.Omega.{arith}
 use lib.ListN.{length}
 use Rattle.bounded_words.specs.declared.Width.{Width}
 use Rattle.bounded_words.specs.Limits.{wide}
+use Rattle.bounded_places.specs.declared.Moved.{Moved}
 use Rattle.bounded_machine.specs.declared.Event.{Event}
-use Rattle.bounded_machine.specs.declared.Moved.{Moved}
 use Rattle.bounded_machine.specs.declared.Tally.{Tally}
 use Rattle.bounded_machine.specs.History.{movedOf, readsAt, counted, readOn, stockOf, untallied, tallyOf}
 use Rattle.bounded_stock.specs.Stock.{talliedOf}

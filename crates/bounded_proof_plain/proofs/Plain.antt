@@ -29,8 +29,8 @@ use Rattle.bounded_machine.specs.Machine.{starts, freshWith}
 use Rattle.bounded_machine.specs.Turn.{turnAt, turnOfBy}
 use Rattle.bounded_machine.specs.Run.{runAt}
 use Rattle.bounded_machine.specs.History.{eventsOf}
-use Rattle.bounded_demands.specs.Notions.{withRecords, AllowedWith, machineAfter, actsOf, itemsOf, takersOf, tally, waiting, InHand, handF7, handF8, handF9, handO4, handO5, InWidestWindow, KeepsWidestWindow}
-use Rattle.bounded_demands.specs.Stories.{Story, storyOf, known, changeOf, actor, itemAt, At, momentOf}
+use Rattle.bounded_demands.specs.Notions.{withRecords, AllowedWith, machineAfter, actsOf, itemAt, itemsOf, takersOf, tally, waiting, InHand, handF7, handF8, handF9, handO4, handO5, InWidestWindow, KeepsWidestWindow}
+use Rattle.bounded_demands.specs.Stories.{Story, storyOf, known, changeOf, actor, At, momentOf}
 use Rattle.bounded_demands.specs.Demands.{PlainThroughout, AnswersPlain, AnswersPlainInWindow}
 use Rattle.bounded_demands.proofs.Refusals.{ring-queue}
 use Rattle.bounded_proof_invariant.proofs.Ring.{Shared}

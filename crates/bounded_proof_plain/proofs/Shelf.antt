@@ -16,9 +16,9 @@ use Rattle.queue_plain.specs.Story.{Begun, Does, Change, Known, beginning, doin
 use Rattle.queue_plain.proofs.Stories.{known-count}
 use Rattle.queue_plain.proofs.Stories as laws
 use Rattle.bounded_places.specs.declared.Place.{Place}
+use Rattle.bounded_places.specs.declared.Moved.{Moved}
+use Rattle.bounded_places.specs.declared.Moved.the-variants.{Neither, Tail, Head}
 use Rattle.bounded_machine.specs.declared.Event.{Event}
-use Rattle.bounded_machine.specs.declared.Moved.{Moved}
-use Rattle.bounded_machine.specs.declared.Moved.the-variants.{Neither, Tail, Head}
 use Rattle.bounded_machine.specs.History.{movedOf}
 use Rattle.bounded_causes.specs.Causes.{claimsTail, claimsHead}
 use Rattle.bounded_demands.specs.Notions.{itemIn, tailBy, headBy}

@@ -26,13 +26,13 @@ use Rattle.bounded_places.specs.declared.Answer.{Answer}
 use Rattle.bounded_places.specs.declared.Place.{Place}
 use Rattle.bounded_places.specs.declared.Place.the-variants.{Idle}
 use Rattle.bounded_places.specs.declared.Worker.{Worker}
+use Rattle.bounded_places.specs.declared.Moved.{Moved}
+use Rattle.bounded_places.specs.declared.Moved.the-variants.{Neither, Tail, Head}
 use Rattle.bounded_places.specs.Places.{viewOf, beginOf}
 use Rattle.bounded_acts.specs.declared.Acted.{Acted}
 use Rattle.bounded_acts.specs.Acts.{actOf}
 use Rattle.bounded_machine.specs.declared.Machine.{Machine}
 use Rattle.bounded_machine.specs.declared.Event.{Event}
-use Rattle.bounded_machine.specs.declared.Moved.{Moved}
-use Rattle.bounded_machine.specs.declared.Moved.the-variants.{Neither, Tail, Head}
 use Rattle.bounded_machine.specs.Machine.{slot, idler, placeOf}
 use Rattle.bounded_machine.proofs.Kept.{few-workers}
 use Rattle.bounded_machine.specs.Turn.{beginner, begun, acted, actedBy, stored}

@@ -21,12 +21,13 @@ use Rattle.bounded_places.specs.declared.Answer.{Answer}
 use Rattle.bounded_places.specs.declared.Answer.the-variants.{Nothing, Pushed, Full, Closed, Displaced, Popped, Empty, PopClosed, Len, Yes, No}
 use Rattle.bounded_places.specs.declared.Place.{Place}
 use Rattle.bounded_places.specs.declared.Place.the-variants.{Idle, P1, P2, P3, P4, P5, P6, F6, F7, F8, F9, O1, O2, O3, O4, O5, O6, Len1, Len2, Len3, Empty1, Empty2, Full1, Full2, Close1, IsClosed1}
+use Rattle.bounded_places.specs.Places.{saysYes}
 use Rattle.bounded_acts.specs.Acts.{forcedTail, stay, losing, exchangeOf, afterTail, tailTo, headTo, stampTo, valueTo, countOf}
 use Rattle.bounded_machine.specs.declared.Event.{Event}
 use Rattle.bounded_machine.specs.Machine.{emptySlots, stamped, freshSlots, idlers, freshWith, refused, accepted}
 use Rattle.bounded_machine.specs.Turn.{recordAfter, begun, stored, actedBy, turnOfBy}
 use Rattle.bounded_machine.specs.Run.{ran}
-use Rattle.bounded_causes.specs.Causes.{standOf, saysYes}
+use Rattle.bounded_causes.specs.Causes.{standOf}
 use Rattle.bounded_demands.specs.Notions.{acts, document01}
 use Rattle.bounded_demands.specs.Stories.{Story, storyOf, known, twoCloses}
 use Rattle.bounded_demands.specs.Demands.{OneByOne, ClosesNotOneStep}

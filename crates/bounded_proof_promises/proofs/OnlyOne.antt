@@ -27,6 +27,7 @@ only-one-own =
       of-causes-start = λ x y p q. both _ x y p q;
       of-name-causes = λ ws w u v l x y p q. both _ x y p q;
       of-stand-of = λ w x y p q. both _ x y p q;
+      of-goes-back = λ s t x y p q. both _ x y p q;
       of-claims-tail = λ m x y p q. both _ x y p q;
       of-claims-head = λ m x y p q. both _ x y p q;
       of-moments-start = λ capacity x y p q. both _ x y p q;

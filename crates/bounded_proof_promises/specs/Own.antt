@@ -9,16 +9,16 @@ use denote.Ref.{RefT}
 use Rattle.queue_entries.specs.declared.Told.{Told}
 use Rattle.bounded_places.specs.declared.Loss.{Loss}
 use Rattle.bounded_places.specs.declared.Place.{Place}
+use Rattle.bounded_places.specs.declared.Moved.{Moved}
+use Rattle.bounded_places.specs.declared.Stand.{Stand}
 use Rattle.bounded_machine.specs.declared.Machine.{Machine}
 use Rattle.bounded_machine.specs.declared.Did.{Did}
 use Rattle.bounded_machine.specs.declared.Ran.{Ran}
-use Rattle.bounded_machine.specs.declared.Moved.{Moved}
 use Rattle.bounded_machine.specs.declared.Tally.{Tally}
 use Rattle.bounded_widths.specs.declared.Machine as widths
 use Rattle.bounded_widths.specs.declared.Did as widths-did
 use Rattle.bounded_widths.specs.declared.Ran as widths-ran
 use Rattle.bounded_walks.specs.declared.Sized.{Sized}
-use Rattle.bounded_causes.specs.declared.Stand.{Stand}
 use Rattle.bounded_causes.specs.declared.Watches.{Watches}
 use Rattle.bounded_causes.specs.declared.Named.{Named}
 use Rattle.bounded_moments.specs.declared.Moments.{Moments}
@@ -46,6 +46,7 @@ use Rattle.bounded_stock.proofs.reads_at.Reads as stock-reads-at
 use Rattle.bounded_stock.proofs.tally.Reads as stock-tally
 use Rattle.bounded_stock.proofs.stock.Reads as stock-stock
 use Rattle.bounded_causes.proofs.stand_of.Reads as causes-stand-of
+use Rattle.bounded_causes.proofs.goes_back.Reads as causes-goes-back
 use Rattle.bounded_causes.proofs.claims_tail.Reads as causes-claims-tail
 use Rattle.bounded_causes.proofs.claims_head.Reads as causes-claims-head
 use Rattle.bounded_causes.proofs.start.Reads as causes-start
@@ -108,6 +109,7 @@ pub record OnlyOneOwn : Type 0 where
   pub of-name-causes : (ws : Watches) (w : ℕ) (p q : Place) (l : Loss) (x y : Named)
       → causes-name-causes.Post tt (ws, (w, (p, (q, (l, tt))))) x (ws, (w, (p, (q, (l, tt))))) → causes-name-causes.Post tt (ws, (w, (p, (q, (l, tt))))) y (ws, (w, (p, (q, (l, tt))))) → x ≡ y
   pub of-stand-of : (p : Place) (x y : Stand) → causes-stand-of.Post tt (p, tt) x (p, tt) → causes-stand-of.Post tt (p, tt) y (p, tt) → x ≡ y
+  pub of-goes-back : (s t : Stand) (x y : Bool) → causes-goes-back.Post tt (s, (t, tt)) x (s, (t, tt)) → causes-goes-back.Post tt (s, (t, tt)) y (s, (t, tt)) → x ≡ y
   pub of-claims-tail : (m : Moved) (x y : Bool) → causes-claims-tail.Post tt (m, tt) x (m, tt) → causes-claims-tail.Post tt (m, tt) y (m, tt) → x ≡ y
   pub of-claims-head : (m : Moved) (x y : Bool) → causes-claims-head.Post tt (m, tt) x (m, tt) → causes-claims-head.Post tt (m, tt) y (m, tt) → x ≡ y
   pub of-moments-start : (capacity : ℕ) (x y : Moments) → moments-start.Post tt (capacity, tt) x (capacity, tt) → moments-start.Post tt (capacity, tt) y (capacity, tt) → x ≡ y

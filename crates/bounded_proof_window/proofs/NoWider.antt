@@ -23,11 +23,11 @@ use Rattle.bounded_places.specs.declared.Loss.the-variants as loss
 use Rattle.bounded_places.specs.declared.Place.{Place}
 use Rattle.bounded_places.specs.declared.Place.the-variants.{Idle, P1, P2, P6, O4, O5}
 use Rattle.bounded_places.specs.declared.Worker.{Worker}
+use Rattle.bounded_places.specs.declared.Moved.{Moved}
+use Rattle.bounded_places.specs.declared.Moved.the-variants.{Neither, Tail, Head}
 use Rattle.bounded_acts.specs.Acts.{stay, losing, exchangeOf, afterTail, tailTo, headTo, stampTo, valueTo}
 use Rattle.bounded_machine.specs.declared.Machine.{Machine}
 use Rattle.bounded_machine.specs.declared.Event.{Event}
-use Rattle.bounded_machine.specs.declared.Moved.{Moved}
-use Rattle.bounded_machine.specs.declared.Moved.the-variants.{Neither, Tail, Head}
 use Rattle.bounded_machine.specs.declared.Tally.{Tally}
 use Rattle.bounded_machine.specs.Machine.{idler, freshWith, freshOf, accepted}
 use Rattle.bounded_machine.specs.Turn.{recordAfter, begun, stored, actedBy, turnAt, turnOfBy}

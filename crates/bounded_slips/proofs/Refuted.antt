@@ -20,7 +20,6 @@ use Rattle.bounded_places.specs.declared.Place.the-variants.{Idle, P3, P4, F8, 
 use Rattle.bounded_places.specs.Places.{inside}
 use Rattle.bounded_acts.specs.Acts.{forcedTail, stay, losing, exchangeOf, afterTail, tailTo, headTo, stampTo, valueTo, countOf}
 use Rattle.bounded_machine.specs.declared.Machine.{Machine}
-use Rattle.bounded_machine.specs.declared.Moved.the-variants.{Neither, Tail, Head}
 use Rattle.bounded_machine.specs.declared.Ran.{Ran}
 use Rattle.bounded_machine.specs.Machine.{emptySlots, stamped, freshSlots, idlers, freshWith, freshOf, refused, accepted}
 use Rattle.bounded_machine.specs.Broken.{byRule, endsFit, placeFits, recordFits, recordsFit, ringFits, brokenWith, allIdle}
@@ -35,6 +34,7 @@ use Rattle.bounded_slips.specs.Refuted.{Trial, trial, reached, past, doe
 use Rattle.bounded_places.specs.declared.Place.{Place}
 use Rattle.bounded_places.specs.declared.Place.the-variants.{P2, Len1}
 use Rattle.bounded_places.specs.declared.Kind.the-variants.{Force}
+use Rattle.bounded_places.specs.declared.Moved.the-variants.{Neither, Tail, Head}
 use Rattle.bounded_places.specs.Places.{viewOf}
 use Rattle.bounded_causes.specs.Causes.{standOf, goesBackOf, deedOf, sinceWith, ownAct, otherAct, othersHold, watchedTo, watchedOf, causesOf, namedOf}
 use Rattle.bounded_demands.specs.Notions.{rounds, watchesFrom, goingsBack, WayBack, p2-p1, p3-p2, p6-p1, f6-p1, o2-o1, o3-o2, o6-o1, len3-len1}

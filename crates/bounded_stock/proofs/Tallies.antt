@@ -3,21 +3,14 @@ use Prim.Native.Nat.{ℕ, _+_, _<_}
 use mathlib.Core.Path.{_≡_, refl, sym, ap, _∙_}
 use mathlib.Core.Bool.{Bool, true, false}
 use native.Mathlib.Nat.{mod-eq-of-lt}
-use Rattle.queue_entries.proofs.Pick.{along}
 use Rattle.bounded_words.specs.declared.Claim.{Claim}
 use Rattle.bounded_words.specs.Limits.{wide}
 use Rattle.bounded_places.specs.declared.Place.{Place}
-use Rattle.bounded_machine.specs.declared.Moved.{Moved}
-use Rattle.bounded_machine.specs.declared.Moved.the-variants.{Neither, Tail, Head}
+use Rattle.bounded_places.specs.declared.Moved.{Moved}
+use Rattle.bounded_places.specs.declared.Moved.the-variants.{Neither, Tail, Head}
 use Rattle.bounded_machine.specs.declared.Tally.{Tally}
 use Rattle.bounded_machine.specs.History.{movedOf, readsAt, counted, readOn}
 use Rattle.bounded_stock.specs.Stock.{oneMore, nextClaim, withClaim, withRead, talliedOf}
-
-pub along-moved : (p q : Place) (r : Moved) → p ≡ q → r ≡ movedOf q → r ≡ movedOf p
-along-moved = along movedOf
-
-pub along-reads : (p q : Place) (r : Bool) → p ≡ q → r ≡ readsAt q → r ≡ readsAt p
-along-reads = along readsAt
 
 module _ (t : Tally) (n q : Moved) (e : n ≡ q) where
   pub claim-none : n ≡ Neither → t ≡ withClaim t q

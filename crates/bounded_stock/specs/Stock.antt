@@ -5,8 +5,8 @@ use Rattle.bounded_words.specs.declared.Claim.{Claim}
 use Rattle.bounded_words.specs.Limits.{wide}
 use Rattle.bounded_words.specs.Words.{claim}
 use Rattle.bounded_places.specs.declared.Place.{Place}
-use Rattle.bounded_machine.specs.declared.Moved.{Moved}
-use Rattle.bounded_machine.specs.declared.Moved.the-variants.{Neither, Tail, Head}
+use Rattle.bounded_places.specs.declared.Moved.{Moved}
+use Rattle.bounded_places.specs.declared.Moved.the-variants.{Neither, Tail, Head}
 use Rattle.bounded_machine.specs.declared.Tally.{Tally}
 use Rattle.bounded_machine.specs.History.{movedOf, readsAt}
 

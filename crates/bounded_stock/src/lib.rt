@@ -2,8 +2,8 @@
 ghost use mathlib.Core.Path.{_≡_};
 ghost use Rattle.bounded_machine.specs.History.{movedOf, readsAt, stockOf};
 ghost use Rattle.bounded_stock.specs.Stock.{oneMore, nextClaim, withClaim, withRead, talliedOf};
-use bounded_machine::Moved;
 use bounded_machine::Tally;
+use bounded_places::Moved;
 use bounded_places::Place;
 use bounded_words::Claim;
 
@@ -11,68 +11,16 @@ use bounded_words::Claim;
 pub fn moved_by(after: Place) -> Moved
     ensures { λ r. ⌜ r ≡ movedOf after ⌝ }
 {
-    match after {
-        Place::Idle(_) => Moved::Neither,
-        Place::P1(_, _) => Moved::Neither,
-        Place::P2(_, _, _) => Moved::Neither,
-        Place::P3(_, _, _) => Moved::Neither,
-        Place::P4(_, _) => Moved::Tail,
-        Place::P5(_) => Moved::Neither,
-        Place::P6(_, _) => Moved::Neither,
-        Place::F6(_, _) => Moved::Neither,
-        Place::F7(_, _) => Moved::Head,
-        Place::F8(_, _) => Moved::Tail,
-        Place::F9(_, _) => Moved::Neither,
-        Place::O1 => Moved::Neither,
-        Place::O2(_) => Moved::Neither,
-        Place::O3(_) => Moved::Neither,
-        Place::O4(_) => Moved::Head,
-        Place::O5(_, _) => Moved::Neither,
-        Place::O6(_) => Moved::Neither,
-        Place::Len1 => Moved::Neither,
-        Place::Len2(_) => Moved::Neither,
-        Place::Len3(_, _) => Moved::Neither,
-        Place::Empty1 => Moved::Neither,
-        Place::Empty2(_) => Moved::Neither,
-        Place::Full1 => Moved::Neither,
-        Place::Full2(_) => Moved::Neither,
-        Place::Close1 => Moved::Neither,
-        Place::IsClosed1 => Moved::Neither,
-    }
+    let view = bounded_places::view_of(after);
+    view.moved
 }
 
 // Whether the act at this place reads a value out.
 pub fn reads_at(before: Place) -> bool
     ensures { λ r. ⌜ r ≡ readsAt before ⌝ }
 {
-    match before {
-        Place::Idle(_) => false,
-        Place::P1(_, _) => false,
-        Place::P2(_, _, _) => false,
-        Place::P3(_, _, _) => false,
-        Place::P4(_, _) => false,
-        Place::P5(_) => false,
-        Place::P6(_, _) => false,
-        Place::F6(_, _) => false,
-        Place::F7(_, _) => false,
-        Place::F8(_, _) => true,
-        Place::F9(_, _) => false,
-        Place::O1 => false,
-        Place::O2(_) => false,
-        Place::O3(_) => false,
-        Place::O4(_) => true,
-        Place::O5(_, _) => false,
-        Place::O6(_) => false,
-        Place::Len1 => false,
-        Place::Len2(_) => false,
-        Place::Len3(_, _) => false,
-        Place::Empty1 => false,
-        Place::Empty2(_) => false,
-        Place::Full1 => false,
-        Place::Full2(_) => false,
-        Place::Close1 => false,
-        Place::IsClosed1 => false,
-    }
+    let view = bounded_places::view_of(before);
+    view.reads
 }
 
 fn one_more(n: u64) -> u64

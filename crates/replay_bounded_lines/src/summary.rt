@@ -53,14 +53,9 @@ fn answered(before: [u64; 11], code: u64) -> [u64; 11] {
     answers
 }
 
-// An act after which a call is less far than it was.
+// An act that goes back to an earlier place of its call.
 fn is_retry(stood: Place, stands: Place) -> bool {
-    let before = bounded_causes::stand_of(stood);
-    let after = bounded_causes::stand_of(stands);
-    if after.far == 0 {
-        return false;
-    }
-    after.far < before.far
+    bounded_causes::goes_back(bounded_causes::stand_of(stood), bounded_causes::stand_of(stands))
 }
 
 // A total with what one act added to a count.

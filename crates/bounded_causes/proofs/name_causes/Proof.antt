@@ -7,22 +7,17 @@ use Rattle.bounded_causes.proofs.name_causes.Lts as lts
 use Rattle.bounded_causes.proofs.causes_of.Reads as causes-of-reads
 use Rattle.bounded_causes.proofs.deed_of.Reads as deed-of-reads
 use Rattle.bounded_causes.proofs.goes_back.Reads as goes-back-reads
-use Rattle.bounded_causes.proofs.stand_of.Reads as stand-of-reads
 use Rattle.bounded_causes.proofs.watch_all.Reads as watch-all-reads
 use Rattle.bounded_causes.proofs.watch_of.Reads as watch-of-reads
-use Rattle.bounded_stock.proofs.moved_by.Reads as moved-by-reads
+use Rattle.bounded_places.proofs.view_of.Reads as view-of-reads
 
 -- src/lib.rt:401:9
-stand-of-requires : tie.Need-stand-of-requires
-stand-of-requires c κs = search needs
+view-of-requires : tie.Need-view-of-requires
+view-of-requires c κs = search needs
 
 -- src/lib.rt:402:9
-stand-of-requires-2 : tie.Need-stand-of-requires-2
-stand-of-requires-2 c κs = search needs
-
--- src/lib.rt:403:27
-moved-by-requires : tie.Need-moved-by-requires
-moved-by-requires c κs = search needs
+view-of-requires-2 : tie.Need-view-of-requires-2
+view-of-requires-2 c κs = search needs
 
 -- src/lib.rt:403:9
 deed-of-requires : tie.Need-deed-of-requires
@@ -56,9 +51,8 @@ pub name-causes-spec : {M : Type 1} → statement M
 name-causes-spec =
     tie.close
     (tie.spec
-    stand-of-requires
-    stand-of-requires-2
-    moved-by-requires
+    view-of-requires
+    view-of-requires-2
     deed-of-requires
     watch-all-requires
     watch-of-requires
