@@ -60,10 +60,9 @@ d.legend(40, 290, (
     (HAND, '', 'in hand: U9 to U13 of a push, V6 to V12 of a pop'),
     (WHITE, '3 4', 'freed: no worker uses it'),
 ))
-for n, said in enumerate((
+d.notes(520, 303, 24, (
     'head <= tail, and both only grow.',
     'A position is claimed once by a push and once by a pop.',
     'Block j is freed when every slot of it is read, and once.',
-)):
-    d.text(520, 303 + 24 * n, said, anchor='start', size=12)
+))
 print(d)

@@ -88,18 +88,16 @@ d.legend(500, 350, (
     (AWAITS, '', 'awaits tail claim k: stamp word k'),
     (HAND, '', 'in the hand of one worker, by its place:'),
 ))
-for n, said in enumerate((
+d.notes(536, 434, 22, (
     'P4, P5: claimed at tail; stamp still word k',
     'O4, O5: claimed at head as k - c; stamp still word (k - c) + 1',
     'F7: claimed at head as k - c, tail claim k next; the same stamp',
     'F8, F9: claimed at both; the same stamp',
-)):
-    d.text(536, 434 + 22 * n, said, anchor='start', size=12)
+))
 d.legend(500, 536, ((WHITE, '3 4', 'no slot now: taken, or a later claim'),))
-for n, said in enumerate((
+d.notes(500, 586, 22, (
     'word k = (k div c) x lap + (k mod c)',
     'h <= t <= h + c, and both only grow.',
     'From h to h + c every slot has exactly one claim number.',
-)):
-    d.text(500, 586 + 22 * n, said, anchor='start', size=12)
+))
 print(d)

@@ -56,5 +56,10 @@ class Drawing:
             self.box(x, y + 24 * n, 26, 16, fill, dash=dash)
             self.text(x + 36, y + 24 * n + 13, text, anchor='start')
 
+    def notes(self, x, y, apart, rows):
+        """Lines of small text, so far apart."""
+        for n, text in enumerate(rows):
+            self.text(x, y + apart * n, text, anchor='start', size=12)
+
     def __str__(self):
         return '\n'.join([*self.parts, '</svg>'])

@@ -1,16 +1,12 @@
 /* What a bench controller does with the queue: two readers put the speeds of pumps in, a judge takes them out, one
  * action at a time in the order that the controller chooses. A schedule goes to a tape and comes back from it. Then an
  * entry that is refused, and a ring that somebody has broken. It writes what happened, a line each, and ends with status 1 where something is not as it should be. */
-#include "fernmoldew.h"
-
-#include <inttypes.h>
-#include <stdio.h>
-#include <string.h>
+#define EXAMPLE "bench_controller"
+#include "example.h"
 
 enum { READER_A, READER_B, JUDGE, WORKERS };
 
 static uint64_t head[FERN_HEAD], slots[FERN_SLOTS], records[WORKERS][FERN_RECORD];
-static int wrong;
 
 /* The three slices, as every call takes them. */
 #define LENT head, FERN_HEAD, slots, FERN_SLOTS, &records[0][0], (size_t)WORKERS * FERN_RECORD
@@ -19,37 +15,16 @@ static uint64_t step(uint64_t worker, enum fern_call call, uint64_t item) {
     return fern_ring_step(LENT, fern_entry(worker, call), item);
 }
 
-static void expect(bool right, const char *what) {
-    if (!right) {
-        wrong = 1;
-        fprintf(stderr, "bench_controller: not so: %s\n", what);
-    }
-}
-
-/* One call of one worker to its end, nobody else acting meanwhile: at most seven acts. */
-static int alone(uint64_t worker, enum fern_call call, uint64_t item) {
-    int acts = 0;
-    uint64_t refusal = step(worker, call, item);
-    while (refusal == FERN_ACCEPTED && fern_busy(records[worker])) {
-        refusal = step(worker, FERN_ACT, 0);
-        acts++;
-    }
-    expect(refusal == FERN_ACCEPTED && acts <= 7, "a call ends within seven acts");
-    return acts;
-}
-
-static void say(const char *who, const uint64_t record[FERN_RECORD]) {
-    static const char *const answers[] = {"nothing", "pushed", "empty", "closed", "yes", "no", "full", "closed", "displaced", "popped", "len"};
-    printf("%s: %s", who, answers[fern_answer(record)]);
-    if (fern_has_value(record))
-        printf(" %" PRIu64, fern_value(record));
-    printf("\n");
+/* A whole call: at most seven acts. */
+static void whole(uint64_t worker, enum fern_call call, uint64_t item) {
+    int acts = alone(step, records[worker], worker, call, item);
+    expect(acts > 0 && acts <= 7, "a call ends within seven acts");
 }
 
 int main(void) {
     uint64_t refusal = fern_ring_make(LENT, 2, 1);
     if (refusal != FERN_ACCEPTED) {
-        fprintf(stderr, "bench_controller: %s\n", fern_refusal_says(refusal));
+        fprintf(stderr, EXAMPLE ": %s\n", fern_refusal_says(refusal));
         return 1;
     }
     printf("capacity %" PRIu64 "\n", fern_ring_capacity(LENT).number);
@@ -67,7 +42,7 @@ int main(void) {
     say("reader B", records[READER_B]);
 
     /* The ring is full: the third speed is handed back. */
-    alone(READER_A, FERN_PUSH, 2980);
+    whole(READER_A, FERN_PUSH, 2980);
     say("reader A", records[READER_A]);
     expect(fern_answer(records[READER_A]) == FERN_FULL && fern_value(records[READER_A]) == 2980, "a push into a full ring is handed its item back");
 
@@ -80,11 +55,11 @@ int main(void) {
 
     /* The judge takes them out in the order of their claims. */
     for (int i = 0; i < 2; i++) {
-        alone(JUDGE, FERN_POP, 0);
+        whole(JUDGE, FERN_POP, 0);
         say("judge", records[JUDGE]);
         expect(fern_value(records[JUDGE]) == items[i], "items come out in the order in which they waited");
     }
-    alone(JUDGE, FERN_POP, 0);
+    whole(JUDGE, FERN_POP, 0);
     say("judge", records[JUDGE]);
 
     /* A whole call as a schedule. */

@@ -1,16 +1,12 @@
 /* What a torque station does with the one-slot queue: a driver hands over the torque of the last screw, a checker takes it, one
  * action at a time in the order that the station chooses; an older torque that nobody took is displaced. Then an entry that is refused,
  * and words that somebody has written over. It writes what happened, a line each, and ends with status 1 where something is not as it should be. */
-#include "fernmoldew.h"
-
-#include <inttypes.h>
-#include <stdio.h>
-#include <string.h>
+#define EXAMPLE "torque_station"
+#include "example.h"
 
 enum { DRIVER, CHECKER, WORKERS };
 
 static uint64_t head[FERN_SLOT_HEAD], records[FERN_SLOT_WORKERS][FERN_SLOT_RECORD];
-static int wrong;
 
 /* The two slices, as every call takes them. */
 #define LENT head, FERN_SLOT_HEAD, &records[0][0], (size_t)FERN_SLOT_RECORDS
@@ -19,41 +15,21 @@ static uint64_t step(uint64_t worker, enum fern_call call, uint64_t item) {
     return fern_slot_step(LENT, fern_entry(worker, call), item);
 }
 
-static void expect(bool right, const char *what) {
-    if (!right) {
-        wrong = 1;
-        fprintf(stderr, "torque_station: not so: %s\n", what);
-    }
-}
-
-/* One call of one worker to its end, nobody else acting meanwhile and the slot in no hand: at most four acts. */
-static void alone(uint64_t worker, enum fern_call call, uint64_t item) {
-    int acts = 0;
-    uint64_t refusal = step(worker, call, item);
-    while (refusal == FERN_ACCEPTED && fern_busy(records[worker])) {
-        refusal = step(worker, FERN_ACT, 0);
-        acts++;
-    }
-    expect(refusal == FERN_ACCEPTED && acts <= 4, "a call ends within four acts");
-}
-
-static void say(const char *who, const uint64_t record[FERN_SLOT_RECORD]) {
-    static const char *const answers[] = {"nothing", "pushed", "empty", "closed", "yes", "no", "full", "closed", "displaced", "popped", "len"};
-    printf("%s: %s", who, answers[fern_answer(record)]);
-    if (fern_has_value(record))
-        printf(" %" PRIu64, fern_value(record));
-    printf("\n");
+/* A whole call: at most four acts, as long as the slot is in no hand. */
+static void whole(uint64_t worker, enum fern_call call, uint64_t item) {
+    int acts = alone(step, records[worker], worker, call, item);
+    expect(acts > 0 && acts <= 4, "a call ends within four acts");
 }
 
 int main(void) {
     uint64_t refusal = fern_slot_make(LENT, WORKERS);
     if (refusal != FERN_ACCEPTED) {
-        fprintf(stderr, "torque_station: %s\n", fern_refusal_says(refusal));
+        fprintf(stderr, EXAMPLE ": %s\n", fern_refusal_says(refusal));
         return 1;
     }
-    alone(DRIVER, FERN_PUSH, 240);
+    whole(DRIVER, FERN_PUSH, 240);
     say("driver", records[DRIVER]);
-    alone(DRIVER, FERN_FORCE_PUSH, 255);
+    whole(DRIVER, FERN_FORCE_PUSH, 255);
     say("driver", records[DRIVER]);
     expect(fern_answer(records[DRIVER]) == FERN_DISPLACED && fern_value(records[DRIVER]) == 240, "an older torque is displaced");
 
@@ -65,7 +41,7 @@ int main(void) {
     step(CHECKER, FERN_POP, 0);
     step(CHECKER, FERN_ACT, 0);
     step(CHECKER, FERN_ACT, 0);
-    alone(DRIVER, FERN_PUSH, 260);
+    whole(DRIVER, FERN_PUSH, 260);
     say("driver", records[DRIVER]);
     step(CHECKER, FERN_ACT, 0);
     say("checker", records[CHECKER]);

@@ -1,20 +1,15 @@
 //! The unbounded queue: what unbounded.rs does at each place, typed from request 12 and from the source's text. Taking a block and freeing
 //! one is an act, at its place and nowhere else.
 
+mod codes;
+
+use codes::*;
 use oracle::interleaved;
 use oracle::machine::Machine;
 use oracle::queue::Making;
 use oracle::random::Random;
 use oracle::stage::{Action, Word};
 use oracle::state::NONE;
-
-const PUSH: u64 = 0;
-const POP: u64 = 2;
-const LEN: u64 = 3;
-const IS_EMPTY: u64 = 4;
-const IS_FULL: u64 = 5;
-const CLOSE: u64 = 6;
-const IS_CLOSED: u64 = 7;
 
 const NO_BLOCK: usize = NONE as usize;
 const WRITE: u64 = 1;

@@ -1,18 +1,12 @@
 //! The one-slot queue: what single.rs does at each place, typed from request 1 and from the source's text, and the two oddities
 //! that are kept.
 
+mod codes;
+
+use codes::*;
 use oracle::machine::Machine;
 use oracle::queue::Making;
 use oracle::stage::{Action, Word};
-
-const PUSH: u64 = 0;
-const FORCE_PUSH: u64 = 1;
-const POP: u64 = 2;
-const LEN: u64 = 3;
-const IS_EMPTY: u64 = 4;
-const IS_FULL: u64 = 5;
-const CLOSE: u64 = 6;
-const IS_CLOSED: u64 = 7;
 
 const LOCKED: u64 = 1;
 const PUSHED: u64 = 2;

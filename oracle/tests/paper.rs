@@ -1,20 +1,12 @@
 //! Document 01's eight runs on paper, and what requests 4, 6, 8 and 9 have of them. All numbers are the documents'.
 
+mod codes;
+
+use codes::*;
 use oracle::machine::{Losses, Machine};
 use oracle::queue::{Bits, Queue};
 use oracle::stage::{Action, Word};
 use oracle::state::Kind;
-
-const PUSH: u64 = 0;
-const FORCE_PUSH: u64 = 1;
-const POP: u64 = 2;
-const LEN: u64 = 3;
-const IS_EMPTY: u64 = 4;
-const IS_FULL: u64 = 5;
-const CLOSE: u64 = 6;
-const IS_CLOSED: u64 = 7;
-const ACT: u64 = 8;
-const FAIL: u64 = 9;
 
 struct Bench(Machine);
 

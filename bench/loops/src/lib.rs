@@ -3,6 +3,7 @@
 
 pub mod words;
 
+use plain::{Machine, Queue};
 use std::process::exit;
 
 extern "C" {
@@ -32,6 +33,17 @@ pub fn called_by_workers(function: ByWorkers, list: &[u64]) -> Told {
     // SAFETY: the slice is as long as is said, and told is four words.
     let refusal = unsafe { function(list[0], entries.as_ptr(), entries.len(), &mut told) };
     (refusal, told)
+}
+
+/// The plain machine of up to 64 workers, which tests once whether it is broken, and a schedule run on it.
+pub fn plain_judged(list: &[u64]) -> Told {
+    // so that the test is made, and of a machine that nothing is known of
+    let mut m = std::hint::black_box(Machine::of_at_most(64, list[0], list[1], 1).expect("a machine"));
+    if m.broken() {
+        return (6, [0; 4]);
+    }
+    let (refusal, place) = m.run(&list[2..]);
+    (refusal, [place, m.head, m.tail, m.meter])
 }
 
 /// The processor time of this process so far, in seconds: what other programs take does not count.

@@ -50,32 +50,95 @@ impl Answer {
     }
 }
 
+/// What a queue keeps of a worker; it is told as the place at which the worker stands.
+pub trait Record: Copy + Display {
+    fn idle(&self) -> bool;
+
+    /// Whether its next action is a weak exchange.
+    fn weak(&self) -> bool;
+
+    /// At the first place of a call.
+    fn begun(code: u64, item: u64) -> Self;
+}
+
 /// What the programs of bench/ ask of a queue's machine. The blank one, which nothing was made of, is the default.
 pub trait Queue: Default {
-    fn idle(&self, worker: u64) -> bool;
+    type Worker: Record;
 
-    /// Whether the worker's next action is a weak exchange.
-    fn weak(&self, worker: u64) -> bool;
+    fn workers(&self) -> &[Self::Worker];
+
+    fn workers_mut(&mut self) -> &mut [Self::Worker];
+
+    fn meter(&mut self) -> &mut u64;
+
+    /// One act of a worker that is busy; `lose`: its weak exchange fails. False, and nothing done, where it wants a block and none is free.
+    fn acted(&mut self, worker: &mut Self::Worker, lose: bool) -> bool;
+
+    /// The place of an entry, its refusal, the machine's words and its meter, without the line's end.
+    fn report(&self, place: u64, refusal: u64, out: &mut impl Write) -> io::Result<()>;
+
+    /// The lines of its slots.
+    fn tell_slots(&self, out: &mut impl Write) -> io::Result<()>;
+
+    /// What `Drop` would meet.
+    fn items(&self) -> Vec<u64>;
+
+    fn idle(&self, worker: u64) -> bool {
+        self.workers()[worker as usize].idle()
+    }
+
+    fn weak(&self, worker: u64) -> bool {
+        self.workers()[worker as usize].weak()
+    }
 
     fn unreadable(first: u64, second: u64) -> bool {
         stray(first, second)
     }
 
-    /// The place of the first entry that cannot be read.
-    fn unreadable_at(schedule: &[u64]) -> Option<u64> {
-        schedule.chunks_exact(2).position(|e| Self::unreadable(e[0], e[1])).map(|at| at as u64)
+    /// What a schedule is refused for before anything is run, and where: 11, or 9 for the first entry that cannot be read.
+    fn refused_whole(schedule: &[u64]) -> Option<(u64, u64)> {
+        if schedule.len() % 2 == 1 {
+            return Some((11, 0));
+        }
+        schedule.chunks_exact(2).position(|e| Self::unreadable(e[0], e[1])).map(|at| (9, at as u64))
     }
 
     /// One entry, read already: 0, or the refusal.
-    fn step(&mut self, first: u64, item: u64) -> u64;
+    #[inline(always)]
+    fn step(&mut self, first: u64, item: u64) -> u64 {
+        let w = (first / 16) as usize;
+        let code = first % 16;
+        let Some(&worker) = self.workers().get(w) else { return 3 };
+        if code < 8 {
+            if !worker.idle() {
+                return 4;
+            }
+            self.workers_mut()[w] = Self::Worker::begun(code, item);
+            return 0;
+        }
+        if worker.idle() {
+            return 5;
+        }
+        if *self.meter() >= METER {
+            return 7;
+        }
+        let lose = code == 9;
+        if lose && !worker.weak() {
+            return 8;
+        }
+        let mut worker = worker;
+        if !self.acted(&mut worker, lose) {
+            return 23;
+        }
+        *self.meter() += 1;
+        self.workers_mut()[w] = worker;
+        0
+    }
 
     /// A schedule to its end or to its first refusal: the refusal, and how many entries were run.
     fn run(&mut self, schedule: &[u64]) -> (u64, u64) {
-        if schedule.len() % 2 == 1 {
-            return (11, 0);
-        }
-        if let Some(at) = Self::unreadable_at(schedule) {
-            return (9, at);
+        if let Some(refused) = Self::refused_whole(schedule) {
+            return refused;
         }
         for (i, entry) in schedule.chunks_exact(2).enumerate() {
             let refusal = self.step(entry[0], entry[1]);
@@ -86,14 +149,40 @@ pub trait Queue: Default {
         (0, schedule.len() as u64 / 2)
     }
 
-    /// The place of an entry, its refusal, the machine's words and its meter, without the line's end.
-    fn report(&self, place: u64, refusal: u64, out: &mut impl Write) -> io::Result<()>;
+    /// An entry's report, and where its worker stands.
+    fn line(&self, place: u64, refusal: u64, worker: u64, out: &mut impl Write) -> io::Result<()> {
+        self.report(place, refusal, out)?;
+        match self.workers().get(worker as usize) {
+            Some(record) => writeln!(out, " w{worker}={record}"),
+            None => writeln!(out, " w{worker}=-"),
+        }
+    }
 
-    /// The same, and where a worker stands.
-    fn line(&self, place: u64, refusal: u64, worker: u64, out: &mut impl Write) -> io::Result<()>;
+    /// The items in the order in which they would be popped, or refusal 6 or 4.
+    fn contents(&self) -> Result<Vec<u64>, u64> {
+        if self.workers().is_empty() {
+            return Err(6);
+        }
+        if !self.workers().iter().all(Record::idle) {
+            return Err(4);
+        }
+        Ok(self.items())
+    }
 
     /// What stands at the end.
-    fn tell(&self, out: &mut impl Write) -> io::Result<()>;
+    fn tell(&self, out: &mut impl Write) -> io::Result<()> {
+        self.tell_slots(out)?;
+        match self.contents() {
+            Ok(items) => {
+                out.write_all(b"contents")?;
+                for item in items {
+                    write!(out, " {item}")?;
+                }
+                out.write_all(b"\n")
+            }
+            Err(refusal) => writeln!(out, "contents refused {refusal}"),
+        }
+    }
 }
 
 #[derive(Clone, Copy, PartialEq)]
@@ -412,86 +501,64 @@ impl Machine {
                 }
         })
     }
+}
 
-    /// What `Drop` would meet, or refusal 6 or 4.
-    pub fn contents(&self) -> Result<Vec<u64>, u64> {
-        if self.workers.is_empty() {
-            return Err(6);
-        }
-        if self.workers.iter().any(|w| !matches!(w.place, Idle(_))) {
-            return Err(4);
-        }
-        let from = self.index(self.head);
-        Ok((0..self.count(self.tail, self.head)).map(|k| self.slots[((from + k) % self.capacity) as usize].value).collect())
+impl Record for Worker {
+    fn idle(&self) -> bool {
+        matches!(self.place, Idle(_))
+    }
+
+    fn weak(&self) -> bool {
+        self.place.weak()
+    }
+
+    fn begun(code: u64, item: u64) -> Worker {
+        Worker { place: begin(code, item), differed: 0, failed: 0 }
+    }
+}
+
+impl Display for Worker {
+    fn fmt(&self, f: &mut Formatter) -> fmt::Result {
+        self.place.fmt(f)
     }
 }
 
 impl Queue for Machine {
-    fn idle(&self, w: u64) -> bool {
-        matches!(self.workers[w as usize].place, Idle(_))
+    type Worker = Worker;
+
+    fn workers(&self) -> &[Worker] {
+        &self.workers
     }
 
-    fn weak(&self, w: u64) -> bool {
-        self.workers[w as usize].place.weak()
+    fn workers_mut(&mut self) -> &mut [Worker] {
+        &mut self.workers
+    }
+
+    fn meter(&mut self) -> &mut u64 {
+        &mut self.meter
     }
 
     #[inline(always)]
-    fn step(&mut self, first: u64, item: u64) -> u64 {
-        let w = (first / 16) as usize;
-        let Some(&worker) = self.workers.get(w) else { return 3 };
-        let mut worker = worker;
-        let code = first % 16;
-        let busy = !matches!(worker.place, Idle(_));
-        if code < 8 {
-            if busy {
-                return 4;
-            }
-            worker = Worker { place: begin(code, item), differed: 0, failed: 0 };
-        } else {
-            if !busy {
-                return 5;
-            }
-            if self.meter >= METER {
-                return 7;
-            }
-            let lose = code == 9;
-            if lose && !worker.place.weak() {
-                return 8;
-            }
-            self.act(&mut worker, lose);
-            self.meter += 1;
-        }
-        self.workers[w] = worker;
-        0
+    fn acted(&mut self, worker: &mut Worker, lose: bool) -> bool {
+        self.act(worker, lose);
+        true
     }
 
     fn report(&self, place: u64, refusal: u64, out: &mut impl Write) -> io::Result<()> {
         write!(out, "{place} {refusal} h={} t={} m={}", self.head, self.tail, self.meter)
     }
 
-    fn line(&self, place: u64, refusal: u64, w: u64, out: &mut impl Write) -> io::Result<()> {
-        write!(out, "{place} {refusal} h={} t={} m={} w{w}=", self.head, self.tail, self.meter)?;
-        match self.workers.get(w as usize) {
-            Some(worker) => writeln!(out, "{}", worker.place),
-            None => out.write_all(b"-\n"),
-        }
-    }
-
-    fn tell(&self, out: &mut impl Write) -> io::Result<()> {
+    fn tell_slots(&self, out: &mut impl Write) -> io::Result<()> {
         out.write_all(b"slots")?;
         for Slot { stamp, value } in &self.slots {
             write!(out, " ({stamp},{value})")?;
         }
-        match self.contents() {
-            Ok(items) => {
-                out.write_all(b"\ncontents")?;
-                for item in items {
-                    write!(out, " {item}")?;
-                }
-                out.write_all(b"\n")
-            }
-            Err(refusal) => writeln!(out, "\ncontents refused {refusal}"),
-        }
+        out.write_all(b"\n")
+    }
+
+    fn items(&self) -> Vec<u64> {
+        let from = self.index(self.head);
+        (0..self.count(self.tail, self.head)).map(|k| self.slots[((from + k) % self.capacity) as usize].value).collect()
     }
 }
 

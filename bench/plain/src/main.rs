@@ -58,10 +58,8 @@ fn replay<Q: Queue>(asked: &Asked, made: Result<Q, u64>, entries: &[u64], out: &
     let whole = if made_refusal != 0 {
         // the machine is blank, and that is broken
         Some((6, 0))
-    } else if entries.len() % 2 == 1 {
-        Some((11, 0))
     } else {
-        Q::unreadable_at(entries).map(|at| (9, at))
+        Q::refused_whole(entries)
     };
     let mut refusal = 0;
     if asked.quiet || whole.is_some() {

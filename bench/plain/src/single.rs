@@ -1,7 +1,7 @@
 //! The one-slot queue: src/single.rs one action at a time, written for speed and nothing else.
 
 use crate::Answer::{self, *};
-use crate::{METER, Queue};
+use crate::{Queue, Record};
 use std::fmt::{self, Display, Formatter};
 use std::io::{self, Write};
 
@@ -121,79 +121,61 @@ impl Machine {
     }
 }
 
-impl Queue for Machine {
-    fn idle(&self, w: u64) -> bool {
-        matches!(self.workers[w as usize], Idle(_))
+impl Record for Place {
+    fn idle(&self) -> bool {
+        matches!(self, Idle(_))
     }
 
     /// No exchange of this queue is weak.
-    fn weak(&self, _: u64) -> bool {
+    fn weak(&self) -> bool {
         false
     }
 
+    fn begun(code: u64, item: u64) -> Place {
+        match code {
+            0 => A1 { item },
+            1 => B1 { expected: 0, item },
+            2 => C1 { expected: PUSHED },
+            3 => Len1,
+            4 => Empty1,
+            5 => Full1,
+            6 => Close1,
+            _ => IsClosed1,
+        }
+    }
+}
+
+impl Queue for Machine {
+    type Worker = Place;
+
+    fn workers(&self) -> &[Place] {
+        &self.workers
+    }
+
+    fn workers_mut(&mut self) -> &mut [Place] {
+        &mut self.workers
+    }
+
+    fn meter(&mut self) -> &mut u64 {
+        &mut self.meter
+    }
+
     #[inline(always)]
-    fn step(&mut self, first: u64, item: u64) -> u64 {
-        let w = (first / 16) as usize;
-        let Some(&place) = self.workers.get(w) else { return 3 };
-        let code = first % 16;
-        let busy = !matches!(place, Idle(_));
-        self.workers[w] = if code < 8 {
-            if busy {
-                return 4;
-            }
-            begin(code, item)
-        } else {
-            if !busy {
-                return 5;
-            }
-            if self.meter >= METER {
-                return 7;
-            }
-            if code == 9 {
-                return 8;
-            }
-            self.meter += 1;
-            self.act(place)
-        };
-        0
+    fn acted(&mut self, place: &mut Place, _: bool) -> bool {
+        *place = self.act(*place);
+        true
     }
 
     fn report(&self, place: u64, refusal: u64, out: &mut impl Write) -> io::Result<()> {
         write!(out, "{place} {refusal} s={} m={}", self.state, self.meter)
     }
 
-    fn line(&self, place: u64, refusal: u64, w: u64, out: &mut impl Write) -> io::Result<()> {
-        write!(out, "{place} {refusal} s={} m={} w{w}=", self.state, self.meter)?;
-        match self.workers.get(w as usize) {
-            Some(place) => writeln!(out, "{place}"),
-            None => out.write_all(b"-\n"),
-        }
+    fn tell_slots(&self, out: &mut impl Write) -> io::Result<()> {
+        writeln!(out, "value {}", self.value)
     }
 
-    fn tell(&self, out: &mut impl Write) -> io::Result<()> {
-        writeln!(out, "value {}", self.value)?;
-        if self.workers.is_empty() {
-            writeln!(out, "contents refused 6")
-        } else if !(0..self.workers.len()).all(|w| self.idle(w as u64)) {
-            writeln!(out, "contents refused 4")
-        } else if self.state & PUSHED != 0 {
-            writeln!(out, "contents {}", self.value)
-        } else {
-            writeln!(out, "contents")
-        }
-    }
-}
-
-fn begin(code: u64, item: u64) -> Place {
-    match code {
-        0 => A1 { item },
-        1 => B1 { expected: 0, item },
-        2 => C1 { expected: PUSHED },
-        3 => Len1,
-        4 => Empty1,
-        5 => Full1,
-        6 => Close1,
-        _ => IsClosed1,
+    fn items(&self) -> Vec<u64> {
+        if self.state & PUSHED != 0 { vec![self.value] } else { Vec::new() }
     }
 }
 

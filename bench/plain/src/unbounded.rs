@@ -1,7 +1,7 @@
 //! The unbounded queue over a pool of 64 blocks: src/unbounded.rs one action at a time, written for speed and nothing else.
 
 use crate::Answer::{self, *};
-use crate::{METER, Queue};
+use crate::{Queue, Record};
 use std::fmt::{self, Display, Formatter};
 use std::io::{self, Write};
 
@@ -329,9 +329,79 @@ impl Machine {
             IsClosed1 => Idle(crate::yes_no(marked(self.tail))),
         })
     }
+}
 
-    /// The items as `Drop` would meet them.
-    fn contents(&self) -> Vec<u64> {
+impl Default for Machine {
+    fn default() -> Machine {
+        Machine::of(0)
+    }
+}
+
+impl Record for Place {
+    fn idle(&self) -> bool {
+        matches!(self, Idle(_))
+    }
+
+    fn weak(&self) -> bool {
+        matches!(self, U7 { .. } | V4 { .. })
+    }
+
+    fn begun(code: u64, item: u64) -> Place {
+        match code {
+            0 | 1 => U1 { n: NONE, item },
+            2 => V1,
+            3 => Len1,
+            4 => Empty1,
+            5 => Full1,
+            6 => Close1,
+            _ => IsClosed1,
+        }
+    }
+}
+
+impl Queue for Machine {
+    type Worker = Place;
+
+    fn workers(&self) -> &[Place] {
+        &self.workers
+    }
+
+    fn workers_mut(&mut self) -> &mut [Place] {
+        &mut self.workers
+    }
+
+    fn meter(&mut self) -> &mut u64 {
+        &mut self.meter
+    }
+
+    /// There is no force_push.
+    fn unreadable(first: u64, second: u64) -> bool {
+        first % 16 == 1 || crate::stray(first, second)
+    }
+
+    #[inline(always)]
+    fn acted(&mut self, place: &mut Place, lose: bool) -> bool {
+        let Some(after) = self.act(*place, lose) else { return false };
+        *place = after;
+        true
+    }
+
+    fn report(&self, place: u64, refusal: u64, out: &mut impl Write) -> io::Result<()> {
+        write!(out, "{place} {refusal} h={} hb={} t={} tb={} m={}", self.head, self.front, self.tail, self.back, self.meter)
+    }
+
+    fn tell_slots(&self, out: &mut impl Write) -> io::Result<()> {
+        for k in (0..64).filter(|k| self.free >> k & 1 == 0) {
+            write!(out, "block {k} next={}", self.next[k])?;
+            for Slot { state, value } in self.slots[k] {
+                write!(out, " ({state},{value})")?;
+            }
+            out.write_all(b"\n")?;
+        }
+        Ok(())
+    }
+
+    fn items(&self) -> Vec<u64> {
         let (mut h, t, mut b) = (self.head & !1, self.tail & !1, self.front);
         let mut items = Vec::new();
         while h != t {
@@ -343,103 +413,7 @@ impl Machine {
             h = h.wrapping_add(2);
         }
         items
-    }
-}
-
-impl Default for Machine {
-    fn default() -> Machine {
-        Machine::of(0)
-    }
-}
-
-impl Queue for Machine {
-    fn idle(&self, w: u64) -> bool {
-        matches!(self.workers[w as usize], Idle(_))
-    }
-
-    fn weak(&self, w: u64) -> bool {
-        matches!(self.workers[w as usize], U7 { .. } | V4 { .. })
-    }
-
-    /// There is no force_push.
-    fn unreadable(first: u64, second: u64) -> bool {
-        first % 16 == 1 || crate::stray(first, second)
-    }
-
-    #[inline(always)]
-    fn step(&mut self, first: u64, item: u64) -> u64 {
-        let w = (first / 16) as usize;
-        let Some(&place) = self.workers.get(w) else { return 3 };
-        let code = first % 16;
-        let busy = !matches!(place, Idle(_));
-        self.workers[w] = if code < 8 {
-            if busy {
-                return 4;
-            }
-            begin(code, item)
-        } else {
-            if !busy {
-                return 5;
-            }
-            if self.meter >= METER {
-                return 7;
-            }
-            let lose = code == 9;
-            if lose && !matches!(place, U7 { .. } | V4 { .. }) {
-                return 8;
-            }
-            let Some(after) = self.act(place, lose) else { return 23 };
-            self.meter += 1;
-            after
-        };
-        0
-    }
-
-    fn report(&self, place: u64, refusal: u64, out: &mut impl Write) -> io::Result<()> {
-        write!(out, "{place} {refusal} h={} hb={} t={} tb={} m={}", self.head, self.front, self.tail, self.back, self.meter)
-    }
-
-    fn line(&self, place: u64, refusal: u64, w: u64, out: &mut impl Write) -> io::Result<()> {
-        write!(out, "{place} {refusal} h={} hb={} t={} tb={} m={} w{w}=", self.head, self.front, self.tail, self.back, self.meter)?;
-        match self.workers.get(w as usize) {
-            Some(place) => writeln!(out, "{place}"),
-            None => out.write_all(b"-\n"),
-        }
-    }
-
-    fn tell(&self, out: &mut impl Write) -> io::Result<()> {
-        for k in (0..64).filter(|k| self.free >> k & 1 == 0) {
-            write!(out, "block {k} next={}", self.next[k])?;
-            for Slot { state, value } in self.slots[k] {
-                write!(out, " ({state},{value})")?;
-            }
-            out.write_all(b"\n")?;
-        }
-        if self.workers.is_empty() {
-            return writeln!(out, "contents refused 6");
-        }
-        if !(0..self.workers.len()).all(|w| self.idle(w as u64)) {
-            return writeln!(out, "contents refused 4");
-        }
-        out.write_all(b"contents")?;
-        for item in self.contents() {
-            write!(out, " {item}")?;
-        }
-        out.write_all(b"\n")
-    }
-}
-
-fn begin(code: u64, item: u64) -> Place {
-    match code {
-        0 | 1 => U1 { n: NONE, item },
-        2 => V1,
-        3 => Len1,
-        4 => Empty1,
-        5 => Full1,
-        6 => Close1,
-        _ => IsClosed1,
-    }
-}
+    }}
 
 impl Display for Place {
     fn fmt(&self, f: &mut Formatter) -> fmt::Result {

@@ -1,8 +1,15 @@
 //! A second reading of the words that a host keeps, written from hosts/c/fernmoldew.h and document 01 alone: what a record's words stand for, and which words a plain machine has.
 
+pub mod replay;
 pub mod slot;
 
+use fernmoldew::Refusal;
 use plain::{Answer, Machine, Place};
+
+/// The refusal's number, or 0.
+pub fn number<T>(answered: &Result<T, Refusal>) -> u64 {
+    answered.as_ref().err().map_or(0, |refusal| refusal.number())
+}
 
 /// The words of a place of the plain machine.
 pub fn place_words(place: Place) -> [u64; 3] {

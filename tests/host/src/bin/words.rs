@@ -2,7 +2,7 @@
 //! for which every call must be refusal 6 and change no word. Ends with status 1 at the first difference.
 
 use fernmoldew::{Edition, Refusal, Ring, Stopped, Workers};
-use host::words_of;
+use host::{number, words_of};
 use plain::{Machine, Queue};
 use std::process::exit;
 
@@ -17,10 +17,6 @@ impl Random {
     fn pick(&mut self, list: &[u64]) -> u64 {
         list[self.below(list.len() as u64) as usize]
     }
-}
-
-fn number<T>(result: &Result<T, Refusal>) -> u64 {
-    result.as_ref().err().map_or(0, |refusal| refusal.number())
 }
 
 fn differ(what: &str) -> ! {
