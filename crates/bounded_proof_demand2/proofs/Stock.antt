@@ -70,7 +70,7 @@ Kept p q = (heads (movedOf q) + one (unread p) ≡ one (readsAt p) + one (unread
 found-kept : (f : Fixed) (t : Stamp) (k : Kind) (x : ℕ) (p : Place) → readsAt p ≡ false → unread p ≡ false → Kept p (afterTail f k t x)
 unfolding afterTail
 found-kept f t k x p reads waits =
-    either (Kept p) (markedOf f t) (Idle (Closed x)) (P2 k t x) (λ z. rw (reads, waits) (omega arith)) (λ z. rw (reads, waits) (omega arith))
+    either (Kept p) (markedOf f t) (Idle (Closed x)) (P2 k t x) (λ z. rw (waits, reads) (omega arith)) (λ z. rw (waits, reads) (omega arith))
 
 full-kept : (k j : Kind) (t : Stamp) (x : ℕ) → Kept (P2 j t x) (fullAt k t x)
 full-kept Push j t x = omega arith
