@@ -31,7 +31,7 @@ fn busy_line(out: &mut [u8], at: usize, w: u64, s: [u64; WORDS]) -> usize {
         return at;
     }
     let p = text_output::form(out, at, b"busy: w# at ", &[w]);
-    let q = stood::place(out, p, s[0]);
+    let q = stood::name(out, p, s[0]);
     let r = hand_of(out, q, s);
     text_output::settle(out, r)
 }

@@ -13,18 +13,15 @@ pub fn pointer(out: &mut [u8], at: usize, p: Pointer) -> usize {
     }
 }
 
-pub fn answer(out: &mut [u8], at: usize, a: Answer) -> usize {
-    match a {
-        Answer::Nothing => text_output::text(out, at, b"none"),
-        Answer::Pushed => text_output::text(out, at, b"pushed"),
-        Answer::Closed(x) => text_output::form(out, at, b"closed(#)", &[x]),
-        Answer::Popped(x) => text_output::form(out, at, b"popped(#)", &[x]),
-        Answer::Empty => text_output::text(out, at, b"empty"),
-        Answer::PopClosed => text_output::text(out, at, b"closed"),
-        Answer::Len(n) => text_output::form(out, at, b"len(#)", &[n]),
-        Answer::Yes => text_output::text(out, at, b"yes"),
-        Answer::No => text_output::text(out, at, b"no"),
-    }
+fn answer(out: &mut [u8], at: usize, a: Answer) -> usize {
+    let numbers = crate::code::answer_of(a);
+    text_output::nth(
+        out,
+        at,
+        b"none|pushed|closed(#)|popped(#)|empty|closed|len(#)|yes|no|",
+        numbers[0] as usize,
+        &[numbers[1]],
+    )
 }
 
 fn word(out: &mut [u8], at: usize, w: Word) -> usize {
