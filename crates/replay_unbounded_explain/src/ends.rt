@@ -4,7 +4,7 @@ use replay_survey::pieces::Run;
 use unbounded_machine::Machine;
 use unbounded_text_explain::notes::Notes;
 use unbounded_text_explain::stood;
-use unbounded_text_explain::stood::WORDS;
+use unbounded_text_places::code::WORDS;
 
 // The slot in hand: of a push from U9 to U13, of a pop from V6 to V12.
 fn hand_of(out: &mut [u8], at: usize, s: [u64; WORDS]) -> usize {

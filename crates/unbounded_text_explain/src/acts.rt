@@ -3,9 +3,6 @@ use crate::Entered;
 use crate::notes;
 use crate::stood;
 
-// How a block that is none is numbered.
-const NO_BLOCK: u64 = 64;
-
 // The number of the claim, if the act is one.
 fn claim_of(e: Entered, tails: u64, heads: u64) -> u64 {
     let s = e.before;
@@ -78,7 +75,7 @@ fn is_of_head(e: Entered) -> bool {
 
 fn has_no_block(e: Entered) -> bool {
     let after = e.after;
-    is_of_head(e) && after[0] == 18 && after[2] == NO_BLOCK
+    is_of_head(e) && after[0] == 18 && after[2] == unbounded_text_places::code::NONE
 }
 
 fn is_at_end(e: Entered) -> bool {

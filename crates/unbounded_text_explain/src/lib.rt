@@ -4,7 +4,7 @@ pub mod lines;
 pub mod notes;
 pub mod stood;
 
-use stood::WORDS;
+use unbounded_text_places::code::WORDS;
 
 // What an entry is told by: head's and tail's index words and tail's block, and where its worker stands.
 pub struct Seen {

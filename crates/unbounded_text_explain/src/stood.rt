@@ -1,11 +1,4 @@
-// A place by numbers alone: that of the place in the table's order, its words in that order, and its answer.
-use unbounded_places::Place;
-use unbounded_text_places::code::Coded;
-use unbounded_text_places::code::Word;
-
-// In this order: the place, four words of which a block is its number, and 64 for none; the answer's number in the order of the enum, and what it hands out. An array, since
-// what has many fields is dear to check.
-pub const WORDS: usize = 7;
+// Names of places and of what an act leads to, by their numbers (unbounded_text_places::code).
 
 // The first place of a pop.
 pub const V1: u64 = 16;
@@ -20,45 +13,6 @@ pub const FAILED: u64 = 49;
 pub const NONE: u64 = 50;
 
 pub const END: u64 = 51;
-
-fn said_in(w: Word) -> [u64; 2] {
-    match w {
-        Word::Nothing => [0, 0],
-        Word::Number(_) => [0, 0],
-        Word::Block(_) => [0, 0],
-        Word::Said(a) => unbounded_text_places::code::answer_of(a),
-    }
-}
-
-fn number(w: Word) -> u64 {
-    match w {
-        Word::Nothing => 0,
-        Word::Number(n) => n,
-        Word::Block(p) => unbounded_words::number(p),
-        Word::Said(_) => 0,
-    }
-}
-
-fn by_numbers(c: Coded) -> [u64; WORDS] {
-    let first = c.a;
-    let second = c.b;
-    let third = c.c;
-    let fourth = c.d;
-    let said = said_in(first);
-    [
-        c.case as u64,
-        number(first),
-        number(second),
-        number(third),
-        number(fourth),
-        said[0],
-        said[1],
-    ]
-}
-
-pub fn of(p: Place) -> [u64; WORDS] {
-    by_numbers(unbounded_text_places::code::of(p))
-}
 
 // The name of a place, - for none; of what stands behind the places.
 pub fn name(out: &mut [u8], at: usize, case: u64) -> usize {
