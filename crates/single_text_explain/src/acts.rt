@@ -39,14 +39,14 @@ const ANSWERED: u64 = 8;
 fn numbers_of(e: Entered, n: Notes) -> [u64; 26] {
     let before = e.before;
     let after = e.after;
-    let found = expected(before);
+    let word = expected(before);
     let x = std::num::wrapping_add_u64(ANSWERED, after.more as u64);
     [
         after.a,
         0,
         0,
         0,
-        found,
+        word,
         0,
         0,
         0,
