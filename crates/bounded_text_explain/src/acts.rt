@@ -53,339 +53,146 @@ fn next(narrow: bool, ring: [u64; 8], word: u64) -> u64 {
     in_width(narrow, std::num::wrapping_add_u64(begun, ring[1]))
 }
 
-// Whether the act lost its exchange by the schedule.
-fn is_failed(e: Entered) -> bool {
-    let before = e.before;
-    let after = e.after;
-    before[4] != after[4]
-}
-
-fn p1(out: &mut [u8], at: usize, e: Entered) -> usize {
-    let ring = e.ring;
-    let after = e.after;
-    if after[0] == 7 {
-        return text_output::form(
-            out,
-            at,
-            b"reads tail, #, marked: closed, # not pushed",
-            &[ring[5], after[1]],
-        );
-    }
-    text_output::form(
-        out,
-        at,
-        b"reads tail, #: slot #",
-        &[after[1], slot_of(ring, after[1])],
-    )
-}
-
-fn p2(out: &mut [u8], at: usize, e: Entered) -> usize {
-    let ring = e.ring;
-    let before = e.before;
-    let after = e.after;
-    let slot = slot_of(ring, before[1]);
-    match after[0] {
-        24 | 25 => text_output::form(out, at, b"slot # is free for tail #", &[slot, before[1]]),
-        27 => text_output::form(out, at, b"slot # has the last lap's item: full?", &[slot]),
-        28 => text_output::form(
-            out,
-            at,
-            b"slot # has the last lap's item: displaces it?",
-            &[slot],
-        ),
-        _ => text_output::form(
-            out,
-            at,
-            b"slot # is not at tail #: tries again",
-            &[slot, before[1]],
-        ),
-    }
-}
-
-fn p3(out: &mut [u8], at: usize, e: Entered, c: Claims) -> usize {
-    let ring = e.ring;
-    let before = e.before;
-    let after = e.after;
-    let t = before[1];
-    if after[0] == 26 {
-        return text_output::form(
-            out,
-            at,
-            b"tail # -> # won: claim # is w#'s; slot # in its hand",
-            &[t, ring[5], c.tail, e.first / 16, slot_of(ring, t)],
-        );
-    }
-    if after[0] == 7 {
-        return text_output::form(
-            out,
-            at,
-            b"tail is #, marked: lost; closed, # not pushed",
-            &[ring[5], after[1]],
-        );
-    }
-    if is_failed(e) {
-        return text_output::form(
-            out,
-            at,
-            b"tail # -> # failed by the schedule; goes on with #",
-            &[t, next(e.narrow, ring, t), t],
-        );
-    }
-    text_output::form(
-        out,
-        at,
-        b"tail is #, not #: lost; goes on with #",
-        &[after[1], t, after[1]],
-    )
-}
-
-fn p6(out: &mut [u8], at: usize, e: Entered) -> usize {
-    let ring = e.ring;
-    let before = e.before;
-    let after = e.after;
-    if after[0] == 6 {
-        return text_output::form(
-            out,
-            at,
-            b"head is #, a lap behind tail #: full, # not pushed",
-            &[ring[4], before[1], after[1]],
-        );
-    }
-    text_output::form(
-        out,
-        at,
-        b"head is #, not a lap behind tail #: tries again",
-        &[ring[4], before[1]],
-    )
-}
-
-fn f6(out: &mut [u8], at: usize, e: Entered, c: Claims) -> usize {
-    let ring = e.ring;
-    let before = e.before;
-    let after = e.after;
-    let t = before[1];
-    let h = in_width(e.narrow, std::num::wrapping_sub_u64(t, ring[1]));
-    if after[0] == 29 {
-        return text_output::form(
-            out,
-            at,
-            b"head # -> # won: claim # is w#'s to displace; slot # in its hand",
-            &[h, ring[4], c.head, e.first / 16, slot_of(ring, t)],
-        );
-    }
-    if is_failed(e) {
-        return text_output::form(
-            out,
-            at,
-            b"head # -> # failed by the schedule; tries again",
-            &[h, next(e.narrow, ring, h)],
-        );
-    }
-    text_output::form(
-        out,
-        at,
-        b"head is #, not #: lost; tries again",
-        &[ring[4], h],
-    )
-}
-
-fn f7(out: &mut [u8], at: usize, e: Entered, c: Claims) -> usize {
+// The numbers of the table's letters: a, b the words that the worker has then; c, d the claim at tail, at head; e the word that it had, f the one after that, g the one a
+// lap before, i its item; h head, j the word after g; k, l, s the slots of h, a and e; o tail as it was, t tail; w the worker.
+fn numbers_of(e: Entered, c: Claims) -> [u64; 23] {
     let ring = e.ring;
     let was = e.ring_before;
-    let p = text_output::form(
-        out,
-        at,
-        b"tail # -> #: claim # is w#'s",
-        &[was[5], ring[5], c.tail, e.first / 16],
-    );
-    if is_marked(ring, was[5]) && !is_marked(ring, ring[5]) {
-        return text_output::text(out, p, b"; the close is lost");
-    }
-    p
-}
-
-fn o2(out: &mut [u8], at: usize, e: Entered) -> usize {
-    let ring = e.ring;
     let before = e.before;
     let after = e.after;
-    let both = [slot_of(ring, before[1]), before[1]];
-    match after[0] {
-        17 => text_output::form(out, at, b"slot # has an item for head #", &both),
-        19 => text_output::form(out, at, b"slot # has none for head #: empty?", &both),
-        _ => text_output::form(out, at, b"slot # is not at head #: tries again", &both),
-    }
+    let g = in_width(e.narrow, std::num::wrapping_sub_u64(before[1], ring[1]));
+    let f = next(e.narrow, ring, before[1]);
+    let j = next(e.narrow, ring, g);
+    let k = slot_of(ring, ring[4]);
+    let l = slot_of(ring, after[1]);
+    let s = slot_of(ring, before[1]);
+    [
+        after[1],
+        after[2],
+        c.tail,
+        c.head,
+        before[1],
+        f,
+        g,
+        ring[4],
+        before[2],
+        j,
+        k,
+        l,
+        0,
+        0,
+        was[5],
+        0,
+        0,
+        0,
+        s,
+        ring[5],
+        0,
+        0,
+        e.first / 16,
+    ]
 }
 
-fn o3(out: &mut [u8], at: usize, e: Entered, c: Claims) -> usize {
-    let ring = e.ring;
-    let before = e.before;
-    let after = e.after;
-    let h = before[1];
-    if after[0] == 18 {
-        return text_output::form(
-            out,
-            at,
-            b"head # -> # won: claim # is w#'s; slot # in its hand",
-            &[h, ring[4], c.head, e.first / 16, slot_of(ring, h)],
-        );
-    }
-    if is_failed(e) {
-        return text_output::form(
-            out,
-            at,
-            b"head # -> # failed by the schedule; goes on with #",
-            &[h, next(e.narrow, ring, h), h],
-        );
-    }
-    text_output::form(
-        out,
-        at,
-        b"head is #, not #: lost; goes on with #",
-        &[after[1], h, after[1]],
-    )
-}
+// In the list of names, behind the codes of places.
+const FAILED: u64 = 39;
 
-fn o6(out: &mut [u8], at: usize, e: Entered) -> usize {
-    let ring = e.ring;
-    let before = e.before;
-    let after = e.after;
-    let both = [ring[5], before[1]];
-    match after[0] {
-        2 => text_output::form(out, at, b"tail is #, as head: empty", &both),
-        3 => text_output::form(out, at, b"tail is #, marked, else as head: closed", &both),
-        _ => text_output::form(out, at, b"tail is #, not #: tries again", &both),
-    }
-}
+const LOST: u64 = 40;
 
-fn yes_or_no(out: &mut [u8], at: usize, code: u64) -> usize {
-    if code == 4 {
-        return text_output::text(out, at, b"yes");
-    }
-    text_output::text(out, at, b"no")
-}
-
-fn len3(out: &mut [u8], at: usize, e: Entered) -> usize {
-    let ring = e.ring;
-    let before = e.before;
-    let after = e.after;
-    if after[0] == 10 {
-        return text_output::form(out, at, b"tail is still #: len #", &[ring[5], after[1]]);
-    }
-    text_output::form(
-        out,
-        at,
-        b"tail is #, not #: tries again",
-        &[ring[5], before[1]],
-    )
-}
-
-fn marking(out: &mut [u8], at: usize, e: Entered) -> usize {
+fn is_close_lost(e: Entered) -> bool {
     let ring = e.ring;
     let was = e.ring_before;
-    let after = e.after;
-    if after[0] == 4 {
-        return text_output::form(out, at, b"tail # -> #, marked: yes", &[was[5], ring[5]]);
-    }
-    text_output::form(out, at, b"tail is #, marked already: no", &[ring[5]])
+    is_marked(ring, was[5]) && !is_marked(ring, ring[5])
 }
 
-fn marked_asked(out: &mut [u8], at: usize, e: Entered) -> usize {
-    let ring = e.ring;
-    let after = e.after;
-    if after[0] == 4 {
-        return text_output::form(out, at, b"tail is #, marked: yes", &[ring[5]]);
-    }
-    text_output::form(out, at, b"tail is #, not marked: no", &[ring[5]])
-}
-
-// Of a call that looks.
-fn looks(out: &mut [u8], at: usize, e: Entered) -> usize {
-    let ring = e.ring;
+// What an act leads to: a place, an answer, an exchange lost by the schedule, or a close that is lost.
+fn led_to(e: Entered) -> u64 {
     let before = e.before;
     let after = e.after;
-    match before[0] {
-        34 | 36 => text_output::form(out, at, b"reads tail, #", &[ring[5]]),
-        20 | 35 => text_output::form(out, at, b"reads head, #", &[ring[4]]),
-        21 => len3(out, at, e),
-        13 => {
-            let p = text_output::form(out, at, b"tail is #, head was #: ", &[ring[5], before[1]]);
-            yes_or_no(out, p, after[0])
-        }
-        14 => {
-            let p = text_output::form(out, at, b"head is #, tail was #: ", &[ring[4], before[1]]);
-            yes_or_no(out, p, after[0])
-        }
-        37 => marking(out, at, e),
-        _ => marked_asked(out, at, e),
+    if before[4] != after[4] {
+        return FAILED;
     }
+    if before[0] == 29 && is_close_lost(e) {
+        return LOST;
+    }
+    after[0]
 }
 
-// With the slot in hand.
-fn in_hand(out: &mut [u8], at: usize, e: Entered) -> usize {
-    let ring = e.ring;
-    let before = e.before;
-    let after = e.after;
-    let slot = slot_of(ring, before[1]);
-    match before[0] {
-        26 => text_output::form(out, at, b"writes # into slot #", &[before[2], slot]),
-        15 => text_output::form(out, at, b"slot # ready to be popped: pushed", &[slot]),
-        30 => text_output::form(
-            out,
-            at,
-            b"takes # out of slot #, writes #",
-            &[after[2], slot, before[2]],
-        ),
-        31 => text_output::form(
-            out,
-            at,
-            b"slot # ready to be popped: displaced #",
-            &[slot, after[1]],
-        ),
-        18 => text_output::form(out, at, b"reads # out of slot #", &[after[2], slot]),
-        _ => text_output::form(
-            out,
-            at,
-            b"slot # free for the next lap: popped #",
-            &[slot, after[1]],
-        ),
-    }
+// The name of an answer or a place by its code, as replay has it, and what led_to has besides.
+fn name(out: &mut [u8], at: usize, code: u64) -> usize {
+    text_output::nth(
+        out,
+        at,
+        b"nothing|pushed|empty|closed|yes|no|full|closed|displaced|popped|len|\
+        P1|P1|empty2|full2|P5|O2|O3|O4|O6|len2|len3|P2|P2|P3|P3|P4|P6|F6|F7|F8|F9|O5|O1|len1|empty1|full1|close1|isclosed1|\
+        failed|lost|",
+        code as usize,
+        &[],
+    )
 }
 
-// What an act did, by the code of the place at which it was taken.
-pub fn act(out: &mut [u8], at: usize, e: Entered, c: Claims) -> usize {
-    let before = e.before;
-    let ring = e.ring;
-    match before[0] {
-        11 | 12 => p1(out, at, e),
-        22 | 23 => p2(out, at, e),
-        24 | 25 => p3(out, at, e, c),
-        27 => p6(out, at, e),
-        28 => f6(out, at, e, c),
-        29 => f7(out, at, e, c),
-        33 => text_output::form(
-            out,
-            at,
-            b"reads head, #: slot #",
-            &[ring[4], slot_of(ring, ring[4])],
-        ),
-        16 => o2(out, at, e),
-        17 => o3(out, at, e, c),
-        19 => o6(out, at, e),
-        15 | 18 | 26 | 30 | 31 | 32 => in_hand(out, at, e),
-        _ => looks(out, at, e),
-    }
-}
-
-// The name of a busy place, as replay has it.
+// The name of a busy place.
 pub fn place(out: &mut [u8], at: usize, code: u64) -> usize {
     if code < 11 {
         return text_output::byte(out, at, b'-');
     }
-    text_output::nth(
-        out,
-        at,
-        b"P1|P1|empty2|full2|P5|O2|O3|O4|O6|len2|len3|P2|P2|P3|P3|P4|P6|F6|F7|F8|F9|O5|O1|len1|empty1|full1|close1|isclosed1|",
-        (code - 11) as usize,
-        &[],
-    )
+    name(out, at, code)
+}
+
+fn sentence(out: &mut [u8], at: usize, key: &[u8], numbers: &[u64]) -> usize {
+    let table = b"P1>closed reads tail, #t, marked: closed, #a not pushed|\
+        P1 reads tail, #a: slot #l|\
+        P2>P3 slot #s is free for tail #e|\
+        P2>P6 slot #s has the last lap's item: full?|\
+        P2>F6 slot #s has the last lap's item: displaces it?|\
+        P2 slot #s is not at tail #e: tries again|\
+        P3>P4 tail #e -> #t won: claim #c is w#w's; slot #s in its hand|\
+        P3>closed tail is #t, marked: lost; closed, #a not pushed|\
+        P3>failed tail #e -> #f failed by the schedule; goes on with #e|\
+        P3 tail is #a, not #e: lost; goes on with #a|\
+        P4 writes #i into slot #s|\
+        P5 slot #s ready to be popped: pushed|\
+        P6>full head is #h, a lap behind tail #e: full, #a not pushed|\
+        P6 head is #h, not a lap behind tail #e: tries again|\
+        F6>F7 head #g -> #h won: claim #d is w#w's to displace; slot #s in its hand|\
+        F6>failed head #g -> #j failed by the schedule; tries again|\
+        F6 head is #h, not #g: lost; tries again|\
+        F7>lost tail #o -> #t: claim #c is w#w's; the close is lost|\
+        F7 tail #o -> #t: claim #c is w#w's|\
+        F8 takes #b out of slot #s, writes #i|\
+        F9 slot #s ready to be popped: displaced #a|\
+        O1 reads head, #h: slot #k|\
+        O2>O3 slot #s has an item for head #e|\
+        O2>O6 slot #s has none for head #e: empty?|\
+        O2 slot #s is not at head #e: tries again|\
+        O3>O4 head #e -> #h won: claim #d is w#w's; slot #s in its hand|\
+        O3>failed head #e -> #f failed by the schedule; goes on with #e|\
+        O3 head is #a, not #e: lost; goes on with #a|\
+        O4 reads #b out of slot #s|\
+        O5 slot #s free for the next lap: popped #a|\
+        O6>empty tail is #t, as head: empty|\
+        O6>closed tail is #t, marked, else as head: closed|\
+        O6 tail is #t, not #e: tries again|\
+        len1,full1 reads tail, #t|\
+        len2,empty1 reads head, #h|\
+        len3>len tail is still #t: len #a|\
+        len3 tail is #t, not #e: tries again|\
+        empty2>yes tail is #t, head was #e: yes|\
+        empty2 tail is #t, head was #e: no|\
+        full2>yes head is #h, tail was #e: yes|\
+        full2 head is #h, tail was #e: no|\
+        close1>yes tail #o -> #t, marked: yes|\
+        close1 tail is #t, marked already: no|\
+        isclosed1>yes tail is #t, marked: yes|\
+        isclosed1 tail is #t, not marked: no|";
+    text_sentences::told(out, at, table, key, numbers, b"")
+}
+
+// What an act did.
+pub fn act(out: &mut [u8], at: usize, e: Entered, c: Claims) -> usize {
+    let before = e.before;
+    let mut key = [0u8; text_sentences::KEY];
+    let p = name(&mut key, 0, before[0]);
+    let q = text_output::byte(&mut key, p, b'>');
+    name(&mut key, q, led_to(e));
+    sentence(out, at, &key, &numbers_of(e, c))
 }

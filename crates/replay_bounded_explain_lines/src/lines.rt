@@ -124,30 +124,6 @@ pub fn told(o: Asked, out: &mut [u8], at: usize, e: Entered, c: Counts, causes: 
     columns::put(out, at, &line, n, o.colours, colour_of(e, causes))
 }
 
-fn making_line(line: &mut [u8], refusal: u64, capacity: u64, workers: u64, edition: u64) -> usize {
-    match refusal {
-        0 => text_output::form(
-            line,
-            0,
-            b"made: a ring of capacity #, # workers, edition #",
-            &[capacity, workers, edition],
-        ),
-        1 => text_output::form(
-            line,
-            0,
-            b"refused 1: the capacity # is not 1 to 1024",
-            &[capacity],
-        ),
-        2 => text_output::form(
-            line,
-            0,
-            b"refused 2: the number of workers, #, is not 1 to 16 (lent: to 64)",
-            &[workers],
-        ),
-        _ => text_output::form(line, 0, b"refused 18: there is no edition #", &[edition]),
-    }
-}
-
 pub fn told_making(
     o: Asked,
     out: &mut [u8],
@@ -156,12 +132,10 @@ pub fn told_making(
     capacity: u64,
     workers: u64,
 ) -> usize {
-    let mut line = [0u8; columns::WIDE];
-    let n = making_line(&mut line, refusal, capacity, workers, o.edition);
-    let of = if refusal == 0 {
-        columns::PLAIN
-    } else {
-        columns::REFUSED
-    };
-    columns::put(out, at, &line, n, o.colours, of)
+    let table = b"0 made: a ring of capacity #a, #b workers, edition #c|\
+        1 refused 1: the capacity #a is not 1 to 1024|\
+        2 refused 2: the number of workers, #b, is not 1 to 16 (lent: to 64)|\
+        18 refused 18: there is no edition #c|";
+    let numbers = [capacity, workers, o.edition];
+    text_explain::words::made(out, at, o.colours, table, refusal, &numbers)
 }

@@ -1,64 +1,71 @@
 // The arguments of replay.
+use text_options::Arguments;
+use text_options::MOST;
 
-// The queues that replay knows.
-pub const BOUNDED: u8 = 0;
+// The queues that replay knows, as --queue has them.
+pub const BOUNDED: u64 = 0;
 
-pub const SINGLE: u8 = 1;
+pub const SINGLE: u64 = 1;
 
-pub const UNBOUNDED: u8 = 2;
+pub const UNBOUNDED: u64 = 2;
+
+// The options in the order of the table.
+const QUEUE: usize = 0;
+
+const EDITION: usize = 1;
+
+const BITS: usize = 2;
+
+const FOLLOW: usize = 3;
+
+const LENT: usize = 4;
+
+const QUIET: usize = 5;
+
+const CAUSES: usize = 6;
+
+const MOMENTS: usize = 7;
+
+const LOSSES: usize = 8;
+
+const STOCK: usize = 9;
+
+const SUMMARY: usize = 10;
+
+const MANY: usize = 11;
+
+const WORDS: usize = 12;
+
+const EXPLAIN: usize = 13;
+
+const TAPE: usize = 14;
+
+const HELP: usize = 15;
+
+const TELLS: usize = 16;
 
 pub struct Options {
-    pub queue: u8,
-    // the number of the argument --queue while its value is wanted; 0: it is not
-    pub naming: usize,
+    pub queue: u64,
     // handed to making as it stands
     pub edition: u64,
-    // the number of the argument --edition; 0: there is none
-    pub edition_at: usize,
-    // its value is wanted
-    pub numbering: bool,
     // head, tail and stamps have sixteen bits, and not 64
     pub narrow: bool,
-    // the number of the argument --bits; 0: there is none
-    pub bits_at: usize,
-    // its value is wanted
-    pub measuring: bool,
     // the records are lent for each entry
     pub lent: bool,
-    // the number of the argument --lent; 0: there is none
-    pub lent_at: usize,
     pub quiet: bool,
     pub causes: bool,
-    // the number of the argument --causes; 0: there is none
-    pub causes_at: usize,
     pub moments: bool,
-    // the number of the argument --moments; 0: there is none
-    pub moments_at: usize,
     pub losses: bool,
-    // the number of the argument --losses; 0: there is none
-    pub losses_at: usize,
     pub stock: bool,
-    // the number of the argument --stock; 0: there is none
-    pub stock_at: usize,
     pub summary: bool,
-    // the number of the argument --summary
-    pub summary_at: usize,
     pub many: bool,
     // the schedule is told in words, and not run
     pub words: bool,
-    // the number of the argument --words-of; 0: there is none
-    pub words_at: usize,
     // a line in plain words for each entry
     pub explain: bool,
-    // the number of the argument --explain; 0: there is none
-    pub explain_at: usize,
     // of these only those of one item's life
     pub follow: bool,
     pub item: u64,
-    // the number of the argument --follow; 0: there is none
-    pub follow_at: usize,
-    // its value is wanted
-    pub itemizing: bool,
     // the input is a tape, and no text
     pub tape: bool,
     pub help: bool,
@@ -66,350 +73,97 @@ pub struct Options {
     pub tells: bool,
     // the number of the argument that names the file; 0: standard input
     pub file: usize,
-    // the number of an argument that is none of these; 0: all are
+    // the number of an argument that is of no use; 0: all are
     pub wrong: usize,
 }
 
-fn equal(a: &[u8], b: &[u8]) -> bool {
-    if a.len() != b.len() {
-        return false;
-    }
-    let mut i = 0;
-    while i < a.len() {
-        if a[i] != b[i] {
-            return false;
-        }
-        i += 1;
-    }
-    true
-}
-
-fn none() -> Options {
-    Options {
-        queue: BOUNDED,
-        naming: 0,
-        edition: 1,
-        edition_at: 0,
-        numbering: false,
-        narrow: false,
-        bits_at: 0,
-        measuring: false,
-        lent: false,
-        lent_at: 0,
-        quiet: false,
-        causes: false,
-        causes_at: 0,
-        moments: false,
-        moments_at: 0,
-        losses: false,
-        losses_at: 0,
-        stock: false,
-        stock_at: 0,
-        summary: false,
-        summary_at: 0,
-        many: false,
-        words: false,
-        words_at: 0,
-        explain: false,
-        explain_at: 0,
-        follow: false,
-        item: 0,
-        follow_at: 0,
-        itemizing: false,
-        tape: false,
-        help: false,
-        tells: false,
-        file: 0,
-        wrong: 0,
-    }
-}
-
-// A name, where there is none yet; `-` and what follows it is an option that there is not.
-fn named(before: Options, i: usize, word: &[u8]) -> Options {
-    let mut o = before;
-    if 0 < word.len() {
-        if word[0] == b'-' {
-            o.wrong = i;
-            return o;
-        }
-    }
-    if o.file == 0 {
-        o.file = i;
-    } else {
-        o.wrong = i;
-    }
-    o
-}
-
-// The queue's name after --queue.
-fn with_queue(before: Options, i: usize, word: &[u8]) -> Options {
-    let mut o = before;
-    o.naming = 0;
-    if equal(word, b"bounded") {
-        o.queue = BOUNDED;
-        return o;
-    }
-    if equal(word, b"single") {
-        o.queue = SINGLE;
-        return o;
-    }
-    if equal(word, b"unbounded") {
-        o.queue = UNBOUNDED;
-        return o;
-    }
-    o.wrong = i;
-    o
-}
-
-// A number that an argument gives, or that it gives none.
-pub struct Given {
-    pub ok: bool,
-    pub number: u64,
-}
-
-// Read as the numbers of a schedule are.
-pub fn number_in(word: &[u8]) -> Given {
-    let mut numbers = [0; 2];
-    let first = text_numbers::start(1);
-    let digits = text_numbers::read_piece(first, false, word, &mut numbers, 0);
-    let end = text_numbers::read_piece(digits.scan, false, b"\n", &mut numbers, digits.count);
-    if digits.event != text_numbers::NOTHING
-        || end.event != text_numbers::NOTHING
-        || end.count != 1
-    {
-        return Given {
-            ok: false,
-            number: 0,
-        };
-    }
-    Given {
-        ok: true,
-        number: numbers[0],
-    }
-}
-
-// The edition's number after --edition.
-fn with_edition(before: Options, i: usize, word: &[u8]) -> Options {
-    let mut o = before;
-    o.numbering = false;
-    let given = number_in(word);
-    if given.ok {
-        o.edition = given.number;
-    } else {
-        o.wrong = i;
-    }
-    o
-}
-
-// The width after --bits.
-fn with_bits(before: Options, i: usize, word: &[u8]) -> Options {
-    let mut o = before;
-    o.measuring = false;
-    if equal(word, b"16") {
-        o.narrow = true;
-        return o;
-    }
-    if equal(word, b"64") {
-        o.narrow = false;
-        return o;
-    }
-    o.wrong = i;
-    o
-}
-
-// The item after --follow.
-fn with_item(before: Options, i: usize, word: &[u8]) -> Options {
-    let mut o = before;
-    o.itemizing = false;
-    let given = number_in(word);
-    if given.ok {
-        o.item = given.number;
-    } else {
-        o.wrong = i;
-    }
-    o
-}
-
-fn with_word(before: Options, i: usize, word: &[u8]) -> Options {
-    let mut o = before;
-    if o.itemizing {
-        return with_item(o, i, word);
-    }
-    if o.naming != 0 {
-        return with_queue(o, i, word);
-    }
-    if o.numbering {
-        return with_edition(o, i, word);
-    }
-    if o.measuring {
-        return with_bits(o, i, word);
-    }
-    if equal(word, b"--bits") {
-        o.bits_at = i;
-        o.measuring = true;
-        return o;
-    }
-    if equal(word, b"--edition") {
-        o.edition_at = i;
-        o.numbering = true;
-        return o;
-    }
-    if equal(word, b"--queue") {
-        o.naming = i;
-        return o;
-    }
-    if equal(word, b"--lent") {
-        o.lent = true;
-        o.lent_at = i;
-        return o;
-    }
-    if equal(word, b"--quiet") {
-        o.quiet = true;
-        return o;
-    }
-    if equal(word, b"--causes") {
-        o.causes = true;
-        o.causes_at = i;
-        return o;
-    }
-    if equal(word, b"--moments") {
-        o.moments = true;
-        o.moments_at = i;
-        return o;
-    }
-    if equal(word, b"--losses") {
-        o.losses = true;
-        o.losses_at = i;
-        return o;
-    }
-    if equal(word, b"--stock") {
-        o.stock = true;
-        o.stock_at = i;
-        return o;
-    }
-    if equal(word, b"--summary") {
-        o.summary = true;
-        o.summary_at = i;
-        return o;
-    }
-    if equal(word, b"--many") {
-        o.many = true;
-        return o;
-    }
-    if equal(word, b"--words-of") {
-        o.words = true;
-        o.words_at = i;
-        return o;
-    }
-    if equal(word, b"--explain") {
-        o.explain = true;
-        o.explain_at = i;
-        return o;
-    }
-    if equal(word, b"--follow") {
-        o.follow = true;
-        o.follow_at = i;
-        o.itemizing = true;
-        return o;
-    }
-    if equal(word, b"--tape") {
-        o.tape = true;
-        return o;
-    }
-    if equal(word, b"--help") {
-        o.help = true;
-        return o;
-    }
-    if equal(word, b"--tell-status") {
-        o.tells = true;
-        return o;
-    }
-    named(o, i, word)
-}
-
-fn with_argument(before: Options, i: usize) -> Options {
-    let mut word = io::buffer();
-    let n = os::arg(i, &mut word);
-    with_word(before, i, &word[..n])
-}
-
-fn arguments() -> Options {
-    let mut o = none();
-    let n = os::arg_count();
-    let mut i = 1;
-    while i < n {
-        o = with_argument(o, i);
-        i += 1;
-    }
-    o
+// What is asked of lines in numbers.
+fn tells_so(at: [usize; MOST]) -> bool {
+    at[QUIET] != 0
+        || at[CAUSES] != 0
+        || at[MOMENTS] != 0
+        || at[LOSSES] != 0
+        || at[STOCK] != 0
+        || at[SUMMARY] != 0
 }
 
 // What is asked of a run, of which there is none where a schedule is only told in words.
-fn runs_so(o: Options) -> bool {
-    if o.edition_at != 0 || o.bits_at != 0 || o.lent {
-        return true;
+fn runs_so(at: [usize; MOST]) -> bool {
+    at[EDITION] != 0 || at[BITS] != 0 || at[LENT] != 0 || at[EXPLAIN] != 0 || tells_so(at)
+}
+
+// The option that is still without its value at the end; MOST: none is.
+fn lacking(a: Arguments) -> usize {
+    if a.wanting != 0 { a.which } else { MOST }
+}
+
+// An edition, a width, lent records, causes, moments, losses or a stock are of no use to a queue that has none. Lent records are of 64 bits; moments are kept for sixteen
+// workers.
+fn wrong_of_queue(
+    wrong: usize,
+    at: [usize; MOST],
+    lacks: usize,
+    queue: u64,
+    narrow: bool,
+) -> usize {
+    let other = queue != BOUNDED;
+    let a = text_options::unless(wrong, at[QUEUE], lacks == QUEUE);
+    let b = text_options::unless(a, at[EDITION], lacks == EDITION || other);
+    let c = text_options::unless(b, at[BITS], lacks == BITS || other);
+    let d = text_options::unless(c, at[LENT], narrow || other);
+    let e = text_options::unless(d, at[CAUSES], other);
+    let f = text_options::unless(e, at[MOMENTS], at[LENT] != 0 || other);
+    let g = text_options::unless(f, at[LOSSES], other);
+    text_options::unless(g, at[STOCK], other)
+}
+
+fn wrong_of_lines(wrong: usize, at: [usize; MOST], lacks: usize, queue: u64) -> usize {
+    let a = text_options::unless(wrong, at[WORDS], runs_so(at));
+    let b = text_options::unless(a, at[EXPLAIN], tells_so(at));
+    let c = text_options::unless(b, at[FOLLOW], lacks == FOLLOW || at[EXPLAIN] == 0);
+    text_options::unless(c, at[SUMMARY], queue == UNBOUNDED)
+}
+
+fn edition_of(at: usize, value: u64) -> u64 {
+    if at == 0 { 1 } else { value }
+}
+
+fn options_of(a: Arguments) -> Options {
+    let at = a.at;
+    let values = a.values;
+    let queue = values[QUEUE];
+    let narrow = values[BITS] == 1;
+    let lacks = lacking(a);
+    let wrong = wrong_of_queue(a.wrong, at, lacks, queue, narrow);
+    Options {
+        queue: queue,
+        edition: edition_of(at[EDITION], values[EDITION]),
+        narrow: narrow,
+        lent: at[LENT] != 0,
+        quiet: at[QUIET] != 0,
+        causes: at[CAUSES] != 0,
+        moments: at[MOMENTS] != 0,
+        losses: at[LOSSES] != 0,
+        stock: at[STOCK] != 0,
+        summary: at[SUMMARY] != 0,
+        many: at[MANY] != 0,
+        words: at[WORDS] != 0,
+        explain: at[EXPLAIN] != 0,
+        follow: at[FOLLOW] != 0,
+        item: values[FOLLOW],
+        tape: at[TAPE] != 0,
+        help: at[HELP] != 0,
+        tells: at[TELLS] != 0,
+        file: a.file,
+        wrong: wrong_of_lines(wrong, at, lacks, queue),
     }
-    tells_so(o)
 }
 
-// What is asked of lines in numbers.
-fn tells_so(o: Options) -> bool {
-    o.quiet || o.causes || o.moments || o.losses || o.stock || o.summary
-}
-
-// An option that is still without its value at the end is of no use; nor is an edition, a width, lent records, causes, moments, losses or a stock of a queue that has none.
-// Lent records are of 64 bits; moments are kept for sixteen workers.
 pub fn read() -> Options {
-    let mut o = arguments();
-    if o.naming != 0 {
-        o.wrong = o.naming;
-    }
-    if o.numbering || (o.edition_at != 0 && o.queue != BOUNDED) {
-        o.wrong = o.edition_at;
-    }
-    if o.measuring || (o.bits_at != 0 && o.queue != BOUNDED) {
-        o.wrong = o.bits_at;
-    }
-    if o.lent && (o.narrow || o.queue != BOUNDED) {
-        o.wrong = o.lent_at;
-    }
-    if o.causes && o.queue != BOUNDED {
-        o.wrong = o.causes_at;
-    }
-    if o.moments && (o.lent || o.queue != BOUNDED) {
-        o.wrong = o.moments_at;
-    }
-    if o.losses && o.queue != BOUNDED {
-        o.wrong = o.losses_at;
-    }
-    if o.stock && o.queue != BOUNDED {
-        o.wrong = o.stock_at;
-    }
-    if o.words && (o.explain || runs_so(o)) {
-        o.wrong = o.words_at;
-    }
-    if o.explain && tells_so(o) {
-        o.wrong = o.explain_at;
-    }
-    if o.follow && (o.itemizing || !o.explain) {
-        o.wrong = o.follow_at;
-    }
-    if o.queue == UNBOUNDED && o.summary {
-        o.wrong = o.summary_at;
-    }
-    o
-}
-
-pub fn complain(program: &[u8], i: usize) {
-    let mut word = io::buffer();
-    let n = os::arg(i, &mut word);
-    io::write_all(libc::STDERR_FILENO, program);
-    io::write_all(
-        libc::STDERR_FILENO,
-        b": no use for this argument (see --help): ",
-    );
-    io::write_all(libc::STDERR_FILENO, &word[..n]);
-    io::write_all(libc::STDERR_FILENO, b"\n");
+    let table =
+        b"--queue=bounded,single,unbounded|--edition=#|--bits=64,16|--follow=#|--lent|--quiet|--causes|--moments|--losses|--stock|--summary|--many|\
+        --words-of|--explain|--tape|--help|--tell-status|";
+    options_of(text_options::read(table))
 }
 
 // Answers whether all of it was written.

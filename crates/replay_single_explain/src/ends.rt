@@ -20,7 +20,7 @@ fn busy_line(out: &mut [u8], at: usize, w: u64, case: usize) -> usize {
         return at;
     }
     let p = text_output::form(out, at, b"busy: w# at ", &[w]);
-    let q = acts::place(out, p, case);
+    let q = acts::name(out, p, case);
     let r = hand_of(out, q, case);
     text_output::settle(out, r)
 }

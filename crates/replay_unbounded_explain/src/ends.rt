@@ -4,7 +4,7 @@ use replay_survey::pieces::Run;
 use unbounded_machine::Machine;
 use unbounded_text_explain::notes::Notes;
 use unbounded_text_explain::stood;
-use unbounded_text_explain::stood::WORDS;
+use unbounded_text_places::code::WORDS;
 
 // The slot in hand: of a push from U9 to U13, of a pop from V6 to V12.
 fn hand_of(out: &mut [u8], at: usize, s: [u64; WORDS]) -> usize {
@@ -31,7 +31,7 @@ fn busy_line(out: &mut [u8], at: usize, w: u64, s: [u64; WORDS]) -> usize {
         return at;
     }
     let p = text_output::form(out, at, b"busy: w# at ", &[w]);
-    let q = stood::place(out, p, s[0]);
+    let q = stood::name(out, p, s[0]);
     let r = hand_of(out, q, s);
     text_output::settle(out, r)
 }

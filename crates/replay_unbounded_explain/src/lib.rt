@@ -34,7 +34,7 @@ pub fn seen(m: Machine, w: u64) -> Seen {
     let back = e.back;
     Seen {
         ends: [head.0, tail.0, unbounded_words::number(back)],
-        stood: unbounded_text_explain::stood::of(unbounded_text::machine::place_of(m, w)),
+        stood: unbounded_text_places::code::of(unbounded_text::machine::place_of(m, w)),
     }
 }
 

@@ -20,58 +20,6 @@ pub const C1: usize = 9;
 
 pub const C2: usize = 10;
 
-// The answer that a worker has, in words.
-fn answer(out: &mut [u8], at: usize, after: Coded) -> usize {
-    text_output::nth(
-        out,
-        at,
-        b"|||none|pushed|full, # not pushed|closed, # not pushed|displaced #|popped #|empty|closed|len #|yes|no|",
-        after.more,
-        &[after.a],
-    )
-}
-
-// state is N, and what that is
-fn found(out: &mut [u8], at: usize, state: u64) -> usize {
-    let p = text_output::form(out, at, b"state is #, ", &[state]);
-    text_output::nth(
-        out,
-        p,
-        b"free|locked|pushed|locked and pushed|closed|locked and closed|pushed and closed|locked, pushed and closed|",
-        state as usize,
-        &[],
-    )
-}
-
-fn won(out: &mut [u8], at: usize, e: Entered, n: Notes) -> usize {
-    let before = e.before;
-    let after = e.after;
-    let p = text_output::form(out, at, b"state # -> # won: ", &[e.was, e.state]);
-    let w = e.first / 16;
-    if before.case == C1 {
-        return text_output::form(
-            out,
-            p,
-            b"claim # is w#'s; the slot in its hand",
-            &[n.takes, w],
-        );
-    }
-    if after.case == B4 {
-        return text_output::form(
-            out,
-            p,
-            b"claim # is w#'s, to displace claim #; the slot in its hand",
-            &[n.puts, w, n.takes],
-        );
-    }
-    text_output::form(
-        out,
-        p,
-        b"claim # is w#'s; the slot in its hand",
-        &[n.puts, w],
-    )
-}
-
 // The word that the exchange expects.
 pub fn expected(before: Coded) -> u64 {
     if before.case == A1 {
@@ -80,102 +28,98 @@ pub fn expected(before: Coded) -> u64 {
     before.a
 }
 
-fn lost(out: &mut [u8], at: usize, e: Entered) -> usize {
+// In the list of names, behind those of the places: the answers by the rows that they have (single_text::code).
+const ANSWERS: usize = 14;
+
+// In the list of forms, behind the states.
+const ANSWERED: u64 = 8;
+
+// The numbers of the table's letters: a, i the first number that the worker has then and had; e the word that its exchange expects; o, s the state word as it was and is;
+// p, t the claims of pushes and of pops; w the worker; x its answer's form, y, z those of o and s.
+fn numbers_of(e: Entered, n: Notes) -> [u64; 26] {
     let before = e.before;
     let after = e.after;
-    let p = found(out, at, e.was);
-    if before.case == B1 && after.case == IDLE {
-        let q = text_output::text(out, p, b": ");
-        return answer(out, q, after);
-    }
-    let q = text_output::form(out, p, b", not #: lost; ", &[expected(before)]);
+    let word = expected(before);
+    let x = std::num::wrapping_add_u64(ANSWERED, after.more as u64);
+    [
+        after.a,
+        0,
+        0,
+        0,
+        word,
+        0,
+        0,
+        0,
+        before.a,
+        0,
+        0,
+        0,
+        0,
+        0,
+        e.was,
+        n.puts,
+        0,
+        0,
+        e.state,
+        n.takes,
+        0,
+        0,
+        e.first / 16,
+        x,
+        e.was,
+        e.state,
+    ]
+}
+
+// What an act leads to, by its number in the list of names.
+fn led_to(after: Coded) -> usize {
     if after.case == IDLE {
-        return answer(out, q, after);
+        return std::num::wrapping_add_usize(ANSWERS, after.more);
     }
-    text_output::form(out, q, b"goes on with #", &[after.a])
+    after.case
 }
 
-fn exchange(out: &mut [u8], at: usize, e: Entered, n: Notes) -> usize {
-    if crate::notes::is_lost(e) {
-        return lost(out, at, e);
-    }
-    won(out, at, e, n)
+// The name of a place, - for none; of an answer.
+pub fn name(out: &mut [u8], at: usize, case: usize) -> usize {
+    text_output::nth(
+        out,
+        at,
+        b"-|A1|A2|A3|B1|B2|B3|B4|B5|C1|C2|C3|len1|empty1|full1|close1|isclosed1|\
+        nothing|pushed|full|closed|displaced|popped|empty|closed|len|yes|no|",
+        case,
+        &[],
+    )
 }
 
-// Lets go of the slot, with an answer.
-fn lets_go(out: &mut [u8], at: usize, e: Entered) -> usize {
-    let before = e.before;
-    let p = text_output::form(out, at, b"state # -> #, the slot ", &[e.was, e.state]);
-    if before.case < C1 {
-        let q = text_output::text(out, p, b"ready to be popped: ");
-        return answer(out, q, e.after);
-    }
-    let q = text_output::text(out, p, b"free: ");
-    answer(out, q, e.after)
-}
-
-fn closing(out: &mut [u8], at: usize, e: Entered) -> usize {
-    if e.was != e.state {
-        return text_output::form(out, at, b"state # -> #, closed: ", &[e.was, e.state]);
-    }
-    text_output::form(out, at, b"state is #, closed already: ", &[e.state])
-}
-
-fn closed_asked(out: &mut [u8], at: usize, state: u64) -> usize {
-    if 4 <= state {
-        return text_output::form(out, at, b"state is #, closed: ", &[state]);
-    }
-    text_output::form(out, at, b"state is #, not closed: ", &[state])
-}
-
-// Of a call of one act.
-fn looks(out: &mut [u8], at: usize, e: Entered) -> usize {
-    let before = e.before;
-    let case = before.case;
-    match case {
-        15 => {
-            let p = closing(out, at, e);
-            answer(out, p, e.after)
-        }
-        16 => {
-            let p = closed_asked(out, at, e.state);
-            answer(out, p, e.after)
-        }
-        _ => {
-            let p = found(out, at, e.state);
-            let q = text_output::text(out, p, b": ");
-            answer(out, q, e.after)
-        }
-    }
+fn sentence(out: &mut [u8], at: usize, key: &[u8], numbers: &[u64]) -> usize {
+    let table = b"A1>A2,B1>B2 state #o -> #s won: claim #p is w#w's; the slot in its hand|\
+        B1>B4 state #o -> #s won: claim #p is w#w's, to displace claim #t; the slot in its hand|\
+        C1>C2 state #o -> #s won: claim #t is w#w's; the slot in its hand|\
+        B1>B1,C1>C1 state is #o, $y, not #e: lost; goes on with #a|\
+        A1,C1 state is #o, $y, not #e: lost; $x|\
+        B1 state is #o, $y: $x|\
+        A2,B2 writes #i into the slot|\
+        B4 takes #a out of the slot, writes #i|\
+        C2 reads #a out of the slot|\
+        A3,B3,B5 state #o -> #s, the slot ready to be popped: $x|\
+        C3 state #o -> #s, the slot free: $x|\
+        len1,empty1,full1 state is #s, $z: $x|\
+        close1>yes state #o -> #s, closed: $x|\
+        close1 state is #s, closed already: $x|\
+        isclosed1>yes state is #s, closed: $x|\
+        isclosed1 state is #s, not closed: $x|";
+    let forms =
+        b"free|locked|pushed|locked and pushed|closed|locked and closed|pushed and closed|locked, pushed and closed|\
+        |||none|pushed|full, # not pushed|closed, # not pushed|displaced #|popped #|empty|closed|len #|yes|no|";
+    text_sentences::told(out, at, table, key, numbers, forms)
 }
 
 // What an act did, after which the notes are still to be written.
 pub fn act(out: &mut [u8], at: usize, e: Entered, n: Notes) -> usize {
     let before = e.before;
-    let after = e.after;
-    let case = before.case;
-    match case {
-        1 | 4 | 9 => exchange(out, at, e, n),
-        2 | 5 => text_output::form(out, at, b"writes # into the slot", &[before.a]),
-        7 => text_output::form(
-            out,
-            at,
-            b"takes # out of the slot, writes #",
-            &[after.a, before.a],
-        ),
-        10 => text_output::form(out, at, b"reads # out of the slot", &[after.a]),
-        3 | 6 | 8 | 11 => lets_go(out, at, e),
-        _ => looks(out, at, e),
-    }
-}
-
-// The name of a place; - for none.
-pub fn place(out: &mut [u8], at: usize, case: usize) -> usize {
-    text_output::nth(
-        out,
-        at,
-        b"-|A1|A2|A3|B1|B2|B3|B4|B5|C1|C2|C3|len1|empty1|full1|close1|isclosed1|",
-        case,
-        &[],
-    )
+    let mut key = [0u8; text_sentences::KEY];
+    let p = name(&mut key, 0, before.case);
+    let q = text_output::byte(&mut key, p, b'>');
+    name(&mut key, q, led_to(e.after));
+    sentence(out, at, &key, &numbers_of(e, n))
 }

@@ -27,7 +27,7 @@ fn entry_line(line: &mut [u8], e: Entered, n: Notes) -> usize {
     let before = e.before;
     let p = columns::number(line, e.place);
     let q = columns::worker(line, p, e.first / 16);
-    let r = acts::place(line, q, before.case);
+    let r = acts::name(line, q, before.case);
     let s = columns::behind_place(line, r, q);
     if before.case == acts::IDLE {
         return text_explain::words::begin(line, s, e.first, e.second);
@@ -59,21 +59,7 @@ pub fn told(out: &mut [u8], at: usize, colours: bool, e: Entered, n: Notes) -> u
 
 // Of the making with so many workers.
 pub fn made(out: &mut [u8], at: usize, colours: bool, refusal: u64, workers: u64) -> usize {
-    let mut line = [0u8; columns::WIDE];
-    if refusal == 0 {
-        let n = text_output::form(
-            &mut line,
-            0,
-            b"made: a one-slot queue, # workers",
-            &[workers],
-        );
-        return columns::put(out, at, &line, n, colours, columns::PLAIN);
-    }
-    let n = text_output::form(
-        &mut line,
-        0,
-        b"refused 2: the number of workers, #, is not 1 to 16",
-        &[workers],
-    );
-    columns::put(out, at, &line, n, colours, columns::REFUSED)
+    let table = b"0 made: a one-slot queue, #a workers|\
+        2 refused 2: the number of workers, #a, is not 1 to 16|";
+    text_explain::words::made(out, at, colours, table, refusal, &[workers])
 }

@@ -13,18 +13,16 @@ pub fn begin(line: &mut [u8], at: usize, first: u64, second: u64) -> usize {
 }
 
 fn why_refused(line: &mut [u8], at: usize, refusal: u64, w: u64) -> usize {
-    match refusal {
-        3 => text_output::form(line, at, b"there is no worker #", &[w]),
-        4 => text_output::form(line, at, b"worker # is busy", &[w]),
-        5 => text_output::form(line, at, b"worker # is idle", &[w]),
-        6 => text_output::text(line, at, b"there is no machine; nothing is run"),
-        7 => text_output::text(line, at, b"the meter is at its end"),
-        8 => text_output::form(line, at, b"no weak exchange comes next of worker #", &[w]),
-        9 => text_output::text(line, at, b"an entry that cannot be read; nothing is run"),
-        11 => text_output::text(line, at, b"an odd number of numbers; nothing is run"),
-        23 => text_output::text(line, at, b"no block is free"),
-        _ => at,
-    }
+    let table = b"3 there is no worker #a|\
+        4 worker #a is busy|\
+        5 worker #a is idle|\
+        6 there is no machine; nothing is run|\
+        7 the meter is at its end|\
+        8 no weak exchange comes next of worker #a|\
+        9 an entry that cannot be read; nothing is run|\
+        11 an odd number of numbers; nothing is run|\
+        23 no block is free|";
+    text_sentences::numbered(line, at, table, refusal, &[w])
 }
 
 // NUMBER  -   refused R: and why
@@ -46,4 +44,23 @@ pub fn refused(
     let mut line = [0u8; columns::WIDE];
     let n = refused_line(&mut line, place, refusal, w);
     columns::put(out, at, &line, n, colours, columns::REFUSED)
+}
+
+// The line of a making, by a table of its refusals and the numbers that it was asked with; 0 is none.
+pub fn made(
+    out: &mut [u8],
+    at: usize,
+    colours: bool,
+    table: &[u8],
+    refusal: u64,
+    numbers: &[u64],
+) -> usize {
+    let mut line = [0u8; columns::WIDE];
+    let n = text_sentences::numbered(&mut line, 0, table, refusal, numbers);
+    let of = if refusal == 0 {
+        columns::PLAIN
+    } else {
+        columns::REFUSED
+    };
+    columns::put(out, at, &line, n, colours, of)
 }

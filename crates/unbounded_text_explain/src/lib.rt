@@ -1,13 +1,10 @@
 // The lines of the unbounded queue in plain words, by numbers: no machine in hand. docs/GUIDE.md has the table of the sentences.
+pub mod acts;
 pub mod lines;
-pub mod looks;
 pub mod notes;
-pub mod pops;
-pub mod pushes;
-pub mod sentences;
 pub mod stood;
 
-use stood::WORDS;
+use unbounded_text_places::code::WORDS;
 
 // What an entry is told by: head's and tail's index words and tail's block, and where its worker stands.
 pub struct Seen {

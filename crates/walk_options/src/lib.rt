@@ -1,20 +1,28 @@
 // The arguments of walk.
+use text_options::Arguments;
 
-// Which number is wanted.
-const EDITION: u64 = 0;
+// The options in the order of the table.
+const EDITION: usize = 0;
 
-const DEPTH: u64 = 1;
+const DEPTH: usize = 1;
 
-const ENDING: u64 = 2;
+const ENDING: usize = 2;
+
+const LIST: usize = 3;
+
+const EXPLAIN: usize = 4;
+
+const MANY: usize = 5;
+
+const HELP: usize = 6;
+
+const TELLS: usize = 7;
 
 pub struct Options {
     // handed to making as it stands
     pub edition: u64,
     // handed to the walk as it stands
     pub depth: u64,
-    // the number of the argument whose value is wanted; 0: none is
-    pub wanting: usize,
-    pub which: u64,
     pub list: bool,
     // the number of the argument that asks for endings in words; 0: none does
     pub explain: usize,
@@ -26,161 +34,51 @@ pub struct Options {
     pub tells: bool,
     // the number of the argument that names the file; 0: standard input
     pub file: usize,
-    // the number of an argument that is none of these; 0: all are
+    // the number of an argument that is of no use; 0: all are
     pub wrong: usize,
 }
 
-fn none() -> Options {
-    Options {
-        edition: 1,
-        depth: 12,
-        wanting: 0,
-        which: EDITION,
-        list: false,
-        explain: 0,
-        ending: 0,
-        many: false,
-        help: false,
-        tells: false,
-        file: 0,
-        wrong: 0,
-    }
+fn value_or(at: usize, value: u64, unless_given: u64) -> u64 {
+    if at == 0 { unless_given } else { value }
 }
 
-// A name, where there is none yet; `-` and what follows it is an option that there is not.
-fn named(before: Options, i: usize, word: &[u8]) -> Options {
-    let mut o = before;
-    if 0 < word.len() {
-        if word[0] == b'-' {
-            o.wrong = i;
-            return o;
-        }
-    }
-    if o.file == 0 {
-        o.file = i;
-    } else {
-        o.wrong = i;
-    }
-    o
-}
-
-fn with_ending(before: Options, i: usize, number: u64) -> Options {
-    let mut o = before;
-    if number == 0 {
-        o.wrong = i;
-        return o;
-    }
-    o.ending = number;
-    o
-}
-
-fn with_value(before: Options, i: usize, number: u64) -> Options {
-    let mut o = before;
-    let which = o.which;
-    match which {
-        EDITION => o.edition = number,
-        DEPTH => o.depth = number,
-        _ => return with_ending(o, i, number),
-    }
-    o
-}
-
-// The number that is wanted, read as the numbers of a schedule are.
-fn with_number(before: Options, i: usize, word: &[u8]) -> Options {
-    let mut o = before;
-    o.wanting = 0;
-    let given = replay_options::number_in(word);
-    if given.ok {
-        return with_value(o, i, given.number);
-    }
-    o.wrong = i;
-    o
-}
-
-fn wanting(before: Options, i: usize, which: u64) -> Options {
-    let mut o = before;
-    o.wanting = i;
-    o.which = which;
-    o
-}
-
-fn explaining(before: Options, i: usize) -> Options {
-    let mut o = before;
-    o.explain = i;
-    o
-}
-
-fn with_word(before: Options, i: usize, word: &[u8]) -> Options {
-    let mut o = before;
-    if o.wanting != 0 {
-        return with_number(o, i, word);
-    }
-    if check::same(word, b"--edition") {
-        return wanting(o, i, EDITION);
-    }
-    if check::same(word, b"--depth") {
-        return wanting(o, i, DEPTH);
-    }
-    if check::same(word, b"--list") {
-        o.list = true;
-        return o;
-    }
-    if check::same(word, b"--explain") {
-        return explaining(o, i);
-    }
-    if check::same(word, b"--ending") {
-        return wanting(explaining(o, i), i, ENDING);
-    }
-    if check::same(word, b"--many") {
-        o.many = true;
-        return o;
-    }
-    if check::same(word, b"--help") {
-        o.help = true;
-        return o;
-    }
-    if check::same(word, b"--tell-status") {
-        o.tells = true;
-        return o;
-    }
-    named(o, i, word)
-}
-
-fn with_argument(before: Options, i: usize) -> Options {
-    let mut word = io::buffer();
-    let n = os::arg(i, &mut word);
-    with_word(before, i, &word[..n])
-}
-
-fn arguments() -> Options {
-    let mut o = none();
-    let n = os::arg_count();
-    let mut i = 1;
-    while i < n {
-        o = with_argument(o, i);
-        i += 1;
-    }
-    o
-}
-
-// Endings in words are a text of their own, of one schedule.
-fn but_words(before: Options) -> Options {
-    let mut o = before;
-    if o.explain != 0 {
-        if o.list || o.many {
-            o.wrong = o.explain;
-        }
-    }
-    o
+fn later(a: usize, b: usize) -> usize {
+    if a < b { b } else { a }
 }
 
 // An option that is still without its value at the end is of no use.
-pub fn read() -> Options {
-    let mut o = but_words(arguments());
-    if o.wanting != 0 {
-        o.wrong = o.wanting;
+fn lacking(a: Arguments, wrong: usize) -> usize {
+    let at = a.at;
+    let n = a.which;
+    if n < text_options::MOST {
+        return text_options::unless(wrong, at[n], a.wanting != 0);
     }
-    o
+    wrong
+}
+
+// Endings in words are a text of their own, of one schedule.
+fn options_of(a: Arguments) -> Options {
+    let at = a.at;
+    let values = a.values;
+    let explain = later(at[EXPLAIN], at[ENDING]);
+    let wrong = text_options::unless(a.wrong, explain, at[LIST] != 0 || at[MANY] != 0);
+    Options {
+        edition: value_or(at[EDITION], values[EDITION], 1),
+        depth: value_or(at[DEPTH], values[DEPTH], 12),
+        list: at[LIST] != 0,
+        explain: explain,
+        ending: values[ENDING],
+        many: at[MANY] != 0,
+        help: at[HELP] != 0,
+        tells: at[TELLS] != 0,
+        file: a.file,
+        wrong: lacking(a, wrong),
+    }
+}
+
+pub fn read() -> Options {
+    let table = b"--edition=#|--depth=#|--ending=+|--list|--explain|--many|--help|--tell-status|";
+    options_of(text_options::read(table))
 }
 
 // Answers whether all of it was written.

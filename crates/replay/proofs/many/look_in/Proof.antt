@@ -3,9 +3,9 @@ use Rattle.replay.proofs.many.look_in.Statement.{statement}
 use Rattle.replay.proofs.many.look_in.Tie as tie
 use Rattle.replay.proofs.many.look_in.Reads as reads
 use Rattle.replay.proofs.many.look_in.Lts as lts
-use Rattle.replay.proofs.many.first.Reads as first-reads
+use Rattle.replay_many.proofs.first.Reads as first-reads
 use Rattle.replay.proofs.many.look.Reads as look-reads
-use Rattle.replay.proofs.many.unless_at_end.Reads as unless-at-end-reads
+use Rattle.replay_many.proofs.unless_at_end.Reads as unless-at-end-reads
 
 abbrev Inv-loop : tie.InvT-loop
 Inv-loop o fd name n₀ turns₀ n turns = Unit {0}

@@ -7,9 +7,9 @@ use Rattle.replay.proofs.many.run_in.Statement.{statement}
 use Rattle.replay.proofs.many.run_in.Tie as tie
 use Rattle.replay.proofs.many.run_in.Reads as reads
 use Rattle.replay.proofs.many.run_in.Lts as lts
-use Rattle.replay.proofs.many.first.Reads as first-reads
+use Rattle.replay_many.proofs.first.Reads as first-reads
 use Rattle.replay.proofs.many.one.Reads as one-reads
-use Rattle.replay.proofs.many.unless_at_end.Reads as unless-at-end-reads
+use Rattle.replay_many.proofs.unless_at_end.Reads as unless-at-end-reads
 use Rattle.replay.proofs.many.written.Reads as written-reads
 
 abbrev Inv-loop : tie.InvT-loop

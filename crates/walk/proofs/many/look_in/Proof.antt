@@ -3,9 +3,9 @@ use Rattle.walk.proofs.many.look_in.Statement.{statement}
 use Rattle.walk.proofs.many.look_in.Tie as tie
 use Rattle.walk.proofs.many.look_in.Reads as reads
 use Rattle.walk.proofs.many.look_in.Lts as lts
-use Rattle.walk.proofs.many.stands.Reads as stands-reads
+use Rattle.replay_many.proofs.first.Reads as first-reads
 use Rattle.walk.proofs.many.look.Reads as look-reads
-use Rattle.walk.proofs.many.unless_at_end.Reads as unless-at-end-reads
+use Rattle.replay_many.proofs.unless_at_end.Reads as unless-at-end-reads
 
 abbrev Inv-loop : tie.InvT-loop
 Inv-loop o fd name n₀ turns₀ n turns = Unit {0}
@@ -14,8 +14,8 @@ abbrev μ-loop : tie.MeasureT-loop
 μ-loop o fd name n₀ turns₀ n turns = turns
 
 -- src/many.rt:299:9
-stands-requires : tie.Need-stands-requires Inv-loop μ-loop
-stands-requires c κs = search needs
+first-requires : tie.Need-first-requires Inv-loop μ-loop
+first-requires c κs = search needs
 
 -- src/many.rt:301:5
 loop-holds : tie.Need-loop-holds Inv-loop μ-loop
@@ -55,7 +55,7 @@ look-in-spec =
     (tie.spec
     Inv-loop
     μ-loop
-    stands-requires
+    first-requires
     loop-holds
     look-requires
     unless-at-end-requires

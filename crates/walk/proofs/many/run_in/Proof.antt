@@ -7,9 +7,9 @@ use Rattle.walk.proofs.many.run_in.Statement.{statement}
 use Rattle.walk.proofs.many.run_in.Tie as tie
 use Rattle.walk.proofs.many.run_in.Reads as reads
 use Rattle.walk.proofs.many.run_in.Lts as lts
-use Rattle.walk.proofs.many.stands.Reads as stands-reads
+use Rattle.replay_many.proofs.first.Reads as first-reads
 use Rattle.walk.proofs.many.one.Reads as one-reads
-use Rattle.walk.proofs.many.unless_at_end.Reads as unless-at-end-reads
+use Rattle.replay_many.proofs.unless_at_end.Reads as unless-at-end-reads
 use Rattle.walk.proofs.many.written.Reads as written-reads
 
 abbrev Inv-loop : tie.InvT-loop
@@ -19,8 +19,8 @@ abbrev μ-loop : tie.MeasureT-loop
 μ-loop o fd name out₀ n₀ turns₀ out n turns = turns
 
 -- src/many.rt:215:5
-stands-requires : tie.Need-stands-requires Inv-loop μ-loop
-stands-requires c κs = search needs
+first-requires : tie.Need-first-requires Inv-loop μ-loop
+first-requires c κs = search needs
 
 -- src/many.rt:215:5
 loop-holds : tie.Need-loop-holds Inv-loop μ-loop
@@ -64,7 +64,7 @@ run-in-spec =
     (tie.spec
     Inv-loop
     μ-loop
-    stands-requires
+    first-requires
     loop-holds
     one-requires
     unless-at-end-requires
