@@ -173,6 +173,28 @@ pub fn stands(code: u64, first: u64, second: u64) -> bool
     may_be(second, within(code, 21, 33))
 }
 
+// What is asked of the place that the words stand for, by the code alone, so that an entry goes by its place once: when it acts.
+pub fn busy_in(code: u64, first: u64, second: u64) -> bool
+    ensures { λ r. ⌜ r ≡ viewOf (placeIn code first second) .busy ⌝ }
+{
+    if code < 11 { false } else { true }
+}
+
+pub fn weak_in(code: u64, first: u64, second: u64) -> bool
+    ensures { λ r. ⌜ r ≡ viewOf (placeIn code first second) .weak ⌝ }
+{
+    if code == 17 {
+        return true;
+    }
+    if code == 24 {
+        return true;
+    }
+    if code == 25 {
+        return true;
+    }
+    code == 28
+}
+
 // The loaded words of the place that the words stand for.
 pub fn words_held(code: u64, first: u64, second: u64) -> Held
     ensures { λ r. ⌜ r ≡ viewOf (placeIn code first second) .held ⌝ }
