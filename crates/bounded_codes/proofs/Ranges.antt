@@ -117,7 +117,8 @@ weak-is c a b = go (decLt c 39)
   where
     go : Dec (c < 39) → viewOf (placeIn c a b) .weak ≡ weakAt c
     go (yes l) = find 39 (Rule a b) (every a b) c l .weak
-    go (no g) = ap (λ (p : Place). viewOf p .weak) (past c a b (omega (arith, g))) ∙ sym (rw (ne-eqb c 17 (λ e. omega (arith, e, g)), ne-eqb c 24 (λ e. omega (arith, e, g)), ne-eqb c 25 (λ e. omega (arith, e, g)), ne-eqb c 28 (λ e. omega (arith, e, g))) refl)
+    go (no g) = ap (λ (p : Place). viewOf p .weak) (past c a b (omega (arith, g)))
+        ∙ sym (rw (ne-eqb c 17 (λ e. omega (arith, e, g)), ne-eqb c 24 (λ e. omega (arith, e, g)), ne-eqb c 25 (λ e. omega (arith, e, g)), ne-eqb c 28 (λ e. omega (arith, e, g))) refl)
 
 module _ (c a b : ℕ) where
   pub idle-below : c < 11 → false ≡ viewOf (placeIn c a b) .busy

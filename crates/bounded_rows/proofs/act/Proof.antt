@@ -68,25 +68,29 @@ mul-words-held-2 c =
 -- src/lib.rt:131:55
 slice-read-words-held-2 : tie.Need-slice-read-words-held-2
 slice-read-words-held-2 c =
-    let a = c .before .before .before .before .before .before .before .before .before .before .args in let p = c .before .before .before .before .before .before .before .before .before .before .pre in
+    let a = c .before .before .before .before .before .before .before .before .before .before .args in let p = c .before .before .before .before .before .before .before .before .before
+            .before .pre in
     search (needs, record-room (a .head .now) (a .slots .now) (a .records .now) (a .i) p)
 
 -- src/lib.rt:131:80
 add-words-held-2 : tie.Need-add-words-held-2
 add-words-held-2 c =
-    let a = c .before .before .before .before .before .before .before .before .before .before .args in let p = c .before .before .before .before .before .before .before .before .before .before .pre in
+    let a = c .before .before .before .before .before .before .before .before .before .before .args in let p = c .before .before .before .before .before .before .before .before .before
+            .before .pre in
     search (needs, record-room (a .head .now) (a .slots .now) (a .records .now) (a .i) p)
 
 -- src/lib.rt:131:72
 mul-words-held-3 : tie.Need-mul-words-held-3
 mul-words-held-3 c =
-    let a = c .before .before .before .before .before .before .before .before .before .before .args in let p = c .before .before .before .before .before .before .before .before .before .before .pre in
+    let a = c .before .before .before .before .before .before .before .before .before .before .args in let p = c .before .before .before .before .before .before .before .before .before
+            .before .pre in
     search (needs, record-room (a .head .now) (a .slots .now) (a .records .now) (a .i) p)
 
 -- src/lib.rt:131:72
 slice-read-words-held-3 : tie.Need-slice-read-words-held-3
 slice-read-words-held-3 c =
-    let a = c .before .before .before .before .before .before .before .before .before .before .before .args in let p = c .before .before .before .before .before .before .before .before .before .before .before .pre in
+    let a = c .before .before .before .before .before .before .before .before .before .before .before .args in let p = c .before .before .before .before .before .before .before .before
+            .before .before .before .pre in
     search (needs, record-room (a .head .now) (a .slots .now) (a .records .now) (a .i) p)
 
 -- src/lib.rt:131:9
@@ -96,14 +100,16 @@ words-held-requires c κs = search needs
 -- src/lib.rt:132:13
 spot-requires : tie.Need-spot-requires
 spot-requires c κs =
-    let a = c .before .before .before .before .before .before .before .before .before .before .before .before .args in let p = c .before .before .before .before .before .before .before .before .before .before .before .before .pre in
+    let a = c .before .before .before .before .before .before .before .before .before .before .before .before .args in let p = c .before .before .before .before .before .before .before
+            .before .before .before .before .before .pre in
     let f = c .before .before .before .before .before .before .before .fixed-in in
     fair (a .head .now) (a .slots .now) (a .records .now) (a .i) p (f .result) (f .ensures)
 
 -- src/lib.rt:133:9
 slot-at-requires : tie.Need-slot-at-requires
 slot-at-requires c κs =
-    let a = c .before .before .before .before .before .before .before .before .before .before .before .before .before .before .args in let p = c .before .before .before .before .before .before .before .before .before .before .before .before .before .before .pre in
+    let a = c .before .before .before .before .before .before .before .before .before .before .before .before .before .before .args in let p = c .before .before .before .before .before
+            .before .before .before .before .before .before .before .before .before .pre in
     let f = c .before .before .before .before .before .before .before .before .before .fixed-in in
     let d = c .before .before .words-held in
     let k = c .before .spot in
@@ -112,21 +118,25 @@ slot-at-requires c κs =
 -- src/lib.rt:134:9
 record-at-requires : tie.Need-record-at-requires
 record-at-requires c κs =
-    let a = c .before .before .before .before .before .before .before .before .before .before .before .before .before .before .before .before .args in let p = c .before .before .before .before .before .before .before .before .before .before .before .before .before .before .before .before .pre in
+    let a = c .before .before .before .before .before .before .before .before .before .before .before .before .before .before .before .before .args in let p = c .before .before .before
+            .before .before .before .before .before .before .before .before .before .before .before .before .before .pre in
     record-room (a .head .now) (a .slots .now) (a .records .now) (a .i) p
 
 -- src/lib.rt:136:9
 act-at-requires : tie.Need-act-at-requires
 act-at-requires c κs =
-    let a = c .before .before .before .before .before .before .before .before .before .before .before .before .before .before .before .before .before .args in let p = c .before .before .before .before .before .before .before .before .before .before .before .before .before .before .before .before .before .pre in
+    let a = c .before .before .before .before .before .before .before .before .before .before .before .before .before .before .before .before .before .args in let p = c .before .before
+            .before .before .before .before .before .before .before .before .before .before .before .before .before .before .before .pre in
     let f = c .before .before .before .before .before .before .before .before .before .before .before .before .fixed-in in
     let r = c .record-at in
-    record { fair = fair (a .head .now) (a .slots .now) (a .records .now) (a .i) p (f .result) (f .ensures); held = word-fits (a .head .now) (a .slots .now) (a .records .now) (a .i) p (f .result) (f .ensures) (r .result) (r .ensures) }
+    record { fair = fair (a .head .now) (a .slots .now) (a .records .now) (a .i) p (f .result) (f .ensures); held = word-fits (a .head .now) (a .slots .now) (a .records .now) (a .i) p (f
+            .result) (f .ensures) (r .result) (r .ensures) }
 
 -- src/lib.rt:141:9
 record-after-requires : tie.Need-record-after-requires
 record-after-requires c κs =
-    let a = c .before .before .before .before .before .before .before .before .before .before .before .before .before .before .before .before .before .before .before .before .args in let p = c .before .before .before .before .before .before .before .before .before .before .before .before .before .before .before .before .before .before .before .before .pre in
+    let a = c .before .before .before .before .before .before .before .before .before .before .before .before .before .before .before .before .before .before .before .before .args in let
+            p = c .before .before .before .before .before .before .before .before .before .before .before .before .before .before .before .before .before .before .before .before .pre in
     let f = c .before .before .before .before .before .before .before .before .before .before .before .before .before .before .before .fixed-in in
     let r = c .before .before .before .record-at in
     few (a .head .now) (a .slots .now) (a .records .now) (a .i) p (f .result) (f .ensures) (r .result) (r .ensures)
@@ -134,20 +144,26 @@ record-after-requires c κs =
 -- src/lib.rt:142:26
 add-put-head : tie.Need-add-put-head
 add-put-head c =
-    let p = c .before .before .before .before .before .before .before .before .before .before .before .before .before .before .before .before .before .before .before .before .before .before .pre in
+    let p = c .before .before .before .before .before .before .before .before .before .before .before .before .before .before .before .before .before .before .before .before .before
+            .before .pre in
     record { fits = omega (arith, p .in-time) }
 
 -- src/lib.rt:142:5
 put-head-requires : tie.Need-put-head-requires
 put-head-requires c κs =
-    let a = c .before .before .before .before .before .before .before .before .before .before .before .before .before .before .before .before .before .before .before .before .before .before .args in let p = c .before .before .before .before .before .before .before .before .before .before .before .before .before .before .before .before .before .before .before .before .before .before .pre in
+    let a = c .before .before .before .before .before .before .before .before .before .before .before .before .before .before .before .before .before .before .before .before .before
+            .before .args in let p = c .before .before .before .before .before .before .before .before .before .before .before .before .before .before .before .before .before .before
+            .before .before .before .before .pre in
     eight (a .head .now) (a .slots .now) (a .records .now) (a .i) p
 
 -- src/lib.rt:143:5
 put-slot-requires : tie.Need-put-slot-requires
 put-slot-requires c κs =
-    let a = c .before .before .before .before .before .before .before .before .before .before .before .before .before .before .before .before .before .before .before .before .before .before .before .before .before .before .args in let p = c .before .before .before .before .before .before .before .before .before .before .before .before .before .before .before .before .before .before .before .before .before .before .before .before .before .before .pre in
-    let f = c .before .before .before .before .before .before .before .before .before .before .before .before .before .before .before .before .before .before .before .before .before .fixed-in in
+    let a = c .before .before .before .before .before .before .before .before .before .before .before .before .before .before .before .before .before .before .before .before .before
+            .before .before .before .before .before .args in let p = c .before .before .before .before .before .before .before .before .before .before .before .before .before .before
+            .before .before .before .before .before .before .before .before .before .before .before .before .pre in
+    let f = c .before .before .before .before .before .before .before .before .before .before .before .before .before .before .before .before .before .before .before .before .before
+            .fixed-in in
     let d = c .before .before .before .before .before .before .before .before .before .before .before .before .before .before .words-held in
     let k = c .before .before .before .before .before .before .before .before .before .before .before .before .before .spot in
     slot-room (a .head .now) (a .slots .now) (a .records .now) (a .i) p (f .result) (f .ensures) (d .result) (d .ensures) (k .result) (k .ensures)
@@ -155,7 +171,9 @@ put-slot-requires c κs =
 -- src/lib.rt:144:5
 put-record-requires : tie.Need-put-record-requires
 put-record-requires c κs =
-    let a = c .before .before .before .before .before .before .before .before .before .before .before .before .before .before .before .before .before .before .before .before .before .before .before .before .before .before .before .before .before .before .args in let p = c .before .before .before .before .before .before .before .before .before .before .before .before .before .before .before .before .before .before .before .before .before .before .before .before .before .before .before .before .before .before .pre in
+    let a = c .before .before .before .before .before .before .before .before .before .before .before .before .before .before .before .before .before .before .before .before .before
+            .before .before .before .before .before .before .before .before .before .args in let p = c .before .before .before .before .before .before .before .before .before .before
+            .before .before .before .before .before .before .before .before .before .before .before .before .before .before .before .before .before .before .before .before .pre in
     record-room (a .head .now) (a .slots .now) (a .records .now) (a .i) p
 
 -- src/lib.rt:123:1
@@ -173,17 +191,25 @@ same-length-3 c = search needs
 -- src/lib.rt:123:1
 returns : tie.Need-returns
 returns c =
-    let a = c .before .before .before .before .before .before .before .before .before .before .before .before .before .before .before .before .before .before .before .before .before .before .before .before .before .before .before .before .before .before .before .before .before .args in let p = c .before .before .before .before .before .before .before .before .before .before .before .before .before .before .before .before .before .before .before .before .before .before .before .before .before .before .before .before .before .before .before .before .before .pre in
-    let f = c .before .before .before .before .before .before .before .before .before .before .before .before .before .before .before .before .before .before .before .before .before .before .before .before .before .before .before .before .fixed-in in
-    let d = c .before .before .before .before .before .before .before .before .before .before .before .before .before .before .before .before .before .before .before .before .before .words-held in
+    let a = c .before .before .before .before .before .before .before .before .before .before .before .before .before .before .before .before .before .before .before .before .before
+            .before .before .before .before .before .before .before .before .before .before .before .before .args in let p = c .before .before .before .before .before .before .before
+            .before .before .before .before .before .before .before .before .before .before .before .before .before .before .before .before .before .before .before .before .before .before
+            .before .before .before .before .pre in
+    let f = c .before .before .before .before .before .before .before .before .before .before .before .before .before .before .before .before .before .before .before .before .before
+            .before .before .before .before .before .before .before .fixed-in in
+    let d = c .before .before .before .before .before .before .before .before .before .before .before .before .before .before .before .before .before .before .before .before .before
+            .words-held in
     let k = c .before .before .before .before .before .before .before .before .before .before .before .before .before .before .before .before .before .before .before .before .spot in
-    let e = c .before .before .before .before .before .before .before .before .before .before .before .before .before .before .before .before .before .before .before .before .before .before .before .before .before .before .ends-in in
+    let e = c .before .before .before .before .before .before .before .before .before .before .before .before .before .before .before .before .before .before .before .before .before
+            .before .before .before .before .before .ends-in in
     let s = c .before .before .before .before .before .before .before .before .before .before .before .before .before .before .before .before .before .before .slot-at in
     let r = c .before .before .before .before .before .before .before .before .before .before .before .before .before .before .before .before .record-at in
     let x = c .before .before .before .before .before .before .before .before .before .before .before .before .before .before .before .act-at in
     let y = c .before .before .before .before .before .before .before .before .before .before .before .before .record-after in
-    acted (a .head .now) (a .slots .now) (a .records .now) (a .i) p (f .result) (f .ensures) (d .result) (d .ensures) (k .result) (k .ensures) (e .result) (e .ensures) (s .result) (s .ensures) (r .result) (r .ensures)
-    (a .bits) (a .lose) (x .result) (x .ensures) (y .result) (y .ensures) _ _ _ (c .before .before .before .before .before .before .before .before .before .before .put-head .ensures) (c .before .before .before .before .before .before .put-slot .ensures) (c .before .before .put-record .ensures)
+    acted (a .head .now) (a .slots .now) (a .records .now) (a .i) p (f .result) (f .ensures) (d .result) (d .ensures) (k .result) (k .ensures) (e .result) (e .ensures) (s .result) (s
+            .ensures) (r .result) (r .ensures)
+    (a .bits) (a .lose) (x .result) (x .ensures) (y .result) (y .ensures) _ _ _ (c .before .before .before .before .before .before .before .before .before .before .put-head .ensures) (c
+            .before .before .before .before .before .before .put-slot .ensures) (c .before .before .put-record .ensures)
 
 pub act-spec : {M : Type 1} → statement M
 act-spec =
