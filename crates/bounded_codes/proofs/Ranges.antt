@@ -20,10 +20,14 @@ abbrev heldAt : ℕ → ℕ → ℕ → Held
 heldAt c a b =
     cond (ltb c 15) held.Nothing (cond (eqb c 20) (held.Tail (stamp a)) (cond (eqb c 21) (held.Both (stamp a) (stamp b)) (cond (ltb c 33) (held.End (stamp a)) held.Nothing)))
 
+abbrev weakAt : ℕ → Bool
+weakAt c = cond (eqb c 17) true (cond (eqb c 24) true (cond (eqb c 25) true (eqb c 28)))
+
 record Rule (a b c : ℕ) : Type 0 where
   words : codeOf (placeIn c a b) ≡ triple c (cond (within c 6 33) a 0) (cond (within c 21 33) b 0)
   busy : viewOf (placeIn c a b) .busy ≡ not (ltb c 11)
   held : viewOf (placeIn c a b) .held ≡ heldAt c a b
+  weak : viewOf (placeIn c a b) .weak ≡ weakAt c
 
 -- a rule for each number below k
 record Snoc (A B : Type 0) : Type 0 where
@@ -50,45 +54,45 @@ find (suc k) P x n l = go (decLt n k) (λ m. find k P (x .front) n m)
 every : (a b : ℕ) → Below 39 (Rule a b)
 unfolding Below placeIn triple within
 every a b = tt
-    ▹ record { words = refl; busy = refl; held = refl }
-    ▹ record { words = refl; busy = refl; held = refl }
-    ▹ record { words = refl; busy = refl; held = refl }
-    ▹ record { words = refl; busy = refl; held = refl }
-    ▹ record { words = refl; busy = refl; held = refl }
-    ▹ record { words = refl; busy = refl; held = refl }
-    ▹ record { words = refl; busy = refl; held = refl }
-    ▹ record { words = refl; busy = refl; held = refl }
-    ▹ record { words = refl; busy = refl; held = refl }
-    ▹ record { words = refl; busy = refl; held = refl }
-    ▹ record { words = refl; busy = refl; held = refl }
-    ▹ record { words = refl; busy = refl; held = refl }
-    ▹ record { words = refl; busy = refl; held = refl }
-    ▹ record { words = refl; busy = refl; held = refl }
-    ▹ record { words = refl; busy = refl; held = refl }
-    ▹ record { words = refl; busy = refl; held = refl }
-    ▹ record { words = refl; busy = refl; held = refl }
-    ▹ record { words = refl; busy = refl; held = refl }
-    ▹ record { words = refl; busy = refl; held = refl }
-    ▹ record { words = refl; busy = refl; held = refl }
-    ▹ record { words = refl; busy = refl; held = refl }
-    ▹ record { words = refl; busy = refl; held = refl }
-    ▹ record { words = refl; busy = refl; held = refl }
-    ▹ record { words = refl; busy = refl; held = refl }
-    ▹ record { words = refl; busy = refl; held = refl }
-    ▹ record { words = refl; busy = refl; held = refl }
-    ▹ record { words = refl; busy = refl; held = refl }
-    ▹ record { words = refl; busy = refl; held = refl }
-    ▹ record { words = refl; busy = refl; held = refl }
-    ▹ record { words = refl; busy = refl; held = refl }
-    ▹ record { words = refl; busy = refl; held = refl }
-    ▹ record { words = refl; busy = refl; held = refl }
-    ▹ record { words = refl; busy = refl; held = refl }
-    ▹ record { words = refl; busy = refl; held = refl }
-    ▹ record { words = refl; busy = refl; held = refl }
-    ▹ record { words = refl; busy = refl; held = refl }
-    ▹ record { words = refl; busy = refl; held = refl }
-    ▹ record { words = refl; busy = refl; held = refl }
-    ▹ record { words = refl; busy = refl; held = refl }
+    ▹ record { words = refl; busy = refl; held = refl; weak = refl }
+    ▹ record { words = refl; busy = refl; held = refl; weak = refl }
+    ▹ record { words = refl; busy = refl; held = refl; weak = refl }
+    ▹ record { words = refl; busy = refl; held = refl; weak = refl }
+    ▹ record { words = refl; busy = refl; held = refl; weak = refl }
+    ▹ record { words = refl; busy = refl; held = refl; weak = refl }
+    ▹ record { words = refl; busy = refl; held = refl; weak = refl }
+    ▹ record { words = refl; busy = refl; held = refl; weak = refl }
+    ▹ record { words = refl; busy = refl; held = refl; weak = refl }
+    ▹ record { words = refl; busy = refl; held = refl; weak = refl }
+    ▹ record { words = refl; busy = refl; held = refl; weak = refl }
+    ▹ record { words = refl; busy = refl; held = refl; weak = refl }
+    ▹ record { words = refl; busy = refl; held = refl; weak = refl }
+    ▹ record { words = refl; busy = refl; held = refl; weak = refl }
+    ▹ record { words = refl; busy = refl; held = refl; weak = refl }
+    ▹ record { words = refl; busy = refl; held = refl; weak = refl }
+    ▹ record { words = refl; busy = refl; held = refl; weak = refl }
+    ▹ record { words = refl; busy = refl; held = refl; weak = refl }
+    ▹ record { words = refl; busy = refl; held = refl; weak = refl }
+    ▹ record { words = refl; busy = refl; held = refl; weak = refl }
+    ▹ record { words = refl; busy = refl; held = refl; weak = refl }
+    ▹ record { words = refl; busy = refl; held = refl; weak = refl }
+    ▹ record { words = refl; busy = refl; held = refl; weak = refl }
+    ▹ record { words = refl; busy = refl; held = refl; weak = refl }
+    ▹ record { words = refl; busy = refl; held = refl; weak = refl }
+    ▹ record { words = refl; busy = refl; held = refl; weak = refl }
+    ▹ record { words = refl; busy = refl; held = refl; weak = refl }
+    ▹ record { words = refl; busy = refl; held = refl; weak = refl }
+    ▹ record { words = refl; busy = refl; held = refl; weak = refl }
+    ▹ record { words = refl; busy = refl; held = refl; weak = refl }
+    ▹ record { words = refl; busy = refl; held = refl; weak = refl }
+    ▹ record { words = refl; busy = refl; held = refl; weak = refl }
+    ▹ record { words = refl; busy = refl; held = refl; weak = refl }
+    ▹ record { words = refl; busy = refl; held = refl; weak = refl }
+    ▹ record { words = refl; busy = refl; held = refl; weak = refl }
+    ▹ record { words = refl; busy = refl; held = refl; weak = refl }
+    ▹ record { words = refl; busy = refl; held = refl; weak = refl }
+    ▹ record { words = refl; busy = refl; held = refl; weak = refl }
+    ▹ record { words = refl; busy = refl; held = refl; weak = refl }
 
 past : (c a b : ℕ) → 39 ≤ c → placeIn c a b ≡ place.IsClosed1
 past c a b g = sym (busy-in c a b place.IsClosed1 (omega (arith, g)) (last-held (c - 11) a b (omega (arith, g))))
@@ -107,6 +111,36 @@ busy-is c a b = go (decLt c 39)
     go : Dec (c < 39) → viewOf (placeIn c a b) .busy ≡ not (ltb c 11)
     go (yes l) = find 39 (Rule a b) (every a b) c l .busy
     go (no g) = ap (λ (p : Place). viewOf p .busy) (past c a b (omega (arith, g))) ∙ sym (ap not (le-ltb c 11 (omega (arith, g))))
+
+weak-is : (c a b : ℕ) → viewOf (placeIn c a b) .weak ≡ weakAt c
+weak-is c a b = go (decLt c 39)
+  where
+    go : Dec (c < 39) → viewOf (placeIn c a b) .weak ≡ weakAt c
+    go (yes l) = find 39 (Rule a b) (every a b) c l .weak
+    go (no g) = ap (λ (p : Place). viewOf p .weak) (past c a b (omega (arith, g)))
+        ∙ sym (rw (ne-eqb c 17 (λ e. omega (arith, e, g)), ne-eqb c 24 (λ e. omega (arith, e, g)), ne-eqb c 25 (λ e. omega (arith, e, g)), ne-eqb c 28 (λ e. omega (arith, e, g))) refl)
+
+module _ (c a b : ℕ) where
+  pub idle-below : c < 11 → false ≡ viewOf (placeIn c a b) .busy
+  idle-below l = sym (busy-is c a b ∙ ap not (lt-ltb c 11 l))
+
+  pub busy-from : 11 ≤ c → true ≡ viewOf (placeIn c a b) .busy
+  busy-from h = sym (busy-is c a b ∙ ap not (le-ltb c 11 h))
+
+  -- the weak exchanges: O3, P3 of either call, F6
+  pub weak-o3 : c ≡ 17 → true ≡ viewOf (placeIn c a b) .weak
+  weak-o3 e = sym (weak-is c a b ∙ rw (eq-eqb c 17 e) refl)
+
+  module _ (n : c ≡ 17 → ⊥) where
+    pub weak-push : c ≡ 24 → true ≡ viewOf (placeIn c a b) .weak
+    weak-push e = sym (weak-is c a b ∙ rw (ne-eqb c 17 n, eq-eqb c 24 e) refl)
+
+    module _ (m : c ≡ 24 → ⊥) where
+      pub weak-force : c ≡ 25 → true ≡ viewOf (placeIn c a b) .weak
+      weak-force e = sym (weak-is c a b ∙ rw (ne-eqb c 17 n, ne-eqb c 24 m, eq-eqb c 25 e) refl)
+
+      pub weak-f6 : (c ≡ 25 → ⊥) → eqb c 28 ≡ viewOf (placeIn c a b) .weak
+      weak-f6 k = sym (weak-is c a b ∙ rw (ne-eqb c 17 n, ne-eqb c 24 m, ne-eqb c 25 k) refl)
 
 module _ (c a b : ℕ) where
   pub held-low : c < 15 → held.Nothing ≡ viewOf (placeIn c a b) .held

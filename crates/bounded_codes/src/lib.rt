@@ -148,7 +148,7 @@ pub fn place_in(code: u64, a: u64, b: u64) -> Place
 }
 
 // Which words a place holds is a matter of ranges, so that a row of records is judged without a jump for each.
-fn within(code: u64, from: u64, to: u64) -> bool
+pub fn within(code: u64, from: u64, to: u64) -> bool
     ensures { λ r. ⌜ r ≡ within code from to ⌝ }
 {
     if from <= code { code < to } else { false }
@@ -171,6 +171,28 @@ pub fn stands(code: u64, first: u64, second: u64) -> bool
         return false;
     }
     may_be(second, within(code, 21, 33))
+}
+
+// What is asked of the place that the words stand for, by the code alone, so that an entry goes by its place once: when it acts.
+pub fn busy_in(code: u64, first: u64, second: u64) -> bool
+    ensures { λ r. ⌜ r ≡ viewOf (placeIn code first second) .busy ⌝ }
+{
+    if code < 11 { false } else { true }
+}
+
+pub fn weak_in(code: u64, first: u64, second: u64) -> bool
+    ensures { λ r. ⌜ r ≡ viewOf (placeIn code first second) .weak ⌝ }
+{
+    if code == 17 {
+        return true;
+    }
+    if code == 24 {
+        return true;
+    }
+    if code == 25 {
+        return true;
+    }
+    code == 28
 }
 
 // The loaded words of the place that the words stand for.

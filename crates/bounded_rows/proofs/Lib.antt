@@ -1,4 +1,5 @@
 pub mod Lists
 mod Words
 pub mod Standing
+mod Acting
 mod Turning

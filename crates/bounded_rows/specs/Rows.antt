@@ -1,9 +1,11 @@
 -- A ring and its records as words in a host's memory, and back: eight words, two for each of 1,024 slots, five for each record.
-use Prim.Native.Nat.{ℕ, _+_, _*_, _%_}
+use Prim.Native.Nat.{ℕ, _+_, _*_, _%_, _<_}
+use mathlib.Core.Path.{_≡_}
 use mathlib.Core.Bool.{Bool, true, false, cond}
 use mathlib.Core.List.{List, [], _∷_}
 use lib.Dec.{eqb}
 use lib.ListN.{length, getD, set}
+use Rattle.queue_entries.specs.Limits.{meterMost}
 use Rattle.bounded_words.specs.Words.{stamp}
 use Rattle.bounded_words.specs.Limits.{slotsMost}
 use Rattle.bounded_words.specs.declared.Fixed.{Fixed}
@@ -11,12 +13,16 @@ use Rattle.bounded_words.specs.declared.Width.{Width}
 use Rattle.bounded_places.specs.declared.Ends.{Ends}
 use Rattle.bounded_places.specs.declared.Slot.{Slot}
 use Rattle.bounded_places.specs.declared.Worker.{Worker}
+use Rattle.bounded_places.specs.Places.{viewOf}
+use Rattle.bounded_acts.specs.declared.Acted.{Acted}
+use Rattle.bounded_acts.specs.Acts.{actOf}
 use Rattle.bounded_machine.specs.Machine.{slot}
 use Rattle.bounded_codes.specs.declared.Coded.{Coded}
 use Rattle.bounded_codes.specs.Codes.{codeOf, placeIn, standsFor}
 use Rattle.bounded_parts.specs.declared.Metered.{Metered}
-use Rattle.bounded_machine.specs.Turn.{turnAt}
-use Rattle.bounded_lent.specs.Lent.{Lent, held, lentOf}
+use Rattle.bounded_machine.specs.Turn.{turnAt, recordAfter}
+use Rattle.bounded_entries.specs.Entries.{slotOf}
+use Rattle.bounded_lent.specs.Lent.{Lent, held, brokenLent, lentOf}
 
 -- the three slices that a host lends
 pub record Words : Type 0 where
@@ -111,6 +117,26 @@ withSlot ws k s = set (set ws (k * 2) (s .stamp .0)) (k * 2 + 1) (s .value)
 
 unfoldable pub withHead : List ℕ → Ends → ℕ → List ℕ
 withHead h e m = set (set (set h 4 (e .head .0)) 5 (e .tail .0)) 6 m
+
+-- ---- an act
+-- words of which the i-th record may act: they stand for a ring that is not broken, it is busy, and the meter can rise
+pub record Moving (w : Words) (i : ℕ) : Type 0 where
+  pub sound : brokenLent (meteredIn w) (recordsIn (w .records)) ≡ false
+  pub stands : stand w ≡ true
+  pub counted : i < length (recordsIn (w .records))
+  pub busy : viewOf (recordAt (w .records) i .place) .busy ≡ true
+  pub in-time : getD (w .head) 6 0 < meterMost
+
+abbrev pub storedIn : Words → ℕ → ℕ → Worker → Acted → Words
+storedIn w i k r a =
+    words (withHead (w .head) (a .ends) (getD (w .head) 6 0 + 1)) (withSlot (w .slots) k (a .slot)) (withRecord (w .records) i (recordAfter r (a .place) (a .loss)))
+
+-- what the act of a record r that is the i-th, at the slot k, leaves
+abbrev pub actedAt : Width → Words → ℕ → ℕ → Worker → Bool → Words
+actedAt bits w i k r lose = storedIn w i k r (actOf bits (fixedIn (w .head)) (endsIn (w .head)) (slotAt (w .slots) k) (r .place) lose)
+
+unfoldable pub actedIn : Width → Words → ℕ → Bool → Words
+actedIn bits w i lose = actedAt bits w i (slotOf (fixedIn (w .head)) (recordAt (w .records) i)) (recordAt (w .records) i) lose
 
 -- ---- an answer, with the words as they are then
 pub record After : Type 0 where

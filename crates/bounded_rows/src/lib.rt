@@ -3,14 +3,19 @@ ghost use mathlib.Core.Path.{_≡_};
 ghost use mathlib.Core.Bool.{true, false};
 ghost use Prim.Native.Nat.{_+_, _*_, _<_};
 ghost use lib.ListN.{length};
+ghost use Rattle.bounded_places.specs.Places.{beginOf};
+ghost use Rattle.bounded_machine.specs.Turn.{beginner};
 ghost use Rattle.bounded_lent.specs.Lent.{brokenLent};
-ghost use Rattle.bounded_rows.specs.Rows.{words, fixedIn, endsIn, withHead, recordAt, placedAt, withRecord, slotAt, withSlot, recordsIn, meteredIn, stand, after, afterOf, turnWith};
+ghost use Rattle.bounded_rows.specs.Rows.{words, fixedIn, endsIn, withHead, recordAt, placedAt, withRecord, slotAt, withSlot, recordsIn, meteredIn, stand, Moving, actedIn, after, afterOf, turnWith};
 use bounded_places::Ends;
 use bounded_places::Slot;
 use bounded_places::Worker;
 use bounded_words::Fixed;
 use bounded_words::Stamp;
 use bounded_words::Width;
+use queue_entries::Call;
+use queue_entries::Entry;
+use queue_entries::Verdict;
 
 pub fn fixed_in(head: &[u64]) -> Fixed
     requires { ⌜ length (now head) ≡ 8 ⌝ }
@@ -102,6 +107,43 @@ pub fn put_slot(slots: &mut [u64], k: usize, s: Slot)
     slots[at + 1] = s.value;
 }
 
+fn begin(records: &mut [u64], i: usize, call: Call)
+    requires { ⌜ i * 5 + 4 < length (now records) ⌝ }
+    ensures { λ _. ⌜ now (records .exit) ≡ withRecord (now (records .entry)) i (beginner (beginOf call)) ⌝ }
+{
+    let begun = Worker {
+        place: bounded_places::first_place(call),
+        differed: 0,
+        failed: 0,
+    };
+    put_record(records, i, begun);
+}
+
+// The act of the i-th record. Its place is read last and written first, so that the compiler goes by the code once, from the words to the words.
+fn act(bits: Width, head: &mut [u64], slots: &mut [u64], records: &mut [u64], i: usize, lose: bool)
+    requires { ⌜ Moving (words (now head) (now slots) (now records)) i ⌝ }
+    ensures { λ _. ⌜ words (now (head .exit)) (now (slots .exit)) (now (records .exit)) ≡ actedIn bits (words (now (head .entry)) (now (slots .entry)) (now (records .entry))) i lose ⌝ }
+{
+    let f = fixed_in(head);
+    let e = ends_in(head);
+    let meter = head[6];
+    let at = i * 5;
+    let held = bounded_codes::words_held(records[at], records[at + 1], records[at + 2]);
+    let k = bounded_machine::spot(f, held) as usize;
+    let s = slot_at(slots, k);
+    let r = record_at(records, i);
+    let p = r.place;
+    let a = bounded_table::act_at(bits, f, e, s, p, lose);
+    let ends = a.ends;
+    let slot = a.slot;
+    let place = a.place;
+    let loss = a.loss;
+    let after = bounded_machine::record_after(r, place, loss);
+    put_head(head, ends, meter + 1);
+    put_slot(slots, k, slot);
+    put_record(records, i, after);
+}
+
 // One entry, on words that stand for a ring and records that are not broken; nor are they after it.
 pub fn turn(
     bits: Width,
@@ -117,19 +159,27 @@ pub fn turn(
     ensures { λ _. ⌜ brokenLent (meteredIn (words (now (head .exit)) (now (slots .exit)) (now (records .exit)))) (recordsIn (now (records .exit))) ≡ false ⌝ }
     ensures { λ _. ⌜ stand (words (now (head .exit)) (now (slots .exit)) (now (records .exit))) ≡ true ⌝ }
 {
+    let Entry::Asks(worker, order) = queue_entries::entry_of(first, second) else {
+        return 9;
+    };
     let count = records.len() / 5;
-    let w = bounded_entries::worker_of(first, count);
-    let worker = record_at(records, w);
-    let f = fixed_in(head);
-    let e = ends_in(head);
-    let k = bounded_entries::slot_of(f, worker);
-    let s = slot_at(slots, k);
-    let t = bounded_entries::turn_on(bits, f, e, s, worker, head[6], count, first, second);
-    let ends = t.ends;
-    let slot = t.slot;
-    let after = t.worker;
-    put_head(head, ends, t.meter);
-    put_slot(slots, k, slot);
-    put_record(records, w, after);
-    t.refusal
+    if count as u64 <= worker {
+        return 3;
+    }
+    let i = worker as usize;
+    let at = i * 5;
+    let busy = bounded_codes::busy_in(records[at], records[at + 1], records[at + 2]);
+    let weak = bounded_codes::weak_in(records[at], records[at + 1], records[at + 2]);
+    let verdict = queue_entries::verdict_for(head[6], busy, weak, order);
+    match verdict {
+        Verdict::Refuse(number) => number,
+        Verdict::Start(call) => {
+            begin(records, i, call);
+            0
+        }
+        Verdict::Move(lose) => {
+            act(bits, head, slots, records, i, lose);
+            0
+        }
+    }
 }

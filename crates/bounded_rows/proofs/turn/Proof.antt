@@ -1,147 +1,292 @@
-use Prim.Native.Nat.{_/_}
-use mathlib.Core.Path.{refl}
+use mathlib.Core.Path.{_≡_}
 use native.Mathlib.Omega.{arith}
-use lib.ListN.{length}
-use Rattle.bounded_rows.proofs.Turning.{eight-words, record-room, fair, fits, slot-room, done, still-sound}
+use Rattle.queue_entries.specs.declared.Entry.the-variants.{Asks}
+use Rattle.queue_entries.specs.declared.Verdict.the-variants.{Refuse, Start, Move}
+use Rattle.bounded_rows.specs.Rows.{words, Moving}
+use Rattle.bounded_rows.proofs.Turning.{eight-words, nine, three, stop, start, moving, move}
 use borrow.Author.Needs.{needs}
 use Rattle.bounded_rows.proofs.turn.Statement.{statement}
 use Rattle.bounded_rows.proofs.turn.Tie as tie
 use Rattle.bounded_rows.proofs.turn.Reads as reads
 use Rattle.bounded_rows.proofs.turn.Lts as lts
-use Rattle.bounded_entries.proofs.slot_of.Reads as slot-of-reads
-use Rattle.bounded_entries.proofs.turn_on.Reads as turn-on-reads
-use Rattle.bounded_entries.proofs.worker_of.Reads as worker-of-reads
-use Rattle.bounded_rows.proofs.ends_in.Reads as ends-in-reads
-use Rattle.bounded_rows.proofs.fixed_in.Reads as fixed-in-reads
-use Rattle.bounded_rows.proofs.put_head.Reads as put-head-reads
-use Rattle.bounded_rows.proofs.put_record.Reads as put-record-reads
-use Rattle.bounded_rows.proofs.put_slot.Reads as put-slot-reads
-use Rattle.bounded_rows.proofs.record_at.Reads as record-at-reads
-use Rattle.bounded_rows.proofs.slot_at.Reads as slot-at-reads
+use Rattle.bounded_codes.proofs.busy_in.Reads as busy-in-reads
+use Rattle.bounded_codes.proofs.weak_in.Reads as weak-in-reads
+use Rattle.bounded_rows.proofs.act.Reads as act-reads
+use Rattle.bounded_rows.proofs.begin.Reads as begin-reads
+use Rattle.queue_entries.proofs.entry_of.Reads as entry-of-reads
+use Rattle.queue_entries.proofs.verdict_for.Reads as verdict-for-reads
 
--- src/lib.rt:112:9
-worker-of-requires : tie.Need-worker-of-requires
-worker-of-requires c κs = search needs
+asks-at : (c : tie.After-known-told) → c .before .before .before .entry-of .result ≡ Asks (c .before .worker .given .0 .0) (c .before .worker .given .0 .1 .0)
+asks-at c = search needs
 
--- src/lib.rt:113:9
-record-at-requires : tie.Need-record-at-requires
-record-at-requires c κs =
-    let a = c .before .before .before .before .before .args in let p = c .before .before .before .before .before .pre in
-    let w = c .before .worker-of in
-    record-room (a .head .now) (a .slots .now) (a .records .now) (p .0) (a .first) (length (a .records .now) / 5) (w .result) refl (w .ensures)
+starts-at : (c : tie.After-known-told3) → c .before .before .before .verdict-for .result ≡ Start (c .before .verdict2 .given .0 .0)
+starts-at c = search needs
 
--- src/lib.rt:114:9
-fixed-in-requires : tie.Need-fixed-in-requires
-fixed-in-requires c κs =
-    let a = c .before .before .before .before .before .before .before .args in let p = c .before .before .before .before .before .before .before .pre in
-    eight-words (a .head .now) (a .slots .now) (a .records .now) (p .0) (p .1)
+moves-at : (c : tie.After-known-told4) → c .before .before .before .verdict-for .result ≡ Move (c .before .verdict3 .given .0 .0)
+moves-at c = search needs
 
--- src/lib.rt:115:9
-ends-in-requires : tie.Need-ends-in-requires
-ends-in-requires c κs =
-    let a = c .before .before .before .before .before .before .before .before .before .args in let p = c .before .before .before .before .before .before .before .before .before .pre in
-    eight-words (a .head .now) (a .slots .now) (a .records .now) (p .0) (p .1)
+moving-at : (c : tie.After-known-told4) → Moving (words (c .before .before .before .before .before .before .before .before .before .before .before .before .before .before .before .before
+        .before .before .before .before .before .args .head .now) (c .before .before .before .before .before .before .before .before .before .before .before .before .before .before
+        .before .before .before .before .before .before .before .args .slots .now) (c .before .before .before .before .before .before .before .before .before .before .before .before
+        .before .before .before .before .before .before .before .before .before .args .records .now)) (c .before .before .before .before .before .before .before .before .before .before
+        .before .before .before .before .before .worker .given .0 .0)
+moving-at c =
+    let a = c .before .before .before .before .before .before .before .before .before .before .before .before .before .before .before .before .before .before .before .before .before .args
+            in let p = c .before .before .before .before .before .before .before .before .before .before .before .before .before .before .before .before .before .before .before .before
+            .before .pre in let e = c .before .before .before .before .before .before .before .before .before .before .before .before .before .before .before .before .before .entry-of in
+    let w = c .before .before .before .before .before .before .before .before .before .before .before .before .before .before .before .worker .given .0 in
+    let b = c .before .before .before .before .before .before .before .before .before .busy-in in let k = c .before .before .before .before .before .weak-in in let v = c .before .before
+            .before .verdict-for in
+    moving (a .head .now) (a .slots .now) (a .records .now) (p .0) (p .1) (a .bits) (a .first) (a .second) (e .result) (e .ensures) (w .0) (w .1 .0) (asks-at (c .before .before .before
+            .before .before .before .before .before .before .before .before .before .before .before)) (c .before .before .before .before .before .before .before .before .before .before
+            .before .before .before .if1 .left)
+    (b .result) (b .ensures) (k .result) (k .ensures) (v .result) (v .ensures) (c .before .verdict3 .given .0 .0) (moves-at c)
 
--- src/lib.rt:116:9
-slot-of-requires : tie.Need-slot-of-requires
-slot-of-requires c κs =
-    let a = c .before .before .before .before .before .before .before .before .before .before .args in let p = c .before .before .before .before .before .before .before .before .before .before .pre in
-    let w = c .before .before .before .before .before .before .worker-of in
-    let r = c .before .before .before .before .record-at in
-    let f = c .before .before .fixed-in in
-    fair (a .head .now) (a .slots .now) (a .records .now) (p .0) (a .first) (length (a .records .now) / 5) (w .result) refl (w .ensures) (r .result) (r .ensures) (f .result) (f .ensures)
+-- src/lib.rt:162:38
+entry-of-requires : tie.Need-entry-of-requires
+entry-of-requires c κs = search needs
 
--- src/lib.rt:117:9
-slot-at-requires : tie.Need-slot-at-requires
-slot-at-requires c κs =
-    let a = c .before .before .before .before .before .before .before .before .before .before .before .before .args in let p = c .before .before .before .before .before .before .before .before .before .before .before .before .pre in
-    let w = c .before .before .before .before .before .before .before .before .worker-of in
-    let r = c .before .before .before .before .before .before .record-at in
-    let f = c .before .before .before .before .fixed-in in
-    let e = c .before .before .ends-in in
-    let k = c .before .slot-of in
-    slot-room (a .head .now) (a .slots .now) (a .records .now) (p .0) (a .first) (length (a .records .now) / 5) (w .result) refl (w .ensures) (r .result) (r .ensures) (f .result) (f .ensures) (k .result) (k .ensures) (p .1)
+-- src/lib.rt:162:21
+enum-known-worker : tie.Need-enum-known-worker
+enum-known-worker c = search needs
 
--- src/lib.rt:118:73
-slice-read-turn-on : tie.Need-slice-read-turn-on
-slice-read-turn-on c =
-    let a = c .before .before .before .before .before .before .before .before .before .before .before .before .before .before .args in let p = c .before .before .before .before .before .before .before .before .before .before .before .before .before .before .pre in
-    omega (arith, eight-words (a .head .now) (a .slots .now) (a .records .now) (p .0) (p .1))
+-- src/lib.rt:163:9
+enum-told : tie.Need-enum-told
+enum-told c = search needs
 
--- src/lib.rt:118:9
-turn-on-requires : tie.Need-turn-on-requires
-turn-on-requires c κs =
-    let a = c .before .before .before .before .before .before .before .before .before .before .before .before .before .before .args in let p = c .before .before .before .before .before .before .before .before .before .before .before .before .before .before .pre in
-    let w = c .before .before .before .before .before .before .before .before .before .before .worker-of in
-    let r = c .before .before .before .before .before .before .before .before .record-at in
-    let f = c .before .before .before .before .before .before .fixed-in in
-    (fair (a .head .now) (a .slots .now) (a .records .now) (p .0) (a .first) (length (a .records .now) / 5) (w .result) refl (w .ensures) (r .result) (r .ensures) (f .result) (f .ensures), fits (a .head .now) (a .slots .now) (a .records .now) (p .0) (a .first) (length (a .records .now) / 5) (w .result) refl (w .ensures) (r .result) (r .ensures) (f .result) (f .ensures))
+-- src/lib.rt:163:9
+returns : tie.Need-returns
+returns c =
+    let a = c .before .before .before .before .before .before .args in let p = c .before .before .before .before .before .before .pre in let e = c .before .before .entry-of in
+    let z = nine (a .head .now) (a .slots .now) (a .records .now) (p .0) (p .1) (a .bits) (a .first) (a .second) (e .result) (e .ensures) (search needs) in
+    (z .0, (z .1, z .2))
 
--- src/lib.rt:122:5
-put-head-requires : tie.Need-put-head-requires
-put-head-requires c κs =
-    let a = c .before .before .before .before .before .before .before .before .before .before .before .before .before .before .before .before .before .before .before .args in let p = c .before .before .before .before .before .before .before .before .before .before .before .before .before .before .before .before .before .before .before .pre in
-    eight-words (a .head .now) (a .slots .now) (a .records .now) (p .0) (p .1)
+-- src/lib.rt:167:9
+returns-2 : tie.Need-returns-2
+returns-2 c =
+    let a = c .before .before .before .before .before .before .before .before .args in let p = c .before .before .before .before .before .before .before .before .pre in let e = c .before
+            .before .before .before .entry-of in
+    let w = c .before .before .worker .given .0 in
+    let z = three (a .head .now) (a .slots .now) (a .records .now) (p .0) (p .1) (a .bits) (a .first) (a .second) (e .result) (e .ensures) (w .0) (w .1 .0) (asks-at (c .before)) (c .if1
+            .taken) in
+    (z .0, (z .1, z .2))
 
--- src/lib.rt:123:5
-put-slot-requires : tie.Need-put-slot-requires
-put-slot-requires c κs =
-    let a = c .before .before .before .before .before .before .before .before .before .before .before .before .before .before .before .before .before .before .before .before .before .before .before .args in let p = c .before .before .before .before .before .before .before .before .before .before .before .before .before .before .before .before .before .before .before .before .before .before .before .pre in
-    let w = c .before .before .before .before .before .before .before .before .before .before .before .before .before .before .before .before .before .before .before .worker-of in
-    let r = c .before .before .before .before .before .before .before .before .before .before .before .before .before .before .before .before .before .record-at in
-    let f = c .before .before .before .before .before .before .before .before .before .before .before .before .before .before .before .fixed-in in
-    let e = c .before .before .before .before .before .before .before .before .before .before .before .before .before .ends-in in
-    let k = c .before .before .before .before .before .before .before .before .before .before .before .before .slot-of in
-    slot-room (a .head .now) (a .slots .now) (a .records .now) (p .0) (a .first) (length (a .records .now) / 5) (w .result) refl (w .ensures) (r .result) (r .ensures) (f .result) (f .ensures) (k .result) (k .ensures) (p .1)
+-- src/lib.rt:170:14
+mul-at : tie.Need-mul-at
+mul-at c = search needs
 
--- src/lib.rt:124:5
-put-record-requires : tie.Need-put-record-requires
-put-record-requires c κs =
-    let a = c .before .before .before .before .before .before .before .before .before .before .before .before .before .before .before .before .before .before .before .before .before .before .before .before .before .before .before .args in let p = c .before .before .before .before .before .before .before .before .before .before .before .before .before .before .before .before .before .before .before .before .before .before .before .before .before .before .before .pre in
-    let w = c .before .before .before .before .before .before .before .before .before .before .before .before .before .before .before .before .before .before .before .before .before .before .before .worker-of in
-    record-room (a .head .now) (a .slots .now) (a .records .now) (p .0) (a .first) (length (a .records .now) / 5) (w .result) refl (w .ensures)
+-- src/lib.rt:171:39
+mul-busy-in : tie.Need-mul-busy-in
+mul-busy-in c = search needs
 
--- src/lib.rt:106:1
+-- src/lib.rt:171:39
+slice-read-busy-in : tie.Need-slice-read-busy-in
+slice-read-busy-in c = search needs
+
+-- src/lib.rt:171:60
+add-busy-in : tie.Need-add-busy-in
+add-busy-in c = search needs
+
+-- src/lib.rt:171:52
+mul-busy-in-2 : tie.Need-mul-busy-in-2
+mul-busy-in-2 c = search needs
+
+-- src/lib.rt:171:52
+slice-read-busy-in-2 : tie.Need-slice-read-busy-in-2
+slice-read-busy-in-2 c = search needs
+
+-- src/lib.rt:171:77
+add-busy-in-2 : tie.Need-add-busy-in-2
+add-busy-in-2 c = search needs
+
+-- src/lib.rt:171:69
+mul-busy-in-3 : tie.Need-mul-busy-in-3
+mul-busy-in-3 c = search needs
+
+-- src/lib.rt:171:69
+slice-read-busy-in-3 : tie.Need-slice-read-busy-in-3
+slice-read-busy-in-3 c = search needs
+
+-- src/lib.rt:171:9
+busy-in-requires : tie.Need-busy-in-requires
+busy-in-requires c κs = search needs
+
+-- src/lib.rt:172:39
+mul-weak-in : tie.Need-mul-weak-in
+mul-weak-in c = search needs
+
+-- src/lib.rt:172:39
+slice-read-weak-in : tie.Need-slice-read-weak-in
+slice-read-weak-in c = search needs
+
+-- src/lib.rt:172:60
+add-weak-in : tie.Need-add-weak-in
+add-weak-in c = search needs
+
+-- src/lib.rt:172:52
+mul-weak-in-2 : tie.Need-mul-weak-in-2
+mul-weak-in-2 c = search needs
+
+-- src/lib.rt:172:52
+slice-read-weak-in-2 : tie.Need-slice-read-weak-in-2
+slice-read-weak-in-2 c = search needs
+
+-- src/lib.rt:172:77
+add-weak-in-2 : tie.Need-add-weak-in-2
+add-weak-in-2 c = search needs
+
+-- src/lib.rt:172:69
+mul-weak-in-3 : tie.Need-mul-weak-in-3
+mul-weak-in-3 c = search needs
+
+-- src/lib.rt:172:69
+slice-read-weak-in-3 : tie.Need-slice-read-weak-in-3
+slice-read-weak-in-3 c = search needs
+
+-- src/lib.rt:172:9
+weak-in-requires : tie.Need-weak-in-requires
+weak-in-requires c κs = search needs
+
+-- src/lib.rt:173:46
+slice-read-verdict-for : tie.Need-slice-read-verdict-for
+slice-read-verdict-for c =
+    let a = c .before .before .before .before .before .before .before .before .before .before .before .before .before .before .before .before .before .args in let p = c .before .before
+            .before .before .before .before .before .before .before .before .before .before .before .before .before .before .before .pre in omega (arith, eight-words (a .head .now) (a
+            .slots .now) (a .records .now) (p .0) (p .1))
+
+-- src/lib.rt:173:9
+verdict-for-requires : tie.Need-verdict-for-requires
+verdict-for-requires c κs = search needs
+
+-- src/lib.rt:175:25
+enum-known-verdict : tie.Need-enum-known-verdict
+enum-known-verdict c = search needs
+
+-- src/lib.rt:176:24
+enum-known-verdict-2 : tie.Need-enum-known-verdict-2
+enum-known-verdict-2 c = search needs
+
+-- src/lib.rt:177:13
+begin-requires : tie.Need-begin-requires
+begin-requires c κs = search needs
+
+-- src/lib.rt:180:23
+enum-known-verdict-3 : tie.Need-enum-known-verdict-3
+enum-known-verdict-3 c = search needs
+
+-- src/lib.rt:181:13
+act-requires : tie.Need-act-requires
+act-requires c κs =
+    moving-at (c .before .before .before)
+
+-- src/lib.rt:148:1
+returns-3 : tie.Need-returns-3
+returns-3 c =
+    let a = c .before .before .before .before .before .before .before .before .before .before .before .before .before .before .before .before .before .before .before .before .before .args
+            in let p = c .before .before .before .before .before .before .before .before .before .before .before .before .before .before .before .before .before .before .before .before
+            .before .pre in let e = c .before .before .before .before .before .before .before .before .before .before .before .before .before .before .before .before .before .entry-of in
+    let w = c .before .before .before .before .before .before .before .before .before .before .before .before .before .before .before .worker .given .0 in
+    let b = c .before .before .before .before .before .before .before .before .before .busy-in in let k = c .before .before .before .before .before .weak-in in let v = c .before .before
+            .before .verdict-for in
+    let z = stop (a .head .now) (a .slots .now) (a .records .now) (p .0) (p .1) (a .bits) (a .first) (a .second) (e .result) (e .ensures) (w .0) (w .1 .0) (asks-at (c .before .before
+            .before .before .before .before .before .before .before .before .before .before .before .before)) (c .before .before .before .before .before .before .before .before .before
+            .before .before .before .before .if1 .left)
+    (b .result) (b .ensures) (k .result) (k .ensures) (v .result) (v .ensures) (c .before .verdict .given .0 .0) (search needs) in
+    (z .0, (z .1, z .2))
+
+-- src/lib.rt:148:1
 same-length : tie.Need-same-length
 same-length c = search needs
 
--- src/lib.rt:106:1
+-- src/lib.rt:148:1
+returns-4 : tie.Need-returns-4
+returns-4 c =
+    let a = c .before .before .before .before .before .before .before .before .before .before .before .before .before .before .before .before .before .before .before .before .before
+            .before .before .before .before .args in let p = c .before .before .before .before .before .before .before .before .before .before .before .before .before .before .before
+            .before .before .before .before .before .before .before .before .before .before .pre in let e = c .before .before .before .before .before .before .before .before .before
+            .before .before .before .before .before .before .before .before .before .before .before .before .entry-of in
+    let w = c .before .before .before .before .before .before .before .before .before .before .before .before .before .before .before .before .before .before .before .worker .given .0 in
+    let b = c .before .before .before .before .before .before .before .before .before .before .before .before .before .busy-in in let k = c .before .before .before .before .before .before
+            .before .before .before .weak-in in let v = c .before .before .before .before .before .before .before .verdict-for in
+    let z = start (a .head .now) (a .slots .now) (a .records .now) (p .0) (p .1) (a .bits) (a .first) (a .second) (e .result) (e .ensures) (w .0) (w .1 .0) (asks-at (c .before .before
+            .before .before .before .before .before .before .before .before .before .before .before .before .before .before .before .before)) (c .before .before .before .before .before
+            .before .before .before .before .before .before .before .before .before .before .before .before .if1 .left)
+    (b .result) (b .ensures) (k .result) (k .ensures) (v .result) (v .ensures) (c .before .before .before .before .before .verdict2 .given .0 .0) (starts-at (c .before .before .before
+            .before)) _ (c .before .before .begin .ensures) in
+    (z .0, (z .1, z .2))
+
+-- src/lib.rt:148:1
 same-length-2 : tie.Need-same-length-2
 same-length-2 c = search needs
 
--- src/lib.rt:106:1
+-- src/lib.rt:148:1
 same-length-3 : tie.Need-same-length-3
 same-length-3 c = search needs
 
--- src/lib.rt:106:1
-returns : tie.Need-returns
-returns c =
-    let a = c .before .before .before .before .before .before .before .before .before .before .before .before .before .before .before .before .before .before .before .before .before .before .before .before .before .before .before .before .before .before .args in let p = c .before .before .before .before .before .before .before .before .before .before .before .before .before .before .before .before .before .before .before .before .before .before .before .before .before .before .before .before .before .before .pre in
-    let w = c .before .before .before .before .before .before .before .before .before .before .before .before .before .before .before .before .before .before .before .before .before .before .before .before .before .before .worker-of in
-    let r = c .before .before .before .before .before .before .before .before .before .before .before .before .before .before .before .before .before .before .before .before .before .before .before .before .record-at in
-    let f = c .before .before .before .before .before .before .before .before .before .before .before .before .before .before .before .before .before .before .before .before .before .before .fixed-in in
-    let e = c .before .before .before .before .before .before .before .before .before .before .before .before .before .before .before .before .before .before .before .before .ends-in in
-    let k = c .before .before .before .before .before .before .before .before .before .before .before .before .before .before .before .before .before .before .before .slot-of in
-    let s = c .before .before .before .before .before .before .before .before .before .before .before .before .before .before .before .before .before .slot-at in
-    let t = c .before .before .before .before .before .before .before .before .before .before .before .before .before .before .before .turn-on in
-    (done (a .head .now) (a .slots .now) (a .records .now) (p .0) (a .first) (length (a .records .now) / 5) (w .result) refl (w .ensures) (r .result) (r .ensures) (f .result) (f .ensures) (k .result) (k .ensures) (p .1) (e .result) (e .ensures) (s .result) (s .ensures) (a .bits) (a .second) (t .result) (t .ensures) _ _ _ (c .before .before .before .before .before .before .before .before .before .before .put-head .ensures) (c .before .before .before .before .before .before .put-slot .ensures) (c .before .before .put-record .ensures), still-sound (a .head .now) (a .slots .now) (a .records .now) (p .0) (a .first) (length (a .records .now) / 5) (w .result) refl (w .ensures) (r .result) (r .ensures) (f .result) (f .ensures) (k .result) (k .ensures) (p .1) (e .result) (e .ensures) (s .result) (s .ensures) (a .bits) (a .second) (t .result) (t .ensures) _ _ _ (c .before .before .before .before .before .before .before .before .before .before .put-head .ensures) (c .before .before .before .before .before .before .put-slot .ensures) (c .before .before .put-record .ensures))
+-- src/lib.rt:148:1
+same-length-4 : tie.Need-same-length-4
+same-length-4 c = search needs
+
+-- src/lib.rt:148:1
+returns-5 : tie.Need-returns-5
+returns-5 c =
+    let a = c .before .before .before .before .before .before .before .before .before .before .before .before .before .before .before .before .before .before .before .before .before
+            .before .before .before .before .before .before .before .before .before .before .args in let p = c .before .before .before .before .before .before .before .before .before
+            .before .before .before .before .before .before .before .before .before .before .before .before .before .before .before .before .before .before .before .before .before .before
+            .pre in let e = c .before .before .before .before .before .before .before .before .before .before .before .before .before .before .before .before .before .before .before
+            .before .before .before .before .before .before .before .before .entry-of in
+    let w = c .before .before .before .before .before .before .before .before .before .before .before .before .before .before .before .before .before .before .before .before .before
+            .before .before .before .before .worker .given .0 in
+    let b = c .before .before .before .before .before .before .before .before .before .before .before .before .before .before .before .before .before .before .before .busy-in in let k = c
+            .before .before .before .before .before .before .before .before .before .before .before .before .before .before .before .weak-in in let v = c .before .before .before .before
+            .before .before .before .before .before .before .before .before .before .verdict-for in
+    let z = move (a .head .now) (a .slots .now) (a .records .now) (p .0) (p .1) (a .bits) (a .first) (a .second) (e .result) (e .ensures) (w .0) (w .1 .0) (asks-at (c .before .before
+            .before .before .before .before .before .before .before .before .before .before .before .before .before .before .before .before .before .before .before .before .before
+            .before)) (c .before .before .before .before .before .before .before .before .before .before .before .before .before .before .before .before .before .before .before .before
+            .before .before .before .if1 .left)
+    (b .result) (b .ensures) (k .result) (k .ensures) (v .result) (v .ensures) (c .before .before .before .before .before .before .before .before .before .before .before .verdict3 .given
+            .0 .0) (moves-at (c .before .before .before .before .before .before .before .before .before .before)) _ _ _ (c .before .before .before .before .before .before .act .ensures) in
+    (z .0, (z .1, z .2))
 
 pub turn-spec : {M : Type 1} → statement M
 turn-spec =
     tie.close
     (tie.spec
-    worker-of-requires
-    record-at-requires
-    fixed-in-requires
-    ends-in-requires
-    slot-of-requires
-    slot-at-requires
-    slice-read-turn-on
-    turn-on-requires
-    put-head-requires
-    put-slot-requires
-    put-record-requires
+    entry-of-requires
+    enum-known-worker
+    enum-told
+    returns
+    returns-2
+    mul-at
+    mul-busy-in
+    slice-read-busy-in
+    add-busy-in
+    mul-busy-in-2
+    slice-read-busy-in-2
+    add-busy-in-2
+    mul-busy-in-3
+    slice-read-busy-in-3
+    busy-in-requires
+    mul-weak-in
+    slice-read-weak-in
+    add-weak-in
+    mul-weak-in-2
+    slice-read-weak-in-2
+    add-weak-in-2
+    mul-weak-in-3
+    slice-read-weak-in-3
+    weak-in-requires
+    slice-read-verdict-for
+    verdict-for-requires
+    enum-known-verdict
+    enum-known-verdict-2
+    begin-requires
+    enum-known-verdict-3
+    act-requires
+    returns-3
     same-length
+    returns-4
     same-length-2
     same-length-3
-    returns)
+    same-length-4
+    returns-5)
