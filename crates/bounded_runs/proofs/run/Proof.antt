@@ -38,7 +38,10 @@ entries-requires c κs = let h = c .if2 .left in (sym (c .before .before .broken
 
 -- src/lib.rt:134:9
 returns-3 : tie.Need-returns-3
-returns-3 c = not-refused _ _ _ (sym (c .before .before .before .before .before .broken .ensures) ∙ c .before .before .before .before .if1 .left) (c .before .before .before .if2 .left) (c .before .before .entries .result) (c .before .before .entries .ensures) (c .if3 .taken)
+returns-3 c =
+    let d = c .before .before in
+    let h = d .before .before in
+    not-refused _ _ _ (sym (h .before .broken .ensures) ∙ h .if1 .left) (d .before .if2 .left) (d .entries .result) (d .entries .ensures) (c .if3 .taken)
 
 -- src/lib.rt:136:11
 search-requires : tie.Need-search-requires
@@ -58,11 +61,21 @@ enum-told c = search needs
 
 -- src/lib.rt:123:1
 returns-4 : tie.Need-returns-4
-returns-4 c = c .unchanged3 .ensures ∙ unread-run _ _ _ (c .before .before .before .before .before .before .before .before .before .before .broken .result) (c .before .before .before .before .before .before .before .before .before .before .broken .ensures) (c .before .before .before .before .before .before .before .before .before .if1 .left) (c .before .before .before .before .before .before .before .before .if2 .left) (c .before .before .before .before .search .result) (c .before .before .before .before .search .ensures) _ (search needs)
+returns-4 c =
+    let f = c .before .before .before .before in
+    let d = f .before .before .before in
+    let h = d .before .before in
+    c .unchanged3 .ensures
+    ∙ unread-run _ _ _ (h .before .broken .result) (h .before .broken .ensures) (h .if1 .left) (d .before .if2 .left) (f .search .result) (f .search .ensures) _ (search needs)
 
 -- src/lib.rt:123:1
 returns-5 : tie.Need-returns-5
-returns-5 c = c .before .before .before .before .before .entries .ensures ∙ read-run _ _ _ (c .before .before .before .before .before .before .before .before .broken .result) (c .before .before .before .before .before .before .before .before .broken .ensures) (c .before .before .before .before .before .before .before .if1 .left) (c .before .before .before .before .before .before .if2 .left) (c .before .before .search .result) (c .before .before .search .ensures) (search needs)
+returns-5 c =
+    let f = c .before .before in
+    let d = f .before .before .before in
+    let h = d .before .before in
+    d .entries .ensures
+    ∙ read-run _ _ _ (h .before .broken .result) (h .before .broken .ensures) (h .if1 .left) (d .before .if2 .left) (f .search .result) (f .search .ensures) (search needs)
 
 pub run-spec : {M : Type 1} → statement M
 run-spec =
