@@ -4,6 +4,7 @@ ghost use Prim.Native.Nat.{_≤_, _<_};
 ghost use Rattle.queue_entries.specs.Limits.{workersMost, meterMost};
 ghost use Rattle.bounded_words.specs.Limits.{slotsMost};
 ghost use Rattle.bounded_words.specs.Words.{Fair};
+ghost use Rattle.bounded_places.specs.Places.{viewOf};
 ghost use Rattle.bounded_machine.specs.Machine.{freshSlots, freshOf, blank, refused, accepted};
 ghost use Rattle.queue_entries.specs.Limits.{inLimits};
 ghost use Rattle.bounded_machine.specs.Broken.{byRule, endsFit, ringFits, placeFits, recordFits, recordsFit, allIdle, brokenOf};
@@ -326,12 +327,26 @@ pub fn item_at(ring: Ring, k: u64) -> u64
     s.value
 }
 
+// The two that a verdict asks of a place, each by itself: so compiled, an act that is not to lose asks for `weak` nowhere (docs/SPEED.md).
+fn busy(p: Place) -> bool
+    ensures { λ r. ⌜ r ≡ viewOf p .busy ⌝ }
+{
+    let v = bounded_places::view_of(p);
+    v.busy
+}
+
+fn weak(p: Place) -> bool
+    ensures { λ r. ⌜ r ≡ viewOf p .weak ⌝ }
+{
+    let v = bounded_places::view_of(p);
+    v.weak
+}
+
 // What becomes of a worker that stands at p.
 pub fn verdict_of(meter: u64, p: Place, o: Order) -> Verdict
     ensures { λ r. ⌜ r ≡ verdictOf meter p o ⌝ }
 {
-    let v = bounded_places::view_of(p);
-    queue_entries::verdict_for(meter, v.busy, v.weak, o)
+    queue_entries::verdict_for(meter, busy(p), weak(p), o)
 }
 
 // The index of the slot that the act of a worker with these words goes to; 0 where it goes to none.

@@ -1,8 +1,12 @@
 // A schedule, entry by entry, on any machine: the one loop that all entries go through.
 ghost use mathlib.Core.Path.{_≡_};
+ghost use Prim.Native.Nat.{_%_};
+ghost use mathlib.Core.Bool.{false};
+ghost use lib.ListN.{length};
 ghost use Rattle.bounded_acts.specs.Acts.{actOf};
+ghost use Rattle.bounded_machine.specs.Broken.{brokenOf};
 ghost use Rattle.bounded_machine.specs.Machine.{machineOf};
-ghost use Rattle.bounded_machine.specs.Run.{ran, runOfBy};
+ghost use Rattle.bounded_machine.specs.Run.{ran, runAt, runOfBy};
 use bounded_machine::Machine;
 use bounded_machine::Ran;
 use bounded_machine::Ring;
@@ -12,6 +16,7 @@ use bounded_places::Worker;
 use bounded_words::Fixed;
 use bounded_words::Width;
 use queue_entries::Entry;
+use queue_entries::Finding;
 use queue_entries::Verdict;
 
 fn ran(
@@ -42,9 +47,11 @@ fn ran(
     }
 }
 
-// A schedule, entry by entry, to its end or to the first refusal.
-pub fn run(bits: Width, m: Machine, schedule: &[u64]) -> Ran
-    ensures { λ r. ⌜ r ≡ runOfBy (actOf bits) m (now (schedule .entry)) ⌝ }
+// An even number of words, entry by entry, to its end or to the first refusal, which may be 9.
+fn entries(bits: Width, m: Machine, schedule: &[u64]) -> Ran
+    requires { ⌜ brokenOf m ≡ false ⌝ }
+    requires { ⌜ length (now schedule) % 2 ≡ 0 ⌝ }
+    ensures { λ r. ⌜ r ≡ runAt bits m 0 (now (schedule .entry)) ⌝ }
 {
     let ring = m.ring;
     let f = ring.fixed;
@@ -53,20 +60,7 @@ pub fn run(bits: Width, m: Machine, schedule: &[u64]) -> Ran
     let mut workers = m.workers;
     let count = m.count;
     let mut meter = m.meter;
-    let whole = bounded_parts::judged(bounded_machine::broken(m), schedule);
-    if whole.refusal != 0 {
-        return ran(
-            whole.refusal,
-            whole.place as usize,
-            f,
-            ends,
-            slots,
-            workers,
-            count,
-            meter,
-        );
-    }
-    let n = whole.place as usize;
+    let n = schedule.len() / 2;
     let mut i = 0;
     while i < n {
         let Entry::Asks(worker, order) = queue_entries::entry_of(
@@ -112,4 +106,35 @@ pub fn run(bits: Width, m: Machine, schedule: &[u64]) -> Ran
         }
     }
     ran(0, i, f, ends, slots, workers, count, meter)
+}
+
+fn unchanged(refusal: u64, place: usize, m: Machine) -> Ran
+    ensures { λ r. ⌜ r ≡ ran refusal place m ⌝ }
+{
+    Ran {
+        refusal: refusal,
+        place: place as u64,
+        machine: m,
+    }
+}
+
+// The search for refusal 9 comes before the first entry. A run that was not refused has read every entry, so that it is made only
+// where one was refused, with the machine still at hand as it was.
+pub fn run(bits: Width, m: Machine, schedule: &[u64]) -> Ran
+    ensures { λ r. ⌜ r ≡ runOfBy (actOf bits) m (now (schedule .entry)) ⌝ }
+{
+    if bounded_machine::broken(m) {
+        return unchanged(6, 0, m);
+    }
+    if schedule.len() % 2 == 1 {
+        return unchanged(11, 0, m);
+    }
+    let done = entries(bits, m, schedule);
+    if done.refusal == 0 {
+        return done;
+    }
+    match queue_entries::search(schedule) {
+        Finding::UnreadableAt(place) => unchanged(9, place, m),
+        Finding::AllRead => done,
+    }
 }
