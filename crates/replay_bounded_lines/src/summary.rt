@@ -55,7 +55,10 @@ fn answered(before: [u64; 11], code: u64) -> [u64; 11] {
 
 // An act that goes back to an earlier place of its call.
 fn is_retry(stood: Place, stands: Place) -> bool {
-    bounded_causes::goes_back(bounded_causes::stand_of(stood), bounded_causes::stand_of(stands))
+    bounded_causes::goes_back(
+        bounded_causes::stand_of(stood),
+        bounded_causes::stand_of(stands),
+    )
 }
 
 // A total with what one act added to a count.
