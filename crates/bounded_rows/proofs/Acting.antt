@@ -74,12 +74,12 @@ module _ (h ss rs : List ℕ) (n : ℕ) (g : Moving (words h ss rs) n) where
       slot-room = omega (arith, below, standing (words h ss rs) (g .stands) .all-slots)
 
       module _ (e : Ends) (ee : e ≡ endsIn h) (s : Slot) (es : s ≡ slotAt ss k) (r : Worker) (er : r ≡ recordAt rs n) (bits : Width) (lose : Bool) (a : Acted) (ea : a ≡ actOf bits f e s
-              (r .place) lose) where
+          (r .place) lose) where
         act-is : a ≡ actOf bits (fixedIn h) (endsIn h) (slotAt ss k) (r .place) lose
         act-is = ea ∙ (λ i. actOf bits (ef i) (ee i) (es i) (r .place) lose)
 
         pub acted : (after : Worker) → after ≡ recordAfter r (a .place) (a .loss) → (h′ ss′ rs′ : List ℕ) → h′ ≡ withHead h (a .ends) (getD h 6 0 + 1) → ss′ ≡ withSlot ss k (a .slot) →
-                rs′ ≡ withRecord rs n after
+            rs′ ≡ withRecord rs n after
             → words h′ ss′ rs′ ≡ actedIn bits (words h ss rs) n lose
         unfolding actedIn
         acted after ea′ h′ ss′ rs′ eh e₂ e₃ =

@@ -32,8 +32,26 @@ use Rattle.bounded_parts.specs.Parts.{recordsMost}
 use Rattle.bounded_entries.specs.Entries.{slotOf}
 use Rattle.bounded_lent.specs.Lent.{held, brokenLent, lentOf}
 use Rattle.bounded_lent.proofs.Turning.{unbroken-lent, lent-unbroken, few-lent, spot-below}
-use Rattle.bounded_rows.specs.Rows.{Words, words, fixedIn, endsIn, withHead, recordAt, withRecord, slotAt, withSlot, slotsIn, recordsIn, meteredIn, stand, Moving, actedIn, after,
-        afterOf, turnWith}
+use Rattle.bounded_rows.specs.Rows.{
+  Words,
+  words,
+  fixedIn,
+  endsIn,
+  withHead,
+  recordAt,
+  withRecord,
+  slotAt,
+  withSlot,
+  slotsIn,
+  recordsIn,
+  meteredIn,
+  stand,
+  Moving,
+  actedIn,
+  after,
+  afterOf,
+  turnWith,
+}
 use Rattle.bounded_rows.proofs.Lists.{many, long-record, room, get, put, many-slots, get-slot, put-slot, still-placed, same-fixed, new-ends, new-meter}
 use Rattle.bounded_rows.proofs.Standing.{Standing, standing, stands, still-standing, as-words}
 
@@ -51,10 +69,10 @@ module _ (h ss rs : List ℕ) (sound : brokenLent (meteredIn (words h ss rs)) (r
     -- the entry answers r and leaves w, which is as sound as what it was handed
     abbrev Leaves : ℕ → Words → Type 0
     Leaves r w = (after r w ≡ afterOf (turnWith bits (meteredIn (words h ss rs)) (recordsIn rs) first second)) × (brokenLent (meteredIn w) (recordsIn (w .records)) ≡ false) × (stand w ≡
-            true)
+        true)
 
     as-machine : (r : ℕ) (w : Words) → Standing w → length (recordsIn (w .records)) ≡ length (recordsIn rs) → record { refusal = r; machine = held (meteredIn w) (recordsIn (w .records)) }
-            ≡ turnAt bits before first second → Leaves r w
+        ≡ turnAt bits before first second → Leaves r w
     as-machine r w s as-many left = (
       as-words r w s _ (ap lentOf left),
       lent-unbroken (meteredIn w) (recordsIn (w .records)) (ap (λ (c : ℕ). leb c recordsMost) as-many ∙ few-lent (meteredIn (words h ss rs)) (recordsIn rs) sound)
@@ -91,7 +109,7 @@ module _ (h ss rs : List ℕ) (sound : brokenLent (meteredIn (words h ss rs)) (r
           record-room = room rs n low
 
           module _ (busy : Bool) (eb : busy ≡ viewOf (placeIn (getD rs (n * 5) 0) (getD rs (n * 5 + 1) 0) (getD rs (n * 5 + 2) 0)) .busy) (weak : Bool) (ew : weak ≡ viewOf (placeIn (getD
-                  rs (n * 5) 0) (getD rs (n * 5 + 1) 0) (getD rs (n * 5 + 2) 0)) .weak) (v : Verdict) (ev : v ≡ verdictFor (getD h 6 0) busy weak o) where
+              rs (n * 5) 0) (getD rs (n * 5 + 1) 0) (getD rs (n * 5 + 2) 0)) .weak) (v : Verdict) (ev : v ≡ verdictFor (getD h 6 0) busy weak o) where
             of-words : v ≡ verdictOf (getD h 6 0) (recordAt rs n .place) o
             unfolding recordAt
             of-words = ev ∙ (λ i. verdictFor (getD h 6 0) (eb i) (ew i) o)
@@ -115,7 +133,7 @@ module _ (h ss rs : List ℕ) (sound : brokenLent (meteredIn (words h ss rs)) (r
               begun-is =
                   (λ i. record { refusal = 0; machine = machineOf (fixedIn h) (endsIn h) (slotsIn ss) (put rs n new low i) (length (put rs n new low i)) (getD h 6 0) })
                   ∙ ap (λ (m : ℕ). record { refusal = 0; machine = machineOf (fixedIn h) (endsIn h) (slotsIn ss) (set (recordsIn rs) n new) m (getD h 6 0) }) (length-set (recordsIn rs) n
-                          new)
+                  new)
 
               standing-begun : Standing (words h ss (withRecord rs n new))
               standing-begun = let s = standing (words h ss rs) stood in record {
@@ -153,8 +171,11 @@ module _ (h ss rs : List ℕ) (sound : brokenLent (meteredIn (words h ss rs)) (r
 
               abbrev kept : ℕ → Worker → Acted → Did
               kept j y z =
-                  record { refusal = 0; machine = machineOf (fixedIn h) (z .ends) (set (slotsIn ss) j (z .slot)) (set (recordsIn rs) n (recordAfter y (z .place) (z .loss))) (length
-                          (recordsIn rs)) (getD h 6 0 + 1) }
+                  record {
+                    refusal = 0;
+                    machine = machineOf (fixedIn h) (z .ends) (set (slotsIn ss) j (z .slot)) (set (recordsIn rs) n (recordAfter y (z .place) (z .loss))) (length
+                        (recordsIn rs)) (getD h 6 0 + 1);
+                  }
 
               -- the slot that the machine's act goes to
               at-slot : k ≡ spotOf (fixedIn h) (viewOf (placeOf (recordsIn rs) n) .held)
@@ -182,10 +203,13 @@ module _ (h ss rs : List ℕ) (sound : brokenLent (meteredIn (words h ss rs)) (r
 
               left-is : record { refusal = 0; machine = held (meteredIn left) (recordsIn (left .records)) } ≡ kept k r a
               left-is =
-                  (λ i. record { refusal = 0; machine = machineOf (same-fixed h (a .ends) (getD h 6 0 + 1) i) (new-ends h (a .ends) (getD h 6 0 + 1) eight-words i) (put-slot ss k (a
-                          .slot) below-slots i) (put rs n new-record low i) (length (put rs n new-record low i)) (new-meter h (a .ends) (getD h 6 0 + 1) eight-words i) })
+                  (λ i. record {
+                    refusal = 0;
+                    machine = machineOf (same-fixed h (a .ends) (getD h 6 0 + 1) i) (new-ends h (a .ends) (getD h 6 0 + 1) eight-words i) (put-slot ss k (a
+                        .slot) below-slots i) (put rs n new-record low i) (length (put rs n new-record low i)) (new-meter h (a .ends) (getD h 6 0 + 1) eight-words i);
+                  })
                   ∙ ap (λ (m : ℕ). record { refusal = 0; machine = machineOf (fixedIn h) (a .ends) (set (slotsIn ss) k (a .slot)) (set (recordsIn rs) n new-record) m (getD h 6 0 + 1) })
-                          (length-set (recordsIn rs) n new-record)
+                  (length-set (recordsIn rs) n new-record)
 
               acts : kept k r a ≡ carried bits before n (placeOf (recordsIn rs) n) (Move lose)
               unfolding accepted stored actedBy
@@ -196,4 +220,4 @@ module _ (h ss rs : List ℕ) (sound : brokenLent (meteredIn (words h ss rs)) (r
               move h′ ss′ rs′ e =
                   subst (Leaves 0) (sym e)
                   (as-machine 0 left (still-standing h ss rs (standing (words h ss rs) stood) (a .ends) (getD h 6 0 + 1) k (a .slot) n new-record low) (as-many-with n new-record) (left-is
-                          ∙ acts ∙ ap (carried bits before n (placeOf (recordsIn rs) n)) (sym q) ∙ carries))
+                  ∙ acts ∙ ap (carried bits before n (placeOf (recordsIn rs) n)) (sym q) ∙ carries))

@@ -71,10 +71,11 @@ fn judged_at(records: &[u64], i: usize, f: Fixed, meter: u64, counted: bool) -> 
     if bounded_codes::within(code, 15, 33) {
         return held_fits(code, first, second, f, counted);
     }
-    if code < 11 {} else {
-        if counted {} else {
-            return false;
-        }
+    if code < 11 {
+        return bounded_codes::stands(code, first, second);
+    }
+    if counted {} else {
+        return false;
     }
     bounded_codes::stands(code, first, second)
 }

@@ -69,28 +69,28 @@ mul-words-held-2 c =
 slice-read-words-held-2 : tie.Need-slice-read-words-held-2
 slice-read-words-held-2 c =
     let a = c .before .before .before .before .before .before .before .before .before .before .args in let p = c .before .before .before .before .before .before .before .before .before
-            .before .pre in
+    .before .pre in
     search (needs, record-room (a .head .now) (a .slots .now) (a .records .now) (a .i) p)
 
 -- src/lib.rt:131:80
 add-words-held-2 : tie.Need-add-words-held-2
 add-words-held-2 c =
     let a = c .before .before .before .before .before .before .before .before .before .before .args in let p = c .before .before .before .before .before .before .before .before .before
-            .before .pre in
+    .before .pre in
     search (needs, record-room (a .head .now) (a .slots .now) (a .records .now) (a .i) p)
 
 -- src/lib.rt:131:72
 mul-words-held-3 : tie.Need-mul-words-held-3
 mul-words-held-3 c =
     let a = c .before .before .before .before .before .before .before .before .before .before .args in let p = c .before .before .before .before .before .before .before .before .before
-            .before .pre in
+    .before .pre in
     search (needs, record-room (a .head .now) (a .slots .now) (a .records .now) (a .i) p)
 
 -- src/lib.rt:131:72
 slice-read-words-held-3 : tie.Need-slice-read-words-held-3
 slice-read-words-held-3 c =
     let a = c .before .before .before .before .before .before .before .before .before .before .before .args in let p = c .before .before .before .before .before .before .before .before
-            .before .before .before .pre in
+    .before .before .before .pre in
     search (needs, record-room (a .head .now) (a .slots .now) (a .records .now) (a .i) p)
 
 -- src/lib.rt:131:9
@@ -101,7 +101,7 @@ words-held-requires c κs = search needs
 spot-requires : tie.Need-spot-requires
 spot-requires c κs =
     let a = c .before .before .before .before .before .before .before .before .before .before .before .before .args in let p = c .before .before .before .before .before .before .before
-            .before .before .before .before .before .pre in
+    .before .before .before .before .before .pre in
     let f = c .before .before .before .before .before .before .before .fixed-in in
     fair (a .head .now) (a .slots .now) (a .records .now) (a .i) p (f .result) (f .ensures)
 
@@ -109,7 +109,7 @@ spot-requires c κs =
 slot-at-requires : tie.Need-slot-at-requires
 slot-at-requires c κs =
     let a = c .before .before .before .before .before .before .before .before .before .before .before .before .before .before .args in let p = c .before .before .before .before .before
-            .before .before .before .before .before .before .before .before .before .pre in
+    .before .before .before .before .before .before .before .before .before .pre in
     let f = c .before .before .before .before .before .before .before .before .before .fixed-in in
     let d = c .before .before .words-held in
     let k = c .before .spot in
@@ -119,24 +119,27 @@ slot-at-requires c κs =
 record-at-requires : tie.Need-record-at-requires
 record-at-requires c κs =
     let a = c .before .before .before .before .before .before .before .before .before .before .before .before .before .before .before .before .args in let p = c .before .before .before
-            .before .before .before .before .before .before .before .before .before .before .before .before .before .pre in
+    .before .before .before .before .before .before .before .before .before .before .before .before .before .pre in
     record-room (a .head .now) (a .slots .now) (a .records .now) (a .i) p
 
 -- src/lib.rt:136:9
 act-at-requires : tie.Need-act-at-requires
 act-at-requires c κs =
     let a = c .before .before .before .before .before .before .before .before .before .before .before .before .before .before .before .before .before .args in let p = c .before .before
-            .before .before .before .before .before .before .before .before .before .before .before .before .before .before .before .pre in
+    .before .before .before .before .before .before .before .before .before .before .before .before .before .before .before .pre in
     let f = c .before .before .before .before .before .before .before .before .before .before .before .before .fixed-in in
     let r = c .record-at in
-    record { fair = fair (a .head .now) (a .slots .now) (a .records .now) (a .i) p (f .result) (f .ensures); held = word-fits (a .head .now) (a .slots .now) (a .records .now) (a .i) p (f
-            .result) (f .ensures) (r .result) (r .ensures) }
+    record {
+      fair = fair (a .head .now) (a .slots .now) (a .records .now) (a .i) p (f .result) (f .ensures);
+      held = word-fits (a .head .now) (a .slots .now) (a .records .now) (a .i) p (f
+          .result) (f .ensures) (r .result) (r .ensures);
+    }
 
 -- src/lib.rt:141:9
 record-after-requires : tie.Need-record-after-requires
 record-after-requires c κs =
     let a = c .before .before .before .before .before .before .before .before .before .before .before .before .before .before .before .before .before .before .before .before .args in let
-            p = c .before .before .before .before .before .before .before .before .before .before .before .before .before .before .before .before .before .before .before .before .pre in
+    p = c .before .before .before .before .before .before .before .before .before .before .before .before .before .before .before .before .before .before .before .before .pre in
     let f = c .before .before .before .before .before .before .before .before .before .before .before .before .before .before .before .fixed-in in
     let r = c .before .before .before .record-at in
     few (a .head .now) (a .slots .now) (a .records .now) (a .i) p (f .result) (f .ensures) (r .result) (r .ensures)
@@ -145,25 +148,25 @@ record-after-requires c κs =
 add-put-head : tie.Need-add-put-head
 add-put-head c =
     let p = c .before .before .before .before .before .before .before .before .before .before .before .before .before .before .before .before .before .before .before .before .before
-            .before .pre in
+    .before .pre in
     record { fits = omega (arith, p .in-time) }
 
 -- src/lib.rt:142:5
 put-head-requires : tie.Need-put-head-requires
 put-head-requires c κs =
     let a = c .before .before .before .before .before .before .before .before .before .before .before .before .before .before .before .before .before .before .before .before .before
-            .before .args in let p = c .before .before .before .before .before .before .before .before .before .before .before .before .before .before .before .before .before .before
-            .before .before .before .before .pre in
+    .before .args in let p = c .before .before .before .before .before .before .before .before .before .before .before .before .before .before .before .before .before .before
+    .before .before .before .before .pre in
     eight (a .head .now) (a .slots .now) (a .records .now) (a .i) p
 
 -- src/lib.rt:143:5
 put-slot-requires : tie.Need-put-slot-requires
 put-slot-requires c κs =
     let a = c .before .before .before .before .before .before .before .before .before .before .before .before .before .before .before .before .before .before .before .before .before
-            .before .before .before .before .before .args in let p = c .before .before .before .before .before .before .before .before .before .before .before .before .before .before
-            .before .before .before .before .before .before .before .before .before .before .before .before .pre in
+    .before .before .before .before .before .args in let p = c .before .before .before .before .before .before .before .before .before .before .before .before .before .before
+    .before .before .before .before .before .before .before .before .before .before .before .before .pre in
     let f = c .before .before .before .before .before .before .before .before .before .before .before .before .before .before .before .before .before .before .before .before .before
-            .fixed-in in
+    .fixed-in in
     let d = c .before .before .before .before .before .before .before .before .before .before .before .before .before .before .words-held in
     let k = c .before .before .before .before .before .before .before .before .before .before .before .before .before .spot in
     slot-room (a .head .now) (a .slots .now) (a .records .now) (a .i) p (f .result) (f .ensures) (d .result) (d .ensures) (k .result) (k .ensures)
@@ -172,8 +175,8 @@ put-slot-requires c κs =
 put-record-requires : tie.Need-put-record-requires
 put-record-requires c κs =
     let a = c .before .before .before .before .before .before .before .before .before .before .before .before .before .before .before .before .before .before .before .before .before
-            .before .before .before .before .before .before .before .before .before .args in let p = c .before .before .before .before .before .before .before .before .before .before
-            .before .before .before .before .before .before .before .before .before .before .before .before .before .before .before .before .before .before .before .before .pre in
+    .before .before .before .before .before .before .before .before .before .args in let p = c .before .before .before .before .before .before .before .before .before .before
+    .before .before .before .before .before .before .before .before .before .before .before .before .before .before .before .before .before .before .before .before .pre in
     record-room (a .head .now) (a .slots .now) (a .records .now) (a .i) p
 
 -- src/lib.rt:123:1
@@ -192,24 +195,24 @@ same-length-3 c = search needs
 returns : tie.Need-returns
 returns c =
     let a = c .before .before .before .before .before .before .before .before .before .before .before .before .before .before .before .before .before .before .before .before .before
-            .before .before .before .before .before .before .before .before .before .before .before .before .args in let p = c .before .before .before .before .before .before .before
-            .before .before .before .before .before .before .before .before .before .before .before .before .before .before .before .before .before .before .before .before .before .before
-            .before .before .before .before .pre in
+    .before .before .before .before .before .before .before .before .before .before .before .before .args in let p = c .before .before .before .before .before .before .before
+    .before .before .before .before .before .before .before .before .before .before .before .before .before .before .before .before .before .before .before .before .before .before
+    .before .before .before .before .pre in
     let f = c .before .before .before .before .before .before .before .before .before .before .before .before .before .before .before .before .before .before .before .before .before
-            .before .before .before .before .before .before .before .fixed-in in
+    .before .before .before .before .before .before .before .fixed-in in
     let d = c .before .before .before .before .before .before .before .before .before .before .before .before .before .before .before .before .before .before .before .before .before
-            .words-held in
+    .words-held in
     let k = c .before .before .before .before .before .before .before .before .before .before .before .before .before .before .before .before .before .before .before .before .spot in
     let e = c .before .before .before .before .before .before .before .before .before .before .before .before .before .before .before .before .before .before .before .before .before
-            .before .before .before .before .before .ends-in in
+    .before .before .before .before .before .ends-in in
     let s = c .before .before .before .before .before .before .before .before .before .before .before .before .before .before .before .before .before .before .slot-at in
     let r = c .before .before .before .before .before .before .before .before .before .before .before .before .before .before .before .before .record-at in
     let x = c .before .before .before .before .before .before .before .before .before .before .before .before .before .before .before .act-at in
     let y = c .before .before .before .before .before .before .before .before .before .before .before .before .record-after in
     acted (a .head .now) (a .slots .now) (a .records .now) (a .i) p (f .result) (f .ensures) (d .result) (d .ensures) (k .result) (k .ensures) (e .result) (e .ensures) (s .result) (s
-            .ensures) (r .result) (r .ensures)
+    .ensures) (r .result) (r .ensures)
     (a .bits) (a .lose) (x .result) (x .ensures) (y .result) (y .ensures) _ _ _ (c .before .before .before .before .before .before .before .before .before .before .put-head .ensures) (c
-            .before .before .before .before .before .before .put-slot .ensures) (c .before .before .put-record .ensures)
+    .before .before .before .before .before .before .put-slot .ensures) (c .before .before .put-record .ensures)
 
 pub act-spec : {M : Type 1} → statement M
 act-spec =

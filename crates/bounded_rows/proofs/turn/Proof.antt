@@ -26,20 +26,20 @@ moves-at : (c : tie.After-known-told4) → c .before .before .before .verdict-fo
 moves-at c = search needs
 
 moving-at : (c : tie.After-known-told4) → Moving (words (c .before .before .before .before .before .before .before .before .before .before .before .before .before .before .before .before
-        .before .before .before .before .before .args .head .now) (c .before .before .before .before .before .before .before .before .before .before .before .before .before .before
-        .before .before .before .before .before .before .before .args .slots .now) (c .before .before .before .before .before .before .before .before .before .before .before .before
-        .before .before .before .before .before .before .before .before .before .args .records .now)) (c .before .before .before .before .before .before .before .before .before .before
-        .before .before .before .before .before .worker .given .0 .0)
+    .before .before .before .before .before .args .head .now) (c .before .before .before .before .before .before .before .before .before .before .before .before .before .before
+    .before .before .before .before .before .before .before .args .slots .now) (c .before .before .before .before .before .before .before .before .before .before .before .before
+    .before .before .before .before .before .before .before .before .before .args .records .now)) (c .before .before .before .before .before .before .before .before .before .before
+    .before .before .before .before .before .worker .given .0 .0)
 moving-at c =
     let a = c .before .before .before .before .before .before .before .before .before .before .before .before .before .before .before .before .before .before .before .before .before .args
-            in let p = c .before .before .before .before .before .before .before .before .before .before .before .before .before .before .before .before .before .before .before .before
-            .before .pre in let e = c .before .before .before .before .before .before .before .before .before .before .before .before .before .before .before .before .before .entry-of in
+    in let p = c .before .before .before .before .before .before .before .before .before .before .before .before .before .before .before .before .before .before .before .before
+    .before .pre in let e = c .before .before .before .before .before .before .before .before .before .before .before .before .before .before .before .before .before .entry-of in
     let w = c .before .before .before .before .before .before .before .before .before .before .before .before .before .before .before .worker .given .0 in
     let b = c .before .before .before .before .before .before .before .before .before .busy-in in let k = c .before .before .before .before .before .weak-in in let v = c .before .before
-            .before .verdict-for in
+    .before .verdict-for in
     moving (a .head .now) (a .slots .now) (a .records .now) (p .0) (p .1) (a .bits) (a .first) (a .second) (e .result) (e .ensures) (w .0) (w .1 .0) (asks-at (c .before .before .before
-            .before .before .before .before .before .before .before .before .before .before .before)) (c .before .before .before .before .before .before .before .before .before .before
-            .before .before .before .if1 .left)
+    .before .before .before .before .before .before .before .before .before .before .before)) (c .before .before .before .before .before .before .before .before .before .before
+    .before .before .before .if1 .left)
     (b .result) (b .ensures) (k .result) (k .ensures) (v .result) (v .ensures) (c .before .verdict3 .given .0 .0) (moves-at c)
 
 -- src/lib.rt:162:38
@@ -65,10 +65,10 @@ returns c =
 returns-2 : tie.Need-returns-2
 returns-2 c =
     let a = c .before .before .before .before .before .before .before .before .args in let p = c .before .before .before .before .before .before .before .before .pre in let e = c .before
-            .before .before .before .entry-of in
+    .before .before .before .entry-of in
     let w = c .before .before .worker .given .0 in
     let z = three (a .head .now) (a .slots .now) (a .records .now) (p .0) (p .1) (a .bits) (a .first) (a .second) (e .result) (e .ensures) (w .0) (w .1 .0) (asks-at (c .before)) (c .if1
-            .taken) in
+    .taken) in
     (z .0, (z .1, z .2))
 
 -- src/lib.rt:170:14
@@ -151,8 +151,11 @@ weak-in-requires c κs = search needs
 slice-read-verdict-for : tie.Need-slice-read-verdict-for
 slice-read-verdict-for c =
     let a = c .before .before .before .before .before .before .before .before .before .before .before .before .before .before .before .before .before .args in let p = c .before .before
-            .before .before .before .before .before .before .before .before .before .before .before .before .before .before .before .pre in omega (arith, eight-words (a .head .now) (a
-            .slots .now) (a .records .now) (p .0) (p .1))
+    .before .before .before .before .before .before .before .before .before .before .before .before .before .before .before .pre in omega (
+      arith,
+      eight-words (a .head .now) (a
+          .slots .now) (a .records .now) (p .0) (p .1),
+    )
 
 -- src/lib.rt:173:9
 verdict-for-requires : tie.Need-verdict-for-requires
@@ -183,14 +186,14 @@ act-requires c κs =
 returns-3 : tie.Need-returns-3
 returns-3 c =
     let a = c .before .before .before .before .before .before .before .before .before .before .before .before .before .before .before .before .before .before .before .before .before .args
-            in let p = c .before .before .before .before .before .before .before .before .before .before .before .before .before .before .before .before .before .before .before .before
-            .before .pre in let e = c .before .before .before .before .before .before .before .before .before .before .before .before .before .before .before .before .before .entry-of in
+    in let p = c .before .before .before .before .before .before .before .before .before .before .before .before .before .before .before .before .before .before .before .before
+    .before .pre in let e = c .before .before .before .before .before .before .before .before .before .before .before .before .before .before .before .before .before .entry-of in
     let w = c .before .before .before .before .before .before .before .before .before .before .before .before .before .before .before .worker .given .0 in
     let b = c .before .before .before .before .before .before .before .before .before .busy-in in let k = c .before .before .before .before .before .weak-in in let v = c .before .before
-            .before .verdict-for in
+    .before .verdict-for in
     let z = stop (a .head .now) (a .slots .now) (a .records .now) (p .0) (p .1) (a .bits) (a .first) (a .second) (e .result) (e .ensures) (w .0) (w .1 .0) (asks-at (c .before .before
-            .before .before .before .before .before .before .before .before .before .before .before .before)) (c .before .before .before .before .before .before .before .before .before
-            .before .before .before .before .if1 .left)
+    .before .before .before .before .before .before .before .before .before .before .before .before)) (c .before .before .before .before .before .before .before .before .before
+    .before .before .before .before .if1 .left)
     (b .result) (b .ensures) (k .result) (k .ensures) (v .result) (v .ensures) (c .before .verdict .given .0 .0) (search needs) in
     (z .0, (z .1, z .2))
 
@@ -202,17 +205,17 @@ same-length c = search needs
 returns-4 : tie.Need-returns-4
 returns-4 c =
     let a = c .before .before .before .before .before .before .before .before .before .before .before .before .before .before .before .before .before .before .before .before .before
-            .before .before .before .before .args in let p = c .before .before .before .before .before .before .before .before .before .before .before .before .before .before .before
-            .before .before .before .before .before .before .before .before .before .before .pre in let e = c .before .before .before .before .before .before .before .before .before
-            .before .before .before .before .before .before .before .before .before .before .before .before .entry-of in
+    .before .before .before .before .args in let p = c .before .before .before .before .before .before .before .before .before .before .before .before .before .before .before
+    .before .before .before .before .before .before .before .before .before .before .pre in let e = c .before .before .before .before .before .before .before .before .before
+    .before .before .before .before .before .before .before .before .before .before .before .before .entry-of in
     let w = c .before .before .before .before .before .before .before .before .before .before .before .before .before .before .before .before .before .before .before .worker .given .0 in
     let b = c .before .before .before .before .before .before .before .before .before .before .before .before .before .busy-in in let k = c .before .before .before .before .before .before
-            .before .before .before .weak-in in let v = c .before .before .before .before .before .before .before .verdict-for in
+    .before .before .before .weak-in in let v = c .before .before .before .before .before .before .before .verdict-for in
     let z = start (a .head .now) (a .slots .now) (a .records .now) (p .0) (p .1) (a .bits) (a .first) (a .second) (e .result) (e .ensures) (w .0) (w .1 .0) (asks-at (c .before .before
-            .before .before .before .before .before .before .before .before .before .before .before .before .before .before .before .before)) (c .before .before .before .before .before
-            .before .before .before .before .before .before .before .before .before .before .before .before .if1 .left)
+    .before .before .before .before .before .before .before .before .before .before .before .before .before .before .before .before)) (c .before .before .before .before .before
+    .before .before .before .before .before .before .before .before .before .before .before .before .if1 .left)
     (b .result) (b .ensures) (k .result) (k .ensures) (v .result) (v .ensures) (c .before .before .before .before .before .verdict2 .given .0 .0) (starts-at (c .before .before .before
-            .before)) _ (c .before .before .begin .ensures) in
+    .before)) _ (c .before .before .begin .ensures) in
     (z .0, (z .1, z .2))
 
 -- src/lib.rt:148:1
@@ -231,21 +234,21 @@ same-length-4 c = search needs
 returns-5 : tie.Need-returns-5
 returns-5 c =
     let a = c .before .before .before .before .before .before .before .before .before .before .before .before .before .before .before .before .before .before .before .before .before
-            .before .before .before .before .before .before .before .before .before .before .args in let p = c .before .before .before .before .before .before .before .before .before
-            .before .before .before .before .before .before .before .before .before .before .before .before .before .before .before .before .before .before .before .before .before .before
-            .pre in let e = c .before .before .before .before .before .before .before .before .before .before .before .before .before .before .before .before .before .before .before
-            .before .before .before .before .before .before .before .before .entry-of in
+    .before .before .before .before .before .before .before .before .before .before .args in let p = c .before .before .before .before .before .before .before .before .before
+    .before .before .before .before .before .before .before .before .before .before .before .before .before .before .before .before .before .before .before .before .before .before
+    .pre in let e = c .before .before .before .before .before .before .before .before .before .before .before .before .before .before .before .before .before .before .before
+    .before .before .before .before .before .before .before .before .entry-of in
     let w = c .before .before .before .before .before .before .before .before .before .before .before .before .before .before .before .before .before .before .before .before .before
-            .before .before .before .before .worker .given .0 in
+    .before .before .before .before .worker .given .0 in
     let b = c .before .before .before .before .before .before .before .before .before .before .before .before .before .before .before .before .before .before .before .busy-in in let k = c
-            .before .before .before .before .before .before .before .before .before .before .before .before .before .before .before .weak-in in let v = c .before .before .before .before
-            .before .before .before .before .before .before .before .before .before .verdict-for in
+    .before .before .before .before .before .before .before .before .before .before .before .before .before .before .before .weak-in in let v = c .before .before .before .before
+    .before .before .before .before .before .before .before .before .before .verdict-for in
     let z = move (a .head .now) (a .slots .now) (a .records .now) (p .0) (p .1) (a .bits) (a .first) (a .second) (e .result) (e .ensures) (w .0) (w .1 .0) (asks-at (c .before .before
-            .before .before .before .before .before .before .before .before .before .before .before .before .before .before .before .before .before .before .before .before .before
-            .before)) (c .before .before .before .before .before .before .before .before .before .before .before .before .before .before .before .before .before .before .before .before
-            .before .before .before .if1 .left)
+    .before .before .before .before .before .before .before .before .before .before .before .before .before .before .before .before .before .before .before .before .before
+    .before)) (c .before .before .before .before .before .before .before .before .before .before .before .before .before .before .before .before .before .before .before .before
+    .before .before .before .if1 .left)
     (b .result) (b .ensures) (k .result) (k .ensures) (v .result) (v .ensures) (c .before .before .before .before .before .before .before .before .before .before .before .verdict3 .given
-            .0 .0) (moves-at (c .before .before .before .before .before .before .before .before .before .before)) _ _ _ (c .before .before .before .before .before .before .act .ensures) in
+    .0 .0) (moves-at (c .before .before .before .before .before .before .before .before .before .before)) _ _ _ (c .before .before .before .before .before .before .act .ensures) in
     (z .0, (z .1, z .2))
 
 pub turn-spec : {M : Type 1} → statement M
