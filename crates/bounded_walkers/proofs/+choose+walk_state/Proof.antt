@@ -10,7 +10,8 @@ use Rattle.queue_walks.specs.Listed.{bytesOf, counted, Room}
 use Rattle.bounded_walkers.specs.declared.After.{After}
 use Rattle.bounded_walkers.specs.Walkers.{walkFrom, choiceFrom, Sound}
 use Rattle.bounded_walkers.proofs.Acting.{low, fair, ready, spot-here, sound-next}
-use Rattle.bounded_walkers.proofs.Turning.{one-less, some-left, ended, Going, Halfway, begins, asks-8, half, asks-9, again, done, none-told, one-told, set-back}
+use Rattle.bounded_walkers.proofs.Lasting.{soon, soon-not}
+use Rattle.bounded_walkers.proofs.Turning.{one-less, some-left, Going, Halfway, begins, asks-8, half, asks-9, again, done, none-told, one-told, set-back}
 use borrow.Fn.Kinds.{In}
 use borrow.Fn.PlainCycle.{Measures, is, falls, and}
 use Rattle.bounded_walkers.proofs.choose.Reads as choose
@@ -21,11 +22,11 @@ use Rattle.bounded_walkers.proofs.walk_state.Kinds as walk-state-kinds
 use Rattle.bounded_walkers.proofs.+choose+walk_state.Lts-walk_state as walk-state-lts
 use Rattle.bounded_walkers.proofs.act_byte.Reads as act-byte-reads
 use Rattle.bounded_walkers.proofs.act_on.Reads as act-on-reads
-use Rattle.bounded_walkers.proofs.ends_here.Reads as ends-here-reads
+use Rattle.bounded_walkers.proofs.ends_soon.Reads as ends-soon-reads
 use Rattle.bounded_walkers.proofs.may_act.Reads as may-act-reads
 use Rattle.bounded_walkers.proofs.put_slot.Reads as put-slot-reads
 use Rattle.bounded_walkers.proofs.spot_of.Reads as spot-of-reads
-use Rattle.queue_walks.proofs.list.Reads as list-reads
+use Rattle.bounded_walkers.proofs.soon_told.Reads as soon-told-reads
 use Rattle.bounded_walkers.proofs.+choose+walk_state.{statement}
 use Rattle.bounded_walkers.proofs.+choose+walk_state.Tie.{close}
 
@@ -457,34 +458,35 @@ abbrev walk-state-μ-loop : walk-state-lts.MeasureT-loop
 walk-state-μ-loop s stamps₀ values₀ left path n out₀ count r₀ w₀ stamps values out r w = count - w
 
 -- src/lib.rt:142:8
-walk-state-ends-here-requires : (t : ℕ) → walk-state-lts.Need-ends-here-requires (
-  ends-here-reads.Asked,
-  ends-here-reads.Learnt,
-  list-reads.Asked,
-  list-reads.Learnt,
+walk-state-ends-soon-requires : (t : ℕ) → walk-state-lts.Need-ends-soon-requires (
+  ends-soon-reads.Asked,
+  ends-soon-reads.Learnt,
+  soon-told-reads.Asked,
+  soon-told-reads.Learnt,
   choose-below t,
   choose.Post,
 ) (walk-state-at t) walk-state.Post walk-state-Inv-loop walk-state-μ-loop
-walk-state-ends-here-requires t c κs = search needs
+walk-state-ends-soon-requires t c κs = search needs
 
 -- src/lib.rt:143:9
-walk-state-list-requires : (t : ℕ) → walk-state-lts.Need-list-requires (
-  ends-here-reads.Asked,
-  ends-here-reads.Learnt,
-  list-reads.Asked,
-  list-reads.Learnt,
+walk-state-soon-told-requires : (t : ℕ) → walk-state-lts.Need-soon-told-requires (
+  ends-soon-reads.Asked,
+  ends-soon-reads.Learnt,
+  soon-told-reads.Asked,
+  soon-told-reads.Learnt,
   choose-below t,
   choose.Post,
 ) (walk-state-at t) walk-state.Post walk-state-Inv-loop walk-state-μ-loop
-walk-state-list-requires t c κs =
-    let st = c .before .before .before .before .before .before in let end = sym (c .before .before .ends-here .ensures) ∙ c .before .if1 .taken in let few : st .args .n ≤ depthMost = omega (arith, st .pre .1 .0 .depth) in (few, subst (Room (st .args .told)) (ended (st .args .s) (st .args .path) (st .args .n) (st .args .left) (st .args .stamps .now) (st .args .values .now) end) (st .pre .1 .1 .1))
+walk-state-soon-told-requires t c κs =
+    let st = c .before .before .before .before .before .before in let end = sym (c .before .before .ends-soon .ensures) ∙ c .before .if1 .taken in
+    (st .pre .1 .0, subst (Room (st .args .told)) (soon (st .args .s) (st .args .path) (st .args .n) (st .args .left) (st .pre .1 .0) end (st .args .stamps .now) (st .args .values .now)) (st .pre .1 .1 .1))
 
 -- src/lib.rt:143:9
 walk-state-same-length : (t : ℕ) → walk-state-lts.Need-same-length (
-  ends-here-reads.Asked,
-  ends-here-reads.Learnt,
-  list-reads.Asked,
-  list-reads.Learnt,
+  ends-soon-reads.Asked,
+  ends-soon-reads.Learnt,
+  soon-told-reads.Asked,
+  soon-told-reads.Learnt,
   choose-below t,
   choose.Post,
 ) (walk-state-at t) walk-state.Post walk-state-Inv-loop walk-state-μ-loop
@@ -492,61 +494,62 @@ walk-state-same-length t c = search needs
 
 -- src/lib.rt:143:9
 walk-state-returns : (t : ℕ) → walk-state-lts.Need-returns (
-  ends-here-reads.Asked,
-  ends-here-reads.Learnt,
-  list-reads.Asked,
-  list-reads.Learnt,
+  ends-soon-reads.Asked,
+  ends-soon-reads.Learnt,
+  soon-told-reads.Asked,
+  soon-told-reads.Learnt,
   choose-below t,
   choose.Post,
 ) (walk-state-at t) walk-state.Post walk-state-Inv-loop walk-state-μ-loop
 walk-state-returns t c =
-    let st = c .before .before .before .before .before .before .before .before .before in let end = sym (c .before .before .before .before .before .ends-here .ensures) ∙ c .before .before .before .before .if1 .taken in (
-      c .before .before .list .ensures .0 ∙ ap (counted (st .args .told)) (sym (ended (st .args .s) (st .args .path) (st .args .n) (st .args .left) (st .args .stamps .now) (st .args .values .now) end)),
-      (c .before .before .list .ensures .1 ∙ ap (λ (x : List (List ℕ)). sets (st .args .out .now) (st .args .told .bytes) (bytesOf x)) (sym (ended (st .args .s) (st .args .path) (st .args .n) (st .args .left) (st .args .stamps .now) (st .args .values .now) end)), (refl, refl)),
+    let st = c .before .before .before .before .before .before .before .before .before in let end = sym (c .before .before .before .before .before .ends-soon .ensures) ∙ c .before .before .before .before .if1 .taken in
+    let e = sym (soon (st .args .s) (st .args .path) (st .args .n) (st .args .left) (st .pre .1 .0) end (st .args .stamps .now) (st .args .values .now)) in (
+      c .before .before .soon-told .ensures .0 ∙ ap (counted (st .args .told)) e,
+      (c .before .before .soon-told .ensures .1 ∙ ap (λ (x : List (List ℕ)). sets (st .args .out .now) (st .args .told .bytes) (bytesOf x)) e, (refl, refl)),
     )
 
 -- src/lib.rt:148:5
 walk-state-loop-holds : (t : ℕ) → walk-state-lts.Need-loop-holds (
-  ends-here-reads.Asked,
-  ends-here-reads.Learnt,
-  list-reads.Asked,
-  list-reads.Learnt,
+  ends-soon-reads.Asked,
+  ends-soon-reads.Learnt,
+  soon-told-reads.Asked,
+  soon-told-reads.Learnt,
   choose-below t,
   choose.Post,
 ) (walk-state-at t) walk-state.Post walk-state-Inv-loop walk-state-μ-loop
 walk-state-loop-holds t c =
-    let st = c .before .before .before .before .before in let end = sym (c .before .ends-here .ensures) ∙ c .if1 .left in (refl, begins (st .args .s) (st .args .path) (st .args .n) (st .args .left) (st .args .stamps .now) (st .args .values .now) (st .args .out .now) (st .args .told) end (st .pre .1 .1 .1))
+    let st = c .before .before .before .before .before in let end = soon-not (st .args .s) (st .args .left) (sym (c .before .ends-soon .ensures) ∙ c .if1 .left) in (refl, begins (st .args .s) (st .args .path) (st .args .n) (st .args .left) (st .args .stamps .now) (st .args .values .now) (st .args .out .now) (st .args .told) end (st .pre .1 .1 .1))
 
 -- src/lib.rt:149:39
 walk-state-sub-choose : (t : ℕ) → walk-state-lts.Need-sub-choose (
-  ends-here-reads.Asked,
-  ends-here-reads.Learnt,
-  list-reads.Asked,
-  list-reads.Learnt,
+  ends-soon-reads.Asked,
+  ends-soon-reads.Learnt,
+  soon-told-reads.Asked,
+  soon-told-reads.Learnt,
   choose-below t,
   choose.Post,
 ) (walk-state-at t) walk-state.Post walk-state-Inv-loop walk-state-μ-loop
 walk-state-sub-choose t c =
-    let st = c .before .before .before .before .before .before .before .before .before in let end = sym (c .before .before .before .before .before .ends-here .ensures) ∙ c .before .before .before .before .if1 .left in some-left (st .args .s) (st .args .left) end
+    let st = c .before .before .before .before .before .before .before .before .before in let end = soon-not (st .args .s) (st .args .left) (sym (c .before .before .before .before .before .ends-soon .ensures) ∙ c .before .before .before .before .if1 .left) in some-left (st .args .s) (st .args .left) end
 
 -- src/lib.rt:149:9
 walk-state-choose-requires : (t : ℕ) → walk-state-lts.Need-choose-requires (
-  ends-here-reads.Asked,
-  ends-here-reads.Learnt,
-  list-reads.Asked,
-  list-reads.Learnt,
+  ends-soon-reads.Asked,
+  ends-soon-reads.Learnt,
+  soon-told-reads.Asked,
+  soon-told-reads.Learnt,
   choose-below t,
   choose.Post,
 ) (walk-state-at t) walk-state.Post walk-state-Inv-loop walk-state-μ-loop
 walk-state-choose-requires t c κs =
-    let st = c .before .before .before .before .before .before .before .before .before .before in let end = sym (c .before .before .before .before .before .before .ends-here .ensures) ∙ c .before .before .before .before .before .if1 .left in let one = some-left (st .args .s) (st .args .left) end in let l = c .before .before .before .before .loop in let g = l .inv .1 in let few = c .before .before .before .loop-test .taken in let e : 2 * st .args .left ≡ t = st .pre .0 in let less : 2 * (st .args .left - 1) + 1 < t = omega (arith, one) in (
+    let st = c .before .before .before .before .before .before .before .before .before .before in let end = soon-not (st .args .s) (st .args .left) (sym (c .before .before .before .before .before .before .ends-soon .ensures) ∙ c .before .before .before .before .before .if1 .left) in let one = some-left (st .args .s) (st .args .left) end in let l = c .before .before .before .before .loop in let g = l .inv .1 in let few = c .before .before .before .loop-test .taken in let e : 2 * st .args .left ≡ t = st .pre .0 in let less : 2 * (st .args .left - 1) + 1 < t = omega (arith, one) in (
       less,
       (
         few,
         (
           one-less (st .args .s) (st .args .n) (st .args .left) one (st .pre .1 .0),
           (
-            (ap length (g .same .lent-stamps) ∙ st .pre .1 .1 .0 .0, ap length (g .same .lent-values) ∙ st .pre .1 .1 .0 .1),
+            (ap length (g .lent-stamps) ∙ st .pre .1 .1 .0 .0, ap length (g .lent-values) ∙ st .pre .1 .1 .0 .1),
             asks-8 (st .args .s) (st .args .path) (st .args .n) (st .args .left) (st .args .stamps .now) (st .args .values .now) (st .args .out .now) (st .args .told) (l .stamps) (l .values) (l .out) (l .r) (l .w) g few,
           ),
         ),
@@ -555,10 +558,10 @@ walk-state-choose-requires t c κs =
 
 -- between the two codes of a worker
 half-at : (t : ℕ) (c : walk-state-lts.After-choose (
-  ends-here-reads.Asked,
-  ends-here-reads.Learnt,
-  list-reads.Asked,
-  list-reads.Learnt,
+  ends-soon-reads.Asked,
+  ends-soon-reads.Learnt,
+  soon-told-reads.Asked,
+  soon-told-reads.Learnt,
   choose-below t,
   choose.Post,
 ) (walk-state-at t) walk-state.Post walk-state-Inv-loop walk-state-μ-loop) →
@@ -570,34 +573,34 @@ half-at t c =
 
 -- src/lib.rt:150:39
 walk-state-sub-choose-2 : (t : ℕ) → walk-state-lts.Need-sub-choose-2 (
-  ends-here-reads.Asked,
-  ends-here-reads.Learnt,
-  list-reads.Asked,
-  list-reads.Learnt,
+  ends-soon-reads.Asked,
+  ends-soon-reads.Learnt,
+  soon-told-reads.Asked,
+  soon-told-reads.Learnt,
   choose-below t,
   choose.Post,
 ) (walk-state-at t) walk-state.Post walk-state-Inv-loop walk-state-μ-loop
 walk-state-sub-choose-2 t c =
-    let st = c .before .before .before .before .before .before .before .before .before .before .before .before .before .before .before .before .before .before .before in let end = sym (c .before .before .before .before .before .before .before .before .before .before .before .before .before .before .before .ends-here .ensures) ∙ c .before .before .before .before .before .before .before .before .before .before .before .before .before .before .if1 .left in some-left (st .args .s) (st .args .left) end
+    let st = c .before .before .before .before .before .before .before .before .before .before .before .before .before .before .before .before .before .before .before in let end = soon-not (st .args .s) (st .args .left) (sym (c .before .before .before .before .before .before .before .before .before .before .before .before .before .before .before .ends-soon .ensures) ∙ c .before .before .before .before .before .before .before .before .before .before .before .before .before .before .if1 .left) in some-left (st .args .s) (st .args .left) end
 
 -- src/lib.rt:150:9
 walk-state-choose-requires-2 : (t : ℕ) → walk-state-lts.Need-choose-requires-2 (
-  ends-here-reads.Asked,
-  ends-here-reads.Learnt,
-  list-reads.Asked,
-  list-reads.Learnt,
+  ends-soon-reads.Asked,
+  ends-soon-reads.Learnt,
+  soon-told-reads.Asked,
+  soon-told-reads.Learnt,
   choose-below t,
   choose.Post,
 ) (walk-state-at t) walk-state.Post walk-state-Inv-loop walk-state-μ-loop
 walk-state-choose-requires-2 t c κs =
-    let st = c .before .before .before .before .before .before .before .before .before .before .before .before .before .before .before .before .before .before .before .before in let end = sym (c .before .before .before .before .before .before .before .before .before .before .before .before .before .before .before .before .ends-here .ensures) ∙ c .before .before .before .before .before .before .before .before .before .before .before .before .before .before .before .if1 .left in let one = some-left (st .args .s) (st .args .left) end in let l = c .before .before .before .before .before .before .before .before .before .before .before .before .before .before .loop in let g = l .inv .1 in let few = c .before .before .before .before .before .before .before .before .before .before .before .before .before .loop-test .taken in let e : 2 * st .args .left ≡ t = st .pre .0 in let less : 2 * (st .args .left - 1) + 1 < t = omega (arith, one) in let h = half-at t (c .before .before .before .before .before .before .before .before .before) in (
+    let st = c .before .before .before .before .before .before .before .before .before .before .before .before .before .before .before .before .before .before .before .before in let end = soon-not (st .args .s) (st .args .left) (sym (c .before .before .before .before .before .before .before .before .before .before .before .before .before .before .before .before .ends-soon .ensures) ∙ c .before .before .before .before .before .before .before .before .before .before .before .before .before .before .before .if1 .left) in let one = some-left (st .args .s) (st .args .left) end in let l = c .before .before .before .before .before .before .before .before .before .before .before .before .before .before .loop in let g = l .inv .1 in let few = c .before .before .before .before .before .before .before .before .before .before .before .before .before .loop-test .taken in let e : 2 * st .args .left ≡ t = st .pre .0 in let less : 2 * (st .args .left - 1) + 1 < t = omega (arith, one) in let h = half-at t (c .before .before .before .before .before .before .before .before .before) in (
       less,
       (
         few,
         (
           one-less (st .args .s) (st .args .n) (st .args .left) one (st .pre .1 .0),
           (
-            (ap length (h .same .lent-stamps) ∙ st .pre .1 .1 .0 .0, ap length (h .same .lent-values) ∙ st .pre .1 .1 .0 .1),
+            (ap length (h .lent-stamps) ∙ st .pre .1 .1 .0 .0, ap length (h .lent-values) ∙ st .pre .1 .1 .0 .1),
             asks-9 (st .args .s) (st .args .path) (st .args .n) (st .args .left) (st .args .stamps .now) (st .args .values .now) (st .args .out .now) (st .args .told) (c .before .before .before .before .before .before .before .before .before .choose .last .1 .0) (c .before .before .before .before .before .before .before .before .before .choose .last .1 .1 .0) (c .before .before .before .before .before .before .before .before .before .choose .last .1 .1 .1 .1 .1 .1 .0) (c .before .before .before .before .before .before .before .before .before .choose .result) (l .w) h,
           ),
         ),
@@ -606,22 +609,22 @@ walk-state-choose-requires-2 t c κs =
 
 -- src/lib.rt:151:9
 walk-state-add-w : (t : ℕ) → walk-state-lts.Need-add-w (
-  ends-here-reads.Asked,
-  ends-here-reads.Learnt,
-  list-reads.Asked,
-  list-reads.Learnt,
+  ends-soon-reads.Asked,
+  ends-soon-reads.Learnt,
+  soon-told-reads.Asked,
+  soon-told-reads.Learnt,
   choose-below t,
   choose.Post,
 ) (walk-state-at t) walk-state.Post walk-state-Inv-loop walk-state-μ-loop
 walk-state-add-w t c =
-    let st = c .before .before .before .before .before .before .before .before .before .before .before .before .before .before .before .before .before .before .before .before .before .before .before .before .before .before .before in let end = sym (c .before .before .before .before .before .before .before .before .before .before .before .before .before .before .before .before .before .before .before .before .before .before .before .ends-here .ensures) ∙ c .before .before .before .before .before .before .before .before .before .before .before .before .before .before .before .before .before .before .before .before .before .before .if1 .left in let one = some-left (st .args .s) (st .args .left) end in let few = c .before .before .before .before .before .before .before .before .before .before .before .before .before .before .before .before .before .before .before .before .loop-test .taken in omega (arith, low (st .args .s) (st .args .n) (st .args .left - 1) (one-less (st .args .s) (st .args .n) (st .args .left) one (st .pre .1 .0)) _ few)
+    let st = c .before .before .before .before .before .before .before .before .before .before .before .before .before .before .before .before .before .before .before .before .before .before .before .before .before .before .before in let end = soon-not (st .args .s) (st .args .left) (sym (c .before .before .before .before .before .before .before .before .before .before .before .before .before .before .before .before .before .before .before .before .before .before .before .ends-soon .ensures) ∙ c .before .before .before .before .before .before .before .before .before .before .before .before .before .before .before .before .before .before .before .before .before .before .if1 .left) in let one = some-left (st .args .s) (st .args .left) end in let few = c .before .before .before .before .before .before .before .before .before .before .before .before .before .before .before .before .before .before .before .before .loop-test .taken in omega (arith, low (st .args .s) (st .args .n) (st .args .left - 1) (one-less (st .args .s) (st .args .n) (st .args .left) one (st .pre .1 .0)) _ few)
 
 -- src/lib.rt:148:5
 walk-state-loop-less : (t : ℕ) → walk-state-lts.Need-loop-less (
-  ends-here-reads.Asked,
-  ends-here-reads.Learnt,
-  list-reads.Asked,
-  list-reads.Learnt,
+  ends-soon-reads.Asked,
+  ends-soon-reads.Learnt,
+  soon-told-reads.Asked,
+  soon-told-reads.Learnt,
   choose-below t,
   choose.Post,
 ) (walk-state-at t) walk-state.Post walk-state-Inv-loop walk-state-μ-loop
@@ -629,10 +632,10 @@ walk-state-loop-less t c = search needs
 
 -- src/lib.rt:148:5
 walk-state-loop-again : (t : ℕ) → walk-state-lts.Need-loop-again (
-  ends-here-reads.Asked,
-  ends-here-reads.Learnt,
-  list-reads.Asked,
-  list-reads.Learnt,
+  ends-soon-reads.Asked,
+  ends-soon-reads.Learnt,
+  soon-told-reads.Asked,
+  soon-told-reads.Learnt,
   choose-below t,
   choose.Post,
 ) (walk-state-at t) walk-state.Post walk-state-Inv-loop walk-state-μ-loop
@@ -645,51 +648,51 @@ walk-state-loop-again t c =
 
 -- src/lib.rt:125:1
 walk-state-same-length-2 : (t : ℕ) → walk-state-lts.Need-same-length-2 (
-  ends-here-reads.Asked,
-  ends-here-reads.Learnt,
-  list-reads.Asked,
-  list-reads.Learnt,
+  ends-soon-reads.Asked,
+  ends-soon-reads.Learnt,
+  soon-told-reads.Asked,
+  soon-told-reads.Learnt,
   choose-below t,
   choose.Post,
 ) (walk-state-at t) walk-state.Post walk-state-Inv-loop walk-state-μ-loop
 walk-state-same-length-2 t c =
-    ap length (c .before .loop .inv .1 .same .lent-stamps)
+    ap length (c .before .loop .inv .1 .lent-stamps)
 
 -- src/lib.rt:125:1
 walk-state-same-length-3 : (t : ℕ) → walk-state-lts.Need-same-length-3 (
-  ends-here-reads.Asked,
-  ends-here-reads.Learnt,
-  list-reads.Asked,
-  list-reads.Learnt,
+  ends-soon-reads.Asked,
+  ends-soon-reads.Learnt,
+  soon-told-reads.Asked,
+  soon-told-reads.Learnt,
   choose-below t,
   choose.Post,
 ) (walk-state-at t) walk-state.Post walk-state-Inv-loop walk-state-μ-loop
 walk-state-same-length-3 t c =
-    ap length (c .before .loop .inv .1 .same .lent-values)
+    ap length (c .before .loop .inv .1 .lent-values)
 
 -- src/lib.rt:125:1
 walk-state-same-length-4 : (t : ℕ) → walk-state-lts.Need-same-length-4 (
-  ends-here-reads.Asked,
-  ends-here-reads.Learnt,
-  list-reads.Asked,
-  list-reads.Learnt,
+  ends-soon-reads.Asked,
+  ends-soon-reads.Learnt,
+  soon-told-reads.Asked,
+  soon-told-reads.Learnt,
   choose-below t,
   choose.Post,
 ) (walk-state-at t) walk-state.Post walk-state-Inv-loop walk-state-μ-loop
 walk-state-same-length-4 t c =
-    c .before .loop .inv .1 .same .lent-out
+    c .before .loop .inv .1 .ahead .long
 
 -- src/lib.rt:125:1
 walk-state-returns-2 : (t : ℕ) → walk-state-lts.Need-returns-2 (
-  ends-here-reads.Asked,
-  ends-here-reads.Learnt,
-  list-reads.Asked,
-  list-reads.Learnt,
+  ends-soon-reads.Asked,
+  ends-soon-reads.Learnt,
+  soon-told-reads.Asked,
+  soon-told-reads.Learnt,
   choose-below t,
   choose.Post,
 ) (walk-state-at t) walk-state.Post walk-state-Inv-loop walk-state-μ-loop
 walk-state-returns-2 t c =
-    let st = c .before .before .before .before .before .before .before in let l = c .before .loop in let g = l .inv .1 in let x = done (st .args .s) (st .args .path) (st .args .n) (st .args .left) (st .args .stamps .now) (st .args .values .now) (st .args .out .now) (st .args .told) (l .stamps) (l .values) (l .out) (l .r) (l .w) g (c .loop-test .left) in (x .0, (x .1, (g .same .lent-stamps, g .same .lent-values)))
+    let st = c .before .before .before .before .before .before .before in let l = c .before .loop in let g = l .inv .1 in let x = done (st .args .s) (st .args .path) (st .args .n) (st .args .left) (st .args .stamps .now) (st .args .values .now) (st .args .out .now) (st .args .told) (l .stamps) (l .values) (l .out) (l .r) (l .w) g (c .loop-test .left) in (x .0, (x .1, (g .lent-stamps, g .lent-values)))
 
 pub +choose+walk-state-spec : {M : Type 1} → statement M
 +choose+walk-state-spec = close μ-choose μ-walk-state (λ t. choose-lts.spec (
@@ -729,10 +732,10 @@ pub +choose+walk-state-spec : {M : Type 1} → statement M
     (choose-same-length-3 t)
     (choose-returns-2 t))
     λ t. walk-state-lts.spec (
-      ends-here-reads.Asked,
-      ends-here-reads.Learnt,
-      list-reads.Asked,
-      list-reads.Learnt,
+      ends-soon-reads.Asked,
+      ends-soon-reads.Learnt,
+      soon-told-reads.Asked,
+      soon-told-reads.Learnt,
       choose-below t,
       choose.Post,
     )
@@ -740,8 +743,8 @@ pub +choose+walk-state-spec : {M : Type 1} → statement M
     walk-state.Post
     walk-state-Inv-loop
     walk-state-μ-loop
-    (walk-state-ends-here-requires t)
-    (walk-state-list-requires t)
+    (walk-state-ends-soon-requires t)
+    (walk-state-soon-told-requires t)
     (walk-state-same-length t)
     (walk-state-returns t)
     (walk-state-loop-holds t)
