@@ -51,9 +51,18 @@ module _ (r : Worker) (v : View) (e : v ≡ viewOf (r .place)) (lose : Bool) whe
   unfolding mayAct
   may-any h k = rw (← e) (on (v .busy) _ _ _ h (off lose _ _ _ k refl))
 
-pub acted-so : (s : State) (stamp value w : ℕ) (lose : Bool) (a : Acted) (r : Worker) → a ≡ actIn s stamp value w lose → r ≡ recordAfter (recordOf (s .workers) w) (a .place) (a .loss) → left s w a r ≡ afterOf s stamp value w lose
+pub acted-so : (s : State) (y : Worker) (stamp value w : ℕ) (lose : Bool) (a : Acted) (r : Worker) → Ready s y w → a ≡ actOf SixtyFour (s .fixed) (s .ends) (slot stamp value) (y .place) lose
+    → r ≡ recordAfter y (a .place) (a .loss) → left s w a r ≡ afterOf s stamp value w lose
 unfolding afterOf
-acted-so s stamp value w lose a r ea er = ap (left s w a) er ∙ ap (λ (x : Acted). left s w x (recordAfter (recordOf (s .workers) w) (x .place) (x .loss))) ea
+acted-so s y stamp value w lose a r g ea er =
+    ap (left s w a) er
+    ∙ ap (λ (x : Acted). left s w x (recordAfter y (x .place) (x .loss))) ea
+    ∙ ap (λ (z : Worker). left s w (actOf SixtyFour (s .fixed) (s .ends) (slot stamp value) (z .place) lose)
+    (recordAfter z (actOf SixtyFour (s .fixed) (s .ends) (slot stamp value) (z .place) lose .place) (actOf SixtyFour (s .fixed) (s .ends) (slot stamp value) (z .place) lose .loss))) (g .own)
+
+-- what is seen of a worker is seen of its record
+pub seen : (y r : Worker) (lose : Bool) → y ≡ r → (b x : Bool) → b ≡ mayAct y lose → b ≡ x → mayAct r lose ≡ x
+seen y r lose e b x eb ex = ap (λ (z : Worker). mayAct z lose) (sym e) ∙ sym eb ∙ ex
 
 pub byte-9 : (w : ℕ) (lose : Bool) → lose ≡ true → 144 + w ≡ actByte (codeOf lose) w
 byte-9 w lose h = ap (λ (b : Bool). actByte (codeOf b) w) (sym h)
@@ -205,14 +214,18 @@ module _ (s : State) (n more : ℕ) (sound : Sound s n (more + 1)) (w : ℕ) (l 
     busy : viewOf (placeOf (s .workers) w) .busy ≡ true
     busy = may-busy (recordOf (s .workers) w) lose may
 
-    pub ready : Ready s w
-    ready = record {
+    own-ready : Ready s (recordOf (s .workers) w) w
+    own-ready = record {
       low = low;
+      own = refl;
       fits = fits-in (machineIn s [] []) (whole [] []) w l busy;
       differed = lost-below (machineIn s [] []) (whole [] []) w l in-time .0;
       failed = lost-below (machineIn s [] []) (whole [] []) w l in-time .1;
       meter = in-time;
     }
+
+    pub ready : (r : Worker) → r ≡ recordOf (s .workers) w → Ready s r w
+    ready r e = subst (λ (x : Worker). Ready s x w) (sym e) own-ready
 
     spot-low : spotIn (s .fixed) (recordOf (s .workers) w) < slotsMost
     spot-low = spot-below (machineIn s [] []) (whole [] []) w l busy _ refl

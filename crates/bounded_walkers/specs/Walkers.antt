@@ -96,12 +96,13 @@ walkFrom s stamps values path n more = after (take n path) (walkOf more (machine
 abbrev pub choiceFrom : State → List ℕ → List ℕ → List ℕ → ℕ → ℕ → ℕ → Bool → List (List ℕ)
 choiceFrom s stamps values path n more w lose = after (take n path) (choiceOf more (machineIn s stamps values) w (codeOf lose))
 
--- What an act asks: the words of its worker, and room on the meter.
-pub record Ready (s : State) (w : ℕ) : Type 0 where
+-- What an act asks: the record of its worker, what it says, and room on the meter.
+pub record Ready (s : State) (r : Worker) (w : ℕ) : Type 0 where
   pub low : w < walkersMost
-  pub fits : Fits (s .fixed) (placeOf (s .workers) w)
-  pub differed : recordOf (s .workers) w .differed < meterMost
-  pub failed : recordOf (s .workers) w .failed < meterMost
+  pub own : r ≡ recordOf (s .workers) w
+  pub fits : Fits (s .fixed) (r .place)
+  pub differed : r .differed < meterMost
+  pub failed : r .failed < meterMost
   pub meter : s .meter < meterMost
 
 -- Where a walk can go on, n acts done and so many left: no lent slots make the machine a broken one.

@@ -9,6 +9,7 @@ ghost use Rattle.queue_walks.specs.Walks.{walkersMost, depthMost, actByte, afte
 ghost use Rattle.queue_walks.specs.Listed.{bytesOf, counted, Room};
 ghost use Rattle.bounded_words.specs.Limits.{slotsMost};
 ghost use Rattle.bounded_words.specs.Words.{Fair};
+ghost use Rattle.bounded_machine.specs.Machine.{recordOf};
 ghost use Rattle.bounded_machine.specs.Broken.{allIdle};
 ghost use Rattle.bounded_walkers.specs.Walkers.{codeOf, mayAct, spotIn, afterOf, endsHere, lastAct, lastFrom, endsSoon, soonFrom, walkFrom, choiceFrom, Ready, Sound};
 use bounded_places::Ends;
@@ -60,12 +61,11 @@ fn spot_of(f: Fixed, worker: Worker) -> usize
     bounded_machine::spot(f, held) as usize
 }
 
-fn act_on(s: State, stamp: u64, value: u64, w: usize, lose: bool) -> After
-    requires { ⌜ Ready s w ⌝ }
+fn act_on(s: State, worker: Worker, stamp: u64, value: u64, w: usize, lose: bool) -> After
+    requires { ⌜ Ready s worker w ⌝ }
     ensures { λ r. ⌜ r ≡ afterOf s stamp value w lose ⌝ }
 {
     let mut workers = s.workers;
-    let worker = workers[w];
     let p = worker.place;
     let f = s.fixed;
     let e = s.ends;
@@ -229,11 +229,37 @@ pub fn walk_state(
         return soon_told(out, told, path, n, s, left);
     }
     let count = s.count as usize;
+    let workers = s.workers;
     let mut r = told;
     let mut w = 0;
     while w < count {
-        r = choose(s, stamps, values, left - 1, path, n, out, r, w, false);
-        r = choose(s, stamps, values, left - 1, path, n, out, r, w, true);
+        let worker = workers[w];
+        r = choose(
+            s,
+            stamps,
+            values,
+            left - 1,
+            path,
+            n,
+            out,
+            r,
+            worker,
+            w,
+            false,
+        );
+        r = choose(
+            s,
+            stamps,
+            values,
+            left - 1,
+            path,
+            n,
+            out,
+            r,
+            worker,
+            w,
+            true,
+        );
         w += 1;
     }
     r
@@ -249,10 +275,11 @@ fn choose(
     n: usize,
     out: &mut [u8],
     told: Walked,
+    worker: Worker,
     w: usize,
     lose: bool,
 ) -> Walked
-    requires few { ⌜ w < s .count ⌝ }
+    requires few { ⌜ (w < s .count) × (worker ≡ recordOf (s .workers) w) ⌝ }
     requires sound { ⌜ Sound s n (left + 1) ⌝ }
     requires slots { ⌜ (length (now stamps) ≡ slotsMost) × (length (now values) ≡ slotsMost) ⌝ }
     requires room { ⌜ Room told (choiceFrom s (now stamps) (now values) path n left w lose) ⌝ }
@@ -260,8 +287,6 @@ fn choose(
     ensures lent { λ r. ⌜ now (out .exit) ≡ sets (now (out .entry)) (told .bytes) (bytesOf (choiceFrom s (now (stamps .entry)) (now (values .entry)) path n left w lose)) ⌝ }
     ensures same { λ r. ⌜ (now (stamps .exit) ≡ now (stamps .entry)) × (now (values .exit) ≡ now (values .entry)) ⌝ }
 {
-    let workers = s.workers;
-    let worker = workers[w];
     if may_act(worker, lose) {} else {
         return told;
     }
@@ -269,7 +294,7 @@ fn choose(
     let k = spot_of(f, worker);
     let stamp = stamps[k];
     let value = values[k];
-    let a = act_on(s, stamp, value, w, lose);
+    let a = act_on(s, worker, stamp, value, w, lose);
     let next = a.state;
     let mut acts = path;
     acts[n] = act_byte(w, lose);
