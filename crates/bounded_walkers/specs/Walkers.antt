@@ -3,11 +3,11 @@ use Prim.Native.Nat.{ℕ, _+_, _-_, _<_, _≤_}
 use mathlib.Core.Path.{_≡_}
 use mathlib.Core.Bool.{Bool, true, false, cond}
 use mathlib.Core.List.{List, [], _∷_}
-use lib.Dec.{eqb}
+use lib.Dec.{ltb, eqb}
 use lib.ListN.{length, set, take}
-use Rattle.queue_entries.specs.Limits.{workersMost, meterMost}
+use Rattle.queue_entries.specs.Limits.{meterMost}
 use Rattle.queue_walks.specs.declared.Walked.{Walked}
-use Rattle.queue_walks.specs.Walks.{depthMost, after, choiceBy, walkBy}
+use Rattle.queue_walks.specs.Walks.{walkersMost, depthMost, actByte, after, inTurn, choiceBy, walkBy}
 use Rattle.queue_walks.specs.Listed.{Room}
 use Rattle.bounded_words.specs.declared.Width.the-variants.{SixtyFour}
 use Rattle.bounded_words.specs.Limits.{slotsMost}
@@ -72,6 +72,23 @@ afterOf s stamp value w lose =
 unfoldable pub endsHere : State → ℕ → Bool
 endsHere s more = cond (eqb more 0) true (allIdle (s .workers))
 
+-- The last act of a sequence is listed where it may be done; what it leaves is asked by nobody.
+unfoldable pub lastAct : Worker → ℕ → Bool → List (List ℕ)
+lastAct r w lose = cond (mayAct r lose) ((actByte (codeOf lose) w ∷ []) ∷ []) []
+
+abbrev pub lastChoice : List Worker → ℕ → ℕ → List (List ℕ)
+lastChoice ws w code = lastAct (recordOf ws w) w (eqb code 9)
+
+-- No act is left, or one, or all workers are idle; what is told there with n acts of a path done, of whatever slots.
+unfoldable pub endsSoon : State → ℕ → Bool
+endsSoon s more = cond (ltb more 2) true (allIdle (s .workers))
+
+abbrev pub lastFrom : State → List ℕ → ℕ → List (List ℕ)
+lastFrom s path n = after (take n path) (inTurn (lastChoice (s .workers)) (s .count) 0)
+
+unfoldable pub soonFrom : State → List ℕ → ℕ → ℕ → List (List ℕ)
+soonFrom s path n more = cond (endsHere s more) (take n path ∷ []) (lastFrom s path n)
+
 -- What is told with n acts of a path done: from this state, and from a worker's act of this code.
 abbrev pub walkFrom : State → List ℕ → List ℕ → List ℕ → ℕ → ℕ → List (List ℕ)
 walkFrom s stamps values path n more = after (take n path) (walkOf more (machineIn s stamps values))
@@ -79,16 +96,18 @@ walkFrom s stamps values path n more = after (take n path) (walkOf more (machine
 abbrev pub choiceFrom : State → List ℕ → List ℕ → List ℕ → ℕ → ℕ → ℕ → Bool → List (List ℕ)
 choiceFrom s stamps values path n more w lose = after (take n path) (choiceOf more (machineIn s stamps values) w (codeOf lose))
 
--- What an act asks: the words of its worker, and room on the meter.
-pub record Ready (s : State) (w : ℕ) : Type 0 where
-  pub low : w < workersMost
-  pub fits : Fits (s .fixed) (placeOf (s .workers) w)
-  pub differed : recordOf (s .workers) w .differed < meterMost
-  pub failed : recordOf (s .workers) w .failed < meterMost
+-- What an act asks: the record of its worker, what it says, and room on the meter.
+pub record Ready (s : State) (r : Worker) (w : ℕ) : Type 0 where
+  pub low : w < walkersMost
+  pub own : r ≡ recordOf (s .workers) w
+  pub fits : Fits (s .fixed) (r .place)
+  pub differed : r .differed < meterMost
+  pub failed : r .failed < meterMost
   pub meter : s .meter < meterMost
 
 -- Where a walk can go on, n acts done and so many left: no lent slots make the machine a broken one.
 pub record Sound (s : State) (n more : ℕ) : Type 0 where
+  pub few : s .count ≤ walkersMost
   pub whole : (stamps values : List ℕ) → brokenOf (machineIn s stamps values) ≡ false
   pub depth : n + more ≤ depthMost
   pub meter : more ≤ meterMost - s .meter

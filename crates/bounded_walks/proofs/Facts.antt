@@ -6,10 +6,10 @@ use mathlib.Core.List.{List, [], _∷_, _++_, map}
 use native.Mathlib.Omega.{arith}
 use lib.Dec.{ltb, eqb}
 use native.Mathlib.Numerals.{add-one}
-use lib.ListN.{length, take, drop, set, getD, length-map, List·getD-map}
+use lib.ListN.{length, take, drop, set, getD, replicate, length-map, List·getD-map}
 use lib.Seq.{sets, sets-eq, take-suc, take-suc-set, take-all}
 use borrow.Author.Tests.{ltb-true, ltb-false, eqb-true, eq-eqb, ne-eqb, lt-ltb, le-ltb}
-use Rattle.queue_entries.specs.Limits.{meterMost, all}
+use Rattle.queue_entries.specs.Limits.{workersMost, meterMost, all}
 use Rattle.queue_entries.proofs.Pick.{yes, no, below, above}
 use Rattle.queue_entries.specs.Told.{told}
 use Rattle.queue_entries.specs.declared.Told.{Told}
@@ -28,16 +28,18 @@ use Rattle.bounded_words.specs.declared.Width.the-variants.{SixtyFour}
 use Rattle.bounded_words.specs.Limits.{slotsMost}
 use Rattle.bounded_places.specs.declared.Slot.{Slot}
 use Rattle.bounded_places.specs.declared.Place.{Place}
+use Rattle.bounded_places.specs.declared.Worker.{Worker}
 use Rattle.bounded_places.specs.Places.{beginOf}
 use Rattle.bounded_acts.specs.Acts.{actOf}
 use Rattle.bounded_machine.specs.declared.Machine.{Machine}
 use Rattle.bounded_machine.specs.declared.Did.{Did}
-use Rattle.bounded_machine.specs.Machine.{slot, placeOf, refused, accepted}
-use Rattle.bounded_machine.specs.Broken.{brokenOf, brokenWith, allIdle}
+use Rattle.bounded_machine.specs.Machine.{slot, machineOf, recordOf, placeOf, refused, accepted}
+use Rattle.bounded_machine.specs.Broken.{brokenOf, allIdle}
 use Rattle.bounded_machine.specs.Turn.{verdictOf, begun, stored, actedBy, carried, turn, turnOf, turnOfBy}
-use Rattle.bounded_machine.proofs.Kept.{either, every}
+use Rattle.bounded_machine.proofs.Kept.{either, every, Unbroken, unbroken-of, of-unbroken}
 use Rattle.bounded_walkers.specs.declared.State.{State}
 use Rattle.bounded_walkers.specs.Walkers.{walkOf, slotsOf, machineIn, walkFrom, Sound}
+use Rattle.bounded_walks.proofs.Cutting.{walk-cut, cut-fits}
 use Rattle.bounded_walks.specs.declared.Sized.{Sized}
 use Rattle.bounded_walks.specs.declared.Sized.the-variants as sized
 use Rattle.bounded_walks.specs.Walks.{allBusy, sizeRefusal, walkRefusal, walkTold, listed, sizeOf, numberOf, rowOf}
@@ -100,13 +102,22 @@ module _ (m : Machine) (depth : ℕ) (ok : sizeRefusal m depth ≡ 0) where
       (λ (x : Machine). x .count ≤ walkersMost) (λ x h. h) (λ x first h. subst (λ (k : ℕ). k ≤ walkersMost) (sym (turn-counts x first 0)) h) depth m (parts .1 .0) in
       (omega (arith, small .sequences, ltb-true (most depth) (2 ^ 64) (bound .0)), omega (arith, small .bytes, ltb-true (mostBytes depth) (2 ^ 64) (bound .1)))
 
-  -- ---- the walker's state is the machine
-  state : State
-  state = record { fixed = m .ring .fixed; ends = m .ring .ends; workers = m .workers; count = m .count; meter = m .meter }
+  -- ---- the walker's state is the machine, but for records that take no part
+  abbrev state : List Worker → State
+  state three = record { fixed = m .ring .fixed; ends = m .ring .ends; workers = three; count = m .count; meter = m .meter }
 
-  pub sound : Sound (record { fixed = m .ring .fixed; ends = m .ring .ends; workers = m .workers; count = m .count; meter = m .meter }) 0 depth
-  unfolding brokenWith
-  sound = record { whole = λ stamps values. parts .0; depth = omega (arith, parts .1 .1 .0); meter = parts .1 .1 .1 }
+  cut-whole : (stamps values : List ℕ) → Unbroken (machineIn (state (take walkersMost (m .workers))) stamps values)
+  cut-whole stamps values =
+      let u = unbroken-of m (parts .0) in
+      record { capacity = u .capacity; count = u .count; edition = u .edition; rule = u .rule; ends = u .ends; fits = cut-fits m u }
+
+  cut-sound : Sound (state (take walkersMost (m .workers))) 0 depth
+  cut-sound = record {
+    few = parts .1 .0;
+    whole = λ stamps values. of-unbroken (machineIn (state (take walkersMost (m .workers))) stamps values) (cut-whole stamps values);
+    depth = omega (arith, parts .1 .1 .0);
+    meter = parts .1 .1 .1;
+  }
 
   slots-of : (l : List Slot) → slotsOf (rowOf false l) (rowOf true l) ≡ l
   unfolding slotsOf
@@ -118,17 +129,29 @@ module _ (m : Machine) (depth : ℕ) (ok : sizeRefusal m depth ≡ 0) where
   after-none [] = refl
   after-none (s ∷ x) = ap (λ (y : List (List ℕ)). s ∷ y) (after-none x)
 
-  module _ (path stamps values : List ℕ) (p : stamps ≡ rowOf false (m .ring .slots)) (q : values ≡ rowOf true (m .ring .slots)) where
-    pub same-walk : walkFrom (record { fixed = m .ring .fixed; ends = m .ring .ends; workers = m .workers; count = m .count; meter = m .meter }) stamps values path 0 depth ≡ walkOf depth m
-    unfolding state
-    same-walk =
-        after-none (walkOf depth (machineIn state stamps values))
-        ∙ ap (λ (x : List ℕ). walkOf depth (machineIn state x values)) p
-        ∙ ap (λ (x : List ℕ). walkOf depth (machineIn state (rowOf false (m .ring .slots)) x)) q
-        ∙ ap (λ (x : List Slot). walkOf depth (record { ring = record { fixed = m .ring .fixed; ends = m .ring .ends; slots = x }; workers = m .workers; count = m .count; meter = m .meter })) (slots-of (m .ring .slots))
+  module _ (three : List Worker) (first : three ≡ take walkersMost (m .workers)) (long : length (m .workers) ≡ workersMost) where
+    pub sound : Sound (state three) 0 depth
+    sound = subst (λ (x : List Worker). Sound (state x) 0 depth) (sym first) cut-sound
 
-    pub room : Room (walked 0 0) (walkFrom (record { fixed = m .ring .fixed; ends = m .ring .ends; workers = m .workers; count = m .count; meter = m .meter }) stamps values path 0 depth)
-    room = subst (Room (walked 0 0)) (sym same-walk) (record { sequences = omega (arith, fits .0); bytes = omega (arith, fits .1) })
+    module _ (path stamps values : List ℕ) (p : stamps ≡ rowOf false (m .ring .slots)) (q : values ≡ rowOf true (m .ring .slots)) where
+      pub same-walk : walkFrom (state three) stamps values path 0 depth ≡ walkOf depth m
+      same-walk =
+          after-none (walkOf depth (machineIn (state three) stamps values))
+          ∙ ap (λ (x : List Worker). walkOf depth (machineIn (state x) stamps values)) first
+          ∙ ap (λ (x : List ℕ). walkOf depth (machineIn (state (take walkersMost (m .workers))) x values)) p
+          ∙ ap (λ (x : List ℕ). walkOf depth (machineIn (state (take walkersMost (m .workers))) (rowOf false (m .ring .slots)) x)) q
+          ∙ ap (λ (x : List Slot). walkOf depth (machineOf (m .ring .fixed) (m .ring .ends) x (take walkersMost (m .workers)) (m .count) (m .meter))) (slots-of (m .ring .slots))
+          ∙ sym (walk-cut depth m (record { whole = unbroken-of m (parts .0); few = parts .1 .0; long = omega (arith, long); meter = parts .1 .1 .1 }))
+
+      pub room : Room (walked 0 0) (walkFrom (state three) stamps values path 0 depth)
+      room = subst (Room (walked 0 0)) (sym same-walk) (record { sequences = omega (arith, fits .0); bytes = omega (arith, fits .1) })
+
+-- ---- the records that a walk can use
+pub first-three : (ws : List Worker) → length ws ≡ workersMost → set (set (replicate walkersMost (recordOf ws 0)) 1 (recordOf ws 1)) 2 (recordOf ws 2) ≡ take walkersMost ws
+first-three [] h = absurd (omega (arith, h))
+first-three (a ∷ []) h = absurd (omega (arith, h))
+first-three (a ∷ b ∷ []) h = absurd (omega (arith, h))
+first-three (a ∷ b ∷ c ∷ rest) h = refl
 
 -- ---- refused
 module _ (m : Machine) (depth : ℕ) (b : Bool) (eb : b ≡ brokenOf m) where

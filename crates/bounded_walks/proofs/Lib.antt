@@ -1,1 +1,2 @@
+mod Cutting
 pub mod Facts

@@ -3,14 +3,16 @@
 ghost use mathlib.Core.Path.{_≡_};
 ghost use mathlib.Core.List.{_++_};
 ghost use Prim.Native.Nat.{_-_, _≤_};
-ghost use lib.ListN.{length};
+ghost use lib.ListN.{length, take};
 ghost use lib.Seq.{sets};
 ghost use Rattle.queue_entries.specs.Limits.{workersMost, meterMost};
+ghost use Rattle.queue_walks.specs.Walks.{walkersMost};
 ghost use Rattle.queue_walks.specs.Listed.{bytesOf, walked, counted};
 ghost use Rattle.bounded_walkers.specs.Walkers.{walkOf};
 ghost use Rattle.bounded_walks.specs.Walks.{allBusy, sizeRefusal, walkTold, listed, sizeOf, numberOf, rowOf};
 use bounded_machine::Machine;
 use bounded_places::Slot;
+use bounded_places::Worker;
 use bounded_walkers::State;
 use queue_entries::Told;
 use queue_walks::Walked;
@@ -93,6 +95,18 @@ fn row_of(slots: [Slot; bounded_words::SLOTS], value: bool) -> [u64; bounded_wor
     row
 }
 
+// The records that a walk can use; those past them are idle all along.
+fn first_records(workers: [Worker; queue_entries::WORKERS]) -> [Worker; bounded_walkers::RECORDS]
+    ensures answer { λ r. ⌜ r ≡ take walkersMost workers ⌝ }
+    ensures whole { λ r. ⌜ length workers ≡ workersMost ⌝ }
+{
+    let worker = workers[0];
+    let mut first = [worker; bounded_walkers::RECORDS];
+    first[1] = workers[1];
+    first[2] = workers[2];
+    first
+}
+
 // As much of the list as the buffer holds, and its numbers.
 fn walk_into(m: Machine, depth: u64, out: &mut [u8]) -> Walked
     requires { ⌜ sizeRefusal m depth ≡ 0 ⌝ }
@@ -103,7 +117,8 @@ fn walk_into(m: Machine, depth: u64, out: &mut [u8]) -> Walked
     let f = ring.fixed;
     let e = ring.ends;
     let slots = ring.slots;
-    let workers = m.workers;
+    let records = m.workers;
+    let workers = first_records(records);
     let mut stamps = row_of(slots, false);
     let mut values = row_of(slots, true);
     bounded_walkers::walk_state(

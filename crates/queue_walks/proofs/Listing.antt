@@ -6,23 +6,21 @@ use native.Mathlib.Nat.{suc-add, add-assoc}
 use native.Mathlib.Numerals.{add-one}
 use native.Mathlib.Omega.{arith}
 use lib.ListN.{length, take, drop, getD, set, length-append, drop-of-length-le}
-use lib.Seq.{sets, drop-cons, getD-take, length-take-le}
+use lib.Seq.{sets, set-out, drop-cons, getD-take, length-take-le}
 use Rattle.queue_walks.specs.declared.Walked.{Walked}
 use Rattle.queue_walks.specs.Walks.{after}
 use Rattle.queue_walks.specs.Listed.{bytesOf, walked, counted, Room}
 
+-- ---- bytes past the end of a buffer
+pub sets-out : (l : List ℕ) (k : ℕ) (bytes : List ℕ) → length l ≤ k → sets l k bytes ≡ l
+sets-out l k [] h = refl
+sets-out l k (b ∷ bytes) h = ap (λ (x : List ℕ). sets x (suc k) bytes) (set-out l k b h) ∙ sets-out l (suc k) bytes (omega (arith, h))
+
 -- ---- one sequence
-module _ (r : Walked) (path : List ℕ) (n : ℕ) (few : n ≤ length path) where
+module _ (path : List ℕ) (n : ℕ) (few : n ≤ length path) where
   one-byte-more : length (bytesOf (take n path ∷ [])) ≡ 1 + n
   unfolding bytesOf
   one-byte-more = omega (arith, simp length-append at (ap length (append-nil (take n path))), length-append (take n path) [], length-take-le n path few)
-
-  pub one-fits : Room r (take n path ∷ []) → (r .sequences + 1 < 2 ^ 64) × (r .bytes + 1 + n < 2 ^ 64)
-  one-fits h = (h .sequences, omega (arith, h .bytes, one-byte-more))
-
-  pub one-counted : walked (r .sequences + 1) (r .bytes + 1 + n) ≡ counted r (take n path ∷ [])
-  unfolding counted
-  one-counted = ap (walked (r .sequences + 1)) (omega (arith, one-byte-more))
 
   pub one-first : (out : List ℕ) (k : ℕ) → sets (set out k n) (k + 1) (take n path) ≡ sets out k (bytesOf (take n path ∷ []))
   unfolding bytesOf
@@ -38,6 +36,14 @@ module _ (r : Walked) (path : List ℕ) (n : ℕ) (few : n ≤ length path) wher
 
   pub one-all : (out : List ℕ) (k i : ℕ) → n ≤ i → out ≡ sets out k (drop i (take n path))
   one-all out k i ge = sym (ap (sets out k) (drop-of-length-le (take n path) {i = i} (omega (arith, length-take-le n path few))))
+
+  module _ (r : Walked) where
+    pub one-fits : Room r (take n path ∷ []) → (r .sequences + 1 < 2 ^ 64) × (r .bytes + 1 + n < 2 ^ 64)
+    one-fits h = (h .sequences, omega (arith, h .bytes, one-byte-more))
+
+    pub one-counted : walked (r .sequences + 1) (r .bytes + 1 + n) ≡ counted r (take n path ∷ [])
+    unfolding counted
+    one-counted = ap (walked (r .sequences + 1)) (omega (arith, one-byte-more))
 
 -- ---- one list after another
 pub after-append : (p : List ℕ) (a b : List (List ℕ)) → after p (a ++ b) ≡ after p a ++ after p b

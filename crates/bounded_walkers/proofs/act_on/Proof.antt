@@ -7,14 +7,6 @@ use Rattle.bounded_walkers.proofs.act_on.Lts as lts
 use Rattle.bounded_machine.proofs.record_after.Reads as record-after-reads
 use Rattle.bounded_table.proofs.act_at.Reads as act-at-reads
 
--- src/lib.rt:64:18
-mul-worker : tie.Need-mul-worker
-mul-worker c = search needs
-
--- src/lib.rt:64:18
-array-copy-out-worker : tie.Need-array-copy-out-worker
-array-copy-out-worker c = search needs
-
 -- src/lib.rt:72:9
 act-at-requires : tie.Need-act-at-requires
 act-at-requires c κs = search needs
@@ -32,8 +24,8 @@ array-set-from-workers : tie.Need-array-set-from-workers
 array-set-from-workers c = search needs
 
 -- src/lib.rt:85:20
-add-t27 : tie.Need-add-t27
-add-t27 c = search needs
+add-t25 : tie.Need-add-t25
+add-t25 c = search needs
 
 -- src/lib.rt:59:1
 returns : tie.Need-returns
@@ -43,11 +35,9 @@ pub act-on-spec : {M : Type 1} → statement M
 act-on-spec =
     tie.close
     (tie.spec
-    mul-worker
-    array-copy-out-worker
     act-at-requires
     record-after-requires
     mul-workers
     array-set-from-workers
-    add-t27
+    add-t25
     returns)

@@ -4,11 +4,11 @@ use Rattle.bounded_walkers.proofs.ends_here.Statement.{statement}
 use Rattle.bounded_walkers.proofs.ends_here.Tie as tie
 use Rattle.bounded_walkers.proofs.ends_here.Reads as reads
 use Rattle.bounded_walkers.proofs.ends_here.Lts as lts
-use Rattle.bounded_machine.proofs.all_idle.Reads as all-idle-reads
+use Rattle.bounded_walkers.proofs.none_busy.Reads as none-busy-reads
 
 -- src/lib.rt:111:9
-all-idle-requires : tie.Need-all-idle-requires
-all-idle-requires c κs = search needs
+none-busy-requires : tie.Need-none-busy-requires
+none-busy-requires c κs = search needs
 
 -- src/lib.rt:104:1
 returns : tie.Need-returns
@@ -19,4 +19,4 @@ returns-2 : tie.Need-returns-2
 returns-2 c = search (needs, ends-at-0, ends-idle)
 
 pub ends-here-spec : {M : Type 1} → statement M
-ends-here-spec = tie.close (tie.spec all-idle-requires returns returns-2)
+ends-here-spec = tie.close (tie.spec none-busy-requires returns returns-2)

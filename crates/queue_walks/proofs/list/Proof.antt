@@ -1,133 +1,51 @@
-use Prim.Native.Nat.{ℕ, _≤_, _<_, _+_, _-_, _^_}
-use mathlib.Core.Path.{_≡_, refl, ap, _∙_}
-use mathlib.Core.List.{List}
-use denote.Ref.{now}
+use Prim.Native.Nat.{_≤_}
+use mathlib.Core.Path.{_≡_}
 use native.Mathlib.Omega.{arith}
 use borrow.Author.Needs.{needs}
-use lib.ListN.{length, take, drop}
-use lib.Seq.{sets}
+use lib.ListN.{length}
 use Rattle.queue_walks.specs.Walks.{depthMost}
-use Rattle.queue_walks.proofs.Listing.{one-fits, one-counted, one-first, one-more, one-all}
+use Rattle.queue_walks.proofs.Listing.{one-fits, one-counted}
 use Rattle.queue_walks.proofs.list.Statement.{statement}
 use Rattle.queue_walks.proofs.list.Tie as tie
 use Rattle.queue_walks.proofs.list.Reads as reads
 use Rattle.queue_walks.proofs.list.Lts as lts
-use Rattle.queue_walks.proofs.store.Reads as store-reads
+use Rattle.queue_walks.proofs.put.Reads as put-reads
 
-abbrev Inv-loop : tie.InvT-loop
-Inv-loop out₀ told n path at i₀ out i =
-    (i ≤ n) × (n ≤ depthMost) × (length path ≡ depthMost) × (at + 1 + n < 2 ^ 64) × (length out ≡ length out₀) × (sets out (at + 1 + i) (drop i (take n path)) ≡ sets out₀ (at + 1) (take n path))
+-- src/lib.rt:56:5
+put-requires : tie.Need-put-requires
+put-requires c κs =
+    let s = c .before .before in
+    let few : s .args .n ≤ length (s .args .path) = omega (arith, s .good, s .pre .0) in
+    (s .pre .0, one-fits (s .args .path) (s .args .n) few (s .args .told) (s .pre .1) .1)
 
-abbrev μ-loop : tie.MeasureT-loop
-μ-loop out₀ told n path at i₀ out i = n - i
+-- src/lib.rt:58:20
+add-t9 : tie.Need-add-t9
+add-t9 c = search needs
 
--- src/lib.rt:38:20
-cast-store : tie.Need-cast-store Inv-loop μ-loop
-cast-store c = search needs
+-- src/lib.rt:59:16
+add-t10 : tie.Need-add-t10
+add-t10 c =
+    let s = c .before .before .before .before .before .before in
+    let few : s .args .n ≤ length (s .args .path) = omega (arith, s .good, s .pre .0) in
+    omega (arith, one-fits (s .args .path) (s .args .n) few (s .args .told) (s .pre .1) .1)
 
--- src/lib.rt:38:5
-store-requires : tie.Need-store-requires Inv-loop μ-loop
-store-requires c κs = search needs
+-- src/lib.rt:59:16
+add-t11 : tie.Need-add-t11
+add-t11 c =
+    let s = c .before .before .before .before .before .before in
+    let few : s .args .n ≤ length (s .args .path) = omega (arith, s .good, s .pre .0) in
+    omega (arith, one-fits (s .args .path) (s .args .n) few (s .args .told) (s .pre .1) .1)
 
--- src/lib.rt:40:5
-loop-holds : tie.Need-loop-holds Inv-loop μ-loop
-loop-holds c =
-    let s = c .before .before .before .before .before in
-    let len : length (s .args .t3) ≡ depthMost = omega (arith, s .good) in
-    let few : s .args .n ≤ length (s .args .t3) = omega (arith, s .pre .0) in (
-      omega arith,
-      s .pre .0,
-      len,
-      one-fits (s .args .told) (s .args .t3) (s .args .n) few (s .pre .1) .1,
-      refl,
-      ap (λ (k : ℕ). sets (c .before .before .store .last .0) k (take (s .args .n) (s .args .t3))) (omega arith),
-    )
-
--- src/lib.rt:41:20
-add-store : tie.Need-add-store Inv-loop μ-loop
-add-store c = search needs
-
--- src/lib.rt:41:20
-add-store-2 : tie.Need-add-store-2 Inv-loop μ-loop
-add-store-2 c = search needs
-
--- src/lib.rt:41:32
-array-read-store : tie.Need-array-read-store Inv-loop μ-loop
-array-read-store c = search needs
-
--- src/lib.rt:41:9
-store-requires-2 : tie.Need-store-requires-2 Inv-loop μ-loop
-store-requires-2 c κs = search needs
-
--- src/lib.rt:42:9
-add-i : tie.Need-add-i Inv-loop μ-loop
-add-i c = search needs
-
--- src/lib.rt:40:5
-loop-less : tie.Need-loop-less Inv-loop μ-loop
-loop-less c = search needs
-
--- src/lib.rt:40:5
-loop-again : tie.Need-loop-again Inv-loop μ-loop
-loop-again c =
-    let s = c .before .before .before .before .before .before .before .before .before .before .before in
-    let l = c .before .before .before .before .before .loop in
-    let few : s .args .n ≤ length (s .args .t3) = omega (arith, l .inv .1, l .inv .2) in (
-      omega arith,
-      l .inv .1,
-      l .inv .2,
-      l .inv .3,
-      c .before .before .store2 .kept .0 ∙ l .inv .4,
-      ap (λ (o : List ℕ). sets o (s .args .told .bytes + 1 + (l .i + 1)) (drop (l .i + 1) (take (s .args .n) (s .args .t3)))) (c .before .before .store2 .ensures)
-          ∙ one-more (s .args .told) (s .args .t3) (s .args .n) few (l .out) (s .args .told .bytes + 1) (l .i) (omega arith) ∙ l .inv .5,
-    )
-
--- src/lib.rt:45:20
-add-t21 : tie.Need-add-t21 Inv-loop μ-loop
-add-t21 c = search needs
-
--- src/lib.rt:46:16
-add-t22 : tie.Need-add-t22 Inv-loop μ-loop
-add-t22 c = search needs
-
--- src/lib.rt:46:16
-add-t23 : tie.Need-add-t23 Inv-loop μ-loop
-add-t23 c = search needs
-
--- src/lib.rt:31:1
-same-length : tie.Need-same-length Inv-loop μ-loop
+-- src/lib.rt:49:1
+same-length : tie.Need-same-length
 same-length c = search needs
 
--- src/lib.rt:31:1
-returns : tie.Need-returns Inv-loop μ-loop
+-- src/lib.rt:49:1
+returns : tie.Need-returns
 returns c =
-    let s = c .before .before .before .before .before .before .before .before in
-    let l = c .before .before .loop in
-    let few : s .args .n ≤ length (s .args .t3) = omega (arith, l .inv .1, l .inv .2) in (
-      one-counted (s .args .told) (s .args .t3) (s .args .n) few,
-      one-all (s .args .told) (s .args .t3) (s .args .n) few (l .out) (s .args .told .bytes + 1 + l .i) (l .i) (omega arith) ∙ l .inv .5
-          ∙ ap (λ (o : List ℕ). sets o (s .args .told .bytes + 1) (take (s .args .n) (s .args .t3))) (c .before .before .before .before .before .store .ensures)
-          ∙ one-first (s .args .told) (s .args .t3) (s .args .n) few (now (s .args .out)) (s .args .told .bytes),
-    )
+    let s = c .before .before .before .before .before .before in
+    let few : s .args .n ≤ length (s .args .path) = omega (arith, s .good, s .pre .0) in
+    (one-counted (s .args .path) (s .args .n) few (s .args .told), c .before .before .before .put .ensures)
 
 pub list-spec : {M : Type 1} → statement M
-list-spec =
-    tie.close
-    (tie.spec
-    Inv-loop
-    μ-loop
-    cast-store
-    store-requires
-    loop-holds
-    add-store
-    add-store-2
-    array-read-store
-    store-requires-2
-    add-i
-    loop-less
-    loop-again
-    add-t21
-    add-t22
-    add-t23
-    same-length
-    returns)
+list-spec = tie.close (tie.spec put-requires add-t9 add-t10 add-t11 same-length returns)
