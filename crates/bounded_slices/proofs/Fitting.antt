@@ -4,13 +4,12 @@ use mathlib.Core.Path.{_≡_, refl, sym, ap, _∙_, subst}
 use mathlib.Core.Bool.{Bool, true, false, cond, not}
 use mathlib.Core.List.{List, [], _∷_}
 use native.Mathlib.Omega.{arith}
-use native.Mathlib.Decide.{decLt}
-use lib.Dec.{ltb, leb, eqb}
+use lib.Dec.{ltb, eqb}
 use lib.ListN.{length, getD}
-use borrow.Author.Tests.{eq-eqb, ne-eqb, lt-ltb, le-ltb, ltb-false, leb-true}
+use borrow.Author.Tests.{eq-eqb, ne-eqb, lt-ltb, le-ltb}
 use Rattle.queue_entries.specs.Limits.{all}
 use Rattle.queue_entries.proofs.Limits.{all-more, all-failed, all-passed}
-use Rattle.queue_entries.proofs.Pick.{equal, other, both-left}
+use Rattle.queue_entries.proofs.Pick.{equal, other}
 use Rattle.bounded_words.specs.declared.Fixed.{Fixed}
 use Rattle.bounded_words.specs.Limits.{slotsMost}
 use Rattle.bounded_words.specs.Words.{Fair}
@@ -18,109 +17,45 @@ use Rattle.bounded_places.specs.declared.Ends.{Ends}
 use Rattle.bounded_places.specs.declared.Worker.{Worker}
 use Rattle.bounded_machine.specs.Machine.{recordOf}
 use Rattle.bounded_places.specs.declared.Held.{Held}
-use Rattle.bounded_places.specs.declared.Held.the-variants as held
 use Rattle.bounded_places.specs.Places.{viewOf, fitsOf}
 use Rattle.bounded_machine.specs.Broken.{placeFits, recordFits}
-use Rattle.bounded_codes.specs.Codes.{placeIn, standsFor, within}
-use Rattle.bounded_codes.proofs.Ranges.{busy-is, held-low, held-high, in-range}
+use Rattle.bounded_codes.specs.Codes.{placeIn, standsFor}
+use Rattle.bounded_codes.proofs.Ranges.{busy-is}
 use Rattle.bounded_parts.specs.Parts.{ringFitsLent}
 use Rattle.bounded_lent.specs.Lent.{eachFits, brokenLent}
 use Rattle.bounded_lent.proofs.Turning.{ring-broken, records-broken, ring-fair}
 use Rattle.bounded_rows.specs.Rows.{words, layout, fixedIn, endsIn, recordAt, placedAt, recordsIn, meteredIn, shaped, placed, stand}
 use Rattle.bounded_rows.proofs.Lists.{many, room, get, beyond}
 use Rattle.bounded_rows.proofs.Standing.{shaped-all}
-use Rattle.bounded_slices.specs.Slices.{heldFits, judgedAt, brokenWords}
+use Rattle.bounded_slices.specs.Slices.{brokenWords}
 
 -- ---- one record
-neither : (p x : Bool) → x ≡ false → false ≡ cond p x false
-neither true x e = sym e
-neither false x e = refl
-
--- of a place that holds an end, as the code makes the tests
-module _ (f : Fixed) (counted : Bool) (c a b : ℕ) where
-  pub uncounted : counted ≡ false → false ≡ heldFits f counted c a b
-  unfolding heldFits
-  uncounted e = sym (rw e refl)
-
-  module _ (e : counted ≡ true) (s : Bool) (es : s ≡ standsFor c a b) where
-    pub no-words : s ≡ false → false ≡ heldFits f counted c a b
-    unfolding heldFits
-    no-words q = sym (rw (e, sym es ∙ q) refl)
-
-    pub fit-held : s ≡ true → (h : Held) → h ≡ viewOf (placeIn c a b) .held → (r : Bool) → r ≡ fitsOf f h → r ≡ heldFits f counted c a b
-    unfolding heldFits
-    fit-held q h eh r er = er ∙ ap (fitsOf f) eh ∙ sym (rw (e, sym es ∙ q) refl)
-
 module _ (rs : List ℕ) (i : ℕ) (f : Fixed) (meter : ℕ) (counted : Bool) where
-  abbrev code : ℕ
-  code = getD rs (i * 5) 0
-
-  abbrev one : ℕ
-  one = getD rs (i * 5 + 1) 0
-
-  abbrev two : ℕ
-  two = getD rs (i * 5 + 2) 0
-
-  pub many-differed : meter < getD rs (i * 5 + 3) 0 → false ≡ judgedAt f meter counted rs i
-  unfolding judgedAt recordFits recordAt
-  many-differed l = neither (placedAt rs i) _ (rw (lt-ltb meter (getD rs (i * 5 + 3) 0) l) refl)
+  pub many-differed : meter < getD rs (i * 5 + 3) 0 → false ≡ recordFits f meter (recordAt rs i) counted
+  unfolding recordFits recordAt
+  many-differed l = sym (rw (lt-ltb meter (getD rs (i * 5 + 3) 0) l) refl)
 
   module _ (d : getD rs (i * 5 + 3) 0 ≤ meter) where
-    pub many-failed : meter < getD rs (i * 5 + 4) 0 → false ≡ judgedAt f meter counted rs i
-    unfolding judgedAt recordFits recordAt
-    many-failed l = neither (placedAt rs i) _ (rw (le-ltb meter (getD rs (i * 5 + 3) 0) d, lt-ltb meter (getD rs (i * 5 + 4) 0) l) refl)
+    pub many-failed : meter < getD rs (i * 5 + 4) 0 → false ≡ recordFits f meter (recordAt rs i) counted
+    unfolding recordFits recordAt
+    many-failed l = sym (rw (le-ltb meter (getD rs (i * 5 + 3) 0) d, lt-ltb meter (getD rs (i * 5 + 4) 0) l) refl)
 
     module _ (e : getD rs (i * 5 + 4) 0 ≤ meter) where
-      by-place : judgedAt f meter counted rs i ≡ cond (standsFor code one two) (cond (not (ltb code 11)) (cond counted (fitsOf f (viewOf (placeIn code one two) .held)) false) true) false
-      unfolding judgedAt recordFits placeFits recordAt placedAt
+      by-place : recordFits f meter (recordAt rs i) counted ≡ cond (not (ltb (getD rs (i * 5) 0) 11)) (cond counted (fitsOf f (viewOf (placeIn (getD rs (i * 5) 0) (getD rs (i * 5 + 1) 0) (getD rs (i * 5 + 2) 0)) .held)) false) true
+      unfolding recordFits placeFits recordAt
       by-place =
           rw (le-ltb meter (getD rs (i * 5 + 3) 0) d, le-ltb meter (getD rs (i * 5 + 4) 0) e)
-          (ap (λ (t : Bool). cond (standsFor code one two) (cond t (cond counted (fitsOf f (viewOf (placeIn code one two) .held)) false) true) false) (busy-is code one two))
+          (ap (λ (t : Bool). cond t (cond counted (fitsOf f (viewOf (placeIn (getD rs (i * 5) 0) (getD rs (i * 5 + 1) 0) (getD rs (i * 5 + 2) 0)) .held)) false) true) (busy-is (getD rs (i * 5) 0) (getD rs (i * 5 + 1) 0) (getD rs (i * 5 + 2) 0)))
 
-      ranged : (w : Bool) → w ≡ within code 15 33 → w ≡ true → 11 ≤ code
-      unfolding within
-      ranged w ew q = omega (arith, leb-true 15 code (both-left (leb 15 code) (ltb code 33) (sym ew ∙ q)))
+      pub idle-fits : getD rs (i * 5) 0 < 11 → true ≡ recordFits f meter (recordAt rs i) counted
+      idle-fits l = sym (by-place ∙ rw (lt-ltb (getD rs (i * 5) 0) 11 l) refl)
 
-      swapped : (p c x : Bool) → cond c (cond p x false) false ≡ cond p (cond c x false) false
-      swapped true true x = refl
-      swapped true false x = refl
-      swapped false true x = refl
-      swapped false false x = refl
+      module _ (g : 11 ≤ getD rs (i * 5) 0) where
+        pub past-count : counted ≡ false → false ≡ recordFits f meter (recordAt rs i) counted
+        past-count c = sym (by-place ∙ rw (le-ltb (getD rs (i * 5) 0) 11 g, c) refl)
 
-      pub holds-end : (w : Bool) → w ≡ within code 15 33 → w ≡ true → (r : Bool) → r ≡ heldFits f counted code one two → r ≡ judgedAt f meter counted rs i
-      unfolding heldFits
-      holds-end w ew q r er =
-          er ∙ swapped (standsFor code one two) counted (fitsOf f (viewOf (placeIn code one two) .held))
-          ∙ sym (by-place ∙ rw (le-ltb code 11 (ranged w ew q)) refl)
-
-      -- the others hold no word that is judged
-      module _ (w : Bool) (ew : w ≡ within code 15 33) (q : w ≡ false) where
-        holds-none : viewOf (placeIn code one two) .held ≡ held.Nothing
-        holds-none = go (decLt code 15)
-          where
-            go : Dec (code < 15) → viewOf (placeIn code one two) .held ≡ held.Nothing
-            go (yes l) = sym (held-low code one two l)
-            go (no g) =
-                let high : 33 ≤ code = ltb-false code 33 (in-range code 15 33 (omega (arith, g)) ∙ sym ew ∙ q) in
-                sym (held-high code one two (omega (arith, g)) (λ z. omega (arith, z, high)) (λ z. omega (arith, z, high)) high)
-
-        pub past-count : 11 ≤ code → counted ≡ false → false ≡ judgedAt f meter counted rs i
-        past-count g c = sym (by-place ∙ rw (le-ltb code 11 g, c) (sym (neither (standsFor code one two) false refl)))
-
-        stands-so : (r : Bool) → r ≡ standsFor code one two → cond (not (ltb code 11)) (cond counted true false) true ≡ true → r ≡ judgedAt f meter counted rs i
-        stands-so r er t =
-            er ∙ whole (standsFor code one two) ∙ sym (by-place ∙ ap (λ (h : Held). cond (standsFor code one two) (cond (not (ltb code 11)) (cond counted (fitsOf f h) false) true) false) holds-none
-            ∙ ap (λ (x : Bool). cond (standsFor code one two) x false) t)
-          where
-            whole : (p : Bool) → p ≡ cond p true false
-            whole true = refl
-            whole false = refl
-
-        pub idle-stands : code < 11 → (r : Bool) → r ≡ standsFor code one two → r ≡ judgedAt f meter counted rs i
-        idle-stands l r er = stands-so r er (rw (lt-ltb code 11 l) refl)
-
-        pub busy-stands : 11 ≤ code → counted ≡ true → (r : Bool) → r ≡ standsFor code one two → r ≡ judgedAt f meter counted rs i
-        busy-stands g c r er = stands-so r er (rw (le-ltb code 11 g, c) refl)
+        pub by-held : counted ≡ true → (h : Held) → h ≡ viewOf (placeIn (getD rs (i * 5) 0) (getD rs (i * 5 + 1) 0) (getD rs (i * 5 + 2) 0)) .held → (r : Bool) → r ≡ fitsOf f h → r ≡ recordFits f meter (recordAt rs i) counted
+        by-held c h eh r er = er ∙ ap (fitsOf f) eh ∙ sym (by-place ∙ rw (le-ltb (getD rs (i * 5) 0) 11 g, c) refl)
 
 -- ---- every record: both tests of each are one test of all
 all-both : (n i : ℕ) (p q : ℕ → Bool) → all n i (λ (k : ℕ). cond (p k) (q k) false) ≡ cond (all n i p) (all n i q) false
@@ -187,16 +122,21 @@ module _ (rs : List ℕ) (f : Fixed) (meter : ℕ) (counted : Bool) where
     pub none-left : n ≤ i → true ≡ Told
     none-left h = all-passed test n i Told (g .back) h
 
-    module _ (l : i < n) (b : Bool) (eb : b ≡ judgedAt f meter counted rs i) where
-      told : b ≡ test i
-      unfolding judgedAt
-      told = eb ∙ ap (λ (x : Worker). cond (placedAt rs i) (recordFits f meter x counted) false) (sym (get rs i (omega (arith, l, g .many-are))))
+    module _ (l : i < n) (p : Bool) (ep : p ≡ placedAt rs i) where
+      pub no-place : p ≡ false → false ≡ Told
+      no-place h = all-failed test n i Told (g .back) false l (sym (ap (λ (b : Bool). cond b (recordFits f meter (recordOf (recordsIn rs) i) counted) false) (sym ep ∙ h))) refl
 
-      pub no-fit : b ≡ false → false ≡ Told
-      no-fit h = all-failed test n i Told (g .back) b l told h
+      module _ (hp : p ≡ true) (b : Bool) (eb : b ≡ recordFits f meter (recordAt rs i) counted) where
+        told : b ≡ test i
+        told =
+            eb ∙ ap (λ (x : Worker). recordFits f meter x counted) (sym (get rs i (omega (arith, l, g .many-are))))
+            ∙ sym (ap (λ (t : Bool). cond t (recordFits f meter (recordOf (recordsIn rs) i) counted) false) (sym ep ∙ hp))
 
-      pub goes-on : b ≡ true → Going n (i + 1)
-      goes-on h = record { many-are = g .many-are; low = omega (arith, l); back = all-more test n i Told (g .back) b l told h }
+        pub no-fit : b ≡ false → false ≡ Told
+        no-fit h = all-failed test n i Told (g .back) b l told h
+
+        pub goes-on : b ≡ true → Going n (i + 1)
+        goes-on h = record { many-are = g .many-are; low = omega (arith, l); back = all-more test n i Told (g .back) b l told h }
 
 -- ---- shapes
 module _ (h ss rs : List ℕ) where

@@ -8,7 +8,7 @@ ghost use Rattle.bounded_words.specs.Words.{Fair};
 ghost use Rattle.bounded_machine.specs.Broken.{recordFits};
 ghost use Rattle.bounded_lent.specs.Lent.{eachFits};
 ghost use Rattle.bounded_rows.specs.Rows.{words, headOf, slotsOf, slotsIn, recordAt, recordsIn, shaped, placed};
-ghost use Rattle.bounded_slices.specs.Slices.{withFixed, heldFits, judgedAt, brokenWords};
+ghost use Rattle.bounded_slices.specs.Slices.{withFixed, brokenWords};
 use bounded_parts::Metered;
 use bounded_places::Slot;
 use bounded_words::Fixed;
@@ -36,48 +36,27 @@ pub fn shaped(head: &[u64], slots: &[u64], records: &[u64]) -> bool
     records.len() % RECORD == 0
 }
 
-// Of a code from 15 to 32, whose place holds an end, or two.
-fn held_fits(code: u64, first: u64, second: u64, f: Fixed, counted: bool) -> bool
-    requires { ⌜ Fair f ⌝ }
-    ensures { λ r. ⌜ r ≡ heldFits f counted code first second ⌝ }
-{
-    if counted {} else {
-        return false;
-    }
-    if bounded_codes::stands(code, first, second) {} else {
-        return false;
-    }
-    let held = bounded_codes::words_held(code, first, second);
-    bounded_places::fits(f, held)
-}
-
-// Whether the i-th record stands for a place and fits the ring, by its words; as `bounded_machine::record_fits` of the record that they stand for. A
-// place that holds an end is one range of codes, so that a row of records costs one jump each that cannot be foretold.
-fn judged_at(records: &[u64], i: usize, f: Fixed, meter: u64, counted: bool) -> bool
+// Whether the i-th record fits the ring, by its words; as `bounded_machine::record_fits` of the record that they stand for.
+fn fits_at(records: &[u64], i: usize, f: Fixed, meter: u64, counted: bool) -> bool
     requires { ⌜ Fair f ⌝ }
     requires { ⌜ i * 5 + 4 < length (now records) ⌝ }
-    ensures { λ r. ⌜ r ≡ judgedAt f meter counted (now (records .entry)) i ⌝ }
+    ensures { λ r. ⌜ r ≡ recordFits f meter (recordAt (now (records .entry)) i) counted ⌝ }
 {
     let at = i * RECORD;
-    let code = records[at];
-    let first = records[at + 1];
-    let second = records[at + 2];
     if meter < records[at + 3] {
         return false;
     }
     if meter < records[at + 4] {
         return false;
     }
-    if bounded_codes::within(code, 15, 33) {
-        return held_fits(code, first, second, f, counted);
-    }
-    if code < 11 {
-        return bounded_codes::stands(code, first, second);
+    if records[at] < 11 {
+        return true;
     }
     if counted {} else {
         return false;
     }
-    bounded_codes::stands(code, first, second)
+    let held = bounded_codes::words_held(records[at], records[at + 1], records[at + 2]);
+    bounded_places::fits(f, held)
 }
 
 // Whether every record stands for a place and fits the ring, as one within the count does or as one past it, which has to be idle.
@@ -89,7 +68,10 @@ pub fn records_fit(records: &[u64], f: Fixed, meter: u64, counted: bool) -> bool
     let n = records.len() / RECORD;
     let mut i = 0;
     while i < n {
-        if judged_at(records, i, f, meter, counted) {} else {
+        if bounded_rows::placed_at(records, i) {} else {
+            return false;
+        }
+        if fits_at(records, i, f, meter, counted) {} else {
             return false;
         }
         i += 1;

@@ -1,11 +1,12 @@
 use borrow.Author.Needs.{needs}
 use Prim.Native.Nat.{_-_}
-use Rattle.bounded_slices.proofs.Fitting.{Going, begins, in-reach, none-left, no-fit, goes-on}
+use Rattle.bounded_slices.proofs.Fitting.{Going, begins, in-reach, none-left, no-place, no-fit, goes-on}
 use Rattle.bounded_slices.proofs.records_fit.Statement.{statement}
 use Rattle.bounded_slices.proofs.records_fit.Tie as tie
 use Rattle.bounded_slices.proofs.records_fit.Reads as reads
 use Rattle.bounded_slices.proofs.records_fit.Lts as lts
-use Rattle.bounded_slices.proofs.judged_at.Reads as judged-at-reads
+use Rattle.bounded_slices.proofs.fits_at.Reads as fits-at-reads
+use Rattle.bounded_rows.proofs.placed_at.Reads as placed-at-reads
 
 abbrev Inv-loop : tie.InvT-loop
 Inv-loop records f meter counted n i₀ i = Going records f meter counted n i
@@ -17,13 +18,21 @@ abbrev μ-loop : tie.MeasureT-loop
 loop-holds : tie.Need-loop-holds Inv-loop μ-loop
 loop-holds c = search (needs, begins)
 
+-- src/lib.rt:56:12
+placed-at-requires : tie.Need-placed-at-requires Inv-loop μ-loop
+placed-at-requires c κs = search (needs, in-reach)
+
+-- src/lib.rt:57:13
+returns : tie.Need-returns Inv-loop μ-loop
+returns c = search (needs, no-place)
+
 -- src/lib.rt:60:12
-judged-at-requires : tie.Need-judged-at-requires Inv-loop μ-loop
-judged-at-requires c κs = search (needs, in-reach)
+fits-at-requires : tie.Need-fits-at-requires Inv-loop μ-loop
+fits-at-requires c κs = search (needs, in-reach)
 
 -- src/lib.rt:61:13
-returns : tie.Need-returns Inv-loop μ-loop
-returns c = search (needs, no-fit)
+returns-2 : tie.Need-returns-2 Inv-loop μ-loop
+returns-2 c = search (needs, no-fit)
 
 -- src/lib.rt:63:9
 add-i : tie.Need-add-i Inv-loop μ-loop
@@ -38,8 +47,8 @@ loop-again : tie.Need-loop-again Inv-loop μ-loop
 loop-again c = search (needs, goes-on)
 
 -- src/lib.rt:48:1
-returns-2 : tie.Need-returns-2 Inv-loop μ-loop
-returns-2 c = search (needs, none-left)
+returns-3 : tie.Need-returns-3 Inv-loop μ-loop
+returns-3 c = search (needs, none-left)
 
 pub records-fit-spec : {M : Type 1} → statement M
 records-fit-spec =
@@ -48,9 +57,11 @@ records-fit-spec =
     Inv-loop
     μ-loop
     loop-holds
-    judged-at-requires
+    placed-at-requires
     returns
+    fits-at-requires
+    returns-2
     add-i
     loop-less
     loop-again
-    returns-2)
+    returns-3)
