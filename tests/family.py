@@ -1,5 +1,5 @@
 """The families of crates: what a crate is follows from its name, and who may use whom from what it is (docs/ARCHITECTURE.md).
-For tests/families and docs/drawings/house.py."""
+For tests/families, tools/order and docs/drawings/house.py."""
 
 import re
 from pathlib import Path
@@ -48,3 +48,16 @@ def listed():
             name, _, rest = line.partition(':')
             uses[name] = [dep for dep in rest.split() if dep not in KIT]
     return uses
+
+
+def named(crate):
+    """The crates that a crate's files name: those of this repository, then those of the kit."""
+    found = set()
+    for file in (root / 'crates' / crate).rglob('*'):
+        if file.suffix in ('.rt', '.antt'):
+            text = file.read_text()
+            found |= set(re.findall(r'Rattle·(\w+)', text))
+            if file.suffix == '.rt':
+                found |= set(re.findall(r'\b(\w+)::', text))
+    ours = {path.name for path in (root / 'crates').iterdir()}
+    return sorted((found & ours) - {crate}) + sorted(found & KIT - {'std'})
