@@ -11,10 +11,12 @@ use Rattle.queue_entries.specs.Limits.{meterMost}
 use Rattle.queue_entries.specs.declared.Call.{Call}
 use Rattle.queue_entries.specs.declared.Call.the-variants.{Push, Close}
 use Rattle.queue_entries.specs.declared.Told.{Told}
+use Rattle.queue_entries.specs.declared.Told.the-variants as answer
 use Rattle.queue_entries.specs.Told.{told}
 use Rattle.queue_entries.specs.declared.Entry.the-variants.{Unreadable}
 use Rattle.queue_entries.specs.Entries.{entryOf}
 use Rattle.queue_numbers.specs.Numbers.{has, Numbers, Functions}
+use Rattle.queue_numbers.specs.Answers.{BothWays, numberIn, valueIn}
 use Rattle.queue_plain.specs.Plain.{answerOf, Pushed}
 use Rattle.queue_plain.specs.Story.{Does, actsIn, fresh, cameFrom, wentFrom}
 use Rattle.queue_plain.specs.Story.{itemsOf as itemsBegun}
@@ -207,6 +209,10 @@ pub record StaysUnbrokenBy (f : Functions Machine Did Ran) : Type 0 where
 
 abbrev pub StaysUnbroken : Type 0
 StaysUnbroken = StaysUnbrokenBy functions
+
+-- "Where an answer is an enum, a definition gives this paper's number and values for each of the enum's cases": there and back, inverse to each other, of what `contents` and `capacity` answer.
+abbrev pub EnumsBothWays : Type 0
+EnumsBothWays = BothWays answer.Refused numberIn valueIn told
 
 -- Only one answer meets a promise: of the whole answer, the machine and the lent buffer.
 pub record OnlyOne : Type 0 where

@@ -8,6 +8,7 @@ use lib.ListN.{length, take, drop}
 use Rattle.tapes_numbers.specs.declared.Variant.{Variant}
 use Rattle.tapes.specs.declared.Writing.{Writing}
 use Rattle.tapes.specs.declared.Writing.the-variants.{Tape}
+use Rattle.tapes.specs.declared.Writing.the-variants as refusal
 use Rattle.tapes.specs.declared.Reading.{Reading}
 use Rattle.tapes.specs.declared.Reading.the-variants as reading
 use Rattle.tapes_fields.specs.declared.Head.the-variants as head
@@ -18,7 +19,7 @@ use Rattle.tapes.specs.Written.{entriesOf, tapeOf, writeOf, writtenOf}
 use Rattle.tapes.specs.Written as writing
 use Rattle.tapes.specs.Heard.{readOf, readInto}
 use Rattle.tapes.specs.Heard as heard
-use Rattle.tapes_demands.specs.Notions.{Below, OneOf, entriesLong}
+use Rattle.tapes_demands.specs.Notions.{Below, OneOf, entriesLong, writingOf, aboutOf, readingOf}
 
 -- "A refusal writes nothing to the output buffer."
 pub record RefusedUnchanged : Type 0 where
@@ -38,6 +39,15 @@ pub record OnlyOne : Type 0 where
       → (y ≡ writeOf capacity workers words (length before)) × (b ≡ writtenOf v capacity workers words before) → (x ≡ y) × (a ≡ b)
   pub read : (s before : List ℕ) (x y : Reading) (a b : List ℕ)
       → (x ≡ readOf s (length before)) × (a ≡ readInto s before) → (y ≡ readOf s (length before)) × (b ≡ readInto s before) → (x ≡ y) × (a ≡ b)
+
+-- "Where an answer is an enum, a definition gives this paper's number and values for each of the enum's cases": there and back, inverse to each other. (No answer is a refusal by 0.) Of any numbers
+-- of the cases, so that it can be said of some with a slip; it is met by `numberIn` of the writer's and the reader's answers.
+pub record EnumsBothWays (numberWritten : Writing → ℕ) (numberRead : Reading → ℕ) : Type 0 where
+  pub write : (a : Writing) → ((value : ℕ) → a ≡ refusal.Refused 0 value → ⊥) → writingOf (numberWritten a) (writing.valueIn a) ≡ a
+  pub write-kept : (number value : ℕ) → (numberWritten (writingOf number value) ≡ number) × (writing.valueIn (writingOf number value) ≡ value)
+  pub read : (a : Reading) → ((value : ℕ) → a ≡ reading.Refused 0 value → ⊥) → readingOf (numberRead a) (aboutOf a) (heard.valueIn a) ≡ a
+  pub read-kept : (number value : ℕ) (about : Variant × ℕ × ℕ) → (numberRead (readingOf number about value) ≡ number) × (heard.valueIn (readingOf number about value) ≡ value)
+  pub about-kept : (value : ℕ) (about : Variant × ℕ × ℕ) → aboutOf (readingOf 0 about value) ≡ about
 
 -- "The reader goes left to right and gives the first fault." Of any reader, so that it can be said of one with a slip; it is met by `readOf`.
 pub record FirstFault (read : List ℕ → ℕ → Reading) : Type 0 where

@@ -36,4 +36,6 @@ refuted =
       past = λ r. let q : _≡_ {A = ℕ} 0 15 = ap numberIn (r .past first [] BigEndian 2 1 0 0 0 7 first-low refl) in omega arith;
       -- an unknown tag, and no room
       short = λ r. let q : _≡_ {A = ℕ} 13 0 = ap numberIn (r .short (first ++ 0x05 ∷ 0x00 ∷ 0x00 ∷ []) 0 1 refl .3) in omega arith;
+      both-ways-written = λ b. let q : _≡_ {A = ℕ} 0 11 = b .write-kept 11 0 .0 in omega arith;
+      both-ways-read = λ b. let q : _≡_ {A = ℕ} 0 12 = b .read-kept 12 0 (BigEndian, 0, 0) .0 in omega arith;
     }

@@ -1,5 +1,9 @@
 -- Which statement refuses which slip.
-use Rattle.tapes_demands.specs.Demands.{FirstFault}
+use Rattle.tapes.specs.declared.Writing.{Writing}
+use Rattle.tapes.specs.declared.Reading.{Reading}
+use Rattle.tapes.specs.Written as writer
+use Rattle.tapes.specs.Heard as reader
+use Rattle.tapes_demands.specs.Demands.{FirstFault, EnumsBothWays}
 use Rattle.tapes_slips.specs.Slips.{codesLast, afterItsTag, endIsEnough, roomFirst, readWith}
 
 pub record Refuted : Type 0 where
@@ -7,3 +11,6 @@ pub record Refuted : Type 0 where
   pub first : FirstFault (readWith afterItsTag) → ⊥
   pub past : FirstFault (readWith endIsEnough) → ⊥
   pub short : FirstFault (readWith roomFirst) → ⊥
+  -- a refusal has the number of none
+  pub both-ways-written : EnumsBothWays (λ (a : Writing). 0) reader.numberIn → ⊥
+  pub both-ways-read : EnumsBothWays writer.numberIn (λ (a : Reading). 0) → ⊥
