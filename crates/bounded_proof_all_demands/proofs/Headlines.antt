@@ -14,7 +14,7 @@ use Rattle.bounded_demands.specs.Eight.{EightRuns}
 use Rattle.bounded_demands.specs.Lending.{item11, promised}
 use Rattle.bounded_demands.proofs.Refusals.{demand1, only-one-count}
 use Rattle.bounded_demands.proofs.Narrow.{narrow-demand1}
-use Rattle.bounded_demands.proofs.EachNumber.{only-one-meets, each-number, each-number-narrow}
+use Rattle.bounded_demands.proofs.EachNumber.{only-one-meets, each-number, each-number-narrow, walk-each-number}
 use Rattle.bounded_demands.proofs.Answers.{enums-both-ways}
 use Rattle.bounded_demands.proofs.Window.{window-lengths}
 use Rattle.bounded_demands.proofs.Fit.{numbers-fit}
@@ -52,7 +52,8 @@ use Rattle.bounded_proof_causes.proofs.Causes.{every-retry, eight-ways}
 use Rattle.bounded_proof_causes.proofs.Alone.{alone-back-once, retries-always, retries-in-window}
 use Rattle.bounded_proof_causes.proofs.Said.{kept-as-said, kept-of-records}
 use Rattle.bounded_walkers.specs.Walkers.{walkOf}
-use Rattle.bounded_demands.specs.Demands.{WalksAll, WalkTold, WalksCounted}
+use Rattle.bounded_demands.specs.Demands.{WalksAll, WalkTold, WalkEachNumber, WalksCounted}
+use Rattle.bounded_demands.specs.Walkings.{item10}
 use Rattle.bounded_demands.proofs.Walkings.{walks-counted}
 use Rattle.bounded_proof_walks.proofs.Walks.{walks-all, walk-told}
 use Rattle.bounded_demands.specs.Demands.{AnswersPlain, AnswersPlainInWindow, OneStep, OneStepInWindow, ClosesNotOneStep}
@@ -150,9 +151,9 @@ window = (window-lengths, prompt-keeps windowLength Sixteen workersMost, alone-k
 pub widest-window : WithinWindowOf widestLength (ofWidth Sixteen) × PromptKeeps widestLength widestLength (ofWidth Sixteen) × NoWider
 widest-window = (within-the-widest Sixteen workersMost, prompt-keeps widestLength Sixteen workersMost, no-wider)
 
--- Walks: the list has every sequence of acts that goes so and no other, in order; what is answered and left in the buffer; and how many there are of some.
-pub every-sequence : WalksAll walkOf × WalkTold × WalksCounted
-every-sequence = (walks-all, walk-told, walks-counted)
+-- Walks: the list has every sequence of acts that goes so and no other, in order; what is answered and left in the buffer, each refusal given; and how many there are of some.
+pub every-sequence : WalksAll walkOf × WalkTold × WalkEachNumber item10 × WalksCounted
+every-sequence = (walks-all, walk-told, walk-each-number, walks-counted)
 
 -- Records in the host's memory: up to 16 of them as the machine that holds them; in a step only the acting record changes; demands 2 and 3 for every number of records, lent throughout; case H of this machine.
 pub records-lent : AsHeld item11 × OnlyTheActing item11 × LentUnbroken item11 × OnlyOneLent (promised item11) × LentThroughout item11 × SixtyFourRecords item11
