@@ -988,6 +988,12 @@ WithinWindowOf many d =
 abbrev pub NoWider : Type 0
 NoWider = WithinWindowOf (λ bits f. widestLength bits f + 1) (ofWidth Sixteen) → ⊥
 
+-- It does not at any capacity, in either edition, with any number of workers from two on. (One worker alone keeps every window.)
+abbrev pub NoWiderAnywhere : Type 0
+NoWiderAnywhere =
+    (capacity workers edition : ℕ) → Allowed capacity workers edition → 1 < workers
+    → ((s : List ℕ) → KeepsWindowOf (λ bits f. widestLength bits f + 1) (ofWidth Sixteen) (freshOf capacity workers edition) [] s → ThroughoutInWindow (ofWidth Sixteen) capacity workers edition s) → ⊥
+
 -- The machine m, whatever calls led to it, is where the entries s lead, each of them accepted.
 pub record AsOneSchedule (d : Definition) (capacity workers edition : ℕ) (m : Machine) (s : List ℕ) : Type 0 where
   pub accepted : d .run (freshWith (d .records) capacity workers edition) 0 s .refusal ≡ 0

@@ -9,7 +9,7 @@ use Rattle.bounded_stock.specs.Stock.{talliedOf}
 use Rattle.bounded_widths.specs.Widths.{narrowed}
 use Rattle.bounded_demands.specs.Notions.{sixtyFour, sixteen, promisesOf, pushingIn, atTheEnd, withRecords, ofWidth, document01, stock, windowLength, widestLength, cutTo}
 use Rattle.bounded_parts.specs.Parts.{recordsMost}
-use Rattle.bounded_demands.specs.Demands.{Demand1, OnlyOneCount, UnderEverySchedule, NothingWraps, ActByAct, WholeSchedules, LenTrue, ScheduledAlone, Attained, AsForetold, StockUnderEverySchedule, MostStock, StockAttained, TallyAsSaid, TalliedUnderEverySchedule, EndsTold, LossesUnderEverySchedule, CountsAside, CloseHolds, OnceClosedAnywhere, ClosedIsLast, CaseF, WithinTheWindow, WithinWindowOf, NoWider, PromptKeeps, AloneKeeps, RoundsClaim, NotIdle, WindowLengths, SameNumbers, NumbersFit, AsHeld, OnlyTheActing, LentUnbroken, OnlyOneLent, LentThroughout, SixtyFourRecords, LentDemand1, LentEachNumber, LentMixed, Mixed, MixedInWindow, OnlyOneMeets, EachNumber, AttainedBy, AtMost, AsForetoldBy, EnumsBothWays}
+use Rattle.bounded_demands.specs.Demands.{Demand1, OnlyOneCount, UnderEverySchedule, NothingWraps, ActByAct, WholeSchedules, LenTrue, ScheduledAlone, Attained, AsForetold, StockUnderEverySchedule, MostStock, StockAttained, TallyAsSaid, TalliedUnderEverySchedule, EndsTold, LossesUnderEverySchedule, CountsAside, CloseHolds, OnceClosedAnywhere, ClosedIsLast, CaseF, WithinTheWindow, WithinWindowOf, NoWider, NoWiderAnywhere, PromptKeeps, AloneKeeps, RoundsClaim, NotIdle, WindowLengths, SameNumbers, NumbersFit, AsHeld, OnlyTheActing, LentUnbroken, OnlyOneLent, LentThroughout, SixtyFourRecords, LentDemand1, LentEachNumber, LentMixed, Mixed, MixedInWindow, OnlyOneMeets, EachNumber, AttainedBy, AtMost, AsForetoldBy, EnumsBothWays}
 use Rattle.bounded_demands.specs.Eight.{EightRuns}
 use Rattle.bounded_demands.specs.Lending.{item11, promised}
 use Rattle.bounded_demands.proofs.Refusals.{demand1, only-one-count}
@@ -31,7 +31,7 @@ use Rattle.bounded_proof_demand2.proofs.Prompt.{prompt-keeps}
 use Rattle.bounded_proof_window.proofs.Kept.{rounds-claim}
 use Rattle.bounded_proof_window.proofs.Fullest.{stock-attained}
 use Rattle.bounded_proof_window.proofs.Asleep.{not-idle}
-use Rattle.bounded_proof_window.proofs.NoWider.{no-wider}
+use Rattle.bounded_proof_window.proofs.NoWider.{no-wider, no-wider-anywhere}
 use Rattle.bounded_proof_demand2.proofs.Lens.{len-true}
 use Rattle.bounded_proof_demand2.proofs.Stock.{stock-stands}
 use Rattle.bounded_proof_demand2.proofs.Losses.{ends-told, losses}
@@ -147,9 +147,9 @@ sixteen-bits = (
 pub window : WindowLengths × PromptKeeps windowLength windowLength (ofWidth Sixteen) × AloneKeeps (ofWidth Sixteen) × RoundsClaim (ofWidth Sixteen) × NotIdle
 window = (window-lengths, prompt-keeps windowLength Sixteen workersMost, alone-keeps Sixteen, rounds-claim Sixteen, not-idle)
 
--- The widest: a turn less one capacity suffices for all that is said of a schedule, and whoever drops its words within so many acts keeps it; one claim more does not do.
-pub widest-window : WithinWindowOf widestLength (ofWidth Sixteen) × PromptKeeps widestLength widestLength (ofWidth Sixteen) × NoWider
-widest-window = (within-the-widest Sixteen workersMost, prompt-keeps widestLength Sixteen workersMost, no-wider)
+-- The widest: a turn less one capacity suffices for all that is said of a schedule, and whoever drops its words within so many acts keeps it; one claim more does not do, at any capacity.
+pub widest-window : WithinWindowOf widestLength (ofWidth Sixteen) × PromptKeeps widestLength widestLength (ofWidth Sixteen) × NoWider × NoWiderAnywhere
+widest-window = (within-the-widest Sixteen workersMost, prompt-keeps widestLength Sixteen workersMost, no-wider, no-wider-anywhere)
 
 -- Walks: the list has every sequence of acts that goes so and no other, in order; what is answered and left in the buffer, each refusal given; and how many there are of some.
 pub every-sequence : WalksAll walkOf × WalkTold × WalkEachNumber item10 × WalksCounted
