@@ -40,7 +40,7 @@ use Rattle.unbounded_slips.specs.Refuted.{does}
 use Rattle.unbounded_slips.specs.RefutedPlain.{pushed, RefutedPlain}
 
 -- the plain queue's answer at the moment and to the call that a story has, and another
-untrue : (earlier : Story) (act : Event) (a : Answer) (c : Call) (n : ℕ) → known earlier .each (act .worker) .calls ≡ c ∷ [] → momentOf (act .worker) (earlier ++ Does act ∷ []) ≡ At n
+pub untrue : (earlier : Story) (act : Event) (a : Answer) (c : Call) (n : ℕ) → known earlier .each (act .worker) .calls ≡ c ∷ [] → momentOf (act .worker) (earlier ++ Does act ∷ []) ≡ At n
     → (answerOf (queueAt n earlier) c ∷ [] ≡ replyOf a → ⊥) → Answered earlier act a ⊎ AtBlocksEnd earlier act a → ⊥
 untrue earlier act a c n its named other (inl o) =
     let same-call : o .call ≡ c = cons-first (sym (o .its) ∙ its) in
@@ -55,7 +55,7 @@ untrue earlier act a c n its named other (inr o) =
 abbrev asks : Story
 asks = Begun 1 call.IsEmpty ∷ Does (event 1 Empty1 (Empty2 (index 0))) ∷ []
 
-none-leaving : (v : ℕ) (b : Bool) → Emptying (cond b Empty1 (Idle Nothing)) → ⊥
+pub none-leaving : (v : ℕ) (b : Bool) → Emptying (cond b Empty1 (Idle Nothing)) → ⊥
 none-leaving v true o = absurd (not-first Empty1 refl o)
   where
     not-first : (p : Place) → p ≡ Empty1 → Emptying p → ⊥
@@ -77,11 +77,13 @@ no-end [] load since e v o = let z : Begun 1 call.IsEmpty ≡ Does load = cons-f
 no-end (x ∷ []) load since e v o = none-leaving v (eqb v 1) (subst (λ (s : Story). Emptying (placeIn v s)) (sym (ap (λ (y : _). y ∷ []) (cons-first e))) o)
 no-end (x ∷ y ∷ before) load since e v o = no-split before (Does load) since (cons-rest (cons-rest e))
 
-unended : (act : Event) (a : Answer) → momentOf (act .worker) (asks ++ Does act ∷ []) ≡ AfterNextTail → Answered asks act a ⊎ AtBlocksEnd asks act a → ⊥
-unended act a unnamed (inl o) =
+-- where after s no worker is there, a no of is_empty with no moment is no answer of a plain queue's, nor the exception
+pub unended : (s : Story) → ((before : Story) (load : Event) (since : Story) → s ≡ before ++ Does load ∷ since → (v : ℕ) → Emptying (placeIn v before) → ⊥)
+    → (act : Event) (a : Answer) → momentOf (act .worker) (s ++ Does act ∷ []) ≡ AfterNextTail → Answered s act a ⊎ AtBlocksEnd s act a → ⊥
+unended s nobody act a unnamed (inl o) =
     let none : _≡_ {A = Moment} (At (o .moment)) AfterNextTail = sym (o .named) ∙ unnamed in
     let q : _≡_ {A = ℕ} 0 1 = cc in omega arith
-unended act a unnamed (inr o) = no-end (o .before) (o .load) (o .since) (o .is) (o .leaving .0) (o .leaving .1)
+unended s nobody act a unnamed (inr o) = nobody (o .before) (o .load) (o .since) (o .is) (o .leaving .0) (o .leaving .1)
 
 -- no act of these is at a write
 abbrev isPushes : Sign → Bool
@@ -92,7 +94,7 @@ isPushes Pops = false
 isPushes (Pushes x) = true
 isPushes (HandsOut v) = false
 
-unfoldable writesIn : List Event → Bool
+unfoldable pub writesIn : List Event → Bool
 writesIn [] = false
 writesIn (e ∷ h) = cond (isPushes (signOf (e .before))) true (writesIn h)
 
@@ -108,13 +110,13 @@ wrote-in (x ∷ xs) e ys z = ap (λ (b : Bool). cond (isPushes (signOf (x .befor
     go true = refl
     go false = refl
 
-unwritten-in : (h : List Event) (k v : ℕ) → writesIn h ≡ false → WrittenIn h k v → ⊥
+pub unwritten-in : (h : List Event) (k v : ℕ) → writesIn h ≡ false → WrittenIn h k v → ⊥
 unwritten-in h k v none o = true≢false (sym (ap writesIn (o .is) ∙ wrote-in (o .earlier) (o .act) (o .later) (writing (o .act .before) v (o .writes))) ∙ none)
 
-no-is-yes : plain.No ∷ [] ≡ plain.Yes ∷ [] → ⊥
+pub no-is-yes : plain.No ∷ [] ≡ plain.Yes ∷ [] → ⊥
 no-is-yes e = let z : plain.No ≡ plain.Yes = cons-first {xs = []} {ys = []} e in let q : _≡_ {A = ℕ} 0 1 = cc in omega arith
 
-one-is-none : plain.Count 1 ∷ [] ≡ plain.Count 0 ∷ [] → ⊥
+pub one-is-none : plain.Count 1 ∷ [] ≡ plain.Count 0 ∷ [] → ⊥
 one-is-none e = let z : plain.Count 1 ≡ plain.Count 0 = cons-first {xs = []} {ys = []} e in let q : _≡_ {A = ℕ} 1 0 = cc in omega arith
 
 yes-is-no : Idle Yes ≡ Idle No → ⊥
@@ -144,7 +146,7 @@ refuted-plain =
       empty-yes =
           λ p. untrue (storyOf (slipped emptyYes) 2 (pushed ++ does 1 4 0 1)) (event 1 (Empty2 (index 0)) (Idle Yes)) Yes call.IsEmpty 11 refl refl
           no-is-yes (p .answers _ [] _ Yes refl refl .0);
-      empty-no = λ p. unended (event 1 (Empty2 (index 0)) (Idle No)) No refl (p .answers asks [] (event 1 (Empty2 (index 0)) (Idle No)) No refl refl .0);
+      empty-no = λ p. unended asks no-end (event 1 (Empty2 (index 0)) (Idle No)) No refl (p .answers asks [] (event 1 (Empty2 (index 0)) (Idle No)) No refl refl .0);
       full-yes =
           λ p. untrue (Begun 1 call.IsFull ∷ []) (event 1 Full1 (Idle Yes)) Yes call.IsFull 1 refl refl
           no-is-yes (p .answers _ [] _ Yes refl refl .0);
