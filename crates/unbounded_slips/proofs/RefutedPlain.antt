@@ -126,45 +126,48 @@ pub refuted-plain : RefutedPlain
 unfolding pastSlots lastSlot markedOf unmarkedOf withMark later same samePosition sameBlock minus settled behind countOf strayOf orderOf entryOf leave headTo frontTo tailTo backTo nextTo freed stateTo valueTo has with firstOr answered lacksNext pushFrom setAside claimed takeOr popFrom newHead taken nextIndex destroyFrom readOut destroyIf live freeBlocks emptySlots idlers freshOf blank refused accepted lastFits without walkFrom itemsFrom walkOf drop.itemsOf all inLimits recordFits recordsFit allIdle dropFits brokenIn entryBut lowestFrom lowestFree clearedFrom cleared begun stored actedAt movedBy turnWith contentsOf ran runBy historyBy acts often itemsOf knownFrom followedFrom takersOf closedBy writesIn
 refuted-plain =
     record {
-      push-drops = λ p. no-cons (p .answers (storyOf (slipped pushDrops) 2 (does 0 0 5 0)) [] (event 0 (U1 None 5) (Idle Pushed)) Pushed refl refl .1 .put);
-      closed-after-claim =
-          λ p. no-cons (sym (p .answers (storyOf (slipped closedAfterClaim) 2 (does 0 0 5 6)) [] (event 0 (U12 None (index 0) (To 0) 5) (Idle (Closed 5))) (Closed 5) refl refl .1 .put));
-      pushes-another = λ p. let q : _≡_ {A = ℕ} 5 6 = cons-first {xs = []} {ys = []} (p .item-kept 0 6 refl) in omega arith;
-      pops-another =
-          λ p. let q : _≡_ {A = ℕ} 5 6 = cons-first {xs = []} {ys = []}
-          (p .answers (storyOf (slipped popsAnother) 2 (pushed ++ does 1 2 0 6)) [] (event 1 (V12 (index 0) (To 0) 6) (Idle (Popped 6))) (Popped 6) refl refl .1 .took) in omega arith;
-      empty-after-taking =
-          λ p. no-cons (sym (p .answers (storyOf (slipped emptyAfterTaking) 2 (pushed ++ does 1 2 0 6)) [] (event 1 (V12 (index 0) (To 0) 5) (Idle Empty)) Empty refl refl .1 .took));
-      claims-closed =
-          λ p. true≢false (p .changes (storyOf (slipped claimsClosed) 2 (does 0 0 5 5 ++ does 1 6 0 1)) [] (event 0 (U7 None (index 0) (To 0) 5) (U12 None (index 0) (To 0) 5)) refl .while-open refl);
-      takes-unseen = λ p. let q : 0 < 0 = p .changes (storyOf (slipped takesUnseen) 2 (pushed ++ does 1 2 0 7 ++ does 1 2 0 3)) []
-          (event 1 (V4 (index 2) (To 0) (index 4)) (V6 (index 2) (To 0) (index 4))) refl .takes refl in omega arith;
-      unwritten = λ p. let q : _≡_ {A = ℕ} 0 5 = cons-first {xs = []} {ys = []} (p .nothing-lost .contents refl) in omega arith;
-      len-none =
-          λ p. untrue (storyOf (slipped lenNone) 2 (pushed ++ does 1 3 0 2)) (event 1 (Len3 (index 2) (index 0)) (Idle (Len 0))) (Len 0) call.Len 11 refl refl
-          one-is-none (p .answers _ [] _ (Len 0) refl refl .0);
-      empty-yes =
-          λ p. untrue (storyOf (slipped emptyYes) 2 (pushed ++ does 1 4 0 1)) (event 1 (Empty2 (index 0)) (Idle Yes)) Yes call.IsEmpty 11 refl refl
-          no-is-yes (p .answers _ [] _ Yes refl refl .0);
-      empty-no = λ p. unended asks no-end (event 1 (Empty2 (index 0)) (Idle No)) No refl (p .answers asks [] (event 1 (Empty2 (index 0)) (Idle No)) No refl refl .0);
-      full-yes =
-          λ p. untrue (Begun 1 call.IsFull ∷ []) (event 1 Full1 (Idle Yes)) Yes call.IsFull 1 refl refl
-          no-is-yes (p .answers _ [] _ Yes refl refl .0);
-      closed-yes =
-          λ p. untrue (Begun 1 call.IsClosed ∷ []) (event 1 IsClosed1 (Idle Yes)) Yes call.IsClosed 1 refl refl
-          no-is-yes (p .answers _ [] _ Yes refl refl .0);
-      close-idle =
-          λ p. untrue (storyOf (slipped closeIdle) 2 (does 0 6 0 1 ++ does 0 6 0 0)) (event 0 Close1 (Idle Yes)) Yes call.Close 3 refl refl
-          no-is-yes (p .answers _ [] _ Yes refl refl .0);
+      tables =
+          record {
+            push-drops = λ p. no-cons (p .answers (storyOf (slipped pushDrops) 2 (does 0 0 5 0)) [] (event 0 (U1 None 5) (Idle Pushed)) Pushed refl refl .1 .put);
+            closed-after-claim =
+                λ p. no-cons (sym (p .answers (storyOf (slipped closedAfterClaim) 2 (does 0 0 5 6)) [] (event 0 (U12 None (index 0) (To 0) 5) (Idle (Closed 5))) (Closed 5) refl refl .1 .put));
+            pushes-another = λ p. let q : _≡_ {A = ℕ} 5 6 = cons-first {xs = []} {ys = []} (p .item-kept 0 6 refl) in omega arith;
+            pops-another =
+                λ p. let q : _≡_ {A = ℕ} 5 6 = cons-first {xs = []} {ys = []}
+                (p .answers (storyOf (slipped popsAnother) 2 (pushed ++ does 1 2 0 6)) [] (event 1 (V12 (index 0) (To 0) 6) (Idle (Popped 6))) (Popped 6) refl refl .1 .took) in omega arith;
+            empty-after-taking =
+                λ p. no-cons (sym (p .answers (storyOf (slipped emptyAfterTaking) 2 (pushed ++ does 1 2 0 6)) [] (event 1 (V12 (index 0) (To 0) 5) (Idle Empty)) Empty refl refl .1 .took));
+            claims-closed =
+                λ p. true≢false (p .changes (storyOf (slipped claimsClosed) 2 (does 0 0 5 5 ++ does 1 6 0 1)) [] (event 0 (U7 None (index 0) (To 0) 5) (U12 None (index 0) (To 0) 5)) refl .while-open refl);
+            takes-unseen = λ p. let q : 0 < 0 = p .changes (storyOf (slipped takesUnseen) 2 (pushed ++ does 1 2 0 7 ++ does 1 2 0 3)) []
+                (event 1 (V4 (index 2) (To 0) (index 4)) (V6 (index 2) (To 0) (index 4))) refl .takes refl in omega arith;
+            unwritten = λ p. let q : _≡_ {A = ℕ} 0 5 = cons-first {xs = []} {ys = []} (p .nothing-lost .contents refl) in omega arith;
+            len-none =
+                λ p. untrue (storyOf (slipped lenNone) 2 (pushed ++ does 1 3 0 2)) (event 1 (Len3 (index 2) (index 0)) (Idle (Len 0))) (Len 0) call.Len 11 refl refl
+                one-is-none (p .answers _ [] _ (Len 0) refl refl .0);
+            empty-yes =
+                λ p. untrue (storyOf (slipped emptyYes) 2 (pushed ++ does 1 4 0 1)) (event 1 (Empty2 (index 0)) (Idle Yes)) Yes call.IsEmpty 11 refl refl
+                no-is-yes (p .answers _ [] _ Yes refl refl .0);
+            empty-no = λ p. unended asks no-end (event 1 (Empty2 (index 0)) (Idle No)) No refl (p .answers asks [] (event 1 (Empty2 (index 0)) (Idle No)) No refl refl .0);
+            full-yes =
+                λ p. untrue (Begun 1 call.IsFull ∷ []) (event 1 Full1 (Idle Yes)) Yes call.IsFull 1 refl refl
+                no-is-yes (p .answers _ [] _ Yes refl refl .0);
+            closed-yes =
+                λ p. untrue (Begun 1 call.IsClosed ∷ []) (event 1 IsClosed1 (Idle Yes)) Yes call.IsClosed 1 refl refl
+                no-is-yes (p .answers _ [] _ Yes refl refl .0);
+            close-idle =
+                λ p. untrue (storyOf (slipped closeIdle) 2 (does 0 6 0 1 ++ does 0 6 0 0)) (event 0 Close1 (Idle Yes)) Yes call.Close 3 refl refl
+                no-is-yes (p .answers _ [] _ Yes refl refl .0);
+            mark = λ c. true≢false (sym (c .mark));
+            yes-once = λ c. c .yes-once [] [] [] (event 0 Close1 (Idle Yes)) (event 0 Close1 (Idle Yes)) refl (refl, refl) (refl, refl);
+            none-after =
+                λ c. no-cons (sym (c .none-after (actsOf (slipped claimsClosed) 2 (does 0 0 5 5 ++ does 1 6 0 1 ++ does 1 2 0 2)) (event 0 (U7 None (index 0) (To 0) 5) (U12 None (index 0) (To 0) 5) ∷ [])
+                (event 1 (V3 (index 0) (To 0)) (Idle PopClosed)) refl refl .0));
+            own-claim =
+                λ o. let k = o (actsOf (slipped handsOutAgain) 2 (does 0 2 0 2)) [] (event 0 (V3 (index 0) None) (Idle (Popped 0))) 0 refl refl .2 .made in omega arith;
+            unwritten-out =
+                λ o. let z = o (actsOf (slipped readsEarly) 2 (does 0 0 0 6 ++ does 1 2 0 6)) [] (event 1 (V12 (index 0) (To 0) 0) (Idle (Popped 0))) 0 refl refl in
+                unwritten-in (actsOf (slipped readsEarly) 2 (does 0 0 0 6 ++ does 1 2 0 6)) (z .0) 0 refl (z .4);
+          };
       said-at-blocks-end = λ p. yes-is-no (p .empty);
-      mark = λ c. true≢false (sym (c .mark));
-      yes-once = λ c. c .yes-once [] [] [] (event 0 Close1 (Idle Yes)) (event 0 Close1 (Idle Yes)) refl (refl, refl) (refl, refl);
-      none-after =
-          λ c. no-cons (sym (c .none-after (actsOf (slipped claimsClosed) 2 (does 0 0 5 5 ++ does 1 6 0 1 ++ does 1 2 0 2)) (event 0 (U7 None (index 0) (To 0) 5) (U12 None (index 0) (To 0) 5) ∷ [])
-          (event 1 (V3 (index 0) (To 0)) (Idle PopClosed)) refl refl .0));
-      own-claim =
-          λ o. let k = o (actsOf (slipped handsOutAgain) 2 (does 0 2 0 2)) [] (event 0 (V3 (index 0) None) (Idle (Popped 0))) 0 refl refl .2 .made in omega arith;
-      unwritten-out =
-          λ o. let z = o (actsOf (slipped readsEarly) 2 (does 0 0 0 6 ++ does 1 2 0 6)) [] (event 1 (V12 (index 0) (To 0) 0) (Idle (Popped 0))) 0 refl refl in
-          unwritten-in (actsOf (slipped readsEarly) 2 (does 0 0 0 6 ++ does 1 2 0 6)) (z .0) 0 refl (z .4);
     }
