@@ -22,7 +22,7 @@ use Rattle.bounded_places.specs.declared.Place.{Place}
 use Rattle.bounded_places.specs.declared.Place.the-variants.{Idle}
 use Rattle.bounded_places.specs.declared.Worker.{Worker}
 use Rattle.bounded_places.specs.Places.{viewOf, beginOf}
-use Rattle.bounded_acts.specs.Acts.{stay, actOf}
+use Rattle.bounded_acts.specs.Acts.{goes, actOf}
 use Rattle.bounded_machine.specs.declared.Machine.{Machine}
 use Rattle.bounded_machine.specs.declared.Event.{Event}
 use Rattle.bounded_machine.specs.Machine.{slot, idler, machineOf, placeOf, accepted}
@@ -72,7 +72,7 @@ module _ (bits : Width) (f : Fixed) (count w : ℕ) (team : w < count) (others :
 
   -- an act, by what the table says of its place
   module _ (e u : Ends) (slots : List Slot) (z : Slot) (p q : Place) (meter : ℕ) (busy : viewOf p .busy ≡ true) (early : meter < meterMost)
-      (is : actOf bits f e (getD slots (spotOf f (viewOf p .held)) (slot 0 0)) p false ≡ stay u z q) where
+      (is : actOf bits f e (getD slots (spotOf f (viewOf p .held)) (slot 0 0)) p false ≡ goes u z q) where
     abbrev pub after : Machine
     after = at u (set slots (spotOf f (viewOf p .held)) z) q (meter + 1)
 
@@ -82,7 +82,7 @@ module _ (bits : Width) (f : Fixed) (count w : ℕ) (team : w < count) (others :
         ∙ ap (λ (y : Place). accepted (acted bits (at e slots p meter) w y false)) (there p)
 
     acted-to : acted bits (at e slots p meter) w p false ≡ after
-    unfolding actedBy stored recordAfter stay
+    unfolding actedBy stored recordAfter goes
     acted-to = rw (is, itself p, set-set others w (beginner p) (beginner q))
 
     pub turns-to : turnAt bits (at e slots p meter) (16 * w + 8) 0 ≡ accepted after
@@ -98,7 +98,7 @@ module _ (bits : Width) (f : Fixed) (count w : ℕ) (team : w < count) (others :
 
   -- one that leaves the slot as it was
   pub looks-to : (e u : Ends) (slots : List Slot) (p q : Place) (meter : ℕ) → viewOf p .busy ≡ true → meter < meterMost
-      → actOf bits f e (getD slots (spotOf f (viewOf p .held)) (slot 0 0)) p false ≡ stay u (getD slots (spotOf f (viewOf p .held)) (slot 0 0)) q → (rest : List ℕ)
+      → actOf bits f e (getD slots (spotOf f (viewOf p .held)) (slot 0 0)) p false ≡ goes u (getD slots (spotOf f (viewOf p .held)) (slot 0 0)) q → (rest : List ℕ)
       → Goes bits (at e slots p meter) ((16 * w + 8) ∷ 0 ∷ rest) (at u slots q (meter + 1)) rest (moves e slots p q meter)
   looks-to e u slots p q meter busy early is rest =
       ending bits (ap (λ (l : List Slot). at u l q (meter + 1)) (set-getD slots (spotOf f (viewOf p .held)) (slot 0 0))) (acts-to e u slots _ p q meter busy early is rest)

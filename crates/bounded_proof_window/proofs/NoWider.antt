@@ -29,7 +29,7 @@ use Rattle.bounded_places.specs.declared.Place.the-variants.{Idle, Full1, Full2
 use Rattle.bounded_places.specs.declared.Worker.{Worker}
 use Rattle.bounded_places.specs.declared.Moved.{Moved}
 use Rattle.bounded_places.specs.declared.Moved.the-variants.{Neither, Tail, Head}
-use Rattle.bounded_acts.specs.Acts.{stay, actOf}
+use Rattle.bounded_acts.specs.Acts.{goes, actOf}
 use Rattle.bounded_machine.specs.declared.Machine.{Machine}
 use Rattle.bounded_machine.specs.declared.Event.{Event}
 use Rattle.bounded_machine.specs.declared.Tally.{Tally}
@@ -269,7 +269,7 @@ module _ (c workers ed : ℕ) (a : Allowed c workers ed) (two : 1 < workers) whe
       same-self _ t
       (stamps.plus-lap Sixteen c mark n g (0 + r) ∙ ap (W c mark n) whole-turn ∙ ap stamp (comes-again c mark n (a .slot-some) (omega (arith, g .laws .laps))))
 
-  says-yes : (z : Slot) → actOf Sixteen f (ends (0 + r)) z (Full2 t) false ≡ stay (ends (0 + r)) z (Idle Yes)
+  says-yes : (z : Slot) → actOf Sixteen f (ends (0 + r)) z (Full2 t) false ≡ goes (ends (0 + r)) z (Idle Yes)
   says-yes z = rw (stamps.unmarked-tail Sixteen c mark n g ed 0 false, lapped)
 
   not-full : lapBehind Sixteen f (W c mark n (0 + r)) (unmarkedOf f (W c mark n (0 + r))) ≡ false

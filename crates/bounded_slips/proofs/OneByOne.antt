@@ -22,7 +22,7 @@ use Rattle.bounded_places.specs.declared.Kind.the-variants.{Push}
 use Rattle.bounded_places.specs.declared.Loss.the-variants as loss
 use Rattle.bounded_places.specs.declared.Answer.the-variants.{Popped}
 use Rattle.bounded_places.specs.declared.Place.the-variants.{Idle, P1, P2, O6}
-use Rattle.bounded_acts.specs.Acts.{forcedTail, stay, losing, exchangeOf, afterTail, tailTo, headTo, stampTo, valueTo, countOf}
+use Rattle.bounded_acts.specs.Acts.{forcedTail, goes, losing, exchangeOf, afterTail, tailTo, headTo, stampTo, valueTo, countOf}
 use Rattle.bounded_machine.specs.declared.Event.{Event}
 use Rattle.bounded_machine.specs.Machine.{emptySlots, stamped, freshSlots, idlers, freshWith, refused, accepted}
 use Rattle.bounded_machine.specs.Turn.{recordAfter, begun, stored, actedBy, turnOfBy}
@@ -101,7 +101,7 @@ not-first : (w : ℕ) → suc w ≡ 0 → ⊥
 not-first w e = omega arith
 
 pops-only : (i w : ℕ) (c : Call) → i < length popping → known 1 1 (take i popping) .each w .calls ≡ c ∷ [] → c ≡ call.Pop
-unfolding Others forcedTail doubled markOf markedOf unmarkedOf plus minus withMark nextOf same onePast lapBehind lapBehindOnePast strayOf orderOf entryOf stay losing exchangeOf afterTail tailTo headTo stampTo valueTo countOf emptySlots stamped freshSlots idlers freshWith refused accepted all recordAfter begun stored actedBy turnOfBy ran runBy historyBy acts knownFrom
+unfolding Others forcedTail doubled markOf markedOf unmarkedOf plus minus withMark nextOf same onePast lapBehind lapBehindOnePast strayOf orderOf entryOf goes losing exchangeOf afterTail tailTo headTo stampTo valueTo countOf emptySlots stamped freshSlots idlers freshWith refused accepted all recordAfter begun stored actedBy turnOfBy ran runBy historyBy acts knownFrom
 pops-only zero w c few e = absurd (none-called c e)
 pops-only (suc zero) w c few e = alone-pops (λ v. known 1 1 (take 1 popping) .each v .calls) refl (λ v. others-none 1 v (not-first v, tt)) w c e
 pops-only (suc (suc zero)) w c few e = alone-pops (λ v. known 1 1 (take 2 popping) .each v .calls) refl (λ v. others-none 2 v (not-first v, (not-first v, tt))) w c e
@@ -118,7 +118,7 @@ in-edition-2 : Allowed 1 2 2
 in-edition-2 = record { slot-some = omega arith; slot-most = omega arith; worker-some = omega arith; worker-most = omega arith; edition-some = omega arith; edition-most = omega arith }
 
 pub refuted-one-step : RefutedOneStep
-unfolding forcedTail doubled markOf markedOf unmarkedOf plus minus withMark nextOf same onePast lapBehind lapBehindOnePast strayOf orderOf entryOf stay losing exchangeOf afterTail tailTo headTo stampTo valueTo countOf emptySlots stamped freshSlots idlers freshWith refused accepted all recordAfter begun stored actedBy turnOfBy ran runBy historyBy acts knownFrom twoCloses momentFrom momentsFrom namedOf
+unfolding forcedTail doubled markOf markedOf unmarkedOf plus minus withMark nextOf same onePast lapBehind lapBehindOnePast strayOf orderOf entryOf goes losing exchangeOf afterTail tailTo headTo stampTo valueTo countOf emptySlots stamped freshSlots idlers freshWith refused accepted all recordAfter begun stored actedBy turnOfBy ran runBy historyBy acts knownFrom twoCloses momentFrom momentsFrom namedOf
 refuted-one-step =
     record {
       force-forgets =

@@ -2,7 +2,7 @@
 use Prim.Native.Nat.{ℕ}
 use Rattle.bounded_words.specs.declared.Width.the-variants.{Sixteen}
 use Rattle.bounded_words.specs.Limits.{narrow}
-use Rattle.bounded_widths.specs.Widths.{narrowed}
+use Rattle.bounded_sixteen_bits.specs.SixteenBits.{narrowed}
 use Rattle.bounded_demands.specs.Notions.{document01, ofWidth, cutTo, sixteen}
 use Rattle.bounded_demands.specs.Demands.{TallyAsSaid, TalliedUnderEverySchedule, StockAttained, LossesUnderEverySchedule, OnceClosedAnywhere, NumbersFit, SameNumbersBy}
 use Rattle.bounded_slips.specs.Slips.{forceForgets, fallsWhenTaken, twice, countingAt, unreadTally, tailOnly, stockWith, slipped}

@@ -39,7 +39,7 @@ use Rattle.single_machine.specs.Broken.{brokenOf, idleFrom}
 use Rattle.single_machine.specs.Contents.{countIn, contentsOf, contentsRefusal, written, capacityOf}
 use Rattle.single_machine.specs.Run.{ran, runFrom, runOf}
 use Rattle.single_machine.specs.History.{eventsOf}
-use Rattle.single.specs.Single.{makeOf, stepOf, beginOf, actOf}
+use Rattle.single.specs.Single.{makeOf, stepOf, beginStepOf, actStepOf}
 use Rattle.single_demands.specs.Notions.{Definition, Allowed, machineAfter, actsOf, Acts, AtEach, InHand, OtherHand, Popping, accessOf, isRead, Holds, HandsOut, Stands, Came, waiting, OneSlot, Took, closedBy, queueAnswer, Looks, FullWord, EmptyWord, PopClosedWord, Truth, mostOf, passed, ownActs, LetsGo}
 use Rattle.single_demands.specs.Notions.{freshOne, pushingOne, stockedOne, spentOne}
 use Rattle.single_demands.specs.Stories.{Story, storyOf, changeOf, actor, known, replyOf, putBy, takenBy, givenBack, itemAt, roomTaken, askedAt, momentOf}
@@ -133,7 +133,7 @@ RoomNeeded d =
 
 -- What crate single's functions are equal to.
 abbrev pub functions : Functions Machine Did Ran
-functions = record { make = makeOf; step = stepOf; begin = beginOf; act = actOf; run = runOf; written = written }
+functions = record { make = makeOf; step = stepOf; begin = beginStepOf; act = actStepOf; run = runOf; written = written }
 
 -- Demand 1: a refused step changes nothing, in the machine or in a lent buffer. Of any functions, so that slips can be said of them.
 pub record RefusedUnchangedBy (f : Functions Machine Did Ran) : Type 0 where
@@ -158,8 +158,8 @@ refusals =
     record {
       make = λ workers. makeOf workers .refusal;
       step = λ m first second. stepOf m first second .refusal;
-      begin = λ m first second. beginOf m first second .refusal;
-      act = λ m first second. actOf m first second .refusal;
+      begin = λ m first second. beginStepOf m first second .refusal;
+      act = λ m first second. actStepOf m first second .refusal;
       run = λ m s. runOf m s .refusal;
       contents = contentsRefusal;
     }
@@ -218,8 +218,8 @@ EnumsBothWays = BothWays answer.Refused numberIn valueIn told
 pub record OnlyOne : Type 0 where
   pub make : (workers : ℕ) (x y : Did) → x ≡ makeOf workers → y ≡ makeOf workers → x ≡ y
   pub step : (m : Machine) (first second : ℕ) (x y : Did) → x ≡ stepOf m first second → y ≡ stepOf m first second → x ≡ y
-  pub begin : (m : Machine) (first second : ℕ) (x y : Did) → x ≡ beginOf m first second → y ≡ beginOf m first second → x ≡ y
-  pub act : (m : Machine) (first second : ℕ) (x y : Did) → x ≡ actOf m first second → y ≡ actOf m first second → x ≡ y
+  pub begin : (m : Machine) (first second : ℕ) (x y : Did) → x ≡ beginStepOf m first second → y ≡ beginStepOf m first second → x ≡ y
+  pub act : (m : Machine) (first second : ℕ) (x y : Did) → x ≡ actStepOf m first second → y ≡ actStepOf m first second → x ≡ y
   pub run : (m : Machine) (s : List ℕ) (x y : Ran) → x ≡ runOf m s → y ≡ runOf m s → x ≡ y
   pub contents : (m : Machine) (before : List ℕ) (x y : Told) (a b : List ℕ)
       → (x ≡ told (contentsRefusal m (length before)) (countIn m)) × (a ≡ written m before)

@@ -18,7 +18,7 @@ use Rattle.single_places.specs.declared.Answer.the-variants.{Pushed, Displaced,
 use Rattle.single_places.specs.declared.Place.{Place}
 use Rattle.single_places.specs.declared.Place.the-variants.{Idle, A1, A2, A3, B1, B2, B3, B4, B5, C1, C2, C3, Len1, Empty1, Full1, Close1, IsClosed1}
 use Rattle.single_places.specs.Places.{viewOf, beginOf}
-use Rattle.single_acts.specs.Acts.{stay, actOf}
+use Rattle.single_acts.specs.Acts.{goes, actOf}
 use Rattle.single_machine.specs.declared.Machine.{Machine}
 use Rattle.single_machine.specs.declared.Event.{Event}
 use Rattle.single_machine.specs.Turn.{turnOf, turnOfBy, begun, acted}
@@ -35,7 +35,7 @@ data After (p q : Place) : Type 0 where
   gone : (a : Answer) → q ≡ Idle a → mostOf p ≡ 1 → After p q
 
 hand-act : (s : Single) (p : Place) → InHand p → After p (actOf s p .place)
-unfolding stay
+unfolding goes
 hand-act s (Idle a) i = absurd (true≢false (sym i))
 hand-act s (A1 x) i = absurd (true≢false (sym i))
 hand-act s (A2 x) i = holds refl refl

@@ -44,7 +44,7 @@ use Rattle.unbounded_machine.specs.Turn.{entryHere, lowestFree}
 use Rattle.unbounded_machine.specs.Run.{ran, runFrom, runOf}
 use Rattle.unbounded_machine.specs.History.{eventsOf}
 use Rattle.unbounded.specs.declared.Bound.{Bound}
-use Rattle.unbounded.specs.Unbounded.{makeOf, stepOf, beginOf, actOf, capacityOf}
+use Rattle.unbounded.specs.Unbounded.{makeOf, stepOf, beginStepOf, actStepOf, capacityOf}
 use Rattle.unbounded_demands.specs.Notions.{Definition, Allowed, machineAfter, actsOf, Acts, Asking, Pushing, Popping, Reads, valueAt, stateAt, takingsOf, freeingsOf, signOf, HandsOut, itemsOf, takersOf, LatestIn, ItemIn, waiting, Fifo, position, Truth, chained}
 use Rattle.unbounded_demands.specs.Waiting.{PushingIn, PoppingIn, OneSlot, Crossing, Tying, Leaving, Fronting, pushLeft, passed, ownActs, Holding, popMost, pushMost, lookMost}
 use Rattle.unbounded_demands.specs.Attained.{Case, seenBy, exactly, oldPops, crossingPops, endingPops, beginningPushes, goingPushes, endingPushes}
@@ -181,7 +181,7 @@ ClosesAndClaims d =
 
 -- What crate unbounded's functions are equal to.
 abbrev pub functions : Functions Machine Did Ran
-functions = record { make = makeOf sizes; step = stepOf sizes; begin = beginOf sizes; act = actOf sizes; run = runOf sizes; written = written sizes }
+functions = record { make = makeOf sizes; step = stepOf sizes; begin = beginStepOf sizes; act = actStepOf sizes; run = runOf sizes; written = written sizes }
 
 -- A refused step changes nothing, in the machine or in a lent buffer. Of any functions, so that slips can be said of them.
 pub record RefusedUnchangedBy (f : Functions Machine Did Ran) : Type 0 where
@@ -217,8 +217,8 @@ refusals =
     record {
       make = λ workers. makeOf sizes workers .refusal;
       step = λ m first second. stepOf sizes m first second .refusal;
-      begin = λ m first second. beginOf sizes m first second .refusal;
-      act = λ m first second. actOf sizes m first second .refusal;
+      begin = λ m first second. beginStepOf sizes m first second .refusal;
+      act = λ m first second. actStepOf sizes m first second .refusal;
       run = λ m s. runOf sizes m s .refusal;
       contents = contentsRefusal sizes;
     }
@@ -267,8 +267,8 @@ pub record EnumsBothWays : Type 0 where
 pub record OnlyOne : Type 0 where
   pub make : (workers : ℕ) (x y : Did) → x ≡ makeOf sizes workers → y ≡ makeOf sizes workers → x ≡ y
   pub step : (m : Machine) (first second : ℕ) (x y : Did) → x ≡ stepOf sizes m first second → y ≡ stepOf sizes m first second → x ≡ y
-  pub begin : (m : Machine) (first second : ℕ) (x y : Did) → x ≡ beginOf sizes m first second → y ≡ beginOf sizes m first second → x ≡ y
-  pub act : (m : Machine) (first second : ℕ) (x y : Did) → x ≡ actOf sizes m first second → y ≡ actOf sizes m first second → x ≡ y
+  pub begin : (m : Machine) (first second : ℕ) (x y : Did) → x ≡ beginStepOf sizes m first second → y ≡ beginStepOf sizes m first second → x ≡ y
+  pub act : (m : Machine) (first second : ℕ) (x y : Did) → x ≡ actStepOf sizes m first second → y ≡ actStepOf sizes m first second → x ≡ y
   pub run : (m : Machine) (s : List ℕ) (x y : Ran) → x ≡ runOf sizes m s → y ≡ runOf sizes m s → x ≡ y
   pub contents : (m : Machine) (before : List ℕ) (x y : Told) (a b : List ℕ)
       → (x ≡ told (contentsRefusal sizes m (length before)) (countIn sizes m)) × (a ≡ written sizes m before)

@@ -41,24 +41,24 @@ use denote.Exit.{yes}
 use base.Logic.{via}
 use Rattle.bounded_words.specs.Words.{Fair}
 use Rattle.bounded_places.specs.declared.Worker.{Worker}
-use Rattle.bounded_parts.specs.Parts.{ringFitsLent}
-use Rattle.bounded_parts.specs.declared.Metered.{Metered}
+use Rattle.bounded_orders.specs.Orders.{ringFitsLent}
+use Rattle.bounded_orders.specs.declared.Metered.{Metered}
 use Rattle.bounded_lent.specs.Lent.{eachFits, brokenLent}
 use Rattle.bounded_lent.proofs.Holes.{inside, known-in, part-look, part-is, look-by, knows, looks-part, shuts-part}
 use Rattle.bounded_lent.proofs.Calls.{calls-value, calls-with, asks}
 use Rattle.bounded_lent.proofs.Parts.{metered-known, fixed-known, ends-known, word-known, bool-known, fixed-hole, ends-hole, meter-hole}
 use Rattle.bounded_lent.proofs.Turning.{ring-fair, ring-broken, records-broken}
-use Rattle.bounded_parts.proofs.Metered as T
+use Rattle.bounded_orders.proofs.Metered as T
 use Rattle.bounded_machine.proofs.Ring as G
 use Rattle.bounded_words.proofs.Fixed as F
 use Rattle.bounded_words.proofs.Fixed.Laws as F′
 use Rattle.bounded_places.proofs.Ends as E
 use Rattle.bounded_places.proofs.Ends.Laws as E′
 use Rattle.bounded_places.proofs.Worker as R
-use Rattle.bounded_parts.proofs.ring_fits as ring-fits
-use Rattle.bounded_parts.proofs.ring_fits.Symbol as ring-fits-def
-use Rattle.bounded_parts.proofs.ring_fits.Symbol.{name as #ring-fits}
-use Rattle.bounded_parts.proofs.ring_fits.Met as ring-fits-thm
+use Rattle.bounded_orders.proofs.ring_fits as ring-fits
+use Rattle.bounded_orders.proofs.ring_fits.Symbol as ring-fits-def
+use Rattle.bounded_orders.proofs.ring_fits.Symbol.{name as #ring-fits}
+use Rattle.bounded_orders.proofs.ring_fits.Met as ring-fits-thm
 use Rattle.bounded_lent.proofs.records_fit as records-fit
 use Rattle.bounded_lent.proofs.records_fit.Symbol as records-fit-def
 use Rattle.bounded_lent.proofs.records_fit.Symbol.{name as #records-fit}

@@ -46,8 +46,8 @@ use Rattle.queue_entries.specs.declared.Told.{Told}
 use Rattle.queue_entries.specs.declared.Told.the-variants.{Refused}
 use Rattle.bounded_words.specs.Words.{Fair}
 use Rattle.bounded_places.specs.declared.Worker.{Worker}
-use Rattle.bounded_parts.specs.declared.Metered.{Metered}
-use Rattle.bounded_parts.specs.Parts.{Filled, filled, contentsOn}
+use Rattle.bounded_orders.specs.declared.Metered.{Metered}
+use Rattle.bounded_orders.specs.Orders.{Filled, filled, contentsOn}
 use Rattle.bounded_lent.specs.Lent.{eachFits, brokenLent, contentsLent}
 use Rattle.bounded_lent.proofs.Holes.{Known, inside, known-in, part-look, part-is, look-by, knows, looks-part, shuts-part}
 use Rattle.bounded_lent.proofs.Calls.{calls-value, calls-with, asks}
@@ -55,7 +55,7 @@ use Rattle.bounded_lent.proofs.Lending.{calls-filled}
 use Rattle.bounded_lent.proofs.Parts.{metered-known, fixed-known, ring-known, word-known, bool-known, told-known, ring-of, fixed-hole, meter-hole}
 use Rattle.bounded_lent.proofs.Turning.{unbroken-lent, fair-lent}
 use Rattle.bounded_lent.proofs.Listing.{six-first, listed}
-use Rattle.bounded_parts.proofs.Metered as T
+use Rattle.bounded_orders.proofs.Metered as T
 use Rattle.bounded_machine.proofs.Ring as G
 use Rattle.bounded_machine.proofs.Ring.Laws as G′
 use Rattle.bounded_words.proofs.Fixed as F
@@ -63,14 +63,14 @@ use Rattle.bounded_words.proofs.Fixed.Laws as F′
 use Rattle.bounded_places.proofs.Worker as R
 use Rattle.queue_entries.proofs.Told as Z
 use Rattle.queue_entries.proofs.Told.Laws as Z′
-use Rattle.bounded_parts.proofs.refused as refused
-use Rattle.bounded_parts.proofs.refused.Symbol as refused-def
-use Rattle.bounded_parts.proofs.refused.Symbol.{name as #refused}
-use Rattle.bounded_parts.proofs.refused.Met as refused-thm
-use Rattle.bounded_parts.proofs.contents_on as contents-on
-use Rattle.bounded_parts.proofs.contents_on.Symbol as contents-on-def
-use Rattle.bounded_parts.proofs.contents_on.Symbol.{name as #contents-on}
-use Rattle.bounded_parts.proofs.contents_on.Met as contents-on-thm
+use Rattle.bounded_orders.proofs.refused as refused
+use Rattle.bounded_orders.proofs.refused.Symbol as refused-def
+use Rattle.bounded_orders.proofs.refused.Symbol.{name as #refused}
+use Rattle.bounded_orders.proofs.refused.Met as refused-thm
+use Rattle.bounded_orders.proofs.contents_on as contents-on
+use Rattle.bounded_orders.proofs.contents_on.Symbol as contents-on-def
+use Rattle.bounded_orders.proofs.contents_on.Symbol.{name as #contents-on}
+use Rattle.bounded_orders.proofs.contents_on.Met as contents-on-thm
 use Rattle.bounded_lent.proofs.broken as broken
 use Rattle.bounded_lent.proofs.broken.Symbol as broken-def
 use Rattle.bounded_lent.proofs.broken.Symbol.{name as #broken}
