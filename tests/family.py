@@ -8,8 +8,8 @@ root = Path(__file__).resolve().parent.parent
 KIT = {'check', 'libc', 'io', 'os', 'bytes', 'std'}
 QUEUES = ('bounded', 'single', 'unbounded')
 PROGRAMS = ('replay', 'tape', 'walk', 'bench')
-LAYERS = ('words|places|acts|pushes|forces|pops|lookers|table|machine|entries|runs|steps|widths|narrow|parts|lent|lends|codes|rows|slices|host|'
-          'stock|causes|moments|walkers|walks')
+LAYERS = ('words|places|acts|pushes|forces|pops|lookers|table|machine|entries|runs|orders|step_machine|step_record|sixteen_bits|narrow|lent|lent_by_value|'
+          'codes|rows|slices|host|stock|causes|moments|sequences|walks')
 
 # what a name says, and of which queue; the first pattern that fits decides
 KINDS = [

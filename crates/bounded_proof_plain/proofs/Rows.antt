@@ -298,10 +298,10 @@ module _ (bits : Width) (c n ed : ℕ) (g : Ground bits c (markOf c) n) (st : St
   -- ---- rows
 
   -- an act that leads on, and one that answers; neither changes the ends
-  goes : (z : Slot) (k : Loss) (p q : Place) → Still p q → ((x : Answer) → q ≡ Idle x → ⊥)
+  goes-on : (z : Slot) (k : Loss) (p q : Place) → Still p q → ((x : Answer) → q ≡ Idle x → ⊥)
       → ((u : Shared) → Moves c s u w i q → Due c n ed (now p q) u (aged s age (holdingAt q)) w (task q)) → Row p (losing E z q k)
   unfolding losing
-  goes z k p q o busy due u mv =
+  goes-on z k p q o busy due u mv =
       record {
         due = due u mv;
         said = λ x e. absurd (busy x e);
@@ -313,7 +313,7 @@ module _ (bits : Width) (c n ed : ℕ) (g : Ground bits c (markOf c) n) (st : St
   leads : (z : Slot) (p q : Place) → Still p q → ((x : Answer) → q ≡ Idle x → ⊥)
       → ((u : Shared) → Moves c s u w i q → Due c n ed (now p q) u (aged s age (holdingAt q)) w (task q)) → Row p (goes E z q)
   unfolding goes losing
-  leads z = goes z loss.Nothing
+  leads z = goes-on z loss.Nothing
 
   answers : (z : Slot) (k : Loss) (p : Place) (a : Answer) → Still p (Idle a) → Ended p a → Row p (losing E z (Idle a) k)
   unfolding losing
@@ -367,7 +367,7 @@ module _ (bits : Width) (c n ed : ℕ) (g : Ground bits c (markOf c) n) (st : St
       (record { still = refl; puts = refl; takes = refl; back = λ y e. pushed-item kd x ∙ e; shut = λ e. absurd (not-close kd x e) })
       (ap (λ (r : Reply). r ∷ []) (closed-to kd x (known c ed st .queue) (shelf .flag ∙ sym marked-now ∙ h)))))
       (λ h. let clear : b ≡ false = sym marked-now ∙ h in
-      goes z k p (P2 kd (E .tail) x) (loads (E .tail)) (not-idle (P2 kd (E .tail) x) refl)
+      goes-on z k p (P2 kd (E .tail) x) (loads (E .tail)) (not-idle (P2 kd (E .tail) x) refl)
       (given-now p (P2 kd (E .tail) x) refl refl (pushing kd x) (E .tail) work clear (rw clear)))
 
   p1 : (z : Slot) (kd : Kind) (x : ℕ) → Work c n ed st w (pushing kd x) [] [] → Row (P1 kd x) (goes E z (afterTail f kd (E .tail) x))
@@ -438,7 +438,7 @@ module _ (bits : Width) (c n ed : ℕ) (g : Ground bits c (markOf c) n) (st : St
   p3 z kd t x lose o young =
       exchanged (λ (y : Exchange). Row (P3 kd t x) (endP3 bits f E z kd t x y)) (E .tail) t lose
       (λ h d. let q = found t (o .word) (o .set .point .tails-up) young h in
-      goes z loss.BySchedule (P3 kd t x) (P2 kd t x) (quietly refl refl refl refl) (not-idle (P2 kd t x) refl)
+      goes-on z loss.BySchedule (P3 kd t x) (P2 kd t x) (quietly refl refl refl refl) (not-idle (P2 kd t x) refl)
       (given-now (P3 kd t x) (P2 kd t x) refl refl (pushing kd x) t (o .work) (q .0) (o .word ∙ ap Word (sym (q .1)))))
       (λ h d. won-tail z kd t x o (found t (o .word) (o .set .point .tails-up) young h .0))
       (λ h. finds z loss.ByWords (P3 kd t x) kd x (quietly refl refl refl refl) (λ t₂. quietly refl refl refl refl) (o .work))
@@ -560,9 +560,9 @@ module _ (bits : Width) (c n ed : ℕ) (g : Ground bits c (markOf c) n) (st : St
   f6 : (z : Slot) (t : Stamp) (x : ℕ) (lose : Bool) → GivenBy c n ed st s age w (call.ForcePush x) t → Grips t → Young c mark n s age → Row (F6 t x) (actOf bits f E z (F6 t x) lose)
   f6 z t x lose o grip young =
       exchanged (λ (y : Exchange). Row (F6 t x) (endF6 bits f E z t x y)) (E .head) (minus bits t (f .lap)) lose
-      (λ h d. goes z loss.BySchedule (F6 t x) (P1 Force x) (quietly refl refl refl refl) (not-idle (P1 Force x) refl) (λ u mv. work-still (F6 t x) (P1 Force x) refl _ _ _ (o .work)))
+      (λ h d. goes-on z loss.BySchedule (F6 t x) (P1 Force x) (quietly refl refl refl refl) (not-idle (P1 Force x) refl) (λ u mv. work-still (F6 t x) (P1 Force x) refl _ _ _ (o .work)))
       (λ h d. won-head z t x _ o (head-tests (call.ForcePush x) t o grip young h))
-      (λ h. goes z loss.ByWords (F6 t x) (P1 Force x) (quietly refl refl refl refl) (not-idle (P1 Force x) refl) (λ u mv. work-still (F6 t x) (P1 Force x) refl _ _ _ (o .work)))
+      (λ h. goes-on z loss.ByWords (F6 t x) (P1 Force x) (quietly refl refl refl refl) (not-idle (P1 Force x) refl) (λ u mv. work-still (F6 t x) (P1 Force x) refl _ _ _ (o .work)))
 
   -- what stays of a displacing force_push, and of a pop
   front-kept : (p q : Place) → (movedOf q ≡ Tail) ⊎ (movedOf q ≡ Neither) → timingOf p q ≡ Stays → (v : ℕ) (o : Front c n ed st s w v) (u : Shared) → Moves c s u w i q → Front c n ed (now p q) u w v
@@ -705,9 +705,9 @@ module _ (bits : Width) (c n ed : ℕ) (g : Ground bits c (markOf c) n) (st : St
   o3 : (z : Slot) (h : Stamp) (lose : Bool) → Work c n ed st w call.Pop [] [] → Row (O3 h) (actOf bits f E z (O3 h) lose)
   o3 z h lose o =
       exchanged (λ (y : Exchange). Row (O3 h) (endO3 bits f E z h y)) (E .head) h lose
-      (λ d e. goes z loss.BySchedule (O3 h) (O2 h) (quietly refl refl refl refl) (not-idle (O2 h) refl) (λ u mv. work-still (O3 h) (O2 h) refl _ _ _ o))
+      (λ d e. goes-on z loss.BySchedule (O3 h) (O2 h) (quietly refl refl refl refl) (not-idle (O2 h) refl) (λ u mv. work-still (O3 h) (O2 h) refl _ _ _ o))
       (λ d e. won-take z h _ o)
-      (λ d. goes z loss.ByWords (O3 h) (O2 (E .head)) (quietly refl refl refl refl) (not-idle (O2 (E .head)) refl) (λ u mv. work-still (O3 h) (O2 (E .head)) refl _ _ _ o))
+      (λ d. goes-on z loss.ByWords (O3 h) (O2 (E .head)) (quietly refl refl refl refl) (not-idle (O2 (E .head)) refl) (λ u mv. work-still (O3 h) (O2 (E .head)) refl _ _ _ o))
 
   o4 : (z : Slot) (h : Stamp) (v : ℕ) → TakesBy c n ed st s w → Row (O4 h) (goes E z (O5 h v))
   o4 z h v o =

@@ -28,7 +28,7 @@ use Rattle.bounded_machine.specs.declared.Event.{Event}
 use Rattle.bounded_machine.specs.Machine.{slot, idler, machineOf, placeOf, accepted}
 use Rattle.bounded_machine.specs.Turn.{spotOf, beginner, recordAfter, begun, stored, acted, actedBy, turnAt, turnOfBy}
 use Rattle.bounded_machine.specs.History.{event, lossAt, eventsOf}
-use Rattle.bounded_proof_window.proofs.Paths.{Goes, goes, ending}
+use Rattle.bounded_proof_window.proofs.Paths.{Goes, goes as goes-path, ending}
 
 -- of any machine
 begun-turn : (bits : Width) (m : Machine) (w first second : ℕ) (q : Call) → entryOf first second ≡ Asks w (Begin q) → w < m .count → viewOf (placeOf (m .workers) w) .busy ≡ false
@@ -65,7 +65,7 @@ module _ (bits : Width) (f : Fixed) (count w : ℕ) (team : w < count) (others :
   begins e slots a q first second meter asks rest =
       subst (λ (done : List Event). Goes bits (at e slots (Idle a) meter) (first ∷ second ∷ rest) (at e slots (beginOf q) meter) rest done)
       (ap (λ (x : Entry). eventsOf bits (at e slots (Idle a) meter) x (at e slots (beginOf q) meter)) asks)
-      (goes bits _ _ first second rest (begins-turn e slots a q first second meter asks))
+      (goes-path bits _ _ first second rest (begins-turn e slots a q first second meter asks))
 
   abbrev pub moves : Ends → List Slot → Place → Place → ℕ → List Event
   moves e slots p q meter = event w p q (lossAt bits (at e slots p meter) w false) ∷ []
@@ -94,7 +94,7 @@ module _ (bits : Width) (f : Fixed) (count w : ℕ) (team : w < count) (others :
         (ap (λ (x : Entry). eventsOf bits (at e slots p meter) x after) (act-entry w)
         ∙ ap (λ (y : Place). event w y (placeOf (set others w (beginner q)) w) (lossAt bits (at e slots p meter) w false) ∷ []) (there p)
         ∙ ap (λ (y : Place). event w p y (lossAt bits (at e slots p meter) w false) ∷ []) (there q))
-        (goes bits _ _ (16 * w + 8) 0 rest turns-to)
+        (goes-path bits _ _ (16 * w + 8) 0 rest turns-to)
 
   -- one that leaves the slot as it was
   pub looks-to : (e u : Ends) (slots : List Slot) (p q : Place) (meter : ℕ) → viewOf p .busy ≡ true → meter < meterMost

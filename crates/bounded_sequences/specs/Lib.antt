@@ -1,1 +1,1 @@
-pub mod Sequences
+pub mod Walkers

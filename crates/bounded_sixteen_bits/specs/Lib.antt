@@ -1,1 +1,1 @@
-pub mod SixteenBits
+pub mod Widths

@@ -4,6 +4,7 @@
 //     = I N ..        the word I of the machine is N (bounded_text_words has the order), and so on
 //     w I CODE A B    record I is at a place: its code (bounded_codes) and the words that it holds
 //     m C W E         a machine of capacity C, with W workers, of edition E
+//     f               of every slot i the stamp i + 1 and the value i + 1000
 //     g F S ..        a schedule run
 //
 //     b, a, s F S     an entry handed to begin, act or step; the machine stays
@@ -12,9 +13,11 @@
 //     S F S ..        the same, and the machine stays
 //     j I N ..        with these words in it, handed to every function; the machine stays
 //     p CODE A B      with worker 0 at this place, handed to every function; the machine stays
-//     c N             contents, in a buffer of N words, at most 3
+//     c N             contents, in a buffer of N words: at most 3, or 1023 to 1025
 //     M C W E         a making; the machine stays
 //     o               the workers 0, 15 and 16, and the slots
+//
+// A row of any other letter, as `#`, is passed over.
 pub mod contents;
 pub mod entry;
 pub mod judge;
@@ -66,12 +69,24 @@ fn gone(m: [u64; WORDS], schedule: &[u64]) -> [u64; WORDS] {
     after
 }
 
+fn filled(m: [u64; WORDS]) -> [u64; WORDS] {
+    let mut after = m;
+    let mut i = 0;
+    while i < 1024 {
+        after[bounded_text_words::SLOTS + 2 * i] = i as u64 + 1;
+        after[bounded_text_words::SLOTS + 2 * i + 1] = i as u64 + 1000;
+        i += 1;
+    }
+    after
+}
+
 // The machine after a row.
 pub fn after(letter: u8, m: [u64; WORDS], n: &[u64]) -> [u64; WORDS] {
     match letter {
         b'=' => set(m, n),
         b'w' => stood(m, nth(n, 0), nth(n, 1), nth(n, 2), nth(n, 3)),
         b'm' => made(nth(n, 0), nth(n, 1), nth(n, 2)),
+        b'f' => filled(m),
         b'g' | b'R' => gone(m, n),
         _ => m,
     }
@@ -126,8 +141,10 @@ pub fn play(begin: [u64; WORDS], cases: &[u8]) -> [u64; WORDS] {
     last
 }
 
-// The machine that most cases start from: capacity 2, two workers, 5 pushed, as in document 01's run B.
-pub fn base() -> [u64; WORDS] {
+// The rows on standard input, from a machine of zeros on.
+pub fn play_input() {
+    let mut text = io::large_buffer();
+    let n = io::read_full(libc::STDIN_FILENO, &mut text);
     let none = [0; WORDS];
-    play(none, b"m 2 2 1 |\n= 0 0 1 1 2 5 8 1 9 5 |\n")
+    play(none, &text[..n]);
 }

@@ -11,7 +11,7 @@ use borrow.Author.Tests.{eq-eqb, ne-eqb, eqb-true, eqb-false}
 use Rattle.queue_entries.specs.declared.Entry.{Entry}
 use Rattle.queue_entries.specs.Entries.{entryOf}
 use Rattle.queue_schedules.specs.Alone.{actBy}
-use Rattle.queue_schedules.proofs.Alone.{part, Was, others, its-own, its-last, Gone, goes}
+use Rattle.queue_schedules.proofs.Alone.{part, Was, others, its-own, its-last, Gone, goes as goes-alone}
 use Rattle.single_places.specs.declared.Single.{Single}
 use Rattle.single_places.specs.declared.Answer.{Answer}
 use Rattle.single_places.specs.declared.Answer.the-variants.{Pushed, Displaced, Popped}
@@ -117,5 +117,5 @@ module _ (workers w : ℕ) where
   pub lets-go : (s : List ℕ) (m : Machine) (h : List Event) → Reached workers m h → InHand (stood m w)
       → mostOf (stood m w) ≤ Rattle.single_demands.specs.Notions.ownActs source w m s → LetsGo source m w s (mostOf (stood m w))
   lets-go s m h r i enough =
-      let g = goes single-queue w In Out most some each s m (record { history = h; reached = r; hand = i }) enough in
+      let g = goes-alone single-queue w In Out most some each s m (record { history = h; reached = r; hand = i }) enough in
       record { before = g .before; after = g .after; split = g .split; own = g .count; answer = g .out .0; ends = g .out .1 }

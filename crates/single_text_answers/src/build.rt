@@ -7,14 +7,9 @@ use single_words::State;
 // State word and value, workers and meter; and a worker, 16 for none, the number of its place and the words that it holds there.
 pub const NUMBERS: usize = 8;
 
-// Two workers, and 5 in the slot.
-pub fn with_state(state: u64) -> [u64; NUMBERS] {
-    [state, 5, 2, 3, 16, 0, 0, 0]
-}
-
-// 5 pushed.
+// Two workers, and 5 pushed.
 pub fn base() -> [u64; NUMBERS] {
-    with_state(2)
+    [2, 5, 2, 3, 16, 0, 0, 0]
 }
 
 pub fn with_place(n: [u64; NUMBERS], w: u64, code: u64, a: u64, b: u64) -> [u64; NUMBERS] {

@@ -8,7 +8,9 @@
 //     c N            contents, in a buffer of N words, at most 2
 //     j              every function
 //     h CODE A B     an act of worker 0 at this place
-pub mod build;
+//
+// A row of any other letter, as `#`, is passed over.
+mod build;
 mod entry;
 mod judge;
 mod making;
@@ -69,7 +71,7 @@ fn turn(h: Hand, cases: &[u8], at: usize) -> Hand {
 }
 
 // Row after row, from these numbers on.
-pub fn play(begin: [u64; NUMBERS], cases: &[u8]) {
+fn play(begin: [u64; NUMBERS], cases: &[u8]) {
     let mut h = Hand { numbers: begin };
     let mut at = 0;
     let mut turns = cases.len();
@@ -78,4 +80,11 @@ pub fn play(begin: [u64; NUMBERS], cases: &[u8]) {
         at = text_cases::next(cases, at);
         turns -= 1;
     }
+}
+
+// The rows on standard input.
+pub fn play_input() {
+    let mut text = io::large_buffer();
+    let n = io::read_full(libc::STDIN_FILENO, &mut text);
+    play(build::base(), &text[..n]);
 }
