@@ -1,1 +1,1 @@
-pub mod Walkers
+pub mod Sequences

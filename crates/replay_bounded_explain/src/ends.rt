@@ -40,13 +40,6 @@ fn busy(out: &mut [u8], at: usize, head: &[u64], records: &[u64]) -> usize {
     p
 }
 
-fn nobody_if(out: &mut [u8], at: usize, it: bool) -> usize {
-    if it {
-        return text_output::text(out, at, b"busy: nobody\n");
-    }
-    at
-}
-
 fn waits(
     out: &mut [u8],
     at: usize,
@@ -88,7 +81,7 @@ pub fn tell(
     c: Counts,
 ) -> usize {
     let p = busy(out, at, head, records);
-    let q = nobody_if(out, p, p == at);
+    let q = text_explain::words::nobody_if(out, p, p == at);
     let s = waits(out, q, head, slots, records, c);
     lost(out, s, c)
 }

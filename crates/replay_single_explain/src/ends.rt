@@ -41,13 +41,6 @@ fn busy(out: &mut [u8], at: usize, m: Machine) -> usize {
     p
 }
 
-fn nobody_if(out: &mut [u8], at: usize, it: bool) -> usize {
-    if it {
-        return text_output::text(out, at, b"busy: nobody\n");
-    }
-    at
-}
-
 // What contents tell through a buffer of one item.
 fn waits(out: &mut [u8], at: usize, item: &[u64], t: Told, n: Notes) -> usize {
     match t {
@@ -68,7 +61,7 @@ fn standing(out: &mut [u8], at: usize, m: Machine, n: Notes) -> usize {
     let mut item = [0u64; 1];
     let t = single::contents(m, &mut item);
     let p = busy(out, at, m);
-    let q = nobody_if(out, p, p == at);
+    let q = text_explain::words::nobody_if(out, p, p == at);
     let r = waits(out, q, &item, t, n);
     text_output::form(
         out,

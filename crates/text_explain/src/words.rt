@@ -64,3 +64,11 @@ pub fn made(
     };
     columns::put(out, at, &line, n, colours, of)
 }
+
+// Of the workers at the end of a run, where none had a line of its own.
+pub fn nobody_if(out: &mut [u8], at: usize, it: bool) -> usize {
+    if it {
+        return text_output::text(out, at, b"busy: nobody\n");
+    }
+    at
+}

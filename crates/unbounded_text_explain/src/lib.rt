@@ -1,5 +1,6 @@
 // The lines of the unbounded queue in plain words, by numbers: no machine in hand. docs/GUIDE.md has the table of the sentences.
 pub mod acts;
+pub mod ends;
 pub mod lines;
 pub mod notes;
 pub mod stood;
