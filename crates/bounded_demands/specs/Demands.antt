@@ -55,19 +55,22 @@ use Rattle.bounded_causes.specs.declared.Named.{Named}
 use Rattle.bounded_causes.specs.Causes as causes
 use Rattle.bounded_causes.specs.Causes.{watchOf, namedOf}
 use Rattle.bounded_moments.specs.declared.Moments.{Moments}
+use Rattle.bounded_moments.specs.declared.Moment.{Moment}
 use Rattle.bounded_moments.specs.declared.Named.{Named as NamedMoment}
 use Rattle.bounded_moments.specs.Moments as moments
 use Rattle.bounded_sixteen_bits.specs.declared.Machine as widths
+use Rattle.bounded_sixteen_bits.specs.declared.Ran as widths-ran
 use Rattle.bounded_sixteen_bits.specs.SixteenBits.{widened, narrowed, Short}
 use Rattle.bounded_narrow.specs.Narrow as narrow
 use Rattle.bounded_stock.specs.Stock.{talliedOf}
+use Rattle.queue_walks.specs.Walks.{depthMost}
 use Rattle.queue_walks.specs.Listed.{bytesOf}
 use Rattle.queue_walks.specs.Meaning.{Before, InOrder}
 use Rattle.bounded_sequences.specs.Sequences.{walkOf}
 use Rattle.bounded_walks.specs.declared.Sized.{Sized}
 use Rattle.bounded_walks.specs.declared.Sized.the-variants.{Sequences}
-use Rattle.bounded_walks.specs.Walks.{walkRefusal, walkTold, listed, sizeOf}
-use Rattle.bounded_demands.specs.Notions.{Tried, entriesOf, Face, Definition, ofWidth, Allowed, machineAfter, actsOf, Acts, acts, InHand, HandsOut, Reads, Truth, itemAt, itemsOf, tailersOf, takersOf, LatestIn, ItemIn, WrittenIn, CallClaim, tally, talliedBy, readsIn, waiting, stock, unreadBy, lesser, Exchanges, lostIn, struck, Fifo, Words, Plain, since, turnLength, windowLength, widestLength, KeepsWindow, KeepsWindowOf, KeepsWidestWindow, KeepsPrompt, rounds, sleepingPush, sleepingPop, valueAt, queueAnswer, LenAnswers, mostOf, OtherHand, passed, ownActs, LetsGo, has, ClosesYes, NoClaims, ClaimsOn, withRecords, AllowedWith, Asking, leftByAll, takenByAll, Promises, freshIn, pushingIn, stockedIn}
+use Rattle.bounded_walks.specs.Walks.{sizeOf}
+use Rattle.bounded_demands.specs.Notions.{Tried, entriesOf, Face, Definition, ofWidth, Allowed, machineAfter, actsOf, Acts, acts, InHand, HandsOut, Reads, Truth, itemAt, itemsOf, tailersOf, takersOf, LatestIn, ItemIn, WrittenIn, CallClaim, tally, talliedBy, readsIn, waiting, stock, unreadBy, lesser, Exchanges, lostIn, struck, Fifo, Words, Plain, since, turnLength, windowLength, widestLength, KeepsWindow, KeepsWindowOf, KeepsWidestWindow, KeepsPrompt, rounds, sleepingPush, sleepingPop, valueAt, queueAnswer, LenAnswers, mostOf, OtherHand, passed, ownActs, LetsGo, has, ClosesYes, NoClaims, ClaimsOn, withRecords, AllowedWith, Asking, leftByAll, takenByAll, Promises, freshIn, pushingIn, stockedIn, sixtyFour, atTheEnd}
 use Rattle.bounded_walks.specs.Walks.{sizeRefusal}
 use Rattle.bounded_walks.specs.declared.Sized.the-variants as sized
 use Rattle.queue_entries.specs.declared.Told.the-variants as answer
@@ -82,7 +85,7 @@ use Rattle.bounded_demands.specs.Lending.{Lending, Promise, promised, ho
 use Rattle.bounded_demands.specs.Foretold.{foretold, Telling, toldBy, toldIn, tellings, asForetold}
 use Rattle.bounded_demands.specs.Eight.{closedF, caseF}
 use Rattle.bounded_demands.specs.Attained.{Case, seenBy, seenIn, attained, exactly}
-use Rattle.bounded_demands.specs.Walkings.{Walking, walkings, walked}
+use Rattle.bounded_demands.specs.Walkings.{WalkFace, item10, Walking, walkings, walked}
 use Rattle.bounded_demands.specs.Shelves.{Shelf, shelving, stockAtMost, fullest}
 use Rattle.bounded_demands.specs.Notions.{goesBack, WayBack, watches, causesIn, Caused, otherHand, deed, DoneSince, LatestBy, Tells, Alone, goingsBack}
 use Rattle.bounded_demands.specs.Retries.{Retry, retries, lastIn, backBy, onlyOwn}
@@ -192,11 +195,14 @@ abbrev pub ClosesNotOneStep : Definition → Type 0
 ClosesNotOneStep d = OneByOne 1 1 (storyOf d 1 2 1 twoCloses) → ⊥
 
 -- What the program names (`replay --moments`): at every act of the first sixteen workers, what `name_moment` of crate bounded_moments answers, by what was kept along the story before it,
--- is the moment of its call. Of less than 2^64 entries; the meter ends a run before.
-abbrev pub NamesMoments : ℕ → ℕ → Story → Type 0
-NamesMoments capacity edition s =
+-- is the moment of its call. Of less than 2^64 entries; the meter ends a run before. Of any way to name it, so that slips can be said of it.
+abbrev pub NamesMomentsBy : (ℕ → Story → Event → Moment) → ℕ → ℕ → Story → Type 0
+NamesMomentsBy name capacity edition s =
     length s < wide → (earlier later : Story) (act : Event) → s ≡ earlier ++ Does act ∷ later → act .worker < workersMost
-    → inStory (momentNamed capacity earlier act) ≡ momentOf capacity edition (act .worker) (earlier ++ Does act ∷ [])
+    → inStory (name capacity earlier act) ≡ momentOf capacity edition (act .worker) (earlier ++ Does act ∷ [])
+
+abbrev pub NamesMoments : ℕ → ℕ → Story → Type 0
+NamesMoments = NamesMomentsBy momentNamed
 
 abbrev pub MomentsKept : Definition → Type 0
 MomentsKept d =
@@ -784,12 +790,16 @@ pub record NotIdle : Type 0 where
 abbrev pub WindowLengths : Type 0
 WindowLengths = map (λ (c : ℕ). windowLength Sixteen (fixedOf c 1)) (256 ∷ 1024 ∷ []) ≡ 15872 ∷ 14336 ∷ []
 
--- The face of sixteen bits keeps the one machine's numbers: none is lost, and from a fresh machine its schedules go where the definition goes.
-pub record SameNumbers : Type 0 where
-  pub back : (m : widths.Machine) → narrowed (widened m) ≡ m
-  pub again : (m : Machine) → widened (narrowed m) ≡ m
+-- The face of sixteen bits keeps the one machine's numbers: none is lost, and from a fresh machine its schedules go where the definition goes. Of any way to narrow and to run, so that slips can
+-- be said of them; met by the face's.
+pub record SameNumbersBy (keep : Machine → widths.Machine) (run : widths.Machine → List ℕ → widths-ran.Ran) : Type 0 where
+  pub back : (m : widths.Machine) → keep (widened m) ≡ m
+  pub again : (m : Machine) → widened (keep m) ≡ m
   pub reaches : (capacity workers edition : ℕ) → Allowed capacity workers edition → (s : List ℕ) → length s % 2 ≡ 0 → Readable entryOf s
-      → widened (narrow.runOf (narrowed (freshOf capacity workers edition)) s .machine) ≡ machineAfter (ofWidth Sixteen) capacity workers edition s
+      → widened (run (keep (freshOf capacity workers edition)) s .machine) ≡ machineAfter (ofWidth Sixteen) capacity workers edition s
+
+abbrev pub SameNumbers : Type 0
+SameNumbers = SameNumbersBy narrowed narrow.runOf
 
 -- Its numbers are below 65,536: every word of head, tail and a slot, under every schedule from a fresh machine, and after any entry on a machine of such words. So cutting them to sixteen bits
 -- changes none of them. Of any definition and any way to cut, so that slips can be said of them; met by the definition of sixteen bits and by `as u16`.
@@ -814,17 +824,27 @@ pub record WalksAll (walk : ℕ → Machine → List (List ℕ)) : Type 0 where
   -- Depth 0 lists one empty sequence.
   pub none : (m : Machine) → walk 0 m ≡ [] ∷ []
 
--- What it answers, and what it leaves in the buffer.
-pub record WalkTold : Type 0 where
-  pub numbered : (m : Machine) (depth room : ℕ) → has (0 ∷ 6 ∷ 19 ∷ 20 ∷ 21 ∷ 22 ∷ []) (walkRefusal m depth room) ≡ true
-  pub unchanged : (m : Machine) (depth : ℕ) (buffer : List ℕ) → (walkRefusal m depth (length buffer) ≡ 0 → ⊥) → listed m depth buffer ≡ buffer
-  pub filled : (m : Machine) (depth : ℕ) (buffer : List ℕ) → walkRefusal m depth (length buffer) ≡ 0
-      → (take (length (bytesOf (walkOf depth m))) (listed m depth buffer) ≡ bytesOf (walkOf depth m)) × (drop (length (bytesOf (walkOf depth m))) (listed m depth buffer) ≡ drop (length (bytesOf (walkOf depth m))) buffer)
+-- What it answers, and what it leaves in the buffer. Of any functions, so that slips can be said of them; met by `item10` of Walkings.antt.
+pub record WalkToldBy (f : WalkFace) : Type 0 where
+  pub numbered : (m : Machine) (depth room : ℕ) → has (0 ∷ 6 ∷ 19 ∷ 20 ∷ 21 ∷ 22 ∷ []) (f .refusal m depth room) ≡ true
+  pub unchanged : (m : Machine) (depth : ℕ) (buffer : List ℕ) → (f .refusal m depth (length buffer) ≡ 0 → ⊥) → f .listed m depth buffer ≡ buffer
+  pub filled : (m : Machine) (depth : ℕ) (buffer : List ℕ) → f .refusal m depth (length buffer) ≡ 0
+      → (take (length (bytesOf (walkOf depth m))) (f .listed m depth buffer) ≡ bytesOf (walkOf depth m)) × (drop (length (bytesOf (walkOf depth m))) (f .listed m depth buffer) ≡ drop (length (bytesOf (walkOf depth m))) buffer)
   -- a host that lends as many bytes as `size` told is not refused for them
-  pub fits : (m : Machine) (depth sequences bytes : ℕ) → sizeOf m depth ≡ Sequences sequences bytes → walkRefusal m depth bytes ≡ 0
+  pub fits : (m : Machine) (depth sequences bytes : ℕ) → f .size m depth ≡ Sequences sequences bytes → f .refusal m depth bytes ≡ 0
   pub answer : (m : Machine) (depth : ℕ) (buffer : List ℕ) (x y : Told) (a b : List ℕ)
-      → x ≡ walkTold m depth buffer → y ≡ walkTold m depth buffer → a ≡ listed m depth buffer → b ≡ listed m depth buffer → (x ≡ y) × (a ≡ b)
-  pub size : (m : Machine) (depth : ℕ) (x y : Sized) → x ≡ sizeOf m depth → y ≡ sizeOf m depth → x ≡ y
+      → x ≡ f .told m depth buffer → y ≡ f .told m depth buffer → a ≡ f .listed m depth buffer → b ≡ f .listed m depth buffer → (x ≡ y) × (a ≡ b)
+  pub size : (m : Machine) (depth : ℕ) (x y : Sized) → x ≡ f .size m depth → y ≡ f .size m depth → x ≡ y
+
+abbrev pub WalkTold : Type 0
+WalkTold = WalkToldBy item10
+
+-- Each of these numbers is given: of no act and of one more than a walk has; of the blank machine, one with nobody under way, a push under way and one whose meter is at its end.
+abbrev pub WalkEachNumber : WalkFace → Type 0
+WalkEachNumber f =
+    f .refusal (pushingIn sixtyFour) 0 8 ∷ f .refusal blank 0 8 ∷ f .refusal (pushingIn sixtyFour) (depthMost + 1) 8 ∷ f .refusal (freshIn sixtyFour) 0 8
+    ∷ f .refusal (atTheEnd (pushingIn sixtyFour)) 1 8 ∷ f .refusal (pushingIn sixtyFour) 0 0 ∷ []
+    ≡ 0 ∷ 6 ∷ 19 ∷ 20 ∷ 21 ∷ 22 ∷ []
 
 -- Two pushes on one slot, a push and a pop, and case F's force_push and close: so many sequences.
 abbrev pub WalksCounted : Type 0
@@ -967,6 +987,12 @@ WithinWindowOf many d =
 -- A window of one claim more does not.
 abbrev pub NoWider : Type 0
 NoWider = WithinWindowOf (λ bits f. widestLength bits f + 1) (ofWidth Sixteen) → ⊥
+
+-- It does not at any capacity, in either edition, with any number of workers from two on. (One worker alone keeps every window.)
+abbrev pub NoWiderAnywhere : Type 0
+NoWiderAnywhere =
+    (capacity workers edition : ℕ) → Allowed capacity workers edition → 1 < workers
+    → ((s : List ℕ) → KeepsWindowOf (λ bits f. widestLength bits f + 1) (ofWidth Sixteen) (freshOf capacity workers edition) [] s → ThroughoutInWindow (ofWidth Sixteen) capacity workers edition s) → ⊥
 
 -- The machine m, whatever calls led to it, is where the entries s lead, each of them accepted.
 pub record AsOneSchedule (d : Definition) (capacity workers edition : ℕ) (m : Machine) (s : List ℕ) : Type 0 where

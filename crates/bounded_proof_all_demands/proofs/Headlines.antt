@@ -9,12 +9,12 @@ use Rattle.bounded_stock.specs.Stock.{talliedOf}
 use Rattle.bounded_sixteen_bits.specs.SixteenBits.{narrowed}
 use Rattle.bounded_demands.specs.Notions.{sixtyFour, sixteen, promisesOf, pushingIn, atTheEnd, withRecords, ofWidth, document01, stock, windowLength, widestLength, cutTo}
 use Rattle.bounded_orders.specs.Orders.{recordsMost}
-use Rattle.bounded_demands.specs.Demands.{Demand1, OnlyOneCount, UnderEverySchedule, NothingWraps, ActByAct, WholeSchedules, LenTrue, ScheduledAlone, Attained, AsForetold, StockUnderEverySchedule, MostStock, StockAttained, TallyAsSaid, TalliedUnderEverySchedule, EndsTold, LossesUnderEverySchedule, CountsAside, CloseHolds, OnceClosedAnywhere, ClosedIsLast, CaseF, WithinTheWindow, WithinWindowOf, NoWider, PromptKeeps, AloneKeeps, RoundsClaim, NotIdle, WindowLengths, SameNumbers, NumbersFit, AsHeld, OnlyTheActing, LentUnbroken, OnlyOneLent, LentThroughout, SixtyFourRecords, LentDemand1, LentEachNumber, LentMixed, Mixed, MixedInWindow, OnlyOneMeets, EachNumber, AttainedBy, AtMost, AsForetoldBy, EnumsBothWays}
+use Rattle.bounded_demands.specs.Demands.{Demand1, OnlyOneCount, UnderEverySchedule, NothingWraps, ActByAct, WholeSchedules, LenTrue, ScheduledAlone, Attained, AsForetold, StockUnderEverySchedule, MostStock, StockAttained, TallyAsSaid, TalliedUnderEverySchedule, EndsTold, LossesUnderEverySchedule, CountsAside, CloseHolds, OnceClosedAnywhere, ClosedIsLast, CaseF, WithinTheWindow, WithinWindowOf, NoWider, NoWiderAnywhere, PromptKeeps, AloneKeeps, RoundsClaim, NotIdle, WindowLengths, SameNumbers, NumbersFit, AsHeld, OnlyTheActing, LentUnbroken, OnlyOneLent, LentThroughout, SixtyFourRecords, LentDemand1, LentEachNumber, LentMixed, Mixed, MixedInWindow, OnlyOneMeets, EachNumber, AttainedBy, AtMost, AsForetoldBy, EnumsBothWays}
 use Rattle.bounded_demands.specs.Eight.{EightRuns}
 use Rattle.bounded_demands.specs.Lending.{item11, promised}
 use Rattle.bounded_demands.proofs.Refusals.{demand1, only-one-count}
 use Rattle.bounded_demands.proofs.Narrow.{narrow-demand1}
-use Rattle.bounded_demands.proofs.EachNumber.{only-one-meets, each-number, each-number-narrow}
+use Rattle.bounded_demands.proofs.EachNumber.{only-one-meets, each-number, each-number-narrow, walk-each-number}
 use Rattle.bounded_demands.proofs.Answers.{enums-both-ways}
 use Rattle.bounded_demands.proofs.Window.{window-lengths}
 use Rattle.bounded_demands.proofs.Fit.{numbers-fit}
@@ -31,7 +31,7 @@ use Rattle.bounded_proof_demand2.proofs.Prompt.{prompt-keeps}
 use Rattle.bounded_proof_window.proofs.Kept.{rounds-claim}
 use Rattle.bounded_proof_window.proofs.Fullest.{stock-attained}
 use Rattle.bounded_proof_window.proofs.Asleep.{not-idle}
-use Rattle.bounded_proof_window.proofs.NoWider.{no-wider}
+use Rattle.bounded_proof_window.proofs.NoWider.{no-wider, no-wider-anywhere}
 use Rattle.bounded_proof_demand2.proofs.Lens.{len-true}
 use Rattle.bounded_proof_demand2.proofs.Stock.{stock-stands}
 use Rattle.bounded_proof_demand2.proofs.Losses.{ends-told, losses}
@@ -52,7 +52,8 @@ use Rattle.bounded_proof_causes.proofs.Causes.{every-retry, eight-ways}
 use Rattle.bounded_proof_causes.proofs.Alone.{alone-back-once, retries-always, retries-in-window}
 use Rattle.bounded_proof_causes.proofs.Said.{kept-as-said, kept-of-records}
 use Rattle.bounded_sequences.specs.Sequences.{walkOf}
-use Rattle.bounded_demands.specs.Demands.{WalksAll, WalkTold, WalksCounted}
+use Rattle.bounded_demands.specs.Demands.{WalksAll, WalkTold, WalkEachNumber, WalksCounted}
+use Rattle.bounded_demands.specs.Walkings.{item10}
 use Rattle.bounded_demands.proofs.Walkings.{walks-counted}
 use Rattle.bounded_proof_walks.proofs.Walks.{walks-all, walk-told}
 use Rattle.bounded_demands.specs.Demands.{AnswersPlain, AnswersPlainInWindow, OneStep, OneStepInWindow, ClosesNotOneStep}
@@ -146,13 +147,13 @@ sixteen-bits = (
 pub window : WindowLengths × PromptKeeps windowLength windowLength (ofWidth Sixteen) × AloneKeeps (ofWidth Sixteen) × RoundsClaim (ofWidth Sixteen) × NotIdle
 window = (window-lengths, prompt-keeps windowLength Sixteen workersMost, alone-keeps Sixteen, rounds-claim Sixteen, not-idle)
 
--- The widest: a turn less one capacity suffices for all that is said of a schedule, and whoever drops its words within so many acts keeps it; one claim more does not do.
-pub widest-window : WithinWindowOf widestLength (ofWidth Sixteen) × PromptKeeps widestLength widestLength (ofWidth Sixteen) × NoWider
-widest-window = (within-the-widest Sixteen workersMost, prompt-keeps widestLength Sixteen workersMost, no-wider)
+-- The widest: a turn less one capacity suffices for all that is said of a schedule, and whoever drops its words within so many acts keeps it; one claim more does not do, at any capacity.
+pub widest-window : WithinWindowOf widestLength (ofWidth Sixteen) × PromptKeeps widestLength widestLength (ofWidth Sixteen) × NoWider × NoWiderAnywhere
+widest-window = (within-the-widest Sixteen workersMost, prompt-keeps widestLength Sixteen workersMost, no-wider, no-wider-anywhere)
 
--- Walks: the list has every sequence of acts that goes so and no other, in order; what is answered and left in the buffer; and how many there are of some.
-pub every-sequence : WalksAll walkOf × WalkTold × WalksCounted
-every-sequence = (walks-all, walk-told, walks-counted)
+-- Walks: the list has every sequence of acts that goes so and no other, in order; what is answered and left in the buffer, each refusal given; and how many there are of some.
+pub every-sequence : WalksAll walkOf × WalkTold × WalkEachNumber item10 × WalksCounted
+every-sequence = (walks-all, walk-told, walk-each-number, walks-counted)
 
 -- Records in the host's memory: up to 16 of them as the machine that holds them; in a step only the acting record changes; demands 2 and 3 for every number of records, lent throughout; case H of this machine.
 pub records-lent : AsHeld item11 × OnlyTheActing item11 × LentUnbroken item11 × OnlyOneLent (promised item11) × LentThroughout item11 × SixtyFourRecords item11

@@ -116,23 +116,23 @@ says-at s k w h =
     record { act = r .0; later = r .1; is = sym (take-append-drop k s) ∙ ap (λ (z : Story). take k s ++ z) (r .2); by = r .3; yes = r .4 }
 
 -- Two closes of one worker, the second begun after the first has answered, one element between them: both cannot answer yes.
-module _ (s : Story) (o : OneByOne 1 1 s) (k w : ℕ) (few : k + 3 < length s)
+module _ (ed : ℕ) (s : Story) (o : OneByOne 1 ed s) (k w : ℕ) (few : k + 3 < length s)
     (first : yesHere w (drop k s) ≡ true) (second : yesHere w (drop (k + 3) s) ≡ true)
     (long : length (take k s) ≡ k) (long-too : length (take (k + 3) s) ≡ k + 3)
-    (close : known 1 1 (take k s) .each w .calls ≡ call.Close ∷ []) (close-too : known 1 1 (take (k + 3) s) .each w .calls ≡ call.Close ∷ [])
-    (begun-then : known 1 1 (take k s) .each w .begun + 1 ≡ k) (begun-later : known 1 1 (take (k + 3) s) .each w .begun + 1 ≡ k + 3) where
+    (close : known 1 ed (take k s) .each w .calls ≡ call.Close ∷ []) (close-too : known 1 ed (take (k + 3) s) .each w .calls ≡ call.Close ∷ [])
+    (begun-then : known 1 ed (take k s) .each w .begun + 1 ≡ k) (begun-later : known 1 ed (take (k + 3) s) .each w .begun + 1 ≡ k + 3) where
   -- the step of a close that answered yes: the queue was open, and is closed after it
   record Shuts (i : ℕ) : Type 0 where
     was : o .queues i .closed ≡ false
     is : o .queues (suc i) .closed ≡ true
 
-  shuts : (i : ℕ) (says : Says s i w) → i < length s → length (take i s) ≡ i → known 1 1 (take i s) .each w .calls ≡ call.Close ∷ [] → known 1 1 (take i s) .each w .begun + 1 ≡ i → Shuts i
+  shuts : (i : ℕ) (says : Says s i w) → i < length s → length (take i s) ≡ i → known 1 ed (take i s) .each w .calls ≡ call.Close ∷ [] → known 1 ed (take i s) .each w .begun + 1 ≡ i → Shuts i
   shuts i says low long-i calls begun-i =
       let r = o .answered (take i s) (says .later) (says .act) Yes (says .is) (says .yes) in
-      let late : known 1 1 (take i s) .each w .begun < r .0 = subst (λ (v : ℕ). known 1 1 (take i s) .each v .begun < r .0) (says .by) (r .3) in
+      let late : known 1 ed (take i s) .each w .begun < r .0 = subst (λ (v : ℕ). known 1 ed (take i s) .each v .begun < r .0) (says .by) (r .3) in
       let at : r .0 ≡ i = omega (arith, late, r .4) in
       let x = r .1 in
-      let its : r .1 .call ≡ call.Close = let z : r .1 .call ∷ [] ≡ call.Close ∷ [] = sym (subst (λ (v : ℕ). known 1 1 (take i s) .each v .calls ≡ r .1 .call ∷ []) (says .by) (r .6)) ∙ calls in cc in
+      let its : r .1 .call ≡ call.Close = let z : r .1 .call ∷ [] ≡ call.Close ∷ [] = sym (subst (λ (v : ℕ). known 1 ed (take i s) .each v .calls ≡ r .1 .call ∷ []) (says .by) (r .6)) ∙ calls in cc in
       let yes : r .1 .reply ≡ plain.Yes = let z : r .1 .reply ∷ [] ≡ plain.Yes ∷ [] = r .7 in cc in
       let there : o .steps i ≡ r .1 ∷ [] = ap (o .steps) (sym at) ∙ r .2 in
       let f = subst (λ (l : List Step). Follows (o .queues i) l (o .queues (suc i))) there (o .follows i low) in
@@ -145,7 +145,7 @@ module _ (s : Story) (o : OneByOne 1 1 s) (k w : ℕ) (few : k + 3 < length s)
       open-yes true z = absurd (let v : _≡_ {A = ℕ} 0 1 = cc in omega arith)
       open-yes false z = refl
 
-  not-both : ⊥
+  pub not-both : ⊥
   not-both =
       let a = shuts k (says-at s k w first) (omega arith) long close begun-then in
       let b = shuts (k + 3) (says-at s (k + 3) w second) few long-too close-too begun-later in
@@ -156,4 +156,4 @@ module _ (s : Story) (o : OneByOne 1 1 s) (k w : ℕ) (few : k + 3 < length s)
 
 pub closes-not-one-step : ClosesNotOneStep document01
 unfolding forcedTail doubled markOf markedOf unmarkedOf plus minus withMark nextOf same onePast lapBehind lapBehindOnePast strayOf orderOf entryOf goes losing exchangeOf afterTail tailTo headTo stampTo valueTo countOf emptySlots stamped freshSlots idlers freshWith refused accepted all recordAfter begun stored actedBy turnOfBy ran runBy historyBy acts knownFrom twoCloses
-closes-not-one-step o = not-both (storyOf document01 1 2 1 twoCloses) o 11 1 (omega arith) refl refl refl refl refl refl refl refl
+closes-not-one-step o = not-both 1 (storyOf document01 1 2 1 twoCloses) o 11 1 (omega arith) refl refl refl refl refl refl refl refl

@@ -5,7 +5,8 @@ use mathlib.Core.Bool.{Bool, true, false, cond, not, true≢false}
 use mathlib.Core.List.{List, [], _∷_, _++_, List·Memᴰ, List·Memᴰ·head, List·Memᴰ·not-nil, List·Memᴰ·cases-cons}
 use mathlib.Core.Logic.{_⊎_, inl, inr}
 use native.Mathlib.Omega.{arith}
-use lib.ListN.{getD}
+use lib.Dec.{eqb}
+use lib.ListN.{getD, length}
 use Rattle.queue_entries.specs.Limits.{all, inLimits}
 use Rattle.queue_entries.specs.Schedules.{runBy}
 use Rattle.queue_entries.specs.Entries.{strayOf, orderOf, entryOf}
@@ -19,10 +20,12 @@ use Rattle.bounded_machine.specs.Machine.{emptySlots, stamped, freshSlots, idle
 use Rattle.bounded_machine.specs.Broken.{byRule, endsFit, placeFits, recordFits, recordsFit, ringFits, brokenWith, allIdle}
 use Rattle.bounded_machine.specs.Turn.{recordAfter, begun, stored, actedBy, turnOfBy}
 use Rattle.bounded_machine.specs.Run.{ran}
-use Rattle.bounded_walks.specs.Walks.{allBusy}
+use Rattle.bounded_walks.specs.Walks.{allBusy, sizeRefusal, walkRefusal, listed, sizeOf}
+use Rattle.queue_walks.specs.Listed.{bytesOf}
 use Rattle.bounded_sequences.specs.Sequences.{walkOf}
-use Rattle.bounded_demands.specs.Notions.{document01, machineAfter, acts, Tried}
+use Rattle.bounded_demands.specs.Notions.{document01, machineAfter, acts, has, Tried, sixtyFour, freshIn}
 use Rattle.bounded_demands.specs.Demands.{WalksAll}
+use Rattle.bounded_demands.proofs.EachNumber.{walk-each-number}
 use Rattle.bounded_proof_walks.proofs.Walks.{walks-all}
 use Rattle.bounded_proof_walks_slips.specs.Slips.{none, turnsWith, choiceWith, walkWith, Faithful, Stands}
 use Rattle.bounded_proof_walks_slips.specs.Refuted.{Refuted}
@@ -40,10 +43,10 @@ walks-same (suc left) m =
     (turns-same (choiceWith (walkWith none left) m) (m .count) 0 ∙ ap (λ (walk : Machine → List (List ℕ)). inTurn (choiceWith walk m) (m .count) 0) (λ i x. walks-same left x i))
 
 pub faithful : Faithful
-faithful i depth m = walks-same depth m i
+faithful = (λ i depth m. walks-same depth m i, refl)
 
 pub stands : Stands
-stands = subst WalksAll (sym faithful) walks-all
+stands = subst WalksAll (sym (faithful .0)) walks-all
 
 -- on one slot, a push about to exchange tail and a push just begun; and the first of them alone
 two : Machine
@@ -67,12 +70,21 @@ not-there a b ne h = go (List·Memᴰ·cases-cons h)
 not-ended : (left : ℕ) (m : Machine) → allIdle (m .workers) ≡ false → Tried (suc left) m [] → ⊥
 not-ended left m busy (all-idle e) = true≢false (sym e ∙ busy)
 
+-- of a machine with nobody under way
+idle-number : walkRefusal (freshIn sixtyFour) 0 8 ≡ 20
+idle-number = ap (λ (l : List ℕ). getD l 3 0) walk-each-number
+
 pub refuted : Refuted
-unfolding two alone doubled markOf markedOf unmarkedOf plus minus withMark nextOf same onePast lapBehind lapBehindOnePast inside strayOf orderOf entryOf goes losing exchangeOf afterTail tailTo headTo stampTo valueTo forcedTail emptySlots stamped freshSlots idlers freshWith refused accepted byRule endsFit placeFits recordFits recordsFit brokenWith ringFits recordAfter begun stored actedBy turnOfBy ran runBy all inLimits allIdle allBusy acts after inTurn choiceBy walkBy turnsWith walkWith
+unfolding two alone doubled markOf markedOf unmarkedOf plus minus withMark nextOf same onePast lapBehind lapBehindOnePast inside strayOf orderOf entryOf goes losing exchangeOf afterTail tailTo headTo stampTo valueTo forcedTail emptySlots stamped freshSlots idlers freshWith refused accepted byRule endsFit placeFits recordFits recordsFit brokenWith ringFits recordAfter begun stored actedBy turnOfBy ran runBy all inLimits allIdle allBusy acts after inTurn choiceBy walkBy turnsWith walkWith has bytesOf sizeRefusal walkRefusal listed sizeOf
 refuted =
     record {
       nine-first = λ r. not-before 144 128 refl (omega arith) (r .order 1 two refl .0 (128 ∷ []) (List·Memᴰ·head refl));
       one-skipped = λ r. not-there 128 129 (λ e. omega arith) (r .whole 1 two (128 ∷ []) (goes-on 0 8 refl (omega arith) (inl refl) refl refl none-left));
       cut-when-one-idle = λ r. not-ended 0 alone refl (r .goes 1 alone [] (List·Memᴰ·head refl));
       listed-twice = λ r. r .once (128 ∷ []) (r .order 1 two refl .0 (128 ∷ []) (List·Memᴰ·head refl));
+      one-short = λ r. let q : _≡_ {A = ℕ} 0 1 = ap length (r .filled two 0 [] refl .0) in omega arith;
+      refused-writes = λ r. let q : _≡_ {A = ℕ} 0 7 = ap (λ (l : List ℕ). getD l 0 0) (r .unchanged alone 0 (7 ∷ []) (λ e. omega (arith, e))) in omega arith;
+      idle-by-four = λ r. true≢false (sym (r .numbered alone 0 1));
+      sized-short = λ r. let q : _≡_ {A = ℕ} 22 0 = r .fits two 0 1 0 refl in omega arith;
+      each-number = λ r. let q : _≡_ {A = ℕ} 4 20 = sym (ap (λ (k : ℕ). cond (eqb k 20) 4 k) idle-number) ∙ ap (λ (l : List ℕ). getD l 3 0) r in omega arith;
     }

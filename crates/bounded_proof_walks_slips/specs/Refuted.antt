@@ -1,9 +1,15 @@
 -- Which statement refuses which slip.
-use Rattle.bounded_demands.specs.Demands.{WalksAll}
-use Rattle.bounded_proof_walks_slips.specs.Slips.{nineFirst, oneSkipped, cutWhenOneIdle, listedTwice, walkWith}
+use Rattle.bounded_demands.specs.Demands.{WalksAll, WalkToldBy, WalkEachNumber}
+use Rattle.bounded_proof_walks_slips.specs.Slips.{nineFirst, oneSkipped, cutWhenOneIdle, listedTwice, walkWith, oneShort, refusedWrites, idleByFour, sizedShort, faceWith}
 
 pub record Refuted : Type 0 where
   pub nine-first : WalksAll (walkWith nineFirst) → ⊥
   pub one-skipped : WalksAll (walkWith oneSkipped) → ⊥
   pub cut-when-one-idle : WalksAll (walkWith cutWhenOneIdle) → ⊥
   pub listed-twice : WalksAll (walkWith listedTwice) → ⊥
+  -- what it answers, and what it leaves in the buffer
+  pub one-short : WalkToldBy (faceWith oneShort) → ⊥
+  pub refused-writes : WalkToldBy (faceWith refusedWrites) → ⊥
+  pub idle-by-four : WalkToldBy (faceWith idleByFour) → ⊥
+  pub sized-short : WalkToldBy (faceWith sizedShort) → ⊥
+  pub each-number : WalkEachNumber (faceWith idleByFour) → ⊥

@@ -1,16 +1,21 @@
--- The walk of item 10 with a slip at one point, all else as it is (crates/queue_walks/specs/Walks.antt).
+-- The walk of item 10 with a slip at one point, all else as it is (crates/queue_walks/specs/Walks.antt); and what it answers and leaves in the buffer, with one.
 use Prim.Native.Nat.{ℕ, zero, suc, _+_, _-_}
 use mathlib.Core.Bool.{Bool, cond, not}
 use mathlib.Core.List.{List, [], _∷_, _++_}
 use mathlib.Core.Path.{_≡_}
 use lib.Dec.{eqb}
+use lib.ListN.{length, drop}
 use Rattle.queue_walks.specs.Walks.{choiceBy}
+use Rattle.queue_walks.specs.Listed.{bytesOf}
 use Rattle.bounded_machine.specs.declared.Machine.{Machine}
 use Rattle.bounded_machine.specs.declared.Did.{Did}
 use Rattle.bounded_machine.specs.Broken.{allIdle}
 use Rattle.bounded_machine.specs.Turn.{turnOf}
 use Rattle.bounded_sequences.specs.Sequences.{walkOf}
-use Rattle.bounded_walks.specs.Walks.{allBusy}
+use Rattle.bounded_walks.specs.declared.Sized.{Sized}
+use Rattle.bounded_walks.specs.declared.Sized.the-variants.{Sequences, Refused}
+use Rattle.bounded_walks.specs.Walks.{allBusy, walkRefusal, walkTold, listed, sizeOf}
+use Rattle.bounded_demands.specs.Walkings.{WalkFace, item10}
 use Rattle.bounded_demands.specs.Demands.{WalksAll}
 
 abbrev pub none : ℕ
@@ -52,9 +57,45 @@ walkWith n (suc left) m =
     cond (endsWith n m) ([] ∷ [])
     (turnsWith n (choiceWith (walkWith n left) m) (cond (eqb n oneSkipped) (m .count - 1) (m .count)) (cond (eqb n oneSkipped) 1 0))
 
--- With none it is item 10's, and so the statement stands.
+-- ---- what it answers
+
+-- a buffer one byte short is accepted
+abbrev pub oneShort : ℕ
+oneShort = 5
+
+-- a refused walk writes its list all the same
+abbrev pub refusedWrites : ℕ
+refusedWrites = 6
+
+-- an idle worker is refused by 4
+abbrev pub idleByFour : ℕ
+idleByFour = 7
+
+-- the size tells one byte less
+abbrev pub sizedShort : ℕ
+sizedShort = 8
+
+abbrev lessOne : Sized → Sized
+lessOne (Sequences sequences bytes) = Sequences sequences (bytes - 1)
+lessOne (Refused number) = Refused number
+
+-- With slip number n.
+abbrev pub faceWith : ℕ → WalkFace
+faceWith n =
+    record {
+      refusal =
+          λ m depth room.
+          cond (eqb n oneShort) (walkRefusal m depth (room + 1))
+          (cond (eqb n idleByFour) (cond (eqb (walkRefusal m depth room) 20) 4 (walkRefusal m depth room))
+          (walkRefusal m depth room));
+      told = walkTold;
+      listed = λ m depth buffer. cond (eqb n refusedWrites) (bytesOf (walkOf depth m) ++ drop (length (bytesOf (walkOf depth m))) buffer) (listed m depth buffer);
+      size = λ m depth. cond (eqb n sizedShort) (lessOne (sizeOf m depth)) (sizeOf m depth);
+    }
+
+-- With none they are item 10's, and so the statement stands.
 abbrev pub Faithful : Type 0
-Faithful = walkWith none ≡ walkOf
+Faithful = (walkWith none ≡ walkOf) × (faceWith none ≡ item10)
 
 abbrev pub Stands : Type 0
 Stands = WalksAll (walkWith none)

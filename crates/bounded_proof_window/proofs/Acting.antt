@@ -73,7 +73,7 @@ module _ (bits : Width) (f : Fixed) (count w : ℕ) (team : w < count) (others :
   -- an act, by what the table says of its place
   module _ (e u : Ends) (slots : List Slot) (z : Slot) (p q : Place) (meter : ℕ) (busy : viewOf p .busy ≡ true) (early : meter < meterMost)
       (is : actOf bits f e (getD slots (spotOf f (viewOf p .held)) (slot 0 0)) p false ≡ goes u z q) where
-    abbrev after : Machine
+    abbrev pub after : Machine
     after = at u (set slots (spotOf f (viewOf p .held)) z) q (meter + 1)
 
     taken : turnAt bits (at e slots p meter) (16 * w + 8) 0 ≡ accepted (acted bits (at e slots p meter) w p false)
@@ -85,13 +85,16 @@ module _ (bits : Width) (f : Fixed) (count w : ℕ) (team : w < count) (others :
     unfolding actedBy stored recordAfter goes
     acted-to = rw (is, itself p, set-set others w (beginner p) (beginner q))
 
+    pub turns-to : turnAt bits (at e slots p meter) (16 * w + 8) 0 ≡ accepted after
+    turns-to = taken ∙ ap accepted acted-to
+
     pub acts-to : (rest : List ℕ) → Goes bits (at e slots p meter) ((16 * w + 8) ∷ 0 ∷ rest) after rest (moves e slots p q meter)
     acts-to rest =
         subst (λ (done : List Event). Goes bits (at e slots p meter) ((16 * w + 8) ∷ 0 ∷ rest) after rest done)
         (ap (λ (x : Entry). eventsOf bits (at e slots p meter) x after) (act-entry w)
         ∙ ap (λ (y : Place). event w y (placeOf (set others w (beginner q)) w) (lossAt bits (at e slots p meter) w false) ∷ []) (there p)
         ∙ ap (λ (y : Place). event w p y (lossAt bits (at e slots p meter) w false) ∷ []) (there q))
-        (goes-path bits _ _ (16 * w + 8) 0 rest (taken ∙ ap accepted acted-to))
+        (goes-path bits _ _ (16 * w + 8) 0 rest turns-to)
 
   -- one that leaves the slot as it was
   pub looks-to : (e u : Ends) (slots : List Slot) (p q : Place) (meter : ℕ) → viewOf p .busy ≡ true → meter < meterMost

@@ -12,6 +12,7 @@ use Rattle.bounded_words.specs.Words.{stamp, markOf, fixedOf}
 use Rattle.bounded_places.specs.declared.Answer.the-variants.{Nothing}
 use Rattle.bounded_places.specs.declared.Slot.{Slot}
 use Rattle.bounded_places.specs.declared.Place.the-variants.{Idle}
+use Rattle.bounded_places.specs.declared.Worker.{Worker}
 use Rattle.bounded_machine.specs.declared.Machine.{Machine}
 use Rattle.bounded_machine.specs.Machine.{idler, idlers, freshSlots, machineOf, freshWith, freshOf}
 use Rattle.bounded_machine.specs.declared.Event.{Event}
@@ -22,6 +23,19 @@ use Rattle.bounded_proof_invariant.proofs.Width.{word-first}
 use Rattle.bounded_proof_each_act.proofs.Stamps.{Ground}
 use Rattle.bounded_proof_demand2.proofs.Reached.{lapsOf, base-of, fresh-long, fresh-at}
 use Rattle.bounded_proof_window.proofs.Rounds.{at, both, Awaiting, Rounds, goes-round}
+
+-- Every slot of a fresh ring awaits its first claim.
+pub fresh-awaits : (bits : Width) (c workers edition : ℕ) (a : Allowed c workers edition) (g : Ground bits c (markOf c) (lapsOf bits c)) (others : List Worker) (some : 0 < workers)
+    → Awaiting bits c (markOf c) (lapsOf bits c) edition g others workers some 0 (freshSlots c)
+fresh-awaits bits c workers edition a g others some =
+    record {
+      long = omega (arith, fresh-long c, a .slot-most);
+      stamps =
+          λ j low high.
+          let small : j < c = omega arith in
+          ap (λ (z : Slot). z .stamp) (fresh-at c (j % c) (a .slot-most) (mod-lt j (a .slot-some)))
+          ∙ ap stamp (mod-eq-of-lt small ∙ sym (word-first c (markOf c) (lapsOf bits c) (g .laws) j small));
+    }
 
 module _ (bits : Width) (c edition : ℕ) (a : Allowed c 1 edition) where
   abbrev pub laps : ℕ
@@ -43,15 +57,7 @@ module _ (bits : Width) (c edition : ℕ) (a : Allowed c 1 edition) where
       (sym (word-first c (markOf c) laps (ground .laws) 0 (a .slot-some)))
 
   awaiting : Awaiting bits c (markOf c) laps edition ground (replicate 15 idler) 1 one 0 (freshSlots c)
-  awaiting =
-      record {
-        long = omega (arith, fresh-long c, a .slot-most);
-        stamps =
-            λ j low high.
-            let small : j < c = omega arith in
-            ap (λ (z : Slot). z .stamp) (fresh-at c (j % c) (a .slot-most) (mod-lt j (a .slot-some)))
-            ∙ ap stamp (mod-eq-of-lt small ∙ sym (word-first c (markOf c) laps (ground .laws) j small));
-      }
+  awaiting = fresh-awaits bits c 1 edition a ground (replicate 15 idler) one
 
   module _ (r : ℕ) (early : 10 * r ≤ meterMost) where
     pub made : (rest : List ℕ) → Rounds bits c (markOf c) laps edition ground (replicate 15 idler) 1 one first r (0 + r) (0 + 10 * r) rest

@@ -1,45 +1,57 @@
--- A window of one claim more does not do: at capacity 1 the push that sleeps at P6 (Notions.antt) keeps it, and answers Full of an empty ring.
+-- A window of one claim more does not do, at any capacity: an is_full that sleeps between its two loads for a turn less one capacity, of a ring that is empty at both, answers yes. Nobody's word is older
+-- than that, since there were no more claims in all.
 use mathlib.Core.Path.{_≡_, refl, sym, ap, _∙_, subst}
 use mathlib.Core.Bool.{Bool, true, false, cond, true≢false}
-use mathlib.Core.List.{List, [], _∷_, _++_, append-assoc}
-use Prim.Native.Nat.{ℕ, zero, suc, _+_, _≤_, _<_}
+use mathlib.Core.List.{List, [], _∷_, _++_, append-assoc, append-nil}
+use Prim.Native.Nat.{ℕ, zero, suc, _+_, _*_, _-_, _%_, _/_, _≤_, _<_}
 use native.Mathlib.Omega.{arith}
-use native.Mathlib.Decide.{decLt}
+use native.Mathlib.Nat.{mod-eq-of-lt, div-eq-of-lt, add-mod-right, mul-le-mul-left}
+use lib.Arith.{digits-div, digits-mod}
 use lib.Dec.{eqb}
-use lib.ListN.{length, length-append}
-use lib.Seq.{getD-set-other}
-use Rattle.queue_entries.specs.Limits.{workersMost}
-use Rattle.queue_entries.specs.declared.Entry.{Entry}
-use Rattle.queue_entries.specs.Schedules.{historyBy}
+use lib.ListN.{length, length-append, getD, replicate}
+use borrow.Author.Tests.{ne-eqb}
+use Rattle.queue_entries.specs.Limits.{workersMost, meterMost}
+use Rattle.queue_entries.specs.declared.Call.the-variants as call
+use Rattle.queue_entries.specs.declared.Order.the-variants.{Begin}
+use Rattle.queue_entries.specs.declared.Entry.the-variants.{Asks}
+use Rattle.queue_entries.specs.Schedules.{runBy, historyBy}
 use Rattle.queue_entries.specs.Entries.{strayOf, orderOf, entryOf}
+use Rattle.bounded_words.specs.declared.Stamp.{Stamp}
 use Rattle.bounded_words.specs.declared.Fixed.{Fixed}
 use Rattle.bounded_words.specs.declared.Width.{Width}
 use Rattle.bounded_words.specs.declared.Width.the-variants.{Sixteen}
-use Rattle.bounded_words.specs.Words.{stamp, claim, markedOf, unmarkedOf, plus, withMark, nextOf, same, onePast, lapBehind, lapBehindOnePast}
-use Rattle.bounded_places.specs.declared.Kind.the-variants.{Push}
-use Rattle.bounded_places.specs.declared.Answer.the-variants as answer
-use Rattle.bounded_places.specs.declared.Answer.the-variants.{Popped}
-use Rattle.bounded_places.specs.declared.Loss.the-variants as loss
-use Rattle.bounded_places.specs.declared.Place.{Place}
-use Rattle.bounded_places.specs.declared.Place.the-variants.{Idle, P1, P2, P6, O4, O5}
+use Rattle.bounded_words.specs.Words.{stamp, markOf, fixedOf, unmarkedOf, lapBehind}
+use Rattle.bounded_places.specs.declared.Slot.{Slot}
+use Rattle.bounded_places.specs.declared.Ends.{Ends}
+use Rattle.bounded_places.specs.declared.Answer.{Answer}
+use Rattle.bounded_places.specs.declared.Answer.the-variants.{Nothing, Yes}
+use Rattle.bounded_places.specs.declared.Place.the-variants.{Idle, Full1, Full2}
 use Rattle.bounded_places.specs.declared.Worker.{Worker}
 use Rattle.bounded_places.specs.declared.Moved.{Moved}
 use Rattle.bounded_places.specs.declared.Moved.the-variants.{Neither, Tail, Head}
-use Rattle.bounded_acts.specs.Acts.{goes, losing, exchangeOf, afterTail, tailTo, headTo, stampTo, valueTo}
+use Rattle.bounded_acts.specs.Acts.{goes, actOf}
 use Rattle.bounded_machine.specs.declared.Machine.{Machine}
 use Rattle.bounded_machine.specs.declared.Event.{Event}
 use Rattle.bounded_machine.specs.declared.Tally.{Tally}
-use Rattle.bounded_machine.specs.Machine.{idler, freshWith, freshOf, accepted}
-use Rattle.bounded_machine.specs.Turn.{recordAfter, begun, stored, actedBy, turnAt, turnOfBy}
-use Rattle.bounded_machine.specs.History.{event, eventsOf, historyAt, movedOf, untallied, tallyOf}
-use Rattle.bounded_demands.specs.Notions.{ofWidth, machineAfter, actsOf, acts, tailBy, headBy, tailersOf, takersOf, tally, holdingAt, holds, givesTo, sinceFrom, since, widestLength, KeepsWindowOf, rounds, sleepingPush}
-use Rattle.bounded_demands.specs.Demands.{NoWider}
+use Rattle.bounded_machine.specs.Machine.{slot, idler, idlers, freshSlots, machineOf, freshWith, freshOf}
+use Rattle.bounded_machine.specs.Turn.{beginner, turnAt}
+use Rattle.bounded_machine.specs.Run.{ran, runAt}
+use Rattle.bounded_machine.specs.History.{eventsOf, historyAt, movedOf, untallied, tallyOf}
+use Rattle.bounded_demands.specs.Notions.{ofWidth, Allowed, machineAfter, actsOf, acts, tailBy, headBy, tailersOf, takersOf, tally, givesTo, sinceFrom, since, widestLength, KeepsWindowOf, rounds}
+use Rattle.bounded_demands.specs.Demands.{FullTrue, NoWider, NoWiderAnywhere}
+use Rattle.queue_schedules.proofs.Alone.{act-entry}
+use Rattle.bounded_proof_invariant.proofs.Width.{word, Near, turn-long, word-first}
+use Rattle.bounded_proof_each_act.proofs.Stamps as stamps
+use Rattle.bounded_proof_each_act.proofs.Stamps.{Ground, fixed, W}
 use Rattle.bounded_proof_demand2.proofs.Counts.{tally-tail, tally-head}
-use Rattle.bounded_proof_demand2.proofs.Turns.{Turned, began, did, stood}
-use Rattle.bounded_proof_demand2.proofs.Window.{tails, heads, tally-more, since-claims}
-use Rattle.bounded_proof_demand2.proofs.Reached.{along-any, fresh-record}
-use Rattle.bounded_proof_window.proofs.Paths.{tally-both, on, Step, Follows, wordsOf, lastOf, doneBy, follows}
-use Rattle.bounded_proof_window.proofs.Asleep.{to, empties, stand, fresh, fresh-is, pushing, pushes, pushed-on, push-acts, made-fixed, allowed, not-idle}
+use Rattle.bounded_proof_demand2.proofs.Demand2.{same-fixed}
+use Rattle.bounded_proof_demand2.proofs.Reached.{lapsOf, base-of}
+use Rattle.bounded_proof_demand2.proofs.Window.{tails, heads, tally-more, turn-is}
+use Rattle.bounded_proof_window.proofs.Paths.{tally-both, Goes, on}
+use Rattle.bounded_proof_window.proofs.Acting as acting
+use Rattle.bounded_proof_window.proofs.Pushing.{same-self}
+use Rattle.bounded_proof_window.proofs.Rounds.{at, both, Rounds, goes-round}
+use Rattle.bounded_proof_window.proofs.Kept.{fresh-awaits}
 
 -- whoever claims
 whose : (x : Moved) (w : ℕ) → (length (tailBy x w) ≡ tails x) × (length (headBy x w) ≡ heads x)
@@ -91,58 +103,6 @@ begins-so (first ∷ second ∷ rest) after m = go (eqb (turnAt Sixteen m first 
     go true q = (q .0, ap (λ (l : List Event). es ++ l) (q .1) ∙ sym (append-assoc es (historyAt Sixteen next rest) (q .0)))
     go false q = ([], refl)
 
--- ---- its acts: the first thirteen, up to the load by which worker 0 begins the first round, and the rest
-
-rounds-more : (n : ℕ) → rounds (suc n) ≡ 0 ∷ 7 ∷ 8 ∷ 0 ∷ acts 0 4 ++ 2 ∷ 0 ∷ acts 0 5 ++ rounds n
-unfolding rounds acts
-rounds-more n = refl
-
-abbrev rest : List ℕ
-rest = acts 0 4 ++ 2 ∷ 0 ∷ acts 0 5 ++ rounds 16382
-
-abbrev sleeper : Place
-sleeper = P6 (stamp 4) 9
-
-abbrev loading : List (Step Sixteen)
-loading =
-    to 0 7 (stand 1 empties 4 4 4 7 (P1 Push 7) sleeper 12)
-    ∷ to 8 0 (stand 1 empties 4 4 4 7 (P2 Push (stamp 4) 7) sleeper 13) ∷ []
-
-loads : Follows Sixteen (lastOf Sixteen (fresh 1) pushing) loading
-unfolding markedOf strayOf orderOf entryOf goes losing afterTail accepted recordAfter begun stored actedBy turnOfBy
-loads = (refl, (refl, tt))
-
-abbrev begun-by : List Event
-begun-by = doneBy Sixteen (fresh 1) pushing ++ doneBy Sixteen (lastOf Sixteen (fresh 1) pushing) loading
-
-abbrev later : List Event
-later = historyAt Sixteen (lastOf Sixteen (lastOf Sixteen (fresh 1) pushing) loading) rest
-
-words-are : sleepingPush ≡ wordsOf Sixteen pushing (wordsOf Sixteen loading rest)
-unfolding sleepingPush acts
-words-are = ap (wordsOf Sixteen pushing) (rounds-more 16382)
-
-abbrev whole : List Event
-whole = actsOf (ofWidth Sixteen) 1 2 1 sleepingPush
-
-whole-is : whole ≡ begun-by ++ later
-whole-is =
-    ap (λ (m : Machine). historyAt Sixteen m sleepingPush) (fresh-is 1) ∙ ap (historyAt Sixteen (fresh 1)) words-are
-    ∙ on Sixteen (follows Sixteen pushing (fresh 1) pushes (wordsOf Sixteen loading rest)) (follows Sixteen loading (lastOf Sixteen (fresh 1) pushing) loads rest) .history
-
--- ---- its claims
-
-first-tally : tally (doneBy Sixteen (fresh 1) pushing) ≡ record { tail = claim 1; head = claim 1; reads = 1 }
-unfolding markedOf unmarkedOf plus withMark nextOf same onePast lapBehind lapBehindOnePast strayOf orderOf entryOf goes losing exchangeOf afterTail tailTo headTo stampTo valueTo accepted recordAfter begun stored actedBy turnOfBy tallyOf
-first-tally = refl
-
-begun-claims : (length (tailersOf begun-by) ≡ 1) × (length (takersOf begun-by) ≡ 1) × (length begun-by ≡ 13)
-unfolding markedOf unmarkedOf plus withMark nextOf same onePast lapBehind lapBehindOnePast strayOf orderOf entryOf goes losing exchangeOf afterTail tailTo headTo stampTo valueTo accepted recordAfter begun stored actedBy turnOfBy tailersOf takersOf
-begun-claims = (refl, refl, refl)
-
-whole-tally : tally whole ≡ tallyOf (pushed-on .done) (record { tail = claim 1; head = claim 1; reads = 1 })
-whole-tally = ap tally push-acts ∙ tally-both (doneBy Sixteen (fresh 1) pushing) (pushed-on .done) untallied ∙ ap (tallyOf (pushed-on .done)) first-tally
-
 claims-both : (a b : List Event) → (length (tailersOf (a ++ b)) ≡ length (tailersOf a) + length (tailersOf b)) × (length (takersOf (a ++ b)) ≡ length (takersOf a) + length (takersOf b))
 unfolding tailersOf takersOf
 claims-both [] b = (omega arith, omega arith)
@@ -153,132 +113,189 @@ claims-both (e ∷ a) b =
       omega (arith, q .1, length-append (headBy x (e .worker)) (takersOf (a ++ b)), length-append (headBy x (e .worker)) (takersOf a)),
     )
 
-later-claims : (length (tailersOf later) ≡ 16383) × (length (takersOf later) ≡ 16383)
-later-claims =
-    let parts = claims-both begun-by later in
-    let tails-all : length (tailersOf (begun-by ++ later)) ≡ 16384 =
-    ap (λ (l : List Event). length (tailersOf l)) (sym whole-is) ∙ sym (tally-tail whole) ∙ ap (λ (t : Tally). t .tail .0) whole-tally
-    ∙ pushed-on .tails (record { tail = claim 1; head = claim 1; reads = 1 }) in
-    let heads-all : length (takersOf (begun-by ++ later)) ≡ 16384 =
-    ap (λ (l : List Event). length (takersOf l)) (sym whole-is) ∙ sym (tally-head whole) ∙ ap (λ (t : Tally). t .head .0) whole-tally
-    ∙ pushed-on .heads (record { tail = claim 1; head = claim 1; reads = 1 }) in
-    (omega (arith, parts .0, tails-all, begun-claims .0), omega (arith, parts .1, heads-all, begun-claims .1))
+-- ---- after a turn the first word comes again
+module _ (c mark n : ℕ) (some : 0 < c) (turns : 0 < n) where
+  comes-again : word c mark n (n * c) ≡ word c mark n 0
+  unfolding word
+  comes-again =
+      let e : n * c ≡ n * c + 0 = omega arith in
+      let laps-all : n * c / c ≡ n = ap (λ (x : ℕ). x / c) e ∙ digits-div n some in
+      let index-none : n * c % c ≡ 0 = ap (λ (x : ℕ). x % c) e ∙ digits-mod n some in
+      let once : n ≡ 0 + n = omega arith in
+      let round : n % n ≡ 0 = ap (λ (x : ℕ). x % n) once ∙ add-mod-right 0 n ∙ mod-eq-of-lt turns in
+      rw (laps-all, index-none, round, div-eq-of-lt some, mod-eq-of-lt some, mod-eq-of-lt turns)
 
--- ---- the words of the two workers, from there on
-
-abbrev Calm : ℕ → List Event → Type 0
-Calm w l = (h : List Event) → since w (begun-by ++ h) ≡ sinceFrom w l h
-
--- worker 0 has just got its own, and worker 1 has slept through these
-own-since : Calm 0 []
-unfolding markedOf unmarkedOf plus withMark nextOf same onePast lapBehind lapBehindOnePast strayOf orderOf entryOf goes losing exchangeOf afterTail tailTo headTo stampTo valueTo accepted recordAfter begun stored actedBy turnOfBy sinceFrom
-own-since h = refl
-
-abbrev slept : List Event
-slept =
-    event 1 (P2 Push (stamp 4) 9) (P6 (stamp 4) 9) loss.Nothing
-    ∷ event 0 (O4 (stamp 0)) (O5 (stamp 0) 7) loss.Nothing
-    ∷ event 0 (O5 (stamp 0) 7) (Idle (Popped 7)) loss.Nothing
-    ∷ event 0 (P1 Push 7) (P2 Push (stamp 4) 7) loss.Nothing ∷ []
-
-slept-since : Calm 1 slept
-unfolding markedOf unmarkedOf plus withMark nextOf same onePast lapBehind lapBehindOnePast strayOf orderOf entryOf goes losing exchangeOf afterTail tailTo headTo stampTo valueTo accepted recordAfter begun stored actedBy turnOfBy sinceFrom
-slept-since h = refl
-
-slept-none : (tally slept .tail .0 ≡ 0) × (tally slept .head .0 ≡ 0)
-unfolding tallyOf
-slept-none = (refl, refl)
-
--- no other is ever begun
-record Quiet (m : Machine) (h : List Event) : Type 0 where
-  pub two-are : m .count ≡ 2
-  pub others-rest : (w : ℕ) → 2 ≤ w → stood m w ≡ Idle answer.Nothing
-
-quiet-kept : (m : Machine) (h : List Event) (en : Entry) (next : Machine) (acts : List Event) → Quiet m h → Turned Sixteen m en next acts → Quiet next (h ++ acts)
-unfolding begun actedBy stored
-quiet-kept m h en next acts o (began v call l idle) =
-    record {
-      two-are = o .two-are;
-      others-rest = λ w big. ap (λ (r : Worker). r .place) (getD-set-other (m .workers) v w _ idler (λ e. omega (arith, l, o .two-are))) ∙ o .others-rest w big;
-    }
-quiet-kept m h en next acts o (did v lose l busy early) =
-    record {
-      two-are = o .two-are;
-      others-rest = λ w big. ap (λ (r : Worker). r .place) (getD-set-other (m .workers) v w _ idler (λ e. omega (arith, l, o .two-are))) ∙ o .others-rest w big;
-    }
-
-fresh-quiet : Quiet (freshOf 1 2 1) []
-unfolding freshWith
-fresh-quiet = record { two-are = refl; others-rest = λ w big. ap (λ (r : Worker). r .place) (fresh-record workersMost 1 2 1 w) }
-
--- ---- each beginning
-
-first-or : Event → List Event → Event
-first-or d [] = d
-first-or d (e ∷ l) = e
-
-others-of : List Event → List Event
-others-of [] = []
-others-of (e ∷ l) = l
-
--- a beginning that is long enough has the first acts in it
-split-so : (b l h more : List Event) → b ++ l ≡ h ++ more → length b ≤ length h → (g : List Event) × (h ≡ b ++ g) × (l ≡ g ++ more)
-unfolding first-or others-of
-split-so [] l h more e long = (h, refl, e)
-split-so (x ∷ b) l [] more e long = absurd (omega arith)
-split-so (x ∷ b) l (y ∷ h) more e long =
-    let q = split-so b l h more (ap others-of e) (omega arith) in
-    let one : x ≡ y = ap (first-or x) e in
-    (q .0, ap (λ (z : List Event). y ∷ z) (q .1) ∙ ap (λ (z : Event). z ∷ b ++ q .0) (sym one), q .2)
+full-entry : entryOf 21 0 ≡ Asks 1 (Begin call.IsFull)
+unfolding strayOf orderOf entryOf
+full-entry = refl
 
 abbrev wider : Width → Fixed → ℕ
 wider bits f = widestLength bits f + 1
 
-abbrev Few : List Event → Type 0
-Few l = (tally l .tail .0 < 16384) × (tally l .head .0 < 16384)
+-- Worker 1's is_full loads tail of the fresh ring; then worker 0 pushes and pops, a turn less one capacity of times.
+module _ (c workers ed : ℕ) (a : Allowed c workers ed) (two : 1 < workers) where
+  abbrev mark : ℕ
+  mark = markOf c
 
-module _ (before after : List ℕ) (e : sleepingPush ≡ before ++ after) where
-  abbrev h : List Event
-  h = actsOf (ofWidth Sixteen) 1 2 1 before
+  abbrev n : ℕ
+  n = lapsOf Sixteen c
 
-  more : (l : List Event) × (whole ≡ h ++ l)
-  more = let q = begins-so before after (freshOf 1 2 1) in (q .0, ap (historyAt Sixteen (freshOf 1 2 1)) e ∙ q .1)
+  g : Ground Sixteen c mark n
+  g = base-of Sixteen workersMost c workers ed a .ground
 
-  -- of a worker whose word was given so
-  calm-few : (w : ℕ) (l : List Event) → tally l .tail .0 ≡ 0 → tally l .head .0 ≡ 0 → Calm w l → (g : List Event) → h ≡ begun-by ++ g → later ≡ g ++ more .0 → Few (since w h)
-  calm-few w l none-tail none-head calm g is rest-is =
-      let most = since-most w l g in
-      let parts = claims-both g (more .0) in
-      let tails-few : length (tailersOf g) + length (tailersOf (more .0)) ≡ 16383 = sym (parts .0) ∙ ap (λ (y : List Event). length (tailersOf y)) (sym rest-is) ∙ later-claims .0 in
-      let heads-few : length (takersOf g) + length (takersOf (more .0)) ≡ 16383 = sym (parts .1) ∙ ap (λ (y : List Event). length (takersOf y)) (sym rest-is) ∙ later-claims .1 in
-      subst Few (sym (ap (since w) is ∙ calm g)) (omega (arith, most .0, none-tail, tails-few), omega (arith, most .1, none-head, heads-few))
+  abbrev f : Fixed
+  f = fixed c mark ed
 
-  short-few : (w : ℕ) → length h < 13 → Few (since w h)
+  abbrev r : ℕ
+  r = n * c - c
+
+  turn : 3 * c ≤ n * c
+  turn = turn-long c mark n (g .laws)
+
+  -- a turn has no more claims than there are words
+  few-rounds : n * c ≤ 65536
+  few-rounds =
+      let room : c ≤ 2 * mark = omega (arith, g .laws .room) in
+      omega (arith, mul-le-mul-left n room, g .whole)
+
+  abbrev t : Stamp
+  t = W c mark n 0
+
+  abbrev others : List Worker
+  others = beginner (Full2 t) ∷ replicate 14 idler
+
+  abbrev seats : Answer → List Worker
+  seats x = beginner (Idle x) ∷ idler ∷ replicate 14 idler
+
+  some : 0 < workers
+  some = omega arith
+
+  seated : (x : Answer) → 1 < length (seats x)
+  seated x = omega arith
+
+  abbrev ends : ℕ → Ends
+  ends = both Sixteen c mark n ed g others workers some
+
+  -- where worker 1 stands, worker 0 being idle
+  abbrev standing : Answer → ℕ → List Slot → ℕ → Machine
+  standing x k slots meter = at Sixteen c mark n ed g others workers some (ends k) slots (Idle x) meter
+
+  abbrev first : Machine
+  first = machineOf f (ends 0) (freshSlots c) (seats Nothing) workers 0
+
+  fresh-is : freshOf c workers ed ≡ first
+  unfolding freshWith idlers
+  fresh-is =
+      ap (λ (x : ℕ). machineOf (fixedOf c ed) (record { head = stamp x; tail = stamp x }) (freshSlots c) (idlers workersMost) workers 0) (sym (word-first c mark n (g .laws) 0 (a .slot-some)))
+
+  abbrev looked : List Event
+  looked = acting.moves Sixteen f workers 1 two (seats Nothing) (seated Nothing) (ends 0) (freshSlots c) Full1 (Full2 t) 0
+
+  looks : (rest : List ℕ) → Goes Sixteen first (21 ∷ 0 ∷ 24 ∷ 0 ∷ rest) (standing Nothing 0 (freshSlots c) 1) rest ([] ++ looked)
+  looks rest =
+      on Sixteen
+      (acting.begins Sixteen f workers 1 two (seats Nothing) (seated Nothing) (ends 0) (freshSlots c) Nothing call.IsFull 21 0 0 full-entry (24 ∷ 0 ∷ rest))
+      (acting.looks-to Sixteen f workers 1 two (seats Nothing) (seated Nothing) (ends 0) (ends 0) (freshSlots c) Full1 (Full2 t) 0 refl (omega arith) refl rest)
+
+  sleeps : Rounds Sixteen c mark n ed g others workers some (standing Nothing 0 (freshSlots c) 1) r (0 + r) (1 + 10 * r) []
+  sleeps = goes-round Sixteen c mark n ed g others workers some r 0 (freshSlots c) Nothing 1 (fresh-awaits Sixteen c workers ed a g others some) (omega (arith, few-rounds)) []
+
+  abbrev words : List ℕ
+  words = 21 ∷ 0 ∷ 24 ∷ 0 ∷ rounds r
+
+  abbrev last : Machine
+  last = standing (sleeps .answer) (0 + r) (sleeps .slots) (1 + 10 * r)
+
+  asleep : Goes Sixteen first (21 ∷ 0 ∷ 24 ∷ 0 ∷ rounds r ++ []) last [] (([] ++ looked) ++ sleeps .done)
+  asleep = on Sixteen (looks (rounds r ++ [])) (sleeps .goes-on)
+
+  woken : machineAfter (ofWidth Sixteen) c workers ed words ≡ last
+  unfolding runBy ran
+  woken =
+      ap (λ (m : Machine). runAt Sixteen m 0 words .machine) fresh-is ∙ ap (λ (l : List ℕ). runAt Sixteen first 0 (21 ∷ 0 ∷ 24 ∷ 0 ∷ l) .machine) (sym (append-nil (rounds r))) ∙ asleep .run
+
+  abbrev whole : List Event
+  whole = actsOf (ofWidth Sixteen) c workers ed words
+
+  whole-is : whole ≡ looked ++ sleeps .done
+  unfolding historyBy
+  whole-is =
+      ap (λ (m : Machine). historyAt Sixteen m words) fresh-is ∙ ap (λ (l : List ℕ). historyAt Sixteen first (21 ∷ 0 ∷ 24 ∷ 0 ∷ l)) (sym (append-nil (rounds r))) ∙ asleep .history
+      ∙ append-nil (looked ++ sleeps .done)
+
+  whole-tally : tally whole ≡ tallyOf (sleeps .done) untallied
   unfolding tallyOf
-  short-few w short = let q = since-claims w h in (omega (arith, q .0), omega (arith, q .1))
+  whole-tally = ap tally whole-is ∙ tally-both looked (sleeps .done) untallied
 
-  few : (w : ℕ) → holds (holdingAt (stood (machineAfter (ofWidth Sixteen) 1 2 1 before) w)) ≡ true → Few (since w h)
+  whole-claims : (length (tailersOf whole) ≡ r) × (length (takersOf whole) ≡ r)
+  whole-claims = (
+    sym (tally-tail whole) ∙ ap (λ (z : Tally). z .tail .0) whole-tally ∙ sleeps .tails untallied ∙ omega arith,
+    sym (tally-head whole) ∙ ap (λ (z : Tally). z .head .0) whole-tally ∙ sleeps .heads untallied ∙ omega arith,
+  )
+
+  -- ---- nobody holds a word for longer
+
+  few : (before after : List ℕ) → words ≡ before ++ after → (w : ℕ)
+      → (tally (since w (actsOf (ofWidth Sixteen) c workers ed before)) .tail .0 < wider Sixteen f) × (tally (since w (actsOf (ofWidth Sixteen) c workers ed before)) .head .0 < wider Sixteen f)
   unfolding tallyOf
-  few w held = go (decLt (length h) 13)
-    where
-      long : (length h < 13 → ⊥) → (g : List Event) × (h ≡ begun-by ++ g) × (later ≡ g ++ more .0)
-      long n = split-so begun-by later h (more .0) (sym whole-is ∙ more .1) (omega (arith, begun-claims .2))
+  few before after e w =
+      let h = actsOf (ofWidth Sixteen) c workers ed before in
+      let q = begins-so before after (freshOf c workers ed) in
+      let is : whole ≡ h ++ q .0 = ap (historyAt Sixteen (freshOf c workers ed)) e ∙ q .1 in
+      let parts = claims-both h (q .0) in
+      let most = since-most w [] h in
+      let tails-few : length (tailersOf h) + length (tailersOf (q .0)) ≡ r = sym (parts .0) ∙ ap (λ (l : List Event). length (tailersOf l)) (sym is) ∙ whole-claims .0 in
+      let heads-few : length (takersOf h) + length (takersOf (q .0)) ≡ r = sym (parts .1) ∙ ap (λ (l : List Event). length (takersOf l)) (sym is) ∙ whole-claims .1 in
+      let long = turn-is Sixteen c mark n ed g in
+      (omega (arith, most .0, tails-few, long), omega (arith, most .1, heads-few, long))
 
-      which : (v : ℕ) → w ≡ v → (g : List Event) × (h ≡ begun-by ++ g) × (later ≡ g ++ more .0) → Few (since v h)
-      which zero z q = calm-few 0 [] refl refl own-since (q .0) (q .1) (q .2)
-      which (suc zero) z q = calm-few 1 slept (slept-none .0) (slept-none .1) slept-since (q .0) (q .1) (q .2)
-      which (suc (suc v)) z q =
-          let o = along-any Sixteen Quiet quiet-kept before (freshOf 1 2 1) [] 0 fresh-quiet in
-          absurd (true≢false (sym held ∙ ap (λ (p : Place). holds (holdingAt p)) (o .others-rest w (omega arith))))
+  made-fixed : (s : List ℕ) → machineAfter (ofWidth Sixteen) c workers ed s .ring .fixed ≡ f
+  made-fixed s = same-fixed Sixteen (freshOf c workers ed) s ∙ ap (λ (m : Machine). m .ring .fixed) fresh-is
 
-      go : Dec (length h < 13) → Few (since w h)
-      go (yes l) = short-few w l
-      go (no n) = which w refl (long n)
+  keeps : KeepsWindowOf wider (ofWidth Sixteen) (freshOf c workers ed) [] words
+  keeps before after e w held =
+      subst
+      (λ (z : Fixed). (tally (since w (actsOf (ofWidth Sixteen) c workers ed before)) .tail .0 < wider Sixteen z) × (tally (since w (actsOf (ofWidth Sixteen) c workers ed before)) .head .0 < wider Sixteen z))
+      (sym (made-fixed before)) (few before after e w)
 
-keeps : KeepsWindowOf wider (ofWidth Sixteen) (freshOf 1 2 1) [] sleepingPush
-keeps before after e w held =
-    subst (λ (f : Fixed). (tally (since w (actsOf (ofWidth Sixteen) 1 2 1 before)) .tail .0 < wider Sixteen f) × (tally (since w (actsOf (ofWidth Sixteen) 1 2 1 before)) .head .0 < wider Sixteen f))
-    (sym (made-fixed before)) (few before after e w held)
+  -- ---- and it answers yes
+
+  whole-turn : 0 + r + c ≡ n * c
+  whole-turn = omega (arith, turn)
+
+  lapped : lapBehind Sixteen f (W c mark n (0 + r)) t ≡ true
+  unfolding lapBehind
+  lapped =
+      same-self _ t
+      (stamps.plus-lap Sixteen c mark n g (0 + r) ∙ ap (W c mark n) whole-turn ∙ ap stamp (comes-again c mark n (a .slot-some) (omega (arith, g .laws .laps))))
+
+  says-yes : (z : Slot) → actOf Sixteen f (ends (0 + r)) z (Full2 t) false ≡ goes (ends (0 + r)) z (Idle Yes)
+  says-yes z = rw (stamps.unmarked-tail Sixteen c mark n g ed 0 false, lapped)
+
+  not-full : lapBehind Sixteen f (W c mark n (0 + r)) (unmarkedOf f (W c mark n (0 + r))) ≡ false
+  not-full =
+      let near : Near (n * c) (0 + r + c) (0 + r) = omega (arith, turn, a .slot-some) in
+      ap (lapBehind Sixteen f (W c mark n (0 + r))) (stamps.unmarked-tail Sixteen c mark n g ed (0 + r) false) ∙ stamps.behind-is Sixteen c mark n g ed (0 + r) (0 + r) near
+      ∙ ne-eqb (0 + r + c) (0 + r) (λ e. omega (arith, a .slot-some))
+
+  untrue : FullTrue (ofWidth Sixteen) last → ⊥
+  untrue o =
+      let x = sleeps .answer in
+      let slots = sleeps .slots in
+      true≢false
+      (sym (o 1 (acting.after Sixteen f workers 1 two (seats x) (seated x) (ends (0 + r)) (ends (0 + r)) slots (getD slots 0 (slot 0 0)) (Full2 t) (Idle Yes) (1 + 10 * r) refl (omega (arith, few-rounds)) (says-yes _)) t refl
+      (record {
+        first = 24;
+        second = 0;
+        lose = false;
+        asks = act-entry 1;
+        done = acting.turns-to Sixteen f workers 1 two (seats x) (seated x) (ends (0 + r)) (ends (0 + r)) slots (getD slots 0 (slot 0 0)) (Full2 t) (Idle Yes) (1 + 10 * r) refl (omega (arith, few-rounds)) (says-yes _);
+      }) refl) ∙ not-full)
+
+pub no-wider-anywhere : NoWiderAnywhere
+no-wider-anywhere c workers ed a two all = untrue c workers ed a two (subst (FullTrue (ofWidth Sixteen)) (woken c workers ed a two) (all (words c workers ed a two) (keeps c workers ed a two) .within .demand2 .full))
 
 pub no-wider : NoWider
-no-wider all = not-idle .untrue (all 1 2 1 allowed sleepingPush keeps .within .demand2 .answers)
+no-wider all =
+    let allowed : Allowed 1 2 1 = record { slot-some = omega arith; slot-most = omega arith; worker-some = omega arith; worker-most = omega arith; edition-some = omega arith; edition-most = omega arith } in
+    no-wider-anywhere 1 2 1 allowed (omega arith) (all 1 2 1 allowed)

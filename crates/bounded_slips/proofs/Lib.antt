@@ -3,4 +3,5 @@ pub mod Ways
 pub mod Refuted
 pub mod Faithful
 pub mod RefutedPlain
+pub mod OneByOne
 pub mod RefutedCounts

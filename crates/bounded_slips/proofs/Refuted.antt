@@ -75,7 +75,7 @@ next t = turnOfBy (actWith (t .slip)) (reached t) 24 0 .machine
 claimed : Head ≡ Neither → ⊥
 claimed e = let q : _≡_ {A = ℕ} 0 1 = cc in omega arith
 
-readable : entryOf 0 5 ≡ Unreadable → ⊥
+pub readable : entryOf 0 5 ≡ Unreadable → ⊥
 unfolding strayOf orderOf entryOf
 readable e = let q : _≡_ {A = ℕ} 0 1 = cc in omega arith
 

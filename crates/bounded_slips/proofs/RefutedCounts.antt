@@ -23,12 +23,13 @@ use Rattle.bounded_machine.specs.Broken.{byRule, endsFit, placeFits, recordFits
 use Rattle.bounded_machine.specs.Turn.{beginner, recordAfter, begun, stored, actedBy, turnOfBy}
 use Rattle.bounded_machine.specs.Run.{ran}
 use Rattle.bounded_machine.specs.History.{event, tallyOf, stockOf, untakenOf}
-use Rattle.bounded_sixteen_bits.specs.SixteenBits.{Short, ShortSlots}
+use Rattle.bounded_sixteen_bits.specs.SixteenBits.{Short, ShortSlots, widened, narrowed}
 use Rattle.bounded_demands.specs.Notions.{acts, talliedFrom, readsIn, takersOf, lostFrom, cutTo}
 use Rattle.bounded_demands.specs.Shelves.{pushes, forces}
 use Rattle.bounded_slips.specs.Refuted.{does, popLoses, closedF, reached}
 use Rattle.bounded_slips.specs.RefutedCounts.{RefutedCounts}
-use Rattle.bounded_slips.proofs.Refuted.{one-two}
+use Rattle.bounded_slips.proofs.Refuted.{one-two, readable}
+use Rattle.bounded_slips.proofs.Ways.{busyAt}
 
 -- a value read out; a head claim
 read : List Event
@@ -50,7 +51,7 @@ unfolding nearEnd
 short = record { head = omega arith; tail = omega arith; slots = one-short }
 
 pub refuted-counts : RefutedCounts
-unfolding read taken nearEnd forcedTail doubled markOf markedOf unmarkedOf plus minus withMark nextOf same onePast lapBehind lapBehindOnePast inside strayOf orderOf entryOf goes losing exchangeOf afterTail tailTo headTo stampTo valueTo emptySlots stamped freshSlots idlers freshWith refused accepted all inLimits byRule endsFit placeFits recordFits recordsFit brokenWith ringFits recordAfter begun stored actedBy turnOfBy ran runBy historyBy tallyOf stockOf untakenOf acts talliedFrom readsIn takersOf lostFrom cutTo pushes forces
+unfolding read taken nearEnd forcedTail doubled markOf markedOf unmarkedOf plus minus withMark nextOf same onePast lapBehind lapBehindOnePast inside strayOf orderOf entryOf goes losing exchangeOf afterTail tailTo headTo stampTo valueTo emptySlots stamped freshSlots idlers freshWith refused accepted all inLimits byRule endsFit placeFits recordFits recordsFit brokenWith ringFits recordAfter begun stored actedBy turnOfBy ran runBy historyBy tallyOf stockOf untakenOf acts talliedFrom readsIn takersOf lostFrom cutTo widened narrowed pushes forces
 refuted-counts =
     record {
       reads = λ t. let q : _≡_ {A = ℕ} 0 1 = t .reads read (omega arith) in omega arith;
@@ -61,4 +62,6 @@ refuted-counts =
       close-anywhere = λ o. true≢false (sym (o (reached closedF) refl refl refl (acts 0 2)));
       words-of-64 = λ f. let q : 65536 < 65536 = f .entry nearEnd 8 0 short .tail in omega arith;
       cut-to-fifteen = λ f. let q : _≡_ {A = ℕ} 32764 65532 = ap (λ (m : Machine). m .ring .ends .head .0) (f .uncut nearEnd short) in omega arith;
+      same-numbers = λ s. let q : _≡_ {A = ℕ} 32764 65532 = ap (λ (m : Machine). m .ring .ends .head .0) (s .again nearEnd) in omega arith;
+      not-run = λ s. true≢false (sym (ap (λ (m : Machine). busyAt m 0) (s .reaches 1 2 1 one-two (0 ∷ 5 ∷ []) refl (readable, tt))));
     }

@@ -1,8 +1,9 @@
--- Which tables are no plain queue's: of each slip a schedule on which `AnswersPlain` is false.
+-- Which tables are no plain queue's: of each slip a schedule on which `AnswersPlain` is false; and of which `OneStep` is.
 use Prim.Native.Nat.{ℕ}
 use mathlib.Core.List.{List, [], _∷_, _++_}
-use Rattle.bounded_demands.specs.Notions.{acts}
-use Rattle.bounded_demands.specs.Demands.{AnswersPlain}
+use Rattle.bounded_demands.specs.Notions.{acts, document01}
+use Rattle.bounded_demands.specs.Stories.{storyOf, momentNamed}
+use Rattle.bounded_demands.specs.Demands.{AnswersPlain, OneStep, NamesMomentsBy}
 use Rattle.bounded_slips.specs.Slips.{unwritten, fullUnseen, stampBeforeValue, emptyUnseen, lenLooksOnce, emptyTailFirst, fullHeadFirst, pushWritesLate, forceForgets, closedTooSoon, closedUnseen, handsOutAgain, anotherItem, anotherForced, lostSaysPushed, emptySaysNo, fullSaysNo, closeSaysYes, closedSaysNo, lostDropsTheMark, forceKeeps, pushStampUntested, forceUncompared, emptyOfClosed, slipped}
 use Rattle.bounded_slips.specs.Refuted.{Trial, trial, trialIn, does}
 
@@ -123,3 +124,17 @@ pub record RefutedPlain : Type 0 where
   pub full-says-no : Unplain fullDenied
   pub close-says-yes : Unplain closedTwice
   pub closed-says-no : Unplain closedDenied
+
+-- ---- one step a call
+
+-- a pop of a ring to which nothing was pushed
+abbrev pub popOfNone : Trial
+popOfNone = trial handsOutAgain 1 (does 0 2 0 3)
+
+pub record RefutedOneStep : Type 0 where
+  -- two closes both answer yes: a force_push of edition 2 has cleared the mark between them
+  pub force-forgets : OneStep (slipped forceForgets) → ⊥
+  -- one pop, and it hands out something
+  pub hands-out-again : OneStep (slipped (popOfNone .slip)) → ⊥
+  -- named by what is kept of no story
+  pub moments-unkept : NamesMomentsBy (λ capacity earlier act. momentNamed capacity [] act) 1 1 (storyOf document01 1 2 1 (does 0 0 5 1)) → ⊥

@@ -36,7 +36,7 @@ use Rattle.bounded_machine.specs.Run.{ran, runWith, runFrom, runAt}
 use Rattle.bounded_machine.specs.declared.Tally.{Tally}
 use Rattle.bounded_machine.specs.History.{lossAt, historyWith, historyOf, movedOf, readsAt, counted, readOn, untakenOf, historyAt}
 use Rattle.bounded_demands.specs.Notions.{Definition, byTable, document01, itemIn, tally, stock, isNew, holdingAt, mostOf}
-use Rattle.bounded_demands.specs.Demands.{UnderEverySchedule, NothingWraps, ActByAct, WholeSchedules, LenTrue, ScheduledAlone, StockUnderEverySchedule, LossesUnderEverySchedule, CountsAside, CloseHolds, ClosedIsLast, AnswersPlain}
+use Rattle.bounded_demands.specs.Demands.{UnderEverySchedule, NothingWraps, ActByAct, WholeSchedules, LenTrue, ScheduledAlone, StockUnderEverySchedule, LossesUnderEverySchedule, CountsAside, CloseHolds, ClosedIsLast, AnswersPlain, OneStep}
 
 -- ---- the slips
 
@@ -418,4 +418,4 @@ Faithful = (given ≡ document01) × (givenStock ≡ stock)
 abbrev pub Stands : Type 0
 Stands =
     UnderEverySchedule given × NothingWraps given × ActByAct given × WholeSchedules given × LenTrue given × ScheduledAlone given × StockUnderEverySchedule given givenStock
-    × LossesUnderEverySchedule given × CountsAside given × CloseHolds given × ClosedIsLast given × AnswersPlain given
+    × LossesUnderEverySchedule given × CountsAside given × CloseHolds given × ClosedIsLast given × AnswersPlain given × OneStep given

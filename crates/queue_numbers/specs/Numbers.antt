@@ -1,4 +1,4 @@
--- The numbers that a refusal can have, as a list of them; 0 is none.
+-- The numbers that a refusal can have, as a list of them; 0 is none. And the functions of a face, of which demand 1 is said.
 use Prim.Native.Nat.{ℕ}
 use mathlib.Core.Bool.{Bool, true, false, cond}
 use mathlib.Core.List.{List, [], _∷_}
@@ -18,3 +18,12 @@ pub record Numbers (M : Type 0) : Type 0 where
   pub run : M → List ℕ → ℕ
   -- with room for so many items
   pub contents : M → ℕ → ℕ
+
+-- What the functions of a face answer, on machines M: D of a making and of an entry, R of a schedule; and what a lent buffer holds after contents were asked for.
+pub record Functions (M D R : Type 0) : Type 0 where
+  pub make : ℕ → D
+  pub step : M → ℕ → ℕ → D
+  pub begin : M → ℕ → ℕ → D
+  pub act : M → ℕ → ℕ → D
+  pub run : M → List ℕ → R
+  pub written : M → List ℕ → List ℕ

@@ -11,10 +11,12 @@ use Rattle.queue_entries.specs.Limits.{meterMost}
 use Rattle.queue_entries.specs.declared.Call.{Call}
 use Rattle.queue_entries.specs.declared.Call.the-variants.{Push, Close}
 use Rattle.queue_entries.specs.declared.Told.{Told}
+use Rattle.queue_entries.specs.declared.Told.the-variants as answer
 use Rattle.queue_entries.specs.Told.{told}
 use Rattle.queue_entries.specs.declared.Entry.the-variants.{Unreadable}
 use Rattle.queue_entries.specs.Entries.{entryOf}
-use Rattle.queue_numbers.specs.Numbers.{has, Numbers}
+use Rattle.queue_numbers.specs.Numbers.{has, Numbers, Functions}
+use Rattle.queue_numbers.specs.Answers.{BothWays, numberIn, valueIn}
 use Rattle.queue_plain.specs.Plain.{answerOf, Pushed}
 use Rattle.queue_plain.specs.Story.{Does, actsIn, fresh, cameFrom, wentFrom}
 use Rattle.queue_plain.specs.Story.{itemsOf as itemsBegun}
@@ -129,19 +131,26 @@ RoomNeeded d =
 -- That each gets an answer is what the functions of crate single promise: none has a `requires`, and each answer is equal to a
 -- definition. What follows speaks of these definitions.
 
--- Demand 1: a refused step changes nothing, in the machine or in a lent buffer.
-pub record RefusedUnchanged : Type 0 where
+-- What crate single's functions are equal to.
+abbrev pub functions : Functions Machine Did Ran
+functions = record { make = makeOf; step = stepOf; begin = beginStepOf; act = actStepOf; run = runOf; written = written }
+
+-- Demand 1: a refused step changes nothing, in the machine or in a lent buffer. Of any functions, so that slips can be said of them.
+pub record RefusedUnchangedBy (f : Functions Machine Did Ran) : Type 0 where
   -- refusal 2 returns the blank machine
-  pub make : (workers : ℕ) → (makeOf workers .refusal ≡ 0 → ⊥) → makeOf workers .machine ≡ blank
-  pub step : (m : Machine) (first second : ℕ) → (stepOf m first second .refusal ≡ 0 → ⊥) → stepOf m first second .machine ≡ m
-  pub begin : (m : Machine) (first second : ℕ) → (beginStepOf m first second .refusal ≡ 0 → ⊥) → beginStepOf m first second .machine ≡ m
-  pub act : (m : Machine) (first second : ℕ) → (actStepOf m first second .refusal ≡ 0 → ⊥) → actStepOf m first second .machine ≡ m
+  pub make : (workers : ℕ) → (f .make workers .refusal ≡ 0 → ⊥) → f .make workers .machine ≡ blank
+  pub step : (m : Machine) (first second : ℕ) → (f .step m first second .refusal ≡ 0 → ⊥) → f .step m first second .machine ≡ m
+  pub begin : (m : Machine) (first second : ℕ) → (f .begin m first second .refusal ≡ 0 → ⊥) → f .begin m first second .machine ≡ m
+  pub act : (m : Machine) (first second : ℕ) → (f .act m first second .refusal ≡ 0 → ⊥) → f .act m first second .machine ≡ m
   -- a schedule that is refused at a place leaves what the entries before that place leave: they stand, and no more
-  pub run : (m : Machine) (s : List ℕ) → (runOf m s .refusal ≡ 0 → ⊥) → (runOf m s .refusal ≡ 9 → ⊥)
-      → runOf m s .machine ≡ runOf m (take (2 * runOf m s .place) s) .machine
+  pub run : (m : Machine) (s : List ℕ) → (f .run m s .refusal ≡ 0 → ⊥) → (f .run m s .refusal ≡ 9 → ⊥)
+      → f .run m s .machine ≡ f .run m (take (2 * f .run m s .place) s) .machine
   -- but one with an entry that can't be read leaves the machine as it was
-  pub unread : (m : Machine) (s : List ℕ) → runOf m s .refusal ≡ 9 → runOf m s .machine ≡ m
-  pub contents : (m : Machine) (buffer : List ℕ) → (contentsRefusal m (length buffer) ≡ 0 → ⊥) → written m buffer ≡ buffer
+  pub unread : (m : Machine) (s : List ℕ) → f .run m s .refusal ≡ 9 → f .run m s .machine ≡ m
+  pub contents : (m : Machine) (buffer : List ℕ) → (contentsRefusal m (length buffer) ≡ 0 → ⊥) → f .written m buffer ≡ buffer
+
+abbrev pub RefusedUnchanged : Type 0
+RefusedUnchanged = RefusedUnchangedBy functions
 
 -- The numbers that the functions of crate single give.
 abbrev pub refusals : Numbers Machine
@@ -181,19 +190,29 @@ pub record EachNumber (n : Numbers Machine) : Type 0 where
   pub contents : n .contents freshOne 0 ∷ n .contents pushingOne 0 ∷ n .contents blank 0 ∷ n .contents stockedOne 0 ∷ [] ≡ 0 ∷ 4 ∷ 6 ∷ 10 ∷ []
 
 -- The list is checked first (document 02, item 7): of a machine that is not broken and a schedule of whole entries.
-pub record ListFirst : Type 0 where
+pub record ListFirstBy (f : Functions Machine Did Ran) : Type 0 where
   -- the first entry that can't be read is reported, and nothing is run; k entries stand before it, and each of them can be read
   pub stops : (m : Machine) (before : List ℕ) (k first second : ℕ) (rest : List ℕ) → brokenOf m ≡ false → length (before ++ first ∷ second ∷ rest) % 2 ≡ 0
-      → length before ≡ 2 * k → Readable entryOf before → entryOf first second ≡ Unreadable → runOf m (before ++ first ∷ second ∷ rest) ≡ ran 9 k m
+      → length before ≡ 2 * k → Readable entryOf before → entryOf first second ≡ Unreadable → f .run m (before ++ first ∷ second ∷ rest) ≡ ran 9 k m
   -- a schedule that can be read is run, entry by entry
-  pub runs : (m : Machine) (s : List ℕ) → brokenOf m ≡ false → length s % 2 ≡ 0 → Readable entryOf s → runOf m s ≡ runFrom m 0 s
+  pub runs : (m : Machine) (s : List ℕ) → brokenOf m ≡ false → length s % 2 ≡ 0 → Readable entryOf s → f .run m s ≡ runFrom m 0 s
+
+abbrev pub ListFirst : Type 0
+ListFirst = ListFirstBy functions
 
 -- No entry and no schedule breaks an unbroken machine, reached or not: so refusal 6 is tested once a schedule.
-pub record StaysUnbroken : Type 0 where
-  pub step : (m : Machine) (first second : ℕ) → brokenOf m ≡ false → brokenOf (stepOf m first second .machine) ≡ false
-  pub run : (m : Machine) (s : List ℕ) → brokenOf m ≡ false → brokenOf (runOf m s .machine) ≡ false
+pub record StaysUnbrokenBy (f : Functions Machine Did Ran) : Type 0 where
+  pub step : (m : Machine) (first second : ℕ) → brokenOf m ≡ false → brokenOf (f .step m first second .machine) ≡ false
+  pub run : (m : Machine) (s : List ℕ) → brokenOf m ≡ false → brokenOf (f .run m s .machine) ≡ false
   -- and a made machine is unbroken
-  pub made : (workers : ℕ) → makeOf workers .refusal ≡ 0 → brokenOf (makeOf workers .machine) ≡ false
+  pub made : (workers : ℕ) → f .make workers .refusal ≡ 0 → brokenOf (f .make workers .machine) ≡ false
+
+abbrev pub StaysUnbroken : Type 0
+StaysUnbroken = StaysUnbrokenBy functions
+
+-- "Where an answer is an enum, a definition gives this paper's number and values for each of the enum's cases": there and back, inverse to each other, of what `contents` and `capacity` answer.
+abbrev pub EnumsBothWays : Type 0
+EnumsBothWays = BothWays answer.Refused numberIn valueIn told
 
 -- Only one answer meets a promise: of the whole answer, the machine and the lent buffer.
 pub record OnlyOne : Type 0 where

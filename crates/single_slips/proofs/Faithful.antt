@@ -9,7 +9,7 @@ use Rattle.single_demands.specs.Demands.{AnswersPlain, UnderEverySchedule, ActB
 use Rattle.single_proof_demand2.proofs.Demand2.{demand2, act-by-act, whole-schedules}
 use Rattle.single_proof_demand3.proofs.Demand3.{demand3}
 use Rattle.single_proof_plain.proofs.Plain.{answers-plain}
-use Rattle.single_slips.specs.Slips.{planted, actWith, Faithful, Stands}
+use Rattle.single_slips.specs.Slips.{planted, actWith, Faithful, FaithfulFace, Stands}
 
 -- every row
 same-act : (s : Single) (p : Place) → actWith planted s p ≡ actOf s p
@@ -33,6 +33,9 @@ same-act s IsClosed1 = refl
 
 pub faithful : Faithful
 faithful = ap byTable (λ i s p. same-act s p i)
+
+pub faithful-face : FaithfulFace
+faithful-face = refl
 
 pub stands : Stands
 stands = (

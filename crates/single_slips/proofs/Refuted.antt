@@ -5,6 +5,7 @@ use mathlib.Core.Bool.{Bool, true, false, true≢false}
 use mathlib.Core.List.{List, [], _∷_, _++_}
 use mathlib.Core.Path.{_≡_, refl, sym, ap, _∙_, subst}
 use borrow.Author.Tests.{eqb-true}
+use lib.Dec.{eqb}
 use lib.ListN.{getD}
 use Rattle.queue_entries.specs.declared.Call.the-variants as call
 use Rattle.queue_entries.specs.declared.Entry.the-variants.{Unreadable}
@@ -25,13 +26,14 @@ use Rattle.single_machine.specs.declared.Ran.{Ran}
 use Rattle.single_machine.specs.declared.Event.{Event}
 use Rattle.single_machine.specs.Machine.{idlers, freshOf, placeOf, refused, accepted}
 use Rattle.single_machine.specs.Broken.{recordFits, idleFrom, brokenOf}
-use Rattle.single_machine.specs.Contents.{contentsOf}
+use Rattle.single_machine.specs.Contents.{contentsOf, contentsRefusal, written}
 use Rattle.single_machine.specs.Turn.{begun, stored, actedBy, turnOfBy}
 use Rattle.single_machine.specs.Run.{ran}
 use Rattle.single_machine.specs.History.{event}
-use Rattle.single_demands.specs.Notions.{Allowed, actsOf, InHand, Popping, poppingC2, poppingC3, Latest, Came, popped, holdsC3, waitingFrom, closedBy, looks-len, looks-empty}
+use Rattle.single.specs.Single.{stepOf}
+use Rattle.single_demands.specs.Notions.{Allowed, machineAfter, actsOf, InHand, Popping, poppingC2, poppingC3, Latest, Came, popped, holdsC3, waitingFrom, closedBy, looks-len, looks-empty}
 use Rattle.queue_schedules.proofs.Splits.{no-cons}
-use Rattle.single_slips.specs.Slips.{slipped, unwritten, readsAfterUnlock, displacesItsOwn, alwaysFull, emptyUnclosed, popWaits, pushWaits, lenUnlocked, emptyIsZero, forceKeepsItsWord, popKeepsItsWord, staysLocked, neverLetsGo}
+use Rattle.single_slips.specs.Slips.{slipped, closeAdds, unwritten, readsAfterUnlock, displacesItsOwn, alwaysFull, emptyUnclosed, popWaits, pushWaits, lenUnlocked, emptyIsZero, forceKeepsItsWord, popKeepsItsWord, staysLocked, neverLetsGo}
 use Rattle.single_slips.specs.Refuted.{Trial, reached, past, does, Refuted, onePush, pushPop, pushPeek, twoPops, forceDisplaces, popReadsLate, popOfNothing, forceOfNothing, popAfterClose, popBesidePop, pushBesidePop, pushBegun, lenBesidePush, emptyAfterClose, pushOnFull, forceOnFull, popOfClosed, popAfterPush, popInHand}
 use Rattle.single_slips.proofs.Meanings.{plain-push-drops, plain-force-drops, plain-another-in, plain-another-out, plain-own-out, plain-peeks, plain-full, plain-empty, plain-close, plain-len, plain-room, plain-two-pops, plain-goes-back, plain-lost}
 use Rattle.single_slips.proofs.Ways.{busyAt, anyIn, heldBy, holds-got, standing, runsFrom, never-written, not-latest, never-got, never-took, nothing-stands, plain-runs, acting, quiet, popping-busy, nobody, no-hand, always, late, at-once, busyAlong, holds-on}
@@ -149,8 +151,11 @@ readable : entryOf 0 5 ≡ Unreadable → ⊥
 unfolding strayOf orderOf entryOf
 readable e = let q : _≡_ {A = ℕ} 0 1 = cc in omega arith
 
+unmetered : Machine → Bool
+unmetered m = eqb (m .meter) 0
+
 pub refuted : Refuted
-unfolding has same lockedIn pushedIn closedIn unlocked takenOf closedOf strayOf orderOf entryOf goes stateTo valueTo exchanged unlockedIn idlers freshOf refused accepted all inLimits recordFits idleFrom brokenOf contentsOf begun stored actedBy turnOfBy ran runBy searchBy scheduleBy historyBy acts passedBy ownActsBy waitingFrom closedBy anyIn heldBy standing runsFrom always busyAlong
+unfolding has stepOf contentsRefusal written unmetered same lockedIn pushedIn closedIn unlocked takenOf closedOf strayOf orderOf entryOf goes stateTo valueTo exchanged unlockedIn idlers freshOf refused accepted all inLimits recordFits idleFrom brokenOf contentsOf begun stored actedBy turnOfBy ran runBy searchBy scheduleBy historyBy acts passedBy ownActsBy waitingFrom closedBy anyIn heldBy standing runsFrom always busyAlong
 refuted =
     record {
       plain-push-drops = plain-push-drops;
@@ -215,8 +220,12 @@ refuted =
           λ l. let q : _≡_ {A = ℕ} 0 1 = ap tellAt (l 1 (next lenBesidePush) call.Len looks-len (acting (slipped lenUnlocked) (reached lenBesidePush) 1 refl refl) refl) in omega arith;
       lookers-empty =
           λ l. let q : _≡_ {A = ℕ} 1 0 = ap tellAt (l 1 (next emptyAfterClose) call.IsEmpty looks-empty (acting (slipped emptyIsZero) (reached emptyAfterClose) 1 refl refl) refl) in omega arith;
+      unchanged = λ r. true≢false (sym (ap unmetered (r .step (freshOf 2) 8 0 (λ e. omega (arith, e)))));
+      unchanged-buffer = λ r. no-cons (r .contents (freshOf 0) (7 ∷ []) (λ e. omega (arith, e)));
       numbered = λ n. true≢false (sym (n .make 1));
       each-number = λ n. let q : _≡_ {A = ℕ} 1 0 = ap (λ (l : List ℕ). getD l 0 0) (n .make) in omega arith;
+      list-first = λ r. true≢false (ap (λ (x : Ran). busyAt (x .machine) 0) (r .stops (freshOf 2) (0 ∷ 5 ∷ []) 1 10 0 [] refl refl refl (readable, tt) refl));
+      stays-unbroken = λ r. true≢false (r .step (machineAfter (slipped closeAdds) 2 (does 0 6 0 1 ++ does 0 6 0 0)) 8 0 refl);
       at-most = λ a. let q : 5 ≤ 4 = a (C1 (state 0)) .0 in omega arith;
       accepted = λ n. let q : _≡_ {A = ℕ} 8 0 = n 1 refl (omega arith) in omega arith;
       alone-push =

@@ -5,13 +5,14 @@ use mathlib.Core.Bool.{false}
 use mathlib.Core.List.{List, [], _∷_, _++_}
 use mathlib.Core.Path.{_≡_}
 use Rattle.queue_schedules.specs.Alone.{acts}
+use Rattle.queue_numbers.specs.Slips.{refusedMoves, unsearched, refusedEmpties}
 use Rattle.single_machine.specs.declared.Machine.{Machine}
 use Rattle.single_machine.specs.declared.Event.{Event}
 use Rattle.single_machine.specs.Broken.{brokenOf}
 use Rattle.single_demands.specs.Notions.{machineAfter, actsOf}
 use Rattle.single_demands.specs.Stories.{Story, storyOf}
-use Rattle.single_demands.specs.Demands.{PlainThroughout, Numbered, EachNumber, AtMost, GoesOut, OnceOut, ReadsLatest, ReadsWritten, OneHand, LockedInHand, PushedWaits, ClosedHolds, PlainQueue, TakesOut, ContentsWait, AnswersTrue, Decides, Means, LookersTrue, ActByAct, WholeSchedules, NeverRefused, AloneEnds, InTheWay, HandLetsGo, PassedAsRun}
-use Rattle.single_slips.specs.Slips.{none, pushTakesAny, pushWaits, alwaysFull, unwritten, unlocksFirst, unlockClearsPushed, staysLocked, forceKeepsLocked, forceKeepsItsWord, forceUnclosed, forceNeverDisplaces, forceAlwaysDisplaces, displacesItsOwn, popKeepsLocked, popWaits, popLeavesPushed, emptyUnclosed, popKeepsItsWord, popTakesAny, popPeeks, readsAfterUnlock, neverLetsGo, lenUnlocked, emptyIsZero, closeByStore, closeAdds, pushDrops, pushesAnother, forceDrops, emptyIsLocked, popsAnother, closeIdle, slipped, deaf, refusing, givesOne, slower}
+use Rattle.single_demands.specs.Demands.{PlainThroughout, RefusedUnchangedBy, Numbered, EachNumber, ListFirstBy, StaysUnbrokenBy, AtMost, GoesOut, OnceOut, ReadsLatest, ReadsWritten, OneHand, LockedInHand, PushedWaits, ClosedHolds, PlainQueue, TakesOut, ContentsWait, AnswersTrue, Decides, Means, LookersTrue, ActByAct, WholeSchedules, NeverRefused, AloneEnds, InTheWay, HandLetsGo, PassedAsRun}
+use Rattle.single_slips.specs.Slips.{none, pushTakesAny, pushWaits, alwaysFull, unwritten, unlocksFirst, unlockClearsPushed, staysLocked, forceKeepsLocked, forceKeepsItsWord, forceUnclosed, forceNeverDisplaces, forceAlwaysDisplaces, displacesItsOwn, popKeepsLocked, popWaits, popLeavesPushed, emptyUnclosed, popKeepsItsWord, popTakesAny, popPeeks, readsAfterUnlock, neverLetsGo, lenUnlocked, emptyIsZero, closeByStore, closeAdds, pushDrops, pushesAnother, forceDrops, emptyIsLocked, popsAnother, closeIdle, faceWith, stepsAdding, slipped, deaf, refusing, givesOne, slower}
 
 -- A schedule for a machine with two workers, with this slip.
 pub record Trial : Type 0 where
@@ -229,8 +230,12 @@ pub record Refuted : Type 0 where
   pub lookers-len : LookersTrue (slipped lenUnlocked) (reached lenBesidePush) (past lenBesidePush) → ⊥
   pub lookers-empty : LookersTrue (slipped emptyIsZero) (reached emptyAfterClose) (past emptyAfterClose) → ⊥
   -- demand 1
+  pub unchanged : RefusedUnchangedBy (faceWith refusedMoves) → ⊥
+  pub unchanged-buffer : RefusedUnchangedBy (faceWith refusedEmpties) → ⊥
   pub numbered : Numbered givesOne → ⊥
   pub each-number : EachNumber givesOne → ⊥
+  pub list-first : ListFirstBy (faceWith unsearched) → ⊥
+  pub stays-unbroken : StaysUnbrokenBy stepsAdding → ⊥
   -- demand 3
   pub at-most : AtMost slower → ⊥
   pub accepted : NeverRefused refusing (reached (pushBegun none)) → ⊥

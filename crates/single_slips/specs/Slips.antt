@@ -3,7 +3,8 @@ use Prim.Native.Nat.{ℕ, _+_, _*_, _/_}
 use mathlib.Core.Bool.{cond}
 use mathlib.Core.Path.{_≡_}
 use lib.Dec.{eqb}
-use Rattle.queue_numbers.specs.Numbers.{Numbers}
+use Rattle.queue_numbers.specs.Numbers.{Numbers, Functions}
+use Rattle.queue_numbers.specs.Slips.{Parts, functionsWith}
 use Rattle.single_words.specs.Words.{state, same, lockedIn, pushedIn, closedIn, filled, unlocked, takenOf}
 use Rattle.single_places.specs.declared.Single.{Single}
 use Rattle.single_places.specs.declared.Answer.the-variants.{Pushed, Full, Popped, Empty, Len, Yes, No}
@@ -12,12 +13,16 @@ use Rattle.single_places.specs.declared.Place.the-variants.{Idle, A1, A2, A3, B
 use Rattle.single_acts.specs.declared.Acted.{Acted}
 use Rattle.single_acts.specs.Acts.{goes, stateTo, valueTo, exchanged, unlockedIn, actOf}
 use Rattle.single_machine.specs.declared.Machine.{Machine}
-use Rattle.single_machine.specs.Machine.{refused}
-use Rattle.single_machine.specs.Turn.{turnOf}
+use Rattle.single_machine.specs.declared.Did.{Did}
+use Rattle.single_machine.specs.declared.Ran.{Ran}
+use Rattle.single_machine.specs.Machine.{machineOf, refused}
+use Rattle.single_machine.specs.Broken.{brokenOf}
+use Rattle.single_machine.specs.Contents.{contentsRefusal}
+use Rattle.single_machine.specs.Turn.{turnOf, turnOfBy}
 use Rattle.single_machine.specs.Run.{ran, runFrom}
 use Rattle.single_machine.specs.History.{historyOf}
 use Rattle.single_demands.specs.Notions.{Definition, byTable, source, mostOf}
-use Rattle.single_demands.specs.Demands.{refusals, AnswersPlain, UnderEverySchedule, ActByAct, WholeSchedules, ScheduledAlone}
+use Rattle.single_demands.specs.Demands.{functions, refusals, AnswersPlain, UnderEverySchedule, ActByAct, WholeSchedules, ScheduledAlone}
 
 -- ---- the slips
 
@@ -211,6 +216,33 @@ deaf = record { turn = turnOf; run = λ m place s. ran 0 place m; history = hist
 abbrev pub refusing : Definition
 refusing = record { turn = λ m first second. refused 8 m; run = runFrom; history = historyOf }
 
+-- ---- the functions of the face with a slip
+
+abbrev pub parts : Parts Machine Did Ran
+parts =
+    record {
+      refusal = λ d. d .refusal;
+      refused = refused;
+      metered = λ m. machineOf (m .single) (m .workers) (m .count) (m .meter + 1);
+      entries = λ m s. runFrom m 0 s;
+      unfit = contentsRefusal;
+    }
+
+abbrev pub faceWith : ℕ → Functions Machine Did Ran
+faceWith = functionsWith parts functions
+
+-- A step by the table whose close adds CLOSED.
+abbrev pub stepsAdding : Functions Machine Did Ran
+stepsAdding =
+    record {
+      make = functions .make;
+      step = λ m first second. cond (brokenOf m) (refused 6 m) (turnOfBy (actWith closeAdds) m first second);
+      begin = functions .begin;
+      act = functions .act;
+      run = functions .run;
+      written = functions .written;
+    }
+
 -- Numbers of refusals as the face gives them, but that a making is refused by 1, which document 01 gives to a capacity.
 abbrev pub givesOne : Numbers Machine
 givesOne =
@@ -232,6 +264,9 @@ given = slipped planted
 -- It is the source's, and so the demands stand.
 abbrev pub Faithful : Type 0
 Faithful = given ≡ source
+
+abbrev pub FaithfulFace : Type 0
+FaithfulFace = faceWith none ≡ functions
 
 abbrev pub Stands : Type 0
 Stands = AnswersPlain given × UnderEverySchedule given × ActByAct given × WholeSchedules given × ScheduledAlone given

@@ -1,11 +1,13 @@
--- Refusals are numbered and change nothing, and only one answer meets a promise.
+-- Refusals are numbered and change nothing, only one answer meets a promise, and answers are known by their numbers and values.
 use Prim.Native.Nat.{ℕ, zero, suc, _+_, _%_, _/_}
-use mathlib.Core.Path.{_≡_, refl, sym, _∙_}
+use mathlib.Core.Path.{_≡_, refl, sym, ap, _∙_}
 use mathlib.Core.Bool.{Bool, true, false, cond}
 use mathlib.Core.List.{List, [], _∷_, _++_}
 use mathlib.Core.Logic.{_⊎_, inl, inr}
+use native.Mathlib.Omega.{arith}
 use lib.Dec.{ltb, eqb}
 use lib.ListN.{length, drop, getD}
+use borrow.Author.Tests.{ne-eqb}
 use Rattle.tapes_numbers.specs.declared.Variant.{Variant}
 use Rattle.tapes_numbers.specs.declared.Variant.the-variants.{BigEndian, LittleEndian}
 use Rattle.tapes_fields.specs.declared.Head.{Head}
@@ -25,8 +27,8 @@ use Rattle.tapes.specs.Written.{tapeOf, most, loadFrom, fitted, writeOf, accept
 use Rattle.tapes.specs.Written as writing
 use Rattle.tapes.specs.Heard.{Heard, stopped, heard, joined, longOf, heardBy, hearFrom, hearIn, countIn, readBy, readAfter, readOf, taken, readInto}
 use Rattle.tapes.specs.Heard as reading
-use Rattle.tapes_demands.specs.Notions.{OneOf}
-use Rattle.tapes_demands.specs.Demands.{RefusedUnchanged, Numbered, OnlyOne}
+use Rattle.tapes_demands.specs.Notions.{OneOf, writingOf, aboutOf, readingOf}
+use Rattle.tapes_demands.specs.Demands.{RefusedUnchanged, Numbered, OnlyOne, EnumsBothWays}
 
 -- ---- one answer
 one : {A : Type 0} (d x y : A) → x ≡ d → y ≡ d → x ≡ y
@@ -152,3 +154,31 @@ after-number s room (head.Makes v capacity workers) p = scan-number room v capac
 pub numbered : Numbered
 unfolding readOf
 numbered = record { write = write-number; read = (λ s room. after-number s room (headIn s) (head-number s)) }
+
+-- ---- there and back
+nonzero : {A : Type 0} (n : ℕ) (x y : A) → (n ≡ 0 → ⊥) → cond (eqb n 0) x y ≡ y
+nonzero n x y ne = simp (ne-eqb n 0 ne)
+
+pub enums-both-ways : EnumsBothWays writing.numberIn reading.numberIn
+unfolding writing.numberIn writing.valueIn reading.numberIn reading.valueIn
+enums-both-ways = record { write = wrote; write-kept = write-kept; read = heard-again; read-kept = read-kept; about-kept = λ value about. refl }
+  where
+    wrote : (a : Writing) → ((value : ℕ) → a ≡ write.Refused 0 value → ⊥) → writingOf (writing.numberIn a) (writing.valueIn a) ≡ a
+    wrote (write.Tape count) ne = refl
+    wrote (write.Refused number value) ne = nonzero number _ _ (λ e. ne value (ap (λ (n : ℕ). write.Refused n value) e))
+
+    write-kept : (number value : ℕ) → (writing.numberIn (writingOf number value) ≡ number) × (writing.valueIn (writingOf number value) ≡ value)
+    write-kept zero value = (refl, refl)
+    write-kept (suc number) value =
+        let some = nonzero (suc number) (write.Tape value) (write.Refused (suc number) value) (λ e. omega arith) in
+        (ap writing.numberIn some, ap writing.valueIn some)
+
+    heard-again : (a : Reading) → ((value : ℕ) → a ≡ read.Refused 0 value → ⊥) → readingOf (reading.numberIn a) (aboutOf a) (reading.valueIn a) ≡ a
+    heard-again (read.Schedule v capacity workers count) ne = refl
+    heard-again (read.Refused number value) ne = nonzero number _ _ (λ e. ne value (ap (λ (n : ℕ). read.Refused n value) e))
+
+    read-kept : (number value : ℕ) (about : Variant × ℕ × ℕ) → (reading.numberIn (readingOf number about value) ≡ number) × (reading.valueIn (readingOf number about value) ≡ value)
+    read-kept zero value about = (refl, refl)
+    read-kept (suc number) value about =
+        let some = nonzero (suc number) (read.Schedule (about .0) (about .1) (about .2) value) (read.Refused (suc number) value) (λ e. omega arith) in
+        (ap reading.numberIn some, ap reading.valueIn some)

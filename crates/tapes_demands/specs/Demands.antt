@@ -8,6 +8,7 @@ use lib.ListN.{length, take, drop}
 use Rattle.tapes_numbers.specs.declared.Variant.{Variant}
 use Rattle.tapes.specs.declared.Writing.{Writing}
 use Rattle.tapes.specs.declared.Writing.the-variants.{Tape}
+use Rattle.tapes.specs.declared.Writing.the-variants as refusal
 use Rattle.tapes.specs.declared.Reading.{Reading}
 use Rattle.tapes.specs.declared.Reading.the-variants as reading
 use Rattle.tapes_fields.specs.declared.Head.the-variants as head
@@ -18,18 +19,37 @@ use Rattle.tapes.specs.Written.{entriesOf, tapeOf, writeOf, writtenOf}
 use Rattle.tapes.specs.Written as writing
 use Rattle.tapes.specs.Heard.{readOf, readInto}
 use Rattle.tapes.specs.Heard as heard
-use Rattle.tapes_demands.specs.Notions.{Below, OneOf, entriesLong}
+use Rattle.tapes_demands.specs.Notions.{Below, OneOf, entriesLong, writingOf, aboutOf, readingOf}
+
+-- The functions: what the writer answers, what is in the buffer after it, and the tape; what the reader answers, and what is in the buffer after it. What is asked is said of any, so that it can be said of
+-- some with a slip.
+pub record TapeFace : Type 0 where
+  pub write : ℕ → ℕ → List ℕ → ℕ → Writing
+  pub written : Variant → ℕ → ℕ → List ℕ → List ℕ → List ℕ
+  pub tape : Variant → ℕ → ℕ → List ℕ → List ℕ
+  pub read : List ℕ → ℕ → Reading
+  pub into : List ℕ → List ℕ → List ℕ
+
+-- Crate tapes's.
+abbrev pub item5 : TapeFace
+item5 = record { write = writeOf; written = writtenOf; tape = tapeOf; read = readOf; into = readInto }
 
 -- "A refusal writes nothing to the output buffer."
-pub record RefusedUnchanged : Type 0 where
+pub record RefusedUnchangedBy (f : TapeFace) : Type 0 where
   pub write : (v : Variant) (capacity workers : ℕ) (words buffer : List ℕ)
-      → (writing.numberIn (writeOf capacity workers words (length buffer)) ≡ 0 → ⊥) → writtenOf v capacity workers words buffer ≡ buffer
-  pub read : (s buffer : List ℕ) → (heard.numberIn (readOf s (length buffer)) ≡ 0 → ⊥) → readInto s buffer ≡ buffer
+      → (writing.numberIn (f .write capacity workers words (length buffer)) ≡ 0 → ⊥) → f .written v capacity workers words buffer ≡ buffer
+  pub read : (s buffer : List ℕ) → (heard.numberIn (f .read s (length buffer)) ≡ 0 → ⊥) → f .into s buffer ≡ buffer
+
+abbrev pub RefusedUnchanged : Type 0
+RefusedUnchanged = RefusedUnchangedBy item5
 
 -- The refusals of the writer, and those of the reader.
-pub record Numbered : Type 0 where
-  pub write : (capacity workers : ℕ) (words : List ℕ) (room : ℕ) → OneOf (writing.numberIn (writeOf capacity workers words room)) (0 ∷ 11 ∷ 17 ∷ 16 ∷ [])
-  pub read : (s : List ℕ) (room : ℕ) → OneOf (heard.numberIn (readOf s room)) (0 ∷ 12 ∷ 13 ∷ 14 ∷ 15 ∷ 16 ∷ [])
+pub record NumberedBy (f : TapeFace) : Type 0 where
+  pub write : (capacity workers : ℕ) (words : List ℕ) (room : ℕ) → OneOf (writing.numberIn (f .write capacity workers words room)) (0 ∷ 11 ∷ 17 ∷ 16 ∷ [])
+  pub read : (s : List ℕ) (room : ℕ) → OneOf (heard.numberIn (f .read s room)) (0 ∷ 12 ∷ 13 ∷ 14 ∷ 15 ∷ 16 ∷ [])
+
+abbrev pub Numbered : Type 0
+Numbered = NumberedBy item5
 
 -- Only one answer and one buffer meet a promise.
 pub record OnlyOne : Type 0 where
@@ -38,6 +58,15 @@ pub record OnlyOne : Type 0 where
       → (y ≡ writeOf capacity workers words (length before)) × (b ≡ writtenOf v capacity workers words before) → (x ≡ y) × (a ≡ b)
   pub read : (s before : List ℕ) (x y : Reading) (a b : List ℕ)
       → (x ≡ readOf s (length before)) × (a ≡ readInto s before) → (y ≡ readOf s (length before)) × (b ≡ readInto s before) → (x ≡ y) × (a ≡ b)
+
+-- "Where an answer is an enum, a definition gives this paper's number and values for each of the enum's cases": there and back, inverse to each other. (No answer is a refusal by 0.) Of any numbers
+-- of the cases, so that it can be said of some with a slip; it is met by `numberIn` of the writer's and the reader's answers.
+pub record EnumsBothWays (numberWritten : Writing → ℕ) (numberRead : Reading → ℕ) : Type 0 where
+  pub write : (a : Writing) → ((value : ℕ) → a ≡ refusal.Refused 0 value → ⊥) → writingOf (numberWritten a) (writing.valueIn a) ≡ a
+  pub write-kept : (number value : ℕ) → (numberWritten (writingOf number value) ≡ number) × (writing.valueIn (writingOf number value) ≡ value)
+  pub read : (a : Reading) → ((value : ℕ) → a ≡ reading.Refused 0 value → ⊥) → readingOf (numberRead a) (aboutOf a) (heard.valueIn a) ≡ a
+  pub read-kept : (number value : ℕ) (about : Variant × ℕ × ℕ) → (numberRead (readingOf number about value) ≡ number) × (heard.valueIn (readingOf number about value) ≡ value)
+  pub about-kept : (value : ℕ) (about : Variant × ℕ × ℕ) → aboutOf (readingOf 0 about value) ≡ about
 
 -- "The reader goes left to right and gives the first fault." Of any reader, so that it can be said of one with a slip; it is met by `readOf`.
 pub record FirstFault (read : List ℕ → ℕ → Reading) : Type 0 where
@@ -54,42 +83,57 @@ pub record FirstFault (read : List ℕ → ℕ → Reading) : Type 0 where
       → (v : Variant) × (capacity : ℕ) × (workers : ℕ) × (read s count ≡ reading.Schedule v capacity workers count)
 
 -- An accepted tape is as long as its answer says and as its entries say, stands at the buffer's start, and past it nothing changes.
+abbrev pub LengthBy : TapeFace → Type 0
+LengthBy f =
+    (v : Variant) (capacity workers : ℕ) (words buffer : List ℕ) (n : ℕ) → f .write capacity workers words (length buffer) ≡ Tape n
+    → (n ≡ length (f .tape v capacity workers words)) × (n ≡ 10 + entriesLong words) × (n ≤ length buffer)
+    × (take n (f .written v capacity workers words buffer) ≡ f .tape v capacity workers words)
+    × (drop n (f .written v capacity workers words buffer) ≡ drop n buffer)
+
 abbrev pub Length : Type 0
-Length =
-    (v : Variant) (capacity workers : ℕ) (words buffer : List ℕ) (n : ℕ) → writeOf capacity workers words (length buffer) ≡ Tape n
-    → (n ≡ length (tapeOf v capacity workers words)) × (n ≡ 10 + entriesLong words) × (n ≤ length buffer)
-    × (take n (writtenOf v capacity workers words buffer) ≡ tapeOf v capacity workers words)
-    × (drop n (writtenOf v capacity workers words buffer) ≡ drop n buffer)
+Length = LengthBy item5
 
 -- "Reading what was written gives the same entries, for both variants": and the same capacity and workers, or refusal 16.
-pub record ReadBack (v : Variant) (capacity workers : ℕ) (words buffer : List ℕ) (n : ℕ) : Type 0 where
+pub record ReadBackBy (f : TapeFace) (v : Variant) (capacity workers : ℕ) (words buffer : List ℕ) (n : ℕ) : Type 0 where
   pub fits : (lent : List ℕ) → length words ≤ length lent
-      → (readOf (take n (writtenOf v capacity workers words buffer)) (length lent) ≡ reading.Schedule v capacity workers (length words))
-      × (take (length words) (readInto (take n (writtenOf v capacity workers words buffer)) lent) ≡ words)
-      × (drop (length words) (readInto (take n (writtenOf v capacity workers words buffer)) lent) ≡ drop (length words) lent)
+      → (f .read (take n (f .written v capacity workers words buffer)) (length lent) ≡ reading.Schedule v capacity workers (length words))
+      × (take (length words) (f .into (take n (f .written v capacity workers words buffer)) lent) ≡ words)
+      × (drop (length words) (f .into (take n (f .written v capacity workers words buffer)) lent) ≡ drop (length words) lent)
   pub short : (room : ℕ) → room < length words
-      → readOf (take n (writtenOf v capacity workers words buffer)) room ≡ reading.Refused 16 (length words)
+      → f .read (take n (f .written v capacity workers words buffer)) room ≡ reading.Refused 16 (length words)
+
+abbrev pub ReadBack : Variant → ℕ → ℕ → List ℕ → List ℕ → ℕ → Type 0
+ReadBack = ReadBackBy item5
+
+abbrev pub ReadingWhatWasWrittenBy : TapeFace → Type 0
+ReadingWhatWasWrittenBy f =
+    (v : Variant) (capacity workers : ℕ) (words buffer : List ℕ) (n : ℕ) → Below (2 ^ 64) words
+    → f .write capacity workers words (length buffer) ≡ Tape n → ReadBackBy f v capacity workers words buffer n
 
 abbrev pub ReadingWhatWasWritten : Type 0
-ReadingWhatWasWritten =
-    (v : Variant) (capacity workers : ℕ) (words buffer : List ℕ) (n : ℕ) → Below (2 ^ 64) words
-    → writeOf capacity workers words (length buffer) ≡ Tape n → ReadBack v capacity workers words buffer n
+ReadingWhatWasWritten = ReadingWhatWasWrittenBy item5
 
 -- Writing what was read gives the same bytes: every tape that is read is the one that the writer makes.
-abbrev pub WritingWhatWasRead : Type 0
-WritingWhatWasRead =
-    (s lent : List ℕ) (v : Variant) (capacity workers n : ℕ) → Below 256 s → readOf s (length lent) ≡ reading.Schedule v capacity workers n
+abbrev pub WritingWhatWasReadBy : TapeFace → Type 0
+WritingWhatWasReadBy f =
+    (s lent : List ℕ) (v : Variant) (capacity workers n : ℕ) → Below 256 s → f .read s (length lent) ≡ reading.Schedule v capacity workers n
     → (buffer : List ℕ) → length s ≤ length buffer
-    → (writeOf capacity workers (take n (readInto s lent)) (length buffer) ≡ Tape (length s))
-    × (take (length s) (writtenOf v capacity workers (take n (readInto s lent)) buffer) ≡ s)
+    → (f .write capacity workers (take n (f .into s lent)) (length buffer) ≡ Tape (length s))
+    × (take (length s) (f .written v capacity workers (take n (f .into s lent)) buffer) ≡ s)
+
+abbrev pub WritingWhatWasRead : Type 0
+WritingWhatWasRead = WritingWhatWasReadBy item5
 
 -- Two different schedules, or variants, have different tapes.
-abbrev pub DifferentTapes : Type 0
-DifferentTapes =
+abbrev pub DifferentTapesBy : TapeFace → Type 0
+DifferentTapesBy f =
     (v u : Variant) (capacity size workers team : ℕ) (words others : List ℕ) (room space n m : ℕ) → Below (2 ^ 64) words → Below (2 ^ 64) others
-    → writeOf capacity workers words room ≡ Tape n → writeOf size team others space ≡ Tape m
-    → tapeOf v capacity workers words ≡ tapeOf u size team others
+    → f .write capacity workers words room ≡ Tape n → f .write size team others space ≡ Tape m
+    → f .tape v capacity workers words ≡ f .tape u size team others
     → (v ≡ u) × (capacity ≡ size) × (workers ≡ team) × (words ≡ others)
+
+abbrev pub DifferentTapes : Type 0
+DifferentTapes = DifferentTapesBy item5
 
 -- ---- Beside what is asked: what programs tape and replay rest on, which go piece by piece in a fixed amount of memory.
 

@@ -1,19 +1,21 @@
 -- What item 5 asks of tapes, proved. What it says is crates/tapes_demands/specs/Demands.antt; the worked example and a table of cases
 -- are Cases.antt beside it.
 use Rattle.tapes_numbers.specs.declared.Variant.{Variant}
-use Rattle.tapes_demands.specs.Demands.{RefusedUnchanged, Numbered, OnlyOne, FirstFault, Length, ReadingWhatWasWritten, WritingWhatWasRead, DifferentTapes, WrittenByPieces, ReadingByPieces}
+use Rattle.tapes_demands.specs.Demands.{RefusedUnchanged, Numbered, OnlyOne, EnumsBothWays, FirstFault, Length, ReadingWhatWasWritten, WritingWhatWasRead, DifferentTapes, WrittenByPieces, ReadingByPieces}
+use Rattle.tapes.specs.Written as writer
+use Rattle.tapes.specs.Heard as reader
 use Rattle.tapes.specs.Heard.{readOf}
 use Rattle.tapes_demands.specs.Cases.{Example, Cases}
-use Rattle.tapes_demands.proofs.Refusals.{refused-unchanged, numbered, only-one}
+use Rattle.tapes_demands.proofs.Refusals.{refused-unchanged, numbered, only-one, enums-both-ways}
 use Rattle.tapes_demands.proofs.Computed.{example, cases}
 use Rattle.tapes_proof_round_trip.proofs.Back.{lengths, reading-written, writing-read, different-tapes}
 use Rattle.tapes_proof_round_trip.proofs.Faults.{first-fault}
 use Rattle.tapes_proof_round_trip.proofs.Pieces.{written-by-pieces, reading-by-pieces}
 
 -- Anything handed in gets an answer or a numbered refusal (`write` and `read` have no `requires`); a refusal changes nothing; only one
--- answer and one buffer meet a promise.
-pub answers : RefusedUnchanged × Numbered × OnlyOne
-answers = (refused-unchanged, numbered, only-one)
+-- answer and one buffer meet a promise; an answer is known by its number and values.
+pub answers : RefusedUnchanged × Numbered × OnlyOne × EnumsBothWays writer.numberIn reader.numberIn
+answers = (refused-unchanged, numbered, only-one, enums-both-ways)
 
 -- The reader goes left to right and gives the first fault.
 pub left-to-right : FirstFault readOf

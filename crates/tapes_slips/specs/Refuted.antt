@@ -1,9 +1,23 @@
 -- Which statement refuses which slip.
-use Rattle.tapes_demands.specs.Demands.{FirstFault}
-use Rattle.tapes_slips.specs.Slips.{codesLast, afterItsTag, endIsEnough, roomFirst, readWith}
+use Rattle.tapes.specs.declared.Writing.{Writing}
+use Rattle.tapes.specs.declared.Reading.{Reading}
+use Rattle.tapes.specs.Written as writer
+use Rattle.tapes.specs.Heard as reader
+use Rattle.tapes_demands.specs.Demands.{FirstFault, EnumsBothWays, RefusedUnchangedBy, NumberedBy, LengthBy, ReadingWhatWasWrittenBy, WritingWhatWasReadBy, DifferentTapesBy}
+use Rattle.tapes_slips.specs.Slips.{codesLast, afterItsTag, endIsEnough, roomFirst, readWith, refusedWrites, oddByTwelve, oneMore, workersFirst, teamless, faceWith}
 
 pub record Refuted : Type 0 where
   pub later : FirstFault (readWith codesLast) → ⊥
   pub first : FirstFault (readWith afterItsTag) → ⊥
   pub past : FirstFault (readWith endIsEnough) → ⊥
   pub short : FirstFault (readWith roomFirst) → ⊥
+  -- a refusal has the number of none
+  pub both-ways-written : EnumsBothWays (λ (a : Writing). 0) reader.numberIn → ⊥
+  pub both-ways-read : EnumsBothWays writer.numberIn (λ (a : Reading). 0) → ⊥
+  -- writing and reading
+  pub unchanged : RefusedUnchangedBy (faceWith refusedWrites) → ⊥
+  pub numbered : NumberedBy (faceWith oddByTwelve) → ⊥
+  pub length-told : LengthBy (faceWith oneMore) → ⊥
+  pub reading-written : ReadingWhatWasWrittenBy (faceWith workersFirst) → ⊥
+  pub writing-read : WritingWhatWasReadBy (faceWith workersFirst) → ⊥
+  pub different : DifferentTapesBy (faceWith teamless) → ⊥

@@ -1,4 +1,4 @@
--- The reader of tapes with a slip at one point, all else as it is.
+-- The reader of tapes with a slip at one point, all else as it is; and both functions with one.
 use Prim.Native.Nat.{ℕ, _+_}
 use mathlib.Core.Bool.{cond}
 use mathlib.Core.List.{List, _++_}
@@ -7,7 +7,12 @@ use lib.Dec.{eqb, ltb}
 use lib.ListN.{take, drop}
 use Rattle.tapes.specs.declared.Reading.{Reading}
 use Rattle.tapes.specs.declared.Reading.the-variants.{Refused, Schedule}
-use Rattle.tapes.specs.Heard.{readOf}
+use Rattle.tapes.specs.declared.Writing.{Writing}
+use Rattle.tapes.specs.declared.Writing.the-variants as writing
+use Rattle.tapes_fields.specs.Fields.{over}
+use Rattle.tapes.specs.Written.{tapeOf, writeOf, writtenOf}
+use Rattle.tapes.specs.Heard.{readOf, readInto}
+use Rattle.tapes_demands.specs.Demands.{TapeFace}
 
 abbrev pub none : ℕ
 none = 0
@@ -50,6 +55,48 @@ amiss n s room (Schedule v capacity workers count) = Schedule v capacity workers
 abbrev pub readWith : ℕ → List ℕ → ℕ → Reading
 readWith n s room = amiss n s room (readOf s room)
 
--- With none it is document 02's.
-abbrev pub Faithful : Type 0
-Faithful = (s : List ℕ) (room : ℕ) → readWith none s room ≡ readOf s room
+-- ---- the writer and the reader with a slip
+
+-- the tape is written although it is refused
+abbrev pub refusedWrites : ℕ
+refusedWrites = 5
+
+-- a schedule with half an entry at its end is refused by 12
+abbrev pub oddByTwelve : ℕ
+oddByTwelve = 6
+
+-- one byte more is reported than the tape has
+abbrev pub oneMore : ℕ
+oneMore = 7
+
+-- the reader takes capacity and workers for each other
+abbrev pub workersFirst : ℕ
+workersFirst = 8
+
+-- every tape is one of one worker
+abbrev pub teamless : ℕ
+teamless = 9
+
+abbrev pub reported : ℕ → Writing → Writing
+reported n (writing.Refused number value) = cond (eqb n oddByTwelve) (cond (eqb number 11) (writing.Refused 12 value) (writing.Refused number value)) (writing.Refused number value)
+reported n (writing.Tape count) = cond (eqb n oneMore) (writing.Tape (count + 1)) (writing.Tape count)
+
+abbrev pub turned : ℕ → Reading → Reading
+turned n (Refused number value) = Refused number value
+turned n (Schedule v capacity workers count) = cond (eqb n workersFirst) (Schedule v workers capacity count) (Schedule v capacity workers count)
+
+abbrev pub faceWith : ℕ → TapeFace
+faceWith n =
+    record {
+      write = λ capacity workers words room. reported n (writeOf capacity workers words room);
+      written = λ v capacity workers words buffer. cond (eqb n refusedWrites) (over (tapeOf v capacity workers words) buffer) (writtenOf v capacity workers words buffer);
+      tape = λ v capacity workers words. cond (eqb n teamless) (tapeOf v capacity 1 words) (tapeOf v capacity workers words);
+      read = λ s room. turned n (readOf s room);
+      into = readInto;
+    }
+
+-- With none they are document 02's.
+pub record Faithful : Type 0 where
+  pub read : (s : List ℕ) (room : ℕ) → readWith none s room ≡ readOf s room
+  pub face : (capacity workers : ℕ) (words : List ℕ) (room : ℕ) → faceWith none .write capacity workers words room ≡ writeOf capacity workers words room
+  pub face-read : (s : List ℕ) (room : ℕ) → faceWith none .read s room ≡ readOf s room

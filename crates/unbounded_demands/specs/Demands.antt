@@ -20,7 +20,7 @@ use Rattle.queue_plain.specs.Story.{Does, actsIn, fresh, cameFrom, wentFrom}
 use Rattle.queue_plain.specs.Story.{itemsOf as itemsBegun}
 use Rattle.queue_schedules.specs.Reading.{Readable}
 use Rattle.queue_schedules.specs.Alone.{acts}
-use Rattle.queue_numbers.specs.Numbers.{Numbers}
+use Rattle.queue_numbers.specs.Numbers.{Numbers, Functions}
 use Rattle.queue_numbers.specs.Numbers as numbers
 use Rattle.unbounded_words.specs.declared.Index.{Index}
 use Rattle.unbounded_words.specs.declared.Pointer.{Pointer}
@@ -179,27 +179,37 @@ ClosesAndClaims d =
 -- That each gets an answer is what the functions of crate unbounded promise: none has a `requires`, and each answer is equal to a
 -- definition. What follows speaks of these definitions.
 
--- A refused step changes nothing, in the machine or in a lent buffer.
-pub record RefusedUnchanged : Type 0 where
+-- What crate unbounded's functions are equal to.
+abbrev pub functions : Functions Machine Did Ran
+functions = record { make = makeOf sizes; step = stepOf sizes; begin = beginStepOf sizes; act = actStepOf sizes; run = runOf sizes; written = written sizes }
+
+-- A refused step changes nothing, in the machine or in a lent buffer. Of any functions, so that slips can be said of them.
+pub record RefusedUnchangedBy (f : Functions Machine Did Ran) : Type 0 where
   -- refusal 2 returns the blank machine
-  pub make : (workers : ℕ) → (makeOf sizes workers .refusal ≡ 0 → ⊥) → makeOf sizes workers .machine ≡ blank sizes
-  pub step : (m : Machine) (first second : ℕ) → (stepOf sizes m first second .refusal ≡ 0 → ⊥) → stepOf sizes m first second .machine ≡ m
-  pub begin : (m : Machine) (first second : ℕ) → (beginStepOf sizes m first second .refusal ≡ 0 → ⊥) → beginStepOf sizes m first second .machine ≡ m
-  pub act : (m : Machine) (first second : ℕ) → (actStepOf sizes m first second .refusal ≡ 0 → ⊥) → actStepOf sizes m first second .machine ≡ m
+  pub make : (workers : ℕ) → (f .make workers .refusal ≡ 0 → ⊥) → f .make workers .machine ≡ blank sizes
+  pub step : (m : Machine) (first second : ℕ) → (f .step m first second .refusal ≡ 0 → ⊥) → f .step m first second .machine ≡ m
+  pub begin : (m : Machine) (first second : ℕ) → (f .begin m first second .refusal ≡ 0 → ⊥) → f .begin m first second .machine ≡ m
+  pub act : (m : Machine) (first second : ℕ) → (f .act m first second .refusal ≡ 0 → ⊥) → f .act m first second .machine ≡ m
   -- a schedule that is refused at a place leaves what the entries before that place leave: they stand, and no more
-  pub run : (m : Machine) (s : List ℕ) → (runOf sizes m s .refusal ≡ 0 → ⊥) → (runOf sizes m s .refusal ≡ 9 → ⊥)
-      → runOf sizes m s .machine ≡ runOf sizes m (take (2 * runOf sizes m s .place) s) .machine
+  pub run : (m : Machine) (s : List ℕ) → (f .run m s .refusal ≡ 0 → ⊥) → (f .run m s .refusal ≡ 9 → ⊥)
+      → f .run m s .machine ≡ f .run m (take (2 * f .run m s .place) s) .machine
   -- but one with an entry that can't be read leaves the machine as it was
-  pub unread : (m : Machine) (s : List ℕ) → runOf sizes m s .refusal ≡ 9 → runOf sizes m s .machine ≡ m
-  pub contents : (m : Machine) (buffer : List ℕ) → (contentsRefusal sizes m (length buffer) ≡ 0 → ⊥) → written sizes m buffer ≡ buffer
+  pub unread : (m : Machine) (s : List ℕ) → f .run m s .refusal ≡ 9 → f .run m s .machine ≡ m
+  pub contents : (m : Machine) (buffer : List ℕ) → (contentsRefusal sizes m (length buffer) ≡ 0 → ⊥) → f .written m buffer ≡ buffer
+
+abbrev pub RefusedUnchanged : Type 0
+RefusedUnchanged = RefusedUnchangedBy functions
 
 -- The list is checked first (document 02, item 7): of a machine that is not broken and a schedule of whole entries.
-pub record ListFirst : Type 0 where
+pub record ListFirstBy (f : Functions Machine Did Ran) : Type 0 where
   -- the first entry that can't be read is reported, and nothing is run; k entries stand before it, and each of them can be read
   pub stops : (m : Machine) (before : List ℕ) (k first second : ℕ) (rest : List ℕ) → brokenOf sizes m ≡ false → length (before ++ first ∷ second ∷ rest) % 2 ≡ 0
-      → length before ≡ 2 * k → Readable entryHere before → entryHere first second ≡ Unreadable → runOf sizes m (before ++ first ∷ second ∷ rest) ≡ ran 9 k m
+      → length before ≡ 2 * k → Readable entryHere before → entryHere first second ≡ Unreadable → f .run m (before ++ first ∷ second ∷ rest) ≡ ran 9 k m
   -- a schedule that can be read is run, entry by entry
-  pub runs : (m : Machine) (s : List ℕ) → brokenOf sizes m ≡ false → length s % 2 ≡ 0 → Readable entryHere s → runOf sizes m s ≡ runFrom sizes m 0 s
+  pub runs : (m : Machine) (s : List ℕ) → brokenOf sizes m ≡ false → length s % 2 ≡ 0 → Readable entryHere s → f .run m s ≡ runFrom sizes m 0 s
+
+abbrev pub ListFirst : Type 0
+ListFirst = ListFirstBy functions
 
 -- The numbers that the functions of crate unbounded give.
 abbrev pub refusals : Numbers Machine

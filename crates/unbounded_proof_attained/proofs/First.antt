@@ -29,7 +29,7 @@ pub three : Allowed 3
 three = record { worker-some = omega arith; worker-most = omega arith }
 
 module _ (table : Table) (s : List ℕ) where
-  turn-first : turnWith sizes table (freshOf sizes 3) 37 0 ≡ accepted start
+  pub turn-first : turnWith sizes table (freshOf sizes 3) 37 0 ≡ accepted start
   unfolding turnWith entryBut strayOf orderOf entryOf freshOf idlers begun
   turn-first =
       sym (pick.no (brokenOf sizes (freshOf sizes 3)) false (accepted start) (refused 6 (freshOf sizes 3)) _ (sym (unbroken 3 three (freshOf sizes 3) [] (fresh-reached 3))) refl refl)

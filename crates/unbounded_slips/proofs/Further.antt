@@ -5,6 +5,7 @@ use mathlib.Core.Logic.{_⊎_, inl, inr}
 use mathlib.Core.Bool.{Bool, true, false, cond, true≢false}
 use mathlib.Core.List.{List, [], _∷_, _++_}
 use native.Mathlib.Omega.{arith}
+use lib.Dec.{eqb}
 use lib.ListN.{getD, replicate}
 use Rattle.queue_numbers.specs.Numbers.{has as among}
 use Rattle.queue_schedules.specs.Alone.{passedBy, ownActsBy}
@@ -12,6 +13,8 @@ use Rattle.queue_schedules.specs.Alone as one-by-one
 use Rattle.queue_entries.specs.Schedules.{runBy, searchBy, scheduleBy, historyBy}
 use Rattle.queue_entries.specs.Entries.{strayOf, orderOf, entryOf, entryBut}
 use Rattle.queue_entries.specs.Limits.{all, inLimits}
+use Rattle.queue_entries.specs.declared.Entry.the-variants.{Unreadable}
+use Rattle.queue_schedules.proofs.Splits.{no-cons}
 use Rattle.queue_entries.proofs.Pick.{both-left, both-right}
 use Rattle.unbounded_words.specs.declared.Pointer.the-variants.{To}
 use Rattle.unbounded_words.specs.Words.{index, pastSlots, lastSlot, markedOf, unmarkedOf, withMark, later, same, samePosition, sameBlock, minus, settled, behind, countOf}
@@ -24,9 +27,10 @@ use Rattle.unbounded_acts.specs.Acts.{leave, headTo, frontTo, tailTo, backTo, n
 use Rattle.unbounded_machine.specs.declared.Machine.{Machine}
 use Rattle.unbounded_machine.specs.Machine.{live, freeBlocks, emptySlots, idlers, freshOf, blank, refused, accepted, placeOf, freeBlock, idler}
 use Rattle.unbounded_machine.specs.Broken.{recordFits, recordsFit, allIdle, dropFits, brokenIn}
-use Rattle.unbounded_machine.specs.Turn.{lowestFrom, lowestFree, clearedFrom, cleared, begun, stored, actedAt, movedBy, turnWith}
+use Rattle.unbounded_machine.specs.Contents.{contentsRefusal}
+use Rattle.unbounded_machine.specs.Turn.{entryHere, lowestFrom, lowestFree, clearedFrom, cleared, begun, stored, actedAt, movedBy, turnWith}
 use Rattle.unbounded_machine.specs.Run.{ran}
-use Rattle.unbounded_demands.specs.Notions.{Definition, acts, itemsOf, takersOf, takingsOf, freeingsOf, push12}
+use Rattle.unbounded_demands.specs.Notions.{Definition, acts, itemsOf, takersOf, takingsOf, freeingsOf, push12, freshTwo}
 use Rattle.unbounded_demands.specs.Waiting.{in12, Holding, pushLeft, passed}
 use Rattle.unbounded_demands.specs.Notions as notions
 use Rattle.unbounded_demands.specs.Demands.{WantsBlock, OneAside, OneHandInPool, RefusedByMeterOrPool, Holders, AnswersPushed, PushEnds, EndsAlone, PopAlone, PushAlone, LookAlone, AttainedBy}
@@ -41,7 +45,7 @@ use Rattle.unbounded_proof_progress.proofs.PushRank.{cross-left}
 use Rattle.unbounded_slips.specs.Slips.{asideFirst, unset, writesOn, freesOn, givesOn, looksAgain, actWith}
 use Rattle.unbounded_slips.specs.Whole.{whole, pushes, pops, stingyWhole}
 use Rattle.unbounded_slips.proofs.Whole.{ends, lastFree, machine-is}
-use Rattle.unbounded_slips.specs.Further.{FurtherRefuted, refusing, losesTwice, blockAgain, pushBegun, popWaitsOn, pushWrites, popFrees, pushGives, emptyLooks}
+use Rattle.unbounded_slips.specs.Further.{FurtherRefuted, FaithfulFace, refusing, losesTwice, blockAgain, pushBegun, popWaitsOn, pushWrites, popFrees, pushGives, emptyLooks}
 
 abbrev busyAt : Machine → ℕ → Bool
 busyAt m w = viewOf sizes (placeOf (m .workers) w) .busy
@@ -174,14 +178,28 @@ attained a =
     ∙ ap (λ (l : List Sight). getD l 3 (exactly V1 0) .acts-needed) (a .ending-pushes) in
     omega arith
 
+pub faithful-face : FaithfulFace
+faithful-face = refl
+
+-- ---- a face: the meter, what is in a buffer, and which entry can be read
+unmetered : Machine → Bool
+unmetered m = eqb (m .meter) 0
+
+readable : entryHere 0 5 ≡ Unreadable → ⊥
+unfolding strayOf orderOf entryOf entryBut
+readable e = let q : _≡_ {A = ℕ} 0 1 = cc in omega arith
+
 pub further-refuted : FurtherRefuted
 unfolding pastSlots lastSlot markedOf unmarkedOf withMark later same samePosition sameBlock minus settled behind countOf strayOf orderOf entryOf leave headTo
     frontTo tailTo backTo nextTo freed stateTo valueTo has with firstOr answered lacksNext pushFrom setAside claimed takeOr popFrom newHead taken nextIndex
     destroyFrom readOut destroyIf live freeBlocks emptySlots idlers freshOf blank refused accepted all inLimits recordFits recordsFit allIdle dropFits brokenIn
     entryBut lowestFrom lowestFree clearedFrom cleared begun stored actedAt movedBy turnWith ran runBy searchBy scheduleBy historyBy acts itemsOf takersOf
-    takingsOf freeingsOf notions.chained pushes pops among passedBy ownActsBy busyAlong one-by-one.acts
+    takingsOf freeingsOf notions.chained pushes pops among passedBy ownActsBy busyAlong one-by-one.acts unmetered contentsRefusal
 further-refuted =
     record {
+      unchanged = λ r. true≢false (sym (ap unmetered (r .step freshTwo 8 0 (λ e. omega (arith, e)))));
+      unchanged-buffer = λ r. no-cons (r .contents (blank sizes) (7 ∷ []) (λ e. omega (arith, e)));
+      list-first = λ r. true≢false (ap (λ (x : Ran). busyAt (x .machine) 0) (r .stops freshTwo (0 ∷ 5 ∷ []) 1 10 0 [] refl refl refl (readable, tt) refl));
       numbered = λ n. true≢false (sym (n .make 1));
       lowest-first = λ l. true≢false (l .lower short (freeBlock ∷ freeBlock ∷ []) 0 (omega arith));
       twenty-three = λ t. let q : WantsBlock stingyWhole lastFree 8 0 = t lastFree 8 0 .0 refl in true≢false (q .none-free 63 (omega arith));

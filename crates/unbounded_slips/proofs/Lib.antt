@@ -3,3 +3,4 @@ pub mod Refuted
 pub mod Faithful
 pub mod Whole
 pub mod Further
+pub mod PlainWhole

@@ -60,10 +60,10 @@ past t = historyWith (turnWith sizes (actWith (t .slip))) start (t .schedule)
 pub machine-is : (t : Trial) → wholeMachine t ≡ ends t
 machine-is t = ap (λ (r : Ran). r .machine) (run-first (actWith (t .slip)) (t .schedule))
 
-past-is : (t : Trial) → wholePast t ≡ past t
+pub past-is : (t : Trial) → wholePast t ≡ past t
 past-is t = past-first (actWith (t .slip)) (t .schedule)
 
-both-are : (P : Machine → List Event → Type 0) (t : Trial) → P (wholeMachine t) (wholePast t) → P (ends t) (past t)
+pub both-are : (P : Machine → List Event → Type 0) (t : Trial) → P (wholeMachine t) (wholePast t) → P (ends t) (past t)
 both-are P t h = subst (P (ends t)) (past-is t) (subst (λ (m : Machine). P m (wholePast t)) (machine-is t) h)
 
 -- ---- a walk of one or two steps, and however many more there might be
@@ -71,7 +71,7 @@ walk-none : (n : ℕ) (l : List Block) → walkFrom sizes (suc n) l None (index 
 unfolding walkFrom same live
 walk-none n l = refl
 
-items-one : (n : ℕ) (s : List Slot) (l : List Block) → itemsFrom sizes s (suc (suc n)) l (To 0) (index 0) (index 2) ≡ slotAt sizes s 0 0 .value ∷ []
+pub items-one : (n : ℕ) (s : List Slot) (l : List Block) → itemsFrom sizes s (suc (suc n)) l (To 0) (index 0) (index 2) ≡ slotAt sizes s 0 0 .value ∷ []
 unfolding itemsFrom same pastSlots later
 items-one n s l = refl
 

@@ -1,23 +1,46 @@
 -- Slips of the statements on numbers, on the pool and on progress, and that each statement is false of its own; at full size (Whole.antt).
-use Prim.Native.Nat.{ℕ, _-_}
+use Prim.Native.Nat.{ℕ, _+_, _-_}
 use mathlib.Core.List.{List, _++_}
-use Rattle.queue_numbers.specs.Numbers.{Numbers}
+use mathlib.Core.Path.{_≡_}
+use Rattle.queue_numbers.specs.Numbers.{Numbers, Functions}
+use Rattle.queue_numbers.specs.Slips.{Parts, functionsWith, refusedMoves, unsearched, refusedEmpties}
+use Rattle.queue_numbers.specs.Slips as slips
 use Rattle.unbounded_words.specs.Words.{Sizes, sizes}
 use Rattle.unbounded_places.specs.declared.Block.{Block}
 use Rattle.unbounded_acts.specs.Acts.{actOf}
 use Rattle.unbounded_machine.specs.declared.Machine.{Machine}
+use Rattle.unbounded_machine.specs.declared.Did.{Did}
+use Rattle.unbounded_machine.specs.declared.Ran.{Ran}
 use Rattle.unbounded_machine.specs.Machine.{refused}
-use Rattle.unbounded_machine.specs.Run.{runWith}
+use Rattle.unbounded_machine.specs.Contents.{contentsRefusal}
+use Rattle.unbounded_machine.specs.Run.{runWith, runFrom}
 use Rattle.unbounded_machine.specs.History.{historyWith}
 use Rattle.unbounded_machine.specs.Turn.{turnWith}
 use Rattle.unbounded_demands.specs.Notions.{Definition, acts}
-use Rattle.unbounded_demands.specs.Demands.{refusals, Numbered, LowestFirst, TwentyThree, OneAside, OneHandInPool, RefusedByMeterOrPool, Holders, PushEnds, PopAlone, PushAlone, LookAlone, AttainedBy, EachNumber, boundOf}
+use Rattle.unbounded_demands.specs.Demands.{functions, refusals, RefusedUnchangedBy, ListFirstBy, Numbered, LowestFirst, TwentyThree, OneAside, OneHandInPool, RefusedByMeterOrPool, Holders, PushEnds, PopAlone, PushAlone, LookAlone, AttainedBy, EachNumber, boundOf}
 use Rattle.queue_numbers.specs.Answers.{BothWays}
 use Rattle.unbounded.specs.declared.Bound.{Bound}
 use Rattle.unbounded.specs.declared.Bound.the-variants as bound
 use Rattle.unbounded_slips.specs.Slips.{none, asideFirst, takesAgain, unset, writesOn, freesOn, givesOn, looksAgain, actWith}
 use Rattle.unbounded_slips.specs.Refuted.{Trial, trial, does}
 use Rattle.unbounded_slips.specs.Whole.{whole, wholeMachine, pushes, pops, allButLast, allPushed, stingyWhole}
+
+-- The functions of the face with a slip, which with none are the face's.
+abbrev pub parts : Parts Machine Did Ran
+parts =
+    record {
+      refusal = λ d. d .refusal;
+      refused = refused;
+      metered = λ m. record { ends = m .ends; blocks = m .blocks; slots = m .slots; workers = m .workers; count = m .count; meter = m .meter + 1 };
+      entries = λ m s. runFrom sizes m 0 s;
+      unfit = contentsRefusal sizes;
+    }
+
+abbrev pub faceWith : ℕ → Functions Machine Did Ran
+faceWith = functionsWith parts functions
+
+abbrev pub FaithfulFace : Type 0
+FaithfulFace = faceWith slips.none ≡ functions
 
 -- Numbers of refusals as the face gives them, but that a making is refused by 1, which document 01 gives to a capacity.
 abbrev pub givesOne : Numbers Machine
@@ -71,6 +94,9 @@ abbrev pub emptyLooks : Trial
 emptyLooks = trial looksAgain (does 0 4 0 1)
 
 pub record FurtherRefuted : Type 0 where
+  pub unchanged : RefusedUnchangedBy (faceWith refusedMoves) → ⊥
+  pub unchanged-buffer : RefusedUnchangedBy (faceWith refusedEmpties) → ⊥
+  pub list-first : ListFirstBy (faceWith unsearched) → ⊥
   pub numbered : Numbered givesOne → ⊥
   pub lowest-first : LowestFirst lastOne → ⊥
   pub twenty-three : TwentyThree stingyWhole → ⊥

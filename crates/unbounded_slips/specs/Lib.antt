@@ -3,3 +3,4 @@ pub mod Refuted
 pub mod RefutedPlain
 pub mod Further
 pub mod Whole
+pub mod PlainWhole

@@ -1,6 +1,8 @@
 -- What an answer means (first section of crates/unbounded_demands/specs/Demands.antt): of which table it is false, in the story of which schedule.
 use Prim.Native.Nat.{ℕ}
 use mathlib.Core.List.{List, _++_}
+use Rattle.unbounded_machine.specs.declared.Machine.{Machine}
+use Rattle.unbounded_machine.specs.declared.Event.{Event}
 use Rattle.unbounded_demands.specs.Notions.{acts}
 use Rattle.unbounded_demands.specs.Stories.{Story, storyOf}
 use Rattle.unbounded_demands.specs.Demands.{PlainThroughout, SaidAtBlocksEnd, CloseHolds, OwnClaim}
@@ -69,33 +71,38 @@ popOfNone = trial handsOutAgain (does 0 2 0 3)
 abbrev pub popTooEarly : Trial
 popTooEarly = trial readsEarly (does 0 0 0 6 ++ does 1 2 0 7)
 
-pub record RefutedPlain : Type 0 where
+-- Of what is said of a trial (that it is a plain queue's throughout), the machine that it reaches and its acts, at some size of block; the last trial is a push that writes nothing, with all idle.
+pub record RefutedIn (PlainAt : Trial → Type 0) (machine : Trial → Machine) (done : Trial → List Event) (unwrittenPush : Trial) : Type 0 where
   -- Pushed, and the item not put in; Closed, and the item in: `Meant`
-  pub push-drops : PlainIn (pushActs pushDrops 1) → ⊥
-  pub closed-after-claim : PlainIn (pushActs closedAfterClaim 7) → ⊥
+  pub push-drops : PlainAt (pushActs pushDrops 1) → ⊥
+  pub closed-after-claim : PlainAt (pushActs closedAfterClaim 7) → ⊥
   -- another item put in: `ItemKept`; another handed out, or none for the one taken out: `Meant`
-  pub pushes-another : PlainIn (pushActs pushesAnother 6) → ⊥
-  pub pops-another : PlainIn (pushPop popsAnother) → ⊥
-  pub empty-after-taking : PlainIn (pushPop emptyAfterTaking) → ⊥
+  pub pushes-another : PlainAt (pushActs pushesAnother 6) → ⊥
+  pub pops-another : PlainAt (pushPop popsAnother) → ⊥
+  pub empty-after-taking : PlainAt (pushPop emptyAfterTaking) → ⊥
   -- an item put in after a close, one taken out where none waits: `Changes`
-  pub claims-closed : PlainIn closedBetween → ⊥
-  pub takes-unseen : PlainIn popMore → ⊥
+  pub claims-closed : PlainAt closedBetween → ⊥
+  pub takes-unseen : PlainAt popMore → ⊥
   -- an item that waits and is not in the contents: `NothingLost`
-  pub unwritten : PlainIn (pushActs unwritten 8) → ⊥
+  pub unwritten : PlainAt unwrittenPush → ⊥
   -- untrue answers of the lookers and of close: `Answered`; no of is_empty, where no pop stands at a block's end: `AtBlocksEnd` too
-  pub len-none : PlainIn lenOfOne → ⊥
-  pub empty-yes : PlainIn emptyOfOne → ⊥
-  pub empty-no : PlainIn emptyOfNone → ⊥
-  pub full-yes : PlainIn fullOfNone → ⊥
-  pub closed-yes : PlainIn closedOfOpen → ⊥
-  pub close-idle : PlainIn closeTwice → ⊥
+  pub len-none : PlainAt lenOfOne → ⊥
+  pub empty-yes : PlainAt emptyOfOne → ⊥
+  pub empty-no : PlainAt emptyOfNone → ⊥
+  pub full-yes : PlainAt fullOfNone → ⊥
+  pub closed-yes : PlainAt closedOfOpen → ⊥
+  pub close-idle : PlainAt closeTwice → ⊥
+  -- a close that leaves no mark, two that say yes, a claim after a pop's Closed
+  pub mark : CloseHolds (machine closeOnce) (done closeOnce) → ⊥
+  pub yes-once : CloseHolds (machine closeTwice) (done closeTwice) → ⊥
+  pub none-after : CloseHolds (machine popClosedBetween) (done popClosedBetween) → ⊥
+  -- a value handed out without a claim
+  pub own-claim : OwnClaim (done popOfNone) → ⊥
+  -- the right value, and not written for the claim
+  pub unwritten-out : OwnClaim (done popTooEarly) → ⊥
+
+-- On blocks of two slots.
+pub record RefutedPlain : Type 0 where
+  pub tables : RefutedIn PlainIn reached past (pushActs unwritten 8)
   -- is_empty says yes at a block's end too
   pub said-at-blocks-end : SaidAtBlocksEnd (slipped emptyYes) 0 → ⊥
-  -- a close that leaves no mark, two that say yes, a claim after a pop's Closed
-  pub mark : CloseHolds (reached closeOnce) (past closeOnce) → ⊥
-  pub yes-once : CloseHolds (reached closeTwice) (past closeTwice) → ⊥
-  pub none-after : CloseHolds (reached popClosedBetween) (past popClosedBetween) → ⊥
-  -- a value handed out without a claim
-  pub own-claim : OwnClaim (past popOfNone) → ⊥
-  -- the right value, and not written for the claim
-  pub unwritten-out : OwnClaim (past popTooEarly) → ⊥
