@@ -106,7 +106,7 @@ def options_of(told):
             option, _, value = part.partition(' ')
             kept = found.setdefault(option, [value or None, [], ''])
             kept[2] = kept[2] or said
-            named = re.findall(r'\((\w+) unless told\)', said)
+            named = re.findall(r'\((\w+) (?:unless told|if not given)\)', said)
             kept[1] += [word for word in (*named, value) if word and not word[0].isupper() and word not in kept[1]]
             if kept[1]:
                 kept[0] = kept[0] or 'VALUE'

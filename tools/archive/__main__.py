@@ -17,29 +17,33 @@ HOME = os.path.dirname(os.path.dirname(os.path.dirname(os.path.realpath(__file__
 HELP = """archive [OPTION..] PLACE..
 archive --sum [FILE..]
 
-Replays every tape (NAME.tape) and schedule (NAME.txt) below the folders PLACE, or the files PLACE, and compares what
-replay prints with what was recorded beside each, in NAME.tape.out or NAME.txt.out, where there is such a file. What
-differs or cannot be read is told as it is found, with the first line that differs. At the end comes a table: how many ran
-to their end, were refused, by number, differ, cannot be read.
+Replays every tape (NAME.tape) and schedule (NAME.txt) below the folders PLACE, or the files PLACE,
+and compares what replay prints with what was recorded beside each, in NAME.tape.out or
+NAME.txt.out, where there is such a file. What differs or cannot be read is printed as it is found,
+with the first line that differs. At the end comes a table: how many ran to their end, were refused,
+by number, differ, cannot be read.
 
-A record is what replay prints, followed for a tape that is refused by the line refused N at byte B: .. Records are
-compared where they are; names that end in neither .tape, .txt nor .out are left aside and counted.
+A record is what replay prints; for a tape that is refused its line 'refused N at byte B: ..' comes
+last. Records are compared where they are; names that end in neither .tape, .txt nor .out are left
+aside and counted.
 
   --record    writes a record for each file that has none and could be replayed
-  --json      one line of JSON for each file: file, result (ran, refused, differs, unreadable), refused (the number),
-              record (same, other, none, written), line, recorded and now of the first difference, said; seen: sizes and
-              times of file and record. The table goes to standard error
+  --json      one line of JSON for each file: file, result (ran, refused, differs, unreadable),
+              refused (the number), record (same, other, none, written), line, recorded and now of
+              the first difference, said; seen: sizes and times of file and record. The table goes
+              to standard error
   --sum       the table of lines of JSON, from the files or from standard input
-  --jobs N    so many runs of replay at once; as many as there are processors unless told
+  --jobs N    so many runs of replay at once; as many as there are processors if not given
   --resume    goes on with a run of the same places and options that was interrupted
-  --log DIR   where the log of a run is kept while it lasts; target/archive unless told
+  --log DIR   where the log of a run is kept while it lasts; target/archive if not given
   --help      prints this
 
-The options of replay are handed on, and are the same for all files: --queue NAME, --edition N, --bits N, --lent, --quiet,
---causes, --moments, --losses, --stock, --summary, --explain, --follow ITEM.
+The options of replay are handed on, and are the same for all files: --queue NAME, --edition N,
+--bits N, --lent, --quiet, --causes, --moments, --losses, --stock, --summary, --explain, --follow
+ITEM.
 
-Status: 0 all ran to their end, as recorded; 1 some were refused or differ; 2 some cannot be read, the arguments cannot be
-read, or not all can be written.
+Status: 0 all ran to their end, as recorded; 1 some were refused or differ; 2 some cannot be read,
+the arguments cannot be read, or not all can be written.
 """
 WITH_VALUE = ('--queue', '--edition', '--bits', '--follow')
 HANDED_ON = (*WITH_VALUE, '--lent', '--quiet', '--causes', '--moments', '--losses', '--stock', '--summary', '--explain')

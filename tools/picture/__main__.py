@@ -13,24 +13,29 @@ from run import MOST, Replay, Told, run_of
 
 HELP = f'''picture [-o NAME.svg|NAME.html] [--from N] [--to N] [--queue NAME] [--edition N] [--bits N] [--lent] [--tape] [FILE]
 
-Draws the run of a schedule: an SVG, or an HTML page that needs no network and nothing beside itself. The schedule is read from FILE, or
-from standard input, and run by replay; replay --help says how it is written.
+Draws the run of a schedule: an SVG, or an HTML page that needs no network and nothing beside
+itself. The schedule is read from FILE, or from standard input, and run by replay; replay --help
+says how it is written.
 
-Time goes right, an entry a column. A lane for each worker: a circle where a call begins, a box for each act with the place that it is
-done at, solid while a slot is in the worker's hand, with a notch and the cause where it goes back, and the answer at its end. Below, the
-claims of tail and head as two lines of steps, a thick red one while the queue is closed; between them a bar for each item, from its
-claim at tail to the claim at head that takes it. Below, a lane for each slot (the first four and the last four where there are more than
-8; of the unbounded queue those that something happens to): whose hand, stamp or state, value.
-The page has zoom (buttons, or the wheel with Ctrl), search for an item, the line of replay for the column under the cursor (arrow keys
-go on from there), and a table of all entries.
+Time goes right, an entry a column. A lane for each worker: a circle where a call begins, a box for
+each act with the place that it is done at, solid while a slot is in the worker's hand, with a notch
+and the cause where it goes back, and the answer at its end. Below, the claims of tail and head as
+two lines of steps, a thick red one while the queue is closed; between them a bar for each item,
+from its claim at tail to the claim at head that takes it. Below, a lane for each slot (the first
+four and the last four where there are more than 8; of the unbounded queue those that something
+happens to): whose hand, stamp or state, value. The page has zoom (buttons, or the wheel with Ctrl),
+search for an item, the line of replay for the column under the cursor (arrow keys go on from
+there), and a table of all entries.
 
-  -o NAME     writes this file, whole or not at all: .svg or .html; without it the SVG goes to standard output
-  --from N    the first entry that is drawn (0 unless told)
-  --to N      the last one (the run's last unless told); at most {MOST:,} entries are drawn
+  -o NAME     writes this file, whole or not at all: .svg or .html; without it the SVG goes to
+              standard output
+  --from N    the first entry that is drawn (0 if not given)
+  --to N      the last one (the run's last if not given); at most {MOST:,} entries are drawn
   --queue single, --queue unbounded, --edition 2, --bits 16, --lent, --tape   for replay, as its help says
 
 A refused schedule is drawn up to its refusal, which is shown.
-Status: 0 drawn, 1 drawn up to a refusal, or a tape that is refused, 2 input or arguments cannot be read, or not all can be written.
+Status: 0 drawn, 1 drawn up to a refusal, or a tape that is refused, 2 input or arguments cannot be
+read, or not all can be written.
 '''
 WITH_VALUE = ('-o', '--from', '--to', '--queue', '--edition', '--bits')
 ALONE = ('--lent', '--tape')

@@ -157,7 +157,7 @@ def lines_to_show(replay, first, last):
     for line in replay.lines('--explain'):
         if entry > last:
             break
-        if re.match(rf' *{entry} ', line):
+        if line.lstrip(' ').startswith(f'{entry} '):
             if entry >= first:
                 found[entry] = line.strip()
             entry += 1
