@@ -148,13 +148,13 @@ pub fn place_in(code: u64, a: u64, b: u64) -> Place
 }
 
 // Which words a place holds is a matter of ranges, so that a row of records is judged without a jump for each.
-fn within(code: u64, from: u64, to: u64) -> bool
+pub fn within(code: u64, from: u64, to: u64) -> bool
     ensures { λ r. ⌜ r ≡ within code from to ⌝ }
 {
     if from <= code { code < to } else { false }
 }
 
-fn may_be(word: u64, held: bool) -> bool
+pub fn may_be(word: u64, held: bool) -> bool
     ensures { λ r. ⌜ r ≡ mayBe word held ⌝ }
 {
     if held { true } else { word == 0 }

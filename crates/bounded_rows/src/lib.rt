@@ -6,7 +6,7 @@ ghost use lib.ListN.{length};
 ghost use Rattle.bounded_places.specs.Places.{beginOf};
 ghost use Rattle.bounded_machine.specs.Turn.{beginner};
 ghost use Rattle.bounded_lent.specs.Lent.{brokenLent};
-ghost use Rattle.bounded_rows.specs.Rows.{words, fixedIn, endsIn, withHead, recordAt, placedAt, withRecord, slotAt, withSlot, recordsIn, meteredIn, stand, Moving, actedIn, after, afterOf, turnWith};
+ghost use Rattle.bounded_rows.specs.Rows.{words, fixedIn, endsIn, withHead, recordAt, withRecord, slotAt, withSlot, recordsIn, meteredIn, stand, Moving, actedIn, after, afterOf, turnWith};
 use bounded_places::Ends;
 use bounded_places::Slot;
 use bounded_places::Worker;
@@ -61,15 +61,6 @@ pub fn record_at(records: &[u64], i: usize) -> Worker
         differed: records[at + 3],
         failed: records[at + 4],
     }
-}
-
-// Whether the i-th record's words are those of a place.
-pub fn placed_at(records: &[u64], i: usize) -> bool
-    requires { ⌜ i * 5 + 4 < length (now records) ⌝ }
-    ensures { λ r. ⌜ r ≡ placedAt (now (records .entry)) i ⌝ }
-{
-    let at = i * 5;
-    bounded_codes::stands(records[at], records[at + 1], records[at + 2])
 }
 
 pub fn put_record(records: &mut [u64], i: usize, r: Worker)
