@@ -1,5 +1,5 @@
 // The face whose records are lent, for bench/run to link: a ring is made with so many records, a schedule is run on them, and what came of it is told in numbers.
-use bounded_parts::Metered;
+use bounded_orders::Metered;
 use bounded_places::Worker;
 
 // place, head, tail, meter
@@ -14,9 +14,9 @@ fn tell(told: &mut [u64; 4], place: u64, l: Metered) {
     told[3] = l.meter;
 }
 
-fn idlers() -> [Worker; bounded_parts::RECORDS] {
-    let idle = bounded_parts::idle();
-    [idle; bounded_parts::RECORDS]
+fn idlers() -> [Worker; bounded_orders::RECORDS] {
+    let idle = bounded_orders::idle();
+    [idle; bounded_orders::RECORDS]
 }
 
 // The refusal, or 0.
@@ -28,12 +28,12 @@ pub extern "C" fn bench_lent(
     schedule: &[u64],
     told: &mut [u64; 4],
 ) -> u64 {
-    let made = bounded_parts::make(records as usize, capacity, edition);
+    let made = bounded_orders::make(records as usize, capacity, edition);
     if made.refusal != 0 {
         return made.refusal;
     }
     let ring = made.ring;
-    let passed = bounded_lends::lend_all(ring, idlers(), records as usize, schedule);
+    let passed = bounded_lent_by_value::lend_all(ring, idlers(), records as usize, schedule);
     let report = passed.report;
     tell(told, report.place, passed.ring);
     report.refusal

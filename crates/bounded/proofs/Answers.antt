@@ -13,8 +13,8 @@ use Rattle.bounded_machine.specs.Machine.{freshOf, blank, refused, accepted}
 use Rattle.bounded_machine.specs.Broken.{ringFits, brokenOf, allIdle}
 use Rattle.bounded_machine.specs.Contents.{capacityRefusal, countIn, contentsRefusal, written, capacityOf}
 use Rattle.bounded_machine.proofs.Kept.{unbroken-of, ring-in}
-use Rattle.bounded_parts.specs.Parts.{makeRefusalWith, capacityTold, Filled, filled, contentsBy}
-use Rattle.bounded_parts.proofs.Making.{made-unrefused, refused-by}
+use Rattle.bounded_orders.specs.Orders.{makeRefusalWith, capacityTold, Filled, filled, contentsBy}
+use Rattle.bounded_orders.proofs.Making.{made-unrefused, refused-by}
 use Rattle.bounded.specs.Bounded.{makeOf}
 
 -- ---- making

@@ -6,8 +6,8 @@ use Rattle.bounded_acts.specs.Acts as acts
 use Rattle.bounded_machine.specs.declared.Machine.{Machine}
 use Rattle.bounded_machine.specs.declared.Did.{Did}
 use Rattle.bounded_machine.specs.Machine.{freshOf, blank, refused, accepted}
-use Rattle.bounded_parts.specs.Parts.{makeBy}
-use Rattle.bounded_steps.specs.Steps.{stepOfBy, beginOfBy, actOfBy}
+use Rattle.bounded_orders.specs.Orders.{makeBy}
+use Rattle.bounded_step_machine.specs.Steps.{stepOfBy, beginStepOfBy, actStepOfBy}
 
 -- A fresh machine, or the blank one with the number of the refusal: 1, 2 or 18, in this order.
 unfoldable pub makeOf : ℕ → ℕ → ℕ → Did
@@ -17,8 +17,8 @@ makeOf capacity workers edition = makeBy workersMost (λ (number : ℕ). refused
 abbrev pub stepOf : Machine → ℕ → ℕ → Did
 stepOf = stepOfBy (acts.actOf SixtyFour)
 
-abbrev pub beginOf : Machine → ℕ → ℕ → Did
-beginOf = beginOfBy (acts.actOf SixtyFour)
+abbrev pub beginStepOf : Machine → ℕ → ℕ → Did
+beginStepOf = beginStepOfBy (acts.actOf SixtyFour)
 
-abbrev pub actOf : Machine → ℕ → ℕ → Did
-actOf = actOfBy (acts.actOf SixtyFour)
+abbrev pub actStepOf : Machine → ℕ → ℕ → Did
+actStepOf = actStepOfBy (acts.actOf SixtyFour)

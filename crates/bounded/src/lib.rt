@@ -5,7 +5,7 @@ ghost use Rattle.bounded_machine.specs.Broken.{brokenOf};
 ghost use Rattle.queue_entries.specs.Told.{told};
 ghost use Rattle.bounded_machine.specs.Contents.{countIn, contentsRefusal, written, capacityOf};
 ghost use Rattle.bounded_machine.specs.Run.{runOf};
-ghost use Rattle.bounded.specs.Bounded.{makeOf, stepOf, beginOf, actOf};
+ghost use Rattle.bounded.specs.Bounded.{makeOf, stepOf, beginStepOf, actStepOf};
 use bounded_machine::Did;
 use bounded_machine::Machine;
 use bounded_machine::Ran;
@@ -16,7 +16,7 @@ use queue_entries::Told;
 pub fn make(capacity: u64, workers: u64, edition: u64) -> Did
     ensures { λ r. ⌜ r ≡ makeOf capacity workers edition ⌝ }
 {
-    let number = bounded_parts::make_refusal(
+    let number = bounded_orders::make_refusal(
         queue_entries::WORKERS as u64,
         capacity,
         workers,
@@ -40,7 +40,7 @@ pub fn capacity(m: Machine) -> Told
 {
     let ring = m.ring;
     let f = ring.fixed;
-    bounded_parts::capacity_told(bounded_machine::broken(m), f)
+    bounded_orders::capacity_told(bounded_machine::broken(m), f)
 }
 
 // The items as `Drop` would meet them, written at the buffer's start. Nothing is removed.
@@ -51,7 +51,7 @@ pub fn contents(m: Machine, buffer: &mut [u64]) -> Told
     let ring = m.ring;
     let workers = m.workers;
     let idle = bounded_machine::all_idle(workers);
-    bounded_parts::contents_by(bounded_machine::broken(m), idle, ring, buffer)
+    bounded_orders::contents_by(bounded_machine::broken(m), idle, ring, buffer)
 }
 
 // A schedule, entry by entry, to its end or to the first refusal.
@@ -65,19 +65,19 @@ pub fn run(m: Machine, schedule: &[u64]) -> Ran
 pub fn step(m: Machine, first: u64, second: u64) -> Did
     ensures { λ r. ⌜ r ≡ stepOf m first second ⌝ }
 {
-    bounded_steps::step(Width::SixtyFour, m, first, second)
+    bounded_step_machine::step(Width::SixtyFour, m, first, second)
 }
 
 // One entry that begins a call; another's code can't be read here: refusal 9.
 pub fn begin(m: Machine, first: u64, second: u64) -> Did
-    ensures { λ r. ⌜ r ≡ beginOf m first second ⌝ }
+    ensures { λ r. ⌜ r ≡ beginStepOf m first second ⌝ }
 {
-    bounded_steps::begin(Width::SixtyFour, m, first, second)
+    bounded_step_machine::begin(Width::SixtyFour, m, first, second)
 }
 
 // One entry that acts; another's code can't be read here: refusal 9.
 pub fn act(m: Machine, first: u64, second: u64) -> Did
-    ensures { λ r. ⌜ r ≡ actOf m first second ⌝ }
+    ensures { λ r. ⌜ r ≡ actStepOf m first second ⌝ }
 {
-    bounded_steps::act(Width::SixtyFour, m, first, second)
+    bounded_step_machine::act(Width::SixtyFour, m, first, second)
 }

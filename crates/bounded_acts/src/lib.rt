@@ -2,7 +2,7 @@
 // (specs/Acts.antt) and what several places share; the acts themselves: bounded_pushes, bounded_forces, bounded_pops, bounded_lookers.
 ghost use mathlib.Core.Path.{_≡_};
 ghost use Rattle.bounded_words.specs.Words.{plus};
-ghost use Rattle.bounded_acts.specs.Acts.{stay, losing, exchangeOf, stampTo, valueTo, countOf, Within};
+ghost use Rattle.bounded_acts.specs.Acts.{goes, losing, exchangeOf, stampTo, valueTo, countOf, Within};
 use bounded_places::Ends;
 use bounded_places::Exchange;
 use bounded_places::Loss;
@@ -20,8 +20,8 @@ pub struct Acted {
     pub loss: Loss,
 }
 
-pub fn stay(e: Ends, s: Slot, p: Place) -> Acted
-    ensures { λ r. ⌜ r ≡ stay e s p ⌝ }
+pub fn goes(e: Ends, s: Slot, p: Place) -> Acted
+    ensures { λ r. ⌜ r ≡ goes e s p ⌝ }
 {
     Acted {
         ends: e,

@@ -12,7 +12,7 @@ use Rattle.bounded_words.specs.declared.Width.the-variants.{Sixteen, SixtyFour}
 use Rattle.bounded_places.specs.declared.Kind.the-variants.{Push, Force}
 use Rattle.bounded_places.specs.declared.Place.{Place}
 use Rattle.bounded_places.specs.declared.Place.the-variants.{Idle, P1, P2, P3, P4, P5, P6, F6, F7, F8, F9, O1, O2, O3, O4, O5, O6, Len1, Len2, Len3, Empty1, Empty2, Full1, Full2, Close1, IsClosed1}
-use Rattle.bounded_acts.specs.Acts.{actOf, stay, losing, exchangeOf, afterTail, tailTo, headTo, stampTo, valueTo, forcedTail, countOf}
+use Rattle.bounded_acts.specs.Acts.{actOf, goes, losing, exchangeOf, afterTail, tailTo, headTo, stampTo, valueTo, forcedTail, countOf}
 use Rattle.bounded_machine.specs.Machine.{emptySlots, stamped, freshSlots, idlers, freshWith, refused, accepted}
 use Rattle.bounded_machine.specs.Broken.{byRule, endsFit, placeFits, recordFits, recordsFit, ringFits, brokenWith}
 use Rattle.bounded_machine.specs.Turn.{recordAfter, begun, stored, actedBy, turnOfBy}
@@ -22,11 +22,11 @@ use Rattle.bounded_demands.specs.Attained.{attained, seenBy, sightOf, ne
 use Rattle.bounded_demands.specs.Demands.{Attained, AttainedBy, AtMost}
 
 pub numbers-attained : Attained
-unfolding doubled markOf markedOf unmarkedOf plus minus withMark nextOf same onePast lapBehind lapBehindOnePast inside strayOf orderOf entryOf stay losing exchangeOf afterTail tailTo headTo stampTo valueTo forcedTail countOf emptySlots stamped freshSlots idlers freshWith refused accepted all inLimits byRule endsFit placeFits recordFits recordsFit brokenWith ringFits recordAfter begun stored actedBy turnOfBy ran runBy searchBy scheduleBy acts attained seenBy sightOf needed othersIdle
+unfolding doubled markOf markedOf unmarkedOf plus minus withMark nextOf same onePast lapBehind lapBehindOnePast inside strayOf orderOf entryOf goes losing exchangeOf afterTail tailTo headTo stampTo valueTo forcedTail countOf emptySlots stamped freshSlots idlers freshWith refused accepted all inLimits byRule endsFit placeFits recordFits recordsFit brokenWith ringFits recordAfter begun stored actedBy turnOfBy ran runBy searchBy scheduleBy acts attained seenBy sightOf needed othersIdle
 numbers-attained = refl
 
 pub attained-by : AttainedBy (actOf SixtyFour) 2 × AttainedBy (actOf Sixteen) 1 × AttainedBy (actOf Sixteen) 2
-unfolding doubled markOf markedOf unmarkedOf plus minus withMark nextOf same onePast lapBehind lapBehindOnePast inside strayOf orderOf entryOf stay losing exchangeOf afterTail tailTo headTo stampTo valueTo forcedTail countOf emptySlots stamped freshSlots idlers freshWith refused accepted all inLimits byRule endsFit placeFits recordFits recordsFit brokenWith ringFits recordAfter begun stored actedBy turnOfBy ran runBy searchBy scheduleBy acts attained seenBy sightOf needed othersIdle
+unfolding doubled markOf markedOf unmarkedOf plus minus withMark nextOf same onePast lapBehind lapBehindOnePast inside strayOf orderOf entryOf goes losing exchangeOf afterTail tailTo headTo stampTo valueTo forcedTail countOf emptySlots stamped freshSlots idlers freshWith refused accepted all inLimits byRule endsFit placeFits recordFits recordsFit brokenWith ringFits recordAfter begun stored actedBy turnOfBy ran runBy searchBy scheduleBy acts attained seenBy sightOf needed othersIdle
 attained-by = (refl, refl, refl)
 
 -- in hand

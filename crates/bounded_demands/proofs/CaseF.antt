@@ -8,7 +8,7 @@ use Rattle.bounded_words.specs.Words.{stamp, doubled, markOf, markedOf, unmarke
 use Rattle.bounded_places.specs.declared.Answer.the-variants.{Displaced, Yes}
 use Rattle.bounded_places.specs.declared.Loss.the-variants.{Nothing}
 use Rattle.bounded_places.specs.declared.Place.the-variants.{Idle, F6, F7, F8, F9, Close1}
-use Rattle.bounded_acts.specs.Acts.{stay, losing, exchangeOf, afterTail, tailTo, headTo, stampTo, valueTo, forcedTail}
+use Rattle.bounded_acts.specs.Acts.{goes, losing, exchangeOf, afterTail, tailTo, headTo, stampTo, valueTo, forcedTail}
 use Rattle.bounded_machine.specs.Machine.{emptySlots, stamped, freshSlots, idlers, freshWith, refused, accepted}
 use Rattle.bounded_machine.specs.Turn.{recordAfter, begun, stored, actedBy, turnOfBy}
 use Rattle.bounded_machine.specs.Run.{ran}
@@ -18,7 +18,7 @@ use Rattle.bounded_demands.specs.Eight.{caseF, closedF, pastLoad}
 use Rattle.bounded_demands.specs.Demands.{CaseF}
 
 pub case-f : CaseF document01
-unfolding doubled markOf markedOf unmarkedOf plus minus withMark nextOf same onePast lapBehind lapBehindOnePast strayOf orderOf entryOf stay losing exchangeOf afterTail tailTo headTo stampTo valueTo forcedTail emptySlots stamped freshSlots idlers freshWith refused accepted recordAfter begun stored actedBy turnOfBy ran runBy historyBy acts
+unfolding doubled markOf markedOf unmarkedOf plus minus withMark nextOf same onePast lapBehind lapBehindOnePast strayOf orderOf entryOf goes losing exchangeOf afterTail tailTo headTo stampTo valueTo forcedTail emptySlots stamped freshSlots idlers freshWith refused accepted recordAfter begun stored actedBy turnOfBy ran runBy historyBy acts
 case-f =
     record {
       still-claims =

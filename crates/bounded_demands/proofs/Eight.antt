@@ -6,7 +6,7 @@ use Rattle.queue_entries.specs.Limits.{all, inLimits}
 use Rattle.queue_entries.specs.Told.{told}
 use Rattle.bounded_words.specs.Words.{doubled, markOf, markedOf, unmarkedOf, plus, minus, withMark, nextOf, same, onePast, lapBehind, lapBehindOnePast}
 use Rattle.bounded_places.specs.Places.{inside}
-use Rattle.bounded_acts.specs.Acts.{stay, losing, exchangeOf, afterTail, tailTo, headTo, stampTo, valueTo, forcedTail, countOf}
+use Rattle.bounded_acts.specs.Acts.{goes, losing, exchangeOf, afterTail, tailTo, headTo, stampTo, valueTo, forcedTail, countOf}
 use Rattle.bounded_machine.specs.Machine.{emptySlots, stamped, freshSlots, idlers, freshWith, blank, refused, accepted}
 use Rattle.bounded_machine.specs.Broken.{byRule, endsFit, placeFits, recordFits, recordsFit, ringFits, brokenWith, allIdle}
 use Rattle.bounded_machine.specs.Contents.{countOn, wrapped, itemOn, itemsOn, listOn}
@@ -18,5 +18,5 @@ use Rattle.bounded_demands.specs.Notions.{acts}
 use Rattle.bounded_demands.specs.Eight.{EightRuns, found, foundIn, table}
 
 pub eight-runs : EightRuns
-unfolding doubled markOf markedOf unmarkedOf plus minus withMark nextOf same onePast lapBehind lapBehindOnePast inside strayOf orderOf entryOf stay losing exchangeOf afterTail tailTo headTo stampTo valueTo forcedTail countOf emptySlots stamped freshSlots idlers freshWith blank refused accepted all inLimits byRule endsFit placeFits recordFits recordsFit brokenWith ringFits allIdle told countOn wrapped itemOn itemsOn listOn recordAfter begun stored actedBy turnOfBy ran runBy searchBy scheduleBy historyBy tallyOf stockOf makeOf found foundIn acts table
+unfolding doubled markOf markedOf unmarkedOf plus minus withMark nextOf same onePast lapBehind lapBehindOnePast inside strayOf orderOf entryOf goes losing exchangeOf afterTail tailTo headTo stampTo valueTo forcedTail countOf emptySlots stamped freshSlots idlers freshWith blank refused accepted all inLimits byRule endsFit placeFits recordFits recordsFit brokenWith ringFits allIdle told countOn wrapped itemOn itemsOn listOn recordAfter begun stored actedBy turnOfBy ran runBy searchBy scheduleBy historyBy tallyOf stockOf makeOf found foundIn acts table
 eight-runs = refl

@@ -11,8 +11,8 @@ use Rattle.bounded_places.specs.declared.Slot.{Slot}
 use Rattle.bounded_places.specs.declared.Ends.{Ends}
 use Rattle.bounded_machine.specs.declared.Machine.{Machine}
 use Rattle.bounded_machine.specs.Machine.{machineOf, freshOf}
-use Rattle.bounded_widths.specs.Widths.{widened, narrowed, ShortSlots, Short}
-use Rattle.bounded_widths.proofs.Back.{again}
+use Rattle.bounded_sixteen_bits.specs.SixteenBits.{widened, narrowed, ShortSlots, Short}
+use Rattle.bounded_sixteen_bits.proofs.Back.{again}
 use Rattle.bounded_narrow.proofs.Shorts.{entry-short, from-short, fresh-short}
 use Rattle.bounded_demands.specs.Notions.{ofWidth, cutWord, cutTo}
 use Rattle.bounded_demands.specs.Demands.{NumbersFit}

@@ -8,9 +8,9 @@ use Rattle.bounded_words.specs.declared.Width.the-variants.{Sixteen}
 use Rattle.bounded_machine.specs.declared.Machine.{Machine}
 use Rattle.bounded_machine.specs.Broken.{brokenOf}
 use Rattle.bounded_machine.specs.Run.{ran}
-use Rattle.bounded_widths.specs.declared.Machine as widths
-use Rattle.bounded_widths.specs.Widths.{widened, narrowed, narrowedRan}
-use Rattle.bounded_widths.proofs.Back.{back, again}
+use Rattle.bounded_sixteen_bits.specs.declared.Machine as widths
+use Rattle.bounded_sixteen_bits.specs.SixteenBits.{widened, narrowed, narrowedRan}
+use Rattle.bounded_sixteen_bits.proofs.Back.{back, again}
 use Rattle.bounded_demands.specs.Notions.{sixteen}
 use Rattle.bounded_demands.specs.Demands.{RefusedUnchanged, Numbered, ListFirst, StaysUnbroken, Demand1}
 use Rattle.bounded_demands.proofs.Numbers.{make-among, step-among, begin-among, act-among, run-among, contents-among, capacity-among}

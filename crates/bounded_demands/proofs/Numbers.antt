@@ -36,7 +36,7 @@ use Rattle.bounded_machine.specs.Contents.{countIn, contentsRefusal, capacityRe
 use Rattle.bounded_machine.specs.Turn.{verdictOf, begun, acted, carried, turn, turnAt, turnOfBy}
 use Rattle.bounded_machine.specs.Run.{ran, runAt, runOfBy}
 use Rattle.bounded_machine.proofs.Kept.{either}
-use Rattle.bounded_steps.specs.Steps.{stepOfBy, beginOfBy, actOfBy}
+use Rattle.bounded_step_machine.specs.Steps.{stepOfBy, beginStepOfBy, actStepOfBy}
 use Rattle.bounded.specs.Bounded as face
 use Rattle.bounded_demands.specs.Notions.{has, sixtyFour}
 use Rattle.bounded_demands.specs.Demands.{Numbered}
@@ -140,15 +140,15 @@ module _ (bits : Width) (m : Machine) (a b : ℕ) where
   step-among =
       picked (λ (d : Did). has (0 ∷ 3 ∷ 4 ∷ 5 ∷ 6 ∷ 7 ∷ 8 ∷ 9 ∷ []) (d .refusal) ≡ true) (brokenOf m) (refused 6 m) (turnAt bits m a b) refl turned-among
 
-  pub begin-among : has (0 ∷ 3 ∷ 4 ∷ 6 ∷ 9 ∷ []) (beginOfBy (actOf bits) m a b .refusal) ≡ true
-  unfolding beginOfBy has within refused
+  pub begin-among : has (0 ∷ 3 ∷ 4 ∷ 6 ∷ 9 ∷ []) (beginStepOfBy (actOf bits) m a b .refusal) ≡ true
+  unfolding beginStepOfBy has within refused
   begin-among =
       picked (λ (d : Did). has (0 ∷ 3 ∷ 4 ∷ 6 ∷ 9 ∷ []) (d .refusal) ≡ true) (brokenOf m) (refused 6 m) _ refl
       (either (λ (d : Did). has (0 ∷ 3 ∷ 4 ∷ 6 ∷ 9 ∷ []) (d .refusal) ≡ true) (ltb (a % 16) 8) (turnAt bits m a b) (refused 9 m)
       (λ l. wider begins (0 ∷ 3 ∷ 4 ∷ 6 ∷ 9 ∷ []) (turnAt bits m a b .refusal) refl (turn-begin l)) (λ l. refl))
 
-  pub act-among : has (0 ∷ 3 ∷ 5 ∷ 6 ∷ 7 ∷ 8 ∷ 9 ∷ []) (actOfBy (actOf bits) m a b .refusal) ≡ true
-  unfolding actOfBy has within refused
+  pub act-among : has (0 ∷ 3 ∷ 5 ∷ 6 ∷ 7 ∷ 8 ∷ 9 ∷ []) (actStepOfBy (actOf bits) m a b .refusal) ≡ true
+  unfolding actStepOfBy has within refused
   act-among =
       picked (λ (d : Did). has (0 ∷ 3 ∷ 5 ∷ 6 ∷ 7 ∷ 8 ∷ 9 ∷ []) (d .refusal) ≡ true) (brokenOf m) (refused 6 m) _ refl
       (either (λ (d : Did). has (0 ∷ 3 ∷ 5 ∷ 6 ∷ 7 ∷ 8 ∷ 9 ∷ []) (d .refusal) ≡ true) (ltb (a % 16) 8) (refused 9 m) (turnAt bits m a b)

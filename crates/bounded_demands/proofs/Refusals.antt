@@ -33,8 +33,8 @@ use Rattle.bounded_machine.specs.Run.{ran, runOfBy}
 use Rattle.bounded_machine.proofs.Laws.{ruled-of}
 use Rattle.bounded_machine.proofs.Kept.{ends-of, either, UnbrokenWith, Unbroken, unbroken-of, of-unbroken}
 use Rattle.bounded_machine.proofs.Turns.{turn-of-unbroken}
-use Rattle.bounded_steps.specs.Steps.{stepOfBy, beginOfBy, actOfBy}
-use Rattle.bounded_steps.proofs.Steps.{turn-unchanged}
+use Rattle.bounded_step_machine.specs.Steps.{stepOfBy, beginStepOfBy, actStepOfBy}
+use Rattle.bounded_step_machine.proofs.Steps.{turn-unchanged}
 use Rattle.bounded.specs.Bounded as face
 use Rattle.bounded_demands.specs.Notions.{Face, sixtyFour}
 use Rattle.bounded_demands.specs.Demands.{RefusedUnchanged, ListFirst, StaysUnbroken, OnlyOne, OnlyOneCount, Demand1}
@@ -96,14 +96,14 @@ module _ (bits : Width) (m : Machine) (a b : ℕ) where
   unfolding stepOfBy
   step-kept = picked (Kept m) (brokenOf m) (refused 6 m) (turnAt bits m a b) (refused-kept 6 m) (turn-kept bits m a b)
 
-  pub begin-kept : Kept m (beginOfBy (actOf bits) m a b)
-  unfolding beginOfBy
+  pub begin-kept : Kept m (beginStepOfBy (actOf bits) m a b)
+  unfolding beginStepOfBy
   begin-kept =
       picked (Kept m) (brokenOf m) (refused 6 m) _ (refused-kept 6 m)
       (picked (Kept m) (ltb (a % 16) 8) (turnAt bits m a b) (refused 9 m) (turn-kept bits m a b) (refused-kept 9 m))
 
-  pub act-kept : Kept m (actOfBy (actOf bits) m a b)
-  unfolding actOfBy
+  pub act-kept : Kept m (actStepOfBy (actOf bits) m a b)
+  unfolding actStepOfBy
   act-kept =
       picked (Kept m) (brokenOf m) (refused 6 m) _ (refused-kept 6 m)
       (picked (Kept m) (ltb (a % 16) 8) (refused 9 m) (turnAt bits m a b) (refused-kept 9 m) (turn-kept bits m a b))

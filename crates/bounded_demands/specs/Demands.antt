@@ -57,13 +57,13 @@ use Rattle.bounded_causes.specs.Causes.{watchOf, namedOf}
 use Rattle.bounded_moments.specs.declared.Moments.{Moments}
 use Rattle.bounded_moments.specs.declared.Named.{Named as NamedMoment}
 use Rattle.bounded_moments.specs.Moments as moments
-use Rattle.bounded_widths.specs.declared.Machine as widths
-use Rattle.bounded_widths.specs.Widths.{widened, narrowed, Short}
+use Rattle.bounded_sixteen_bits.specs.declared.Machine as widths
+use Rattle.bounded_sixteen_bits.specs.SixteenBits.{widened, narrowed, Short}
 use Rattle.bounded_narrow.specs.Narrow as narrow
 use Rattle.bounded_stock.specs.Stock.{talliedOf}
 use Rattle.queue_walks.specs.Listed.{bytesOf}
 use Rattle.queue_walks.specs.Meaning.{Before, InOrder}
-use Rattle.bounded_walkers.specs.Walkers.{walkOf}
+use Rattle.bounded_sequences.specs.Sequences.{walkOf}
 use Rattle.bounded_walks.specs.declared.Sized.{Sized}
 use Rattle.bounded_walks.specs.declared.Sized.the-variants.{Sequences}
 use Rattle.bounded_walks.specs.Walks.{walkRefusal, walkTold, listed, sizeOf}
@@ -74,8 +74,8 @@ use Rattle.queue_entries.specs.declared.Told.the-variants as answer
 use Rattle.queue_numbers.specs.Answers.{BothWays, numberIn, valueIn}
 use Rattle.bounded_demands.specs.Answers.{sizedNumber, sizedValues, sizedOf}
 use Rattle.bounded.specs.Bounded.{makeOf, stepOf}
-use Rattle.bounded_parts.specs.declared.Metered.{Metered}
-use Rattle.bounded_parts.specs.Parts.{recordsMost, meteredOf, Filled, filled, report}
+use Rattle.bounded_orders.specs.declared.Metered.{Metered}
+use Rattle.bounded_orders.specs.Orders.{recordsMost, meteredOf, Filled, filled, report}
 use Rattle.bounded_lent.specs.Lent.{Lent, Gone, gone}
 use Rattle.bounded_demands.specs.Stories.{Story, storyOf, oneStep, OnlySuch, twoCloses, known, queueAt, changeOf, actor, replyOf, putBy, takenBy, givenBack, At, momentOf, momentNamed, inStory}
 use Rattle.bounded_demands.specs.Lending.{Lending, Promise, promised, holding, holds-did, holds-ran, steps, heldIn, actsLent, refusalOf, stepByStep, Doing, leftLent, allTakenLent, stepOn, runOn, freshLent, pushingLent, stockedLent, noneLent, spentLent}

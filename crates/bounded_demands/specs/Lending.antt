@@ -19,8 +19,8 @@ use Rattle.bounded_machine.specs.declared.Ran.{Ran}
 use Rattle.bounded_machine.specs.declared.Event.{Event}
 use Rattle.bounded_machine.specs.Machine.{machineOf, idler, idlers}
 use Rattle.bounded_machine.specs.History.{eventsOf}
-use Rattle.bounded_parts.specs.declared.Metered.{Metered}
-use Rattle.bounded_parts.specs.Parts.{Filled, report}
+use Rattle.bounded_orders.specs.declared.Metered.{Metered}
+use Rattle.bounded_orders.specs.Orders.{Filled, report}
 use Rattle.bounded_lent.specs.Lent.{held, brokenLent, Lent, lent, stepLent, Gone, gone, runLent, makeLent, capacityLent, contentsLent}
 use Rattle.bounded_demands.specs.Notions.{ranOf, entryUnless, acts}
 

@@ -53,10 +53,10 @@ use Rattle.bounded_machine.specs.Turn.{Table, beginner, turnOfBy, turnOf}
 use Rattle.bounded_machine.specs.Run.{ran, runWith, runAt, runFrom, runOf}
 use Rattle.bounded_machine.specs.History.{historyWith, movedOf, readsAt, untallied, tallyOf, stockOf}
 use Rattle.bounded.specs.Bounded as bounded
-use Rattle.bounded_widths.specs.declared.Machine as widths
-use Rattle.bounded_widths.specs.declared.Did as widths-did
-use Rattle.bounded_widths.specs.declared.Ran as widths-ran
-use Rattle.bounded_widths.specs.Widths.{widened, narrowed, narrowedRan}
+use Rattle.bounded_sixteen_bits.specs.declared.Machine as widths
+use Rattle.bounded_sixteen_bits.specs.declared.Did as widths-did
+use Rattle.bounded_sixteen_bits.specs.declared.Ran as widths-ran
+use Rattle.bounded_sixteen_bits.specs.SixteenBits.{widened, narrowed, narrowedRan}
 use Rattle.bounded_narrow.specs.Narrow as narrow
 use Rattle.bounded_causes.specs.declared.Deed.{Deed}
 use Rattle.bounded_causes.specs.declared.Watches.{Watches}
@@ -99,8 +99,8 @@ sixtyFour =
       blank = blank;
       make = bounded.makeOf;
       step = bounded.stepOf;
-      begin = bounded.beginOf;
-      act = bounded.actOf;
+      begin = bounded.beginStepOf;
+      act = bounded.actStepOf;
       run = runOf;
       entries = λ m s. runFrom m 0 s;
     }
@@ -119,8 +119,8 @@ sixteen =
       blank = narrowed blank;
       make = narrow.makeOf;
       step = narrow.stepOf;
-      begin = narrow.beginOf;
-      act = narrow.actOf;
+      begin = narrow.beginStepOf;
+      act = narrow.actStepOf;
       run = narrow.runOf;
       entries = λ m s. narrowedRan (runAt Sixteen (widened m) 0 s);
     }

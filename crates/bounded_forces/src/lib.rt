@@ -60,7 +60,7 @@ pub fn f6(bits: Width, f: Fixed, e: Ends, s: Slot, t: Stamp, item: u64, lose: bo
     let expected = bounded_words::earlier(bits, t, f.lap);
     let again = Place::P1(Kind::Force, item);
     match bounded_acts::exchange(found, expected, lose) {
-        Exchange::Won => bounded_acts::stay(
+        Exchange::Won => bounded_acts::goes(
             head_to_lap_before_next(bits, f, e, t),
             s,
             Place::F7(t, item),
@@ -74,20 +74,20 @@ pub fn f7(bits: Width, f: Fixed, e: Ends, s: Slot, t: Stamp, item: u64) -> Acted
     requires { ⌜ Fair f ⌝ }
     ensures { λ r. ⌜ r ≡ actF7 bits f e s t item ⌝ }
 {
-    bounded_acts::stay(tail_to_forced(bits, f, e, t), s, Place::F8(t, item))
+    bounded_acts::goes(tail_to_forced(bits, f, e, t), s, Place::F8(t, item))
 }
 
 pub fn f8(e: Ends, s: Slot, t: Stamp, item: u64) -> Acted
     ensures { λ r. ⌜ r ≡ actF8 e s t item ⌝ }
 {
     let old = s.value;
-    bounded_acts::stay(e, bounded_acts::value_to(s, item), Place::F9(t, old))
+    bounded_acts::goes(e, bounded_acts::value_to(s, item), Place::F9(t, old))
 }
 
 pub fn f9(bits: Width, e: Ends, s: Slot, t: Stamp, old: u64) -> Acted
     ensures { λ r. ⌜ r ≡ actF9 bits e s t old ⌝ }
 {
-    bounded_acts::stay(
+    bounded_acts::goes(
         e,
         bounded_acts::stamp_to(bits, s, t, 1),
         Place::Idle(Answer::Displaced(old)),

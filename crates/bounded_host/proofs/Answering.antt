@@ -19,9 +19,9 @@ use Rattle.bounded_places.specs.declared.Slot.{Slot}
 use Rattle.bounded_places.specs.declared.Worker.{Worker}
 use Rattle.bounded_machine.specs.Machine.{idler, idlers, freshWith, freshOf, blank, accepted}
 use Rattle.bounded_machine.specs.Run.{ran}
-use Rattle.bounded_parts.specs.declared.Metered.{Metered}
-use Rattle.bounded_parts.specs.declared.Made.{Made}
-use Rattle.bounded_parts.specs.Parts.{makeRefusal, meteredOf, madeFrom, madeOf, capacityTold, Filled, filled, contentsOn}
+use Rattle.bounded_orders.specs.declared.Metered.{Metered}
+use Rattle.bounded_orders.specs.declared.Made.{Made}
+use Rattle.bounded_orders.specs.Orders.{makeRefusal, meteredOf, madeFrom, madeOf, capacityTold, Filled, filled, contentsOn}
 use Rattle.bounded_lent.specs.Lent.{eachFits, brokenLent, Lent, lent, lentOf, turnLent, stepLent, runLent, makeLent, contentsLent}
 use Rattle.bounded_lent.proofs.Turning.{unbroken-lent, fair-lent, step-refused, step-turned}
 use Rattle.bounded_lent.proofs.Listing as lent-listing

@@ -9,9 +9,9 @@ use Rattle.queue_entries.specs.Schedules.{scheduleBy}
 use Rattle.bounded_words.specs.Limits.{slotsMost}
 use Rattle.bounded_places.specs.declared.Worker.{Worker}
 use Rattle.bounded_machine.specs.Run.{ran}
-use Rattle.bounded_parts.specs.declared.Metered.{Metered}
-use Rattle.bounded_parts.specs.declared.Report.{Report}
-use Rattle.bounded_parts.specs.Parts.{unlessRefused, report, judgedOf}
+use Rattle.bounded_orders.specs.declared.Metered.{Metered}
+use Rattle.bounded_orders.specs.declared.Report.{Report}
+use Rattle.bounded_orders.specs.Orders.{unlessRefused, report, judgedOf}
 use Rattle.bounded_lent.specs.Lent.{brokenLent, Lent, lent, turnLent, Gone, gone, runLent}
 use Rattle.bounded_lent.proofs.Running as lent-running
 use Rattle.bounded_rows.specs.Rows.{Words, words, slotsOf, wordsOf, recordsIn, meteredIn, stand, After, after, afterOf}

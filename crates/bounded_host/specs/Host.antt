@@ -6,7 +6,7 @@ use mathlib.Core.List.{List}
 use lib.Dec.{eqb}
 use Rattle.queue_entries.specs.declared.Told.{Told}
 use Rattle.queue_entries.specs.declared.Told.the-variants.{Number, Refused}
-use Rattle.bounded_parts.specs.Parts.{Filled}
+use Rattle.bounded_orders.specs.Orders.{Filled}
 use Rattle.bounded_lent.specs.Lent.{Lent, stepLent, Gone, runLent, makeLent, capacityLent, contentsLent}
 use Rattle.bounded_rows.specs.Rows.{Words, recordsIn, meteredIn, wordsOf, shaped, stand, After, after, afterOf}
 use Rattle.bounded_slices.specs.Slices.{brokenWords}

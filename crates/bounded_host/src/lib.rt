@@ -28,7 +28,7 @@ pub extern "C" fn fern_ring_make(
     if bounded_slices::shaped(head, slots, records) {} else {
         return 6;
     }
-    let made = bounded_parts::make(records.len() / bounded_slices::RECORD, capacity, edition);
+    let made = bounded_orders::make(records.len() / bounded_slices::RECORD, capacity, edition);
     if made.refusal == 0 {} else {
         return made.refusal;
     }
@@ -76,8 +76,8 @@ pub extern "C" fn fern_ring_run(
             number: 0,
         };
     }
-    let whole = bounded_parts::judged(false, schedule);
-    let n = bounded_parts::entries_of(whole);
+    let whole = bounded_orders::judged(false, schedule);
+    let n = bounded_orders::entries_of(whole);
     let mut i = 0;
     while i < n {
         let refusal = bounded_rows::turn(
@@ -172,5 +172,5 @@ pub extern "C" fn fern_ring_contents(
         ends: e,
         slots: all,
     };
-    reply_of(bounded_parts::contents_on(idle, ring, buffer))
+    reply_of(bounded_orders::contents_on(idle, ring, buffer))
 }

@@ -43,13 +43,13 @@ use Rattle.bounded_machine.specs.declared.Ring.{Ring}
 use Rattle.bounded_machine.proofs.Ring as G
 use Rattle.bounded_places.specs.declared.Worker.{Worker}
 use Rattle.bounded_places.proofs.Worker as R
-use Rattle.bounded_parts.specs.declared.Metered.{Metered}
+use Rattle.bounded_orders.specs.declared.Metered.{Metered}
 use Rattle.bounded_lent.proofs.Calls.{calls-with}
 use Rattle.bounded_lent.proofs.Parts.{bool-known, ring-known, told-known}
-use Rattle.bounded_parts.proofs.Metered as T
+use Rattle.bounded_orders.proofs.Metered as T
 use Rattle.bounded_lent.proofs.broken as broken
 use Rattle.bounded_lent.proofs.turn as turn
-use Rattle.bounded_parts.proofs.contents_on as on
+use Rattle.bounded_orders.proofs.contents_on as on
 
 abbrev ring-at : ℕ → ℕ → GName → Metered → RefT Metered
 ring-at b o γ h = record { ptr = (b, o); name = γ; now = h }

@@ -15,8 +15,8 @@ use Rattle.bounded_places.specs.Places.{viewOf, fitsOf}
 use Rattle.bounded_machine.specs.Machine.{recordOf, idler}
 use Rattle.bounded_machine.specs.Broken.{placeFits, recordFits, allIdle}
 use Rattle.bounded_machine.proofs.Kept.{UnbrokenWith, ring-in, few-differed, few-failed}
-use Rattle.bounded_parts.specs.declared.Metered.{Metered}
-use Rattle.bounded_parts.specs.Parts.{filled, contentsBy, contentsOn}
+use Rattle.bounded_orders.specs.declared.Metered.{Metered}
+use Rattle.bounded_orders.specs.Orders.{filled, contentsBy, contentsOn}
 use Rattle.bounded_lent.specs.Lent.{held, brokenLent, eachFits, contentsLent}
 use Rattle.bounded_lent.proofs.Turning.{all-same, unbroken-lent, record-fits}
 

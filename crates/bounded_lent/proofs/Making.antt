@@ -9,8 +9,8 @@ use lib.Dec.{eqb}
 use lib.ListN.{length, set, replicate}
 use Rattle.bounded_places.specs.declared.Worker.{Worker}
 use Rattle.bounded_machine.specs.Machine.{idler, idlers, freshWith, freshOf, blank, accepted}
-use Rattle.bounded_parts.specs.declared.Made.{Made}
-use Rattle.bounded_parts.specs.Parts.{makeRefusal, madeFrom, madeOf, unlessRefused}
+use Rattle.bounded_orders.specs.declared.Made.{Made}
+use Rattle.bounded_orders.specs.Orders.{makeRefusal, madeFrom, madeOf, unlessRefused}
 use Rattle.bounded_lent.specs.Lent.{Lent, lent, lentOf, makeLent}
 
 -- the first so many are idle, the rest as they were

@@ -28,7 +28,7 @@ use borrow.Struct.Items.{cut-records}
 use Rattle.bounded_machine.specs.declared.Ring.{Ring}
 use Rattle.bounded_places.specs.declared.Ends.{Ends}
 use Rattle.bounded_places.specs.declared.Slot.{Slot}
-use Rattle.bounded_parts.specs.declared.Metered.{Metered}
+use Rattle.bounded_orders.specs.declared.Metered.{Metered}
 use Rattle.bounded_machine.proofs.Ring as G
 use Rattle.bounded_machine.proofs.Ring.Laws as G′
 use Rattle.bounded_words.proofs.Fixed as F
@@ -43,8 +43,8 @@ use Rattle.bounded_words.proofs.Width.Laws as B′
 use Rattle.queue_entries.proofs.Told as Z
 use Rattle.queue_entries.proofs.Told.Laws as Z′
 use Rattle.bounded_places.proofs.Worker.Laws as R′
-use Rattle.bounded_parts.proofs.Metered as T
-use Rattle.bounded_parts.proofs.Metered.Laws as T′
+use Rattle.bounded_orders.proofs.Metered as T
+use Rattle.bounded_orders.proofs.Metered.Laws as T′
 use Rattle.bounded_lent.proofs.Holes.{Known, Hole, inside, elem-look, elem-put, array-hole, array-length, known-in}
 
 abbrev pub declared : (T : Declared) (L : LL.Laws T) → Plains (D.fields T) → LL.Copyables (T .parts) → Known (D.row T)

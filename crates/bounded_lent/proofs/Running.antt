@@ -24,12 +24,12 @@ use Rattle.bounded_machine.specs.Turn.{verdictOf, begun, stored, actedBy, carri
 use Rattle.bounded_machine.specs.Run.{ran, runAt}
 use Rattle.bounded_machine.proofs.Kept.{either, UnbrokenWith}
 use Rattle.bounded_machine.proofs.Turns.{turn-of-unbroken, ended}
-use Rattle.bounded_steps.proofs.Steps.{turn-unchanged}
-use Rattle.bounded_parts.specs.declared.Metered.{Metered}
-use Rattle.bounded_parts.specs.declared.Report.{Report}
-use Rattle.bounded_parts.specs.Parts.{recordsMost, meteredOf, unlessRefused, report, judgedOf}
-use Rattle.bounded_parts.proofs.Making.{not-refused, is-refused}
-use Rattle.bounded_parts.proofs.Judging.{judged-stops, judged-goes}
+use Rattle.bounded_step_machine.proofs.Steps.{turn-unchanged}
+use Rattle.bounded_orders.specs.declared.Metered.{Metered}
+use Rattle.bounded_orders.specs.declared.Report.{Report}
+use Rattle.bounded_orders.specs.Orders.{recordsMost, meteredOf, unlessRefused, report, judgedOf}
+use Rattle.bounded_orders.proofs.Making.{not-refused, is-refused}
+use Rattle.bounded_orders.proofs.Judging.{judged-stops, judged-goes}
 use Rattle.bounded_lent.specs.Lent.{held, brokenLent, Lent, lent, turnLent, gone, goneOf, runLent}
 use Rattle.bounded_lent.proofs.Turning.{unbroken-lent, few-lent, lent-unbroken}
 

@@ -19,10 +19,10 @@ use Rattle.bounded_machine.specs.Machine.{recordOf}
 use Rattle.bounded_machine.specs.Broken.{ringFits, recordFits, recordsFit, brokenWith}
 use Rattle.bounded_machine.proofs.Laws as machine
 use Rattle.bounded_machine.proofs.Kept.{UnbrokenWith, unbroken-of, of-unbroken, ruled-in, fair-in}
-use Rattle.bounded_parts.specs.Parts.{recordsMost, ringFitsLent}
-use Rattle.bounded_entries.specs.Entries.{slotOf}
-use Rattle.bounded_entries.proofs.Resting.{slot-below}
-use Rattle.bounded_parts.specs.declared.Metered.{Metered}
+use Rattle.bounded_orders.specs.Orders.{recordsMost, ringFitsLent}
+use Rattle.bounded_step_record.specs.Entries.{slotOf}
+use Rattle.bounded_step_record.proofs.Resting.{slot-below}
+use Rattle.bounded_orders.specs.declared.Metered.{Metered}
 use Rattle.bounded_lent.specs.Lent.{eachFits, brokenLent, held, lent, turnLent, stepLent}
 
 -- ---- broken, as the code finds it out

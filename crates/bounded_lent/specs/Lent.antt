@@ -16,10 +16,10 @@ use Rattle.bounded_machine.specs.Machine.{machineOf, recordOf, freshWith, blank
 use Rattle.bounded_machine.specs.Broken.{recordFits, brokenWith, allIdle}
 use Rattle.bounded_machine.specs.Turn.{turnOf}
 use Rattle.bounded_machine.specs.Run.{ran}
-use Rattle.bounded_parts.specs.Parts.{recordsMost, makeRefusal, meteredOf, report, capacityTold, Filled, contentsBy}
+use Rattle.bounded_orders.specs.Orders.{recordsMost, makeRefusal, meteredOf, report, capacityTold, Filled, contentsBy}
 use Rattle.bounded_words.specs.declared.Fixed.{Fixed}
-use Rattle.bounded_parts.specs.declared.Metered.{Metered}
-use Rattle.bounded_parts.specs.declared.Report.{Report}
+use Rattle.bounded_orders.specs.declared.Metered.{Metered}
+use Rattle.bounded_orders.specs.declared.Report.{Report}
 
 -- the machine that has these records and no others
 abbrev pub held : Metered → List Worker → Machine

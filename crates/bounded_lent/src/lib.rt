@@ -1,13 +1,13 @@
 // A ring and worker records in the host's memory, lent for each entry (document 02, item 11). Each function here takes the one record and the one slot apart,
-// calls a covered function of crate bounded_entries or bounded_parts on them by value, and stores them back.
+// calls a covered function of crate bounded_step_record or bounded_orders on them by value, and stores them back.
 ghost use mathlib.Core.Path.{_≡_};
 ghost use mathlib.Core.Bool.{false};
 ghost use Rattle.bounded_words.specs.Words.{Fair};
-ghost use Rattle.bounded_parts.specs.Parts.{filled};
+ghost use Rattle.bounded_orders.specs.Orders.{filled};
 ghost use Rattle.bounded_lent.specs.Lent.{eachFits, brokenLent, lent, turnLent, stepLent, gone, runLent, makeLent, capacityLent, contentsLent};
-use bounded_parts::Made;
-use bounded_parts::Metered;
-use bounded_parts::Report;
+use bounded_orders::Made;
+use bounded_orders::Metered;
+use bounded_orders::Report;
 use bounded_places::Worker;
 use bounded_words::Fixed;
 use bounded_words::Width;
@@ -33,7 +33,7 @@ pub fn broken(ring: &Metered, records: &[Worker]) -> bool
     ensures { λ r. ⌜ r ≡ brokenLent (now (ring .entry)) (now (records .entry)) ⌝ }
 {
     let f = ring.ring.fixed;
-    if bounded_parts::ring_fits(f, ring.ring.ends, records.len()) {} else {
+    if bounded_orders::ring_fits(f, ring.ring.ends, records.len()) {} else {
         return true;
     }
     !records_fit(records, f, ring.meter, true)
@@ -45,11 +45,11 @@ fn turn(ring: &mut Metered, records: &mut [Worker], first: u64, second: u64) -> 
     ensures { λ r. ⌜ lent r (now (ring .exit)) (now (records .exit)) ≡ turnLent (now (ring .entry)) (now (records .entry)) first second ⌝ }
 {
     let count = records.len();
-    let w = bounded_entries::worker_of(first, count);
+    let w = bounded_step_record::worker_of(first, count);
     let worker = records[w];
     let f = ring.ring.fixed;
-    let k = bounded_entries::slot_of(f, worker);
-    let t = bounded_entries::turn_on(
+    let k = bounded_step_record::slot_of(f, worker);
+    let t = bounded_step_record::turn_on(
         Width::SixtyFour,
         f,
         ring.ring.ends,
@@ -80,8 +80,8 @@ pub fn step(ring: &mut Metered, records: &mut [Worker], first: u64, second: u64)
 pub fn run(ring: &mut Metered, records: &mut [Worker], schedule: &[u64]) -> Report
     ensures { λ r. ⌜ gone r (now (ring .exit)) (now (records .exit)) ≡ runLent (now (ring .entry)) (now (records .entry)) (now (schedule .entry)) ⌝ }
 {
-    let whole = bounded_parts::judged(broken(ring, records), schedule);
-    let n = bounded_parts::entries_of(whole);
+    let whole = bounded_orders::judged(broken(ring, records), schedule);
+    let n = bounded_orders::entries_of(whole);
     let mut i = 0;
     while i < n {
         let refusal = turn(ring, records, schedule[2 * i], schedule[2 * i + 1]);
@@ -101,11 +101,11 @@ pub fn make(records: &mut [Worker], capacity: u64, edition: u64) -> Made
     ensures { λ r. ⌜ lent (r .refusal) (r .ring) (now (records .exit)) ≡ makeLent (now (records .entry)) capacity edition ⌝ }
 {
     let count = records.len();
-    let made = bounded_parts::make(count, capacity, edition);
-    let n = bounded_parts::unless_refused(made.refusal, count);
+    let made = bounded_orders::make(count, capacity, edition);
+    let n = bounded_orders::unless_refused(made.refusal, count);
     let mut i = 0;
     while i < n {
-        records[i] = bounded_parts::idle();
+        records[i] = bounded_orders::idle();
         i += 1;
     }
     made
@@ -114,7 +114,7 @@ pub fn make(records: &mut [Worker], capacity: u64, edition: u64) -> Made
 pub fn capacity(ring: &Metered, records: &[Worker]) -> Told
     ensures { λ r. ⌜ r ≡ capacityLent (now (ring .entry)) (now (records .entry)) ⌝ }
 {
-    bounded_parts::capacity_told(broken(ring, records), ring.ring.fixed)
+    bounded_orders::capacity_told(broken(ring, records), ring.ring.fixed)
 }
 
 // The items as `Drop` would meet them, written at the buffer's start. Nothing is removed.
@@ -122,8 +122,8 @@ pub fn contents(ring: &Metered, records: &[Worker], buffer: &mut [u64]) -> Told
     ensures { λ r. ⌜ filled r (now (buffer .exit)) ≡ contentsLent (now (ring .entry)) (now (records .entry)) (now (buffer .entry)) ⌝ }
 {
     if broken(ring, records) {
-        return bounded_parts::refused(6);
+        return bounded_orders::refused(6);
     }
     let idle = records_fit(records, ring.ring.fixed, ring.meter, false);
-    bounded_parts::contents_on(idle, ring.ring, buffer)
+    bounded_orders::contents_on(idle, ring.ring, buffer)
 }

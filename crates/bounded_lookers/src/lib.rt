@@ -2,7 +2,7 @@
 ghost use mathlib.Core.Path.{_≡_};
 ghost use Rattle.bounded_words.specs.Words.{Fair, withMark};
 ghost use Rattle.bounded_places.specs.declared.Place.the-variants.{Idle};
-ghost use Rattle.bounded_acts.specs.Acts.{stay, tailTo, yesNo, actLen3, actEmpty2, actFull2, actClose1, actIsClosed1, Within};
+ghost use Rattle.bounded_acts.specs.Acts.{goes, tailTo, yesNo, actLen3, actEmpty2, actFull2, actClose1, actIsClosed1, Within};
 use bounded_acts::Acted;
 use bounded_places::Answer;
 use bounded_places::Ends;
@@ -14,12 +14,12 @@ use bounded_words::Width;
 
 // A looker's answer.
 fn told(e: Ends, s: Slot, yes: bool) -> Acted
-    ensures { λ r. ⌜ r ≡ stay e s (Idle (yesNo yes)) ⌝ }
+    ensures { λ r. ⌜ r ≡ goes e s (Idle (yesNo yes)) ⌝ }
 {
     if yes {
-        bounded_acts::stay(e, s, Place::Idle(Answer::Yes))
+        bounded_acts::goes(e, s, Place::Idle(Answer::Yes))
     } else {
-        bounded_acts::stay(e, s, Place::Idle(Answer::No))
+        bounded_acts::goes(e, s, Place::Idle(Answer::No))
     }
 }
 
@@ -38,9 +38,9 @@ pub fn len3(f: Fixed, e: Ends, s: Slot, t: Stamp, h: Stamp) -> Acted
 {
     let again = e.tail;
     if bounded_words::same_word(again, t) {
-        bounded_acts::stay(e, s, Place::Idle(Answer::Len(bounded_acts::count(f, t, h))))
+        bounded_acts::goes(e, s, Place::Idle(Answer::Len(bounded_acts::count(f, t, h))))
     } else {
-        bounded_acts::stay(e, s, Place::Len1)
+        bounded_acts::goes(e, s, Place::Len1)
     }
 }
 
@@ -66,9 +66,9 @@ pub fn close1(bits: Width, f: Fixed, e: Ends, s: Slot) -> Acted
 {
     let t = e.tail;
     if bounded_words::marked(f, t) {
-        bounded_acts::stay(e, s, Place::Idle(Answer::No))
+        bounded_acts::goes(e, s, Place::Idle(Answer::No))
     } else {
-        bounded_acts::stay(tail_to_marked(bits, f, e), s, Place::Idle(Answer::Yes))
+        bounded_acts::goes(tail_to_marked(bits, f, e), s, Place::Idle(Answer::Yes))
     }
 }
 

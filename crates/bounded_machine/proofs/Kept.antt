@@ -35,7 +35,7 @@ use Rattle.bounded_places.specs.declared.Held.the-variants as held
 use Rattle.bounded_places.specs.declared.Worker.{Worker}
 use Rattle.bounded_places.specs.Places.{viewOf, inside, fitsOf, beginOf}
 use Rattle.bounded_acts.specs.declared.Acted.{Acted}
-use Rattle.bounded_acts.specs.Acts.{stay, losing, exchangeOf, afterTail, endP3, endF6, endO3, tailTo, headTo, stampTo, valueTo, forcedTail, actOf, fullAt, yesNo, countOf}
+use Rattle.bounded_acts.specs.Acts.{goes, losing, exchangeOf, afterTail, endP3, endF6, endO3, tailTo, headTo, stampTo, valueTo, forcedTail, actOf, fullAt, yesNo, countOf}
 use Rattle.bounded_machine.specs.declared.Machine.{Machine}
 use Rattle.bounded_machine.specs.Machine.{recordOf, placeOf, idler}
 use Rattle.bounded_machine.specs.Broken.{byRule, endsFit, ringFits, placeFits, recordFits, recordsFit, brokenWith}
@@ -189,8 +189,8 @@ module _ (f : Fixed) (r : Ruled f) where
     pub held : fitsOf f (viewOf (a .place) .held) ≡ true
 
   -- the ends as they were, and a place whose words fit
-  stays : (e : Ends) (s : Slot) (p : Place) → endsFit f e ≡ true → fitsOf f (viewOf p .held) ≡ true → Ok (stay e s p)
-  unfolding stay
+  stays : (e : Ends) (s : Slot) (p : Place) → endsFit f e ≡ true → fitsOf f (viewOf p .held) ≡ true → Ok (goes e s p)
+  unfolding goes
   stays e s p h k = record { ends = h; held = k }
 
   loses : (e : Ends) (s : Slot) (p : Place) (l : Loss) → endsFit f e ≡ true → fitsOf f (viewOf p .held) ≡ true → Ok (losing e s p l)
@@ -209,7 +209,7 @@ module _ (f : Fixed) (r : Ruled f) where
         (λ q. plain-fits f (e .tail) (plain-tail q))
 
     -- tail to a word whose index is below capacity
-    tail-goes : (w : Stamp) (p : Place) → inside f w ≡ true → fitsOf f (viewOf p .held) ≡ true → Ok (stay (tailTo e w) s p)
+    tail-goes : (w : Stamp) (p : Place) → inside f w ≡ true → fitsOf f (viewOf p .held) ≡ true → Ok (goes (tailTo e w) s p)
     unfolding tailTo
     tail-goes w p q k = stays (tailTo e w) s p (ends-of f (tailTo e w) (head-plain f e h) q) k
 
@@ -231,7 +231,7 @@ module _ (f : Fixed) (r : Ruled f) where
         In : Stamp → Type 0
         In w = inside f w ≡ true
 
-    head-moves : (w : Stamp) (p : Place) → Plain f w → fitsOf f (viewOf p .held) ≡ true → Ok (stay (headTo e w) s p)
+    head-moves : (w : Stamp) (p : Place) → Plain f w → fitsOf f (viewOf p .held) ≡ true → Ok (goes (headTo e w) s p)
     unfolding headTo
     head-moves w p q k = stays (headTo e w) s p (ends-of f (headTo e w) q (tail-inside f e h)) k
 
@@ -244,8 +244,8 @@ module _ (f : Fixed) (r : Ruled f) where
     keeps (Idle a) lose q = stays e s (Idle a) h refl
     keeps (P1 k x) lose q = stays e s (afterTail f k (e .tail) x) h (tail-fits k x)
     keeps (P2 k t x) lose q =
-        either Ok (same (s .stamp) t) (stay e s (P3 k t x)) _ (λ b. stays e s (P3 k t x) h q)
-        (λ b. either Ok (lapBehindOnePast bits f (s .stamp) t) (stay e s (fullAt k t x)) (stay e s (P1 k x))
+        either Ok (same (s .stamp) t) (goes e s (P3 k t x)) _ (λ b. stays e s (P3 k t x) h q)
+        (λ b. either Ok (lapBehindOnePast bits f (s .stamp) t) (goes e s (fullAt k t x)) (goes e s (P1 k x))
         (λ d. stays e s (fullAt k t x) h (full-fits k t x q)) (λ d. stays e s (P1 k x) h refl))
     keeps (P3 k t x) lose q =
         exchanged (λ (y : Exchange). Ok (endP3 bits f e s k t x y)) (e .tail) t lose (λ b d. loses e s (P2 k t x) loss.BySchedule h q)
@@ -254,7 +254,7 @@ module _ (f : Fixed) (r : Ruled f) where
     keeps (P4 t x) lose q = stays e (valueTo s x) (P5 t) h q
     keeps (P5 t) lose q = stays e (stampTo s (plus bits t 1)) (Idle Pushed) h refl
     keeps (P6 t x) lose q =
-        either Ok (lapBehind bits f (e .head) t) (stay e s (Idle (Full x))) (stay e s (P1 Push x))
+        either Ok (lapBehind bits f (e .head) t) (goes e s (Idle (Full x))) (goes e s (P1 Push x))
         (λ b. stays e s (Idle (Full x)) h refl) (λ b. stays e s (P1 Push x) h refl)
     keeps (F6 t x) lose q =
         exchanged (λ (y : Exchange). Ok (endF6 bits f e s t x y)) (e .head) (minus bits t (f .lap)) lose (λ b d. loses e s (P1 Force x) loss.BySchedule h refl)
@@ -265,8 +265,8 @@ module _ (f : Fixed) (r : Ruled f) where
     keeps (F9 t old) lose q = stays e (stampTo s (plus bits t 1)) (Idle (Displaced old)) h refl
     keeps O1 lose q = stays e s (O2 (e .head)) h (plain-fits f (e .head) (head-plain f e h))
     keeps (O2 w) lose q =
-        either Ok (onePast bits (s .stamp) w) (stay e s (O3 w)) _ (λ b. stays e s (O3 w) h q)
-        (λ b. either Ok (same (s .stamp) w) (stay e s (O6 w)) (stay e s O1) (λ d. stays e s (O6 w) h q) (λ d. stays e s O1 h refl))
+        either Ok (onePast bits (s .stamp) w) (goes e s (O3 w)) _ (λ b. stays e s (O3 w) h q)
+        (λ b. either Ok (same (s .stamp) w) (goes e s (O6 w)) (goes e s O1) (λ d. stays e s (O6 w) h q) (λ d. stays e s O1 h refl))
     keeps (O3 w) lose q =
         exchanged (λ (y : Exchange). Ok (endO3 bits f e s w y)) (e .head) w lose (λ b d. loses e s (O2 w) loss.BySchedule h q)
         (λ b d. head-moves (nextOf bits f w) (O4 w) (next-plain f r bits w (fits-plain f w q)) q)
@@ -274,21 +274,21 @@ module _ (f : Fixed) (r : Ruled f) where
     keeps (O4 w) lose q = stays e s (O5 w (s .value)) h q
     keeps (O5 w v) lose q = stays e (stampTo s (plus bits w (f .lap))) (Idle (Popped v)) h refl
     keeps (O6 w) lose q =
-        either Ok (same (unmarkedOf f (e .tail)) w) _ (stay e s O1)
-        (λ b. either Ok (markedOf f (e .tail)) (stay e s (Idle PopClosed)) (stay e s (Idle Empty))
+        either Ok (same (unmarkedOf f (e .tail)) w) _ (goes e s O1)
+        (λ b. either Ok (markedOf f (e .tail)) (goes e s (Idle PopClosed)) (goes e s (Idle Empty))
         (λ d. stays e s (Idle PopClosed) h refl) (λ d. stays e s (Idle Empty) h refl))
         (λ b. stays e s O1 h refl)
     keeps Len1 lose q = stays e s (Len2 (e .tail)) h (tail-inside f e h)
     keeps (Len2 t) lose q = stays e s (Len3 t (e .head)) h (both (inside f t) (inside f (e .head)) q (head-inside f e h))
     keeps (Len3 t w) lose q =
-        either Ok (same (e .tail) t) (stay e s (Idle (Len (countOf f t w)))) (stay e s Len1)
+        either Ok (same (e .tail) t) (goes e s (Idle (Len (countOf f t w)))) (goes e s Len1)
         (λ b. stays e s (Idle (Len (countOf f t w))) h refl) (λ b. stays e s Len1 h refl)
     keeps Empty1 lose q = stays e s (Empty2 (e .head)) h refl
     keeps (Empty2 w) lose q = stays e s (Idle (yesNo (same (unmarkedOf f (e .tail)) w))) h refl
     keeps Full1 lose q = stays e s (Full2 (e .tail)) h refl
     keeps (Full2 t) lose q = stays e s (Idle (yesNo (lapBehind bits f (e .head) (unmarkedOf f t)))) h refl
     keeps Close1 lose q =
-        either Ok (markedOf f (e .tail)) (stay e s (Idle No)) (stay (tailTo e (withMark bits f (e .tail))) s (Idle Yes))
+        either Ok (markedOf f (e .tail)) (goes e s (Idle No)) (goes (tailTo e (withMark bits f (e .tail))) s (Idle Yes))
         (λ b. stays e s (Idle No) h refl) (λ b. tail-goes (withMark bits f (e .tail)) (Idle Yes) (marked-inside (e .tail) (tail-inside f e h)) refl)
     keeps IsClosed1 lose q = stays e s (Idle (yesNo (markedOf f (e .tail)))) h refl
 

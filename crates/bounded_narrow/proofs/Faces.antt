@@ -8,10 +8,10 @@ use Rattle.bounded_machine.specs.Contents.{countIn, contentsRefusal, written}
 use Rattle.bounded_machine.specs.declared.Machine as machine
 use Rattle.bounded_machine.specs.declared.Did as did
 use Rattle.bounded_machine.specs.declared.Ran as ran
-use Rattle.bounded_widths.specs.declared.Machine.{Machine}
-use Rattle.bounded_widths.specs.declared.Did.{Did}
-use Rattle.bounded_widths.specs.declared.Ran.{Ran}
-use Rattle.bounded_widths.specs.Widths.{widened, narrowedDid, narrowedRan, Short}
+use Rattle.bounded_sixteen_bits.specs.declared.Machine.{Machine}
+use Rattle.bounded_sixteen_bits.specs.declared.Did.{Did}
+use Rattle.bounded_sixteen_bits.specs.declared.Ran.{Ran}
+use Rattle.bounded_sixteen_bits.specs.SixteenBits.{widened, narrowedDid, narrowedRan, Short}
 
 pub did-fits : (d e : did.Did) → d ≡ e → Short (e .machine) → Short (d .machine)
 did-fits d e same o = subst (λ (x : did.Did). Short (x .machine)) (sym same) o

@@ -31,7 +31,7 @@ use Rattle.bounded_places.specs.declared.Place.{Place}
 use Rattle.bounded_places.specs.declared.Place.the-variants.{Idle, P1, P2, P3, P4, P5, P6, F6, F7, F8, F9, O1, O2, O3, O4, O5, O6, Len1, Len2, Len3, Empty1, Empty2, Full1, Full2, Close1, IsClosed1}
 use Rattle.bounded_places.specs.Places.{viewOf}
 use Rattle.bounded_acts.specs.declared.Acted.{Acted}
-use Rattle.bounded_acts.specs.Acts.{stay, losing, endP3, endF6, endO3, tailTo, headTo, stampTo, valueTo, forcedTail, fullAt, countOf, actOf}
+use Rattle.bounded_acts.specs.Acts.{goes, losing, endP3, endF6, endO3, tailTo, headTo, stampTo, valueTo, forcedTail, fullAt, countOf, actOf}
 use Rattle.bounded_machine.specs.declared.Machine.{Machine}
 use Rattle.bounded_machine.specs.declared.Did.{Did}
 use Rattle.bounded_machine.specs.declared.Ran.{Ran}
@@ -40,9 +40,9 @@ use Rattle.bounded_machine.specs.Broken.{brokenOf}
 use Rattle.bounded_machine.specs.Turn.{verdictOf, spotOf, begun, acted, actedBy, stored, carried, turn, turnAt, turnOfBy}
 use Rattle.bounded_machine.specs.Run.{ran, runAt, runOfBy}
 use Rattle.bounded_machine.proofs.Kept.{either, exchanged, placed}
-use Rattle.bounded_steps.specs.Steps.{stepOfBy, beginOfBy, actOfBy}
+use Rattle.bounded_step_machine.specs.Steps.{stepOfBy, beginStepOfBy, actStepOfBy}
 use Rattle.bounded.specs.Bounded.{makeOf}
-use Rattle.bounded_widths.specs.Widths.{ShortSlots, Short}
+use Rattle.bounded_sixteen_bits.specs.SixteenBits.{ShortSlots, Short}
 
 -- ---- words
 
@@ -80,17 +80,17 @@ Left a = Fit (a .ends .head) × Fit (a .ends .tail) × Fit (a .slot .stamp)
 
 module _ (f : Fixed) (e : Ends) (s : Slot) (o : Fit (e .head) × Fit (e .tail) × Fit (s .stamp)) where
   leaves : (p : Place) (lose : Bool) → Left (actOf Sixteen f e s p lose)
-  unfolding stay losing tailTo headTo stampTo valueTo
+  unfolding goes losing tailTo headTo stampTo valueTo
   leaves (Idle a) lose = o
   leaves (P1 k x) lose = o
   leaves (P2 k t x) lose =
-      either Left (same (s .stamp) t) (stay e s (P3 k t x)) _ (λ b. o)
-      (λ b. either Left (lapBehindOnePast Sixteen f (s .stamp) t) (stay e s (fullAt k t x)) (stay e s (P1 k x)) (λ d. o) (λ d. o))
+      either Left (same (s .stamp) t) (goes e s (P3 k t x)) _ (λ b. o)
+      (λ b. either Left (lapBehindOnePast Sixteen f (s .stamp) t) (goes e s (fullAt k t x)) (goes e s (P1 k x)) (λ d. o) (λ d. o))
   leaves (P3 k t x) lose =
       exchanged (λ (y : Exchange). Left (endP3 Sixteen f e s k t x y)) (e .tail) t lose (λ b d. o) (λ b d. (o .0, next-short f t, o .2)) (λ b. o)
   leaves (P4 t x) lose = o
   leaves (P5 t) lose = (o .0, o .1, plus-short t 1)
-  leaves (P6 t x) lose = either Left (lapBehind Sixteen f (e .head) t) (stay e s (Idle (Full x))) (stay e s (P1 Push x)) (λ b. o) (λ b. o)
+  leaves (P6 t x) lose = either Left (lapBehind Sixteen f (e .head) t) (goes e s (Idle (Full x))) (goes e s (P1 Push x)) (λ b. o) (λ b. o)
   leaves (F6 t x) lose =
       exchanged (λ (y : Exchange). Left (endF6 Sixteen f e s t x y)) (e .head) (minus Sixteen t (f .lap)) lose (λ b d. o) (λ b d. (minus-short _ (f .lap), o .1, o .2)) (λ b. o)
   leaves (F7 t x) lose = (o .0, forced-short f (e .tail) t, o .2)
@@ -98,22 +98,22 @@ module _ (f : Fixed) (e : Ends) (s : Slot) (o : Fit (e .head) × Fit (e .tail) �
   leaves (F9 t old) lose = (o .0, o .1, plus-short t 1)
   leaves O1 lose = o
   leaves (O2 h) lose =
-      either Left (onePast Sixteen (s .stamp) h) (stay e s (O3 h)) _ (λ b. o) (λ b. either Left (same (s .stamp) h) (stay e s (O6 h)) (stay e s O1) (λ d. o) (λ d. o))
+      either Left (onePast Sixteen (s .stamp) h) (goes e s (O3 h)) _ (λ b. o) (λ b. either Left (same (s .stamp) h) (goes e s (O6 h)) (goes e s O1) (λ d. o) (λ d. o))
   leaves (O3 h) lose = exchanged (λ (y : Exchange). Left (endO3 Sixteen f e s h y)) (e .head) h lose (λ b d. o) (λ b d. (next-short f h, o .1, o .2)) (λ b. o)
   leaves (O4 h) lose = o
   leaves (O5 h v) lose = (o .0, o .1, plus-short h (f .lap))
   leaves (O6 h) lose =
-      either Left (same (unmarkedOf f (e .tail)) h) _ (stay e s O1)
-      (λ b. either Left (markedOf f (e .tail)) (stay e s (Idle PopClosed)) (stay e s (Idle Empty)) (λ d. o) (λ d. o)) (λ b. o)
+      either Left (same (unmarkedOf f (e .tail)) h) _ (goes e s O1)
+      (λ b. either Left (markedOf f (e .tail)) (goes e s (Idle PopClosed)) (goes e s (Idle Empty)) (λ d. o) (λ d. o)) (λ b. o)
   leaves Len1 lose = o
   leaves (Len2 t) lose = o
-  leaves (Len3 t h) lose = either Left (same (e .tail) t) (stay e s (Idle (Len (countOf f t h)))) (stay e s Len1) (λ b. o) (λ b. o)
+  leaves (Len3 t h) lose = either Left (same (e .tail) t) (goes e s (Idle (Len (countOf f t h)))) (goes e s Len1) (λ b. o) (λ b. o)
   leaves Empty1 lose = o
   leaves (Empty2 h) lose = o
   leaves Full1 lose = o
   leaves (Full2 t) lose = o
   leaves Close1 lose =
-      either Left (markedOf f (e .tail)) (stay e s (Idle No)) (stay (tailTo e (withMark Sixteen f (e .tail))) s (Idle Yes)) (λ b. o)
+      either Left (markedOf f (e .tail)) (goes e s (Idle No)) (goes (tailTo e (withMark Sixteen f (e .tail))) s (Idle Yes)) (λ b. o)
       (λ b. (o .0, mark-short f (e .tail) (o .1), o .2))
   leaves IsClosed1 lose = o
 
@@ -153,14 +153,14 @@ module _ (m : Machine) (o : Short m) where
   step-short first second =
       either (λ (d : Did). Short (d .machine)) (brokenOf m) (refused 6 m) (turnAt Sixteen m first second) (λ b. o) (λ b. entry-short first second)
 
-  pub begin-short : (first second : ℕ) → Short (beginOfBy (actOf Sixteen) m first second .machine)
-  unfolding beginOfBy refused
+  pub begin-short : (first second : ℕ) → Short (beginStepOfBy (actOf Sixteen) m first second .machine)
+  unfolding beginStepOfBy refused
   begin-short first second =
       either (λ (d : Did). Short (d .machine)) (brokenOf m) (refused 6 m) _ (λ b. o)
       (λ b. either (λ (d : Did). Short (d .machine)) (ltb (first % 16) 8) (turnAt Sixteen m first second) (refused 9 m) (λ d. entry-short first second) (λ d. o))
 
-  pub act-short : (first second : ℕ) → Short (actOfBy (actOf Sixteen) m first second .machine)
-  unfolding actOfBy refused
+  pub act-short : (first second : ℕ) → Short (actStepOfBy (actOf Sixteen) m first second .machine)
+  unfolding actStepOfBy refused
   act-short first second =
       either (λ (d : Did). Short (d .machine)) (brokenOf m) (refused 6 m) _ (λ b. o)
       (λ b. either (λ (d : Did). Short (d .machine)) (ltb (first % 16) 8) (refused 9 m) (turnAt Sixteen m first second) (λ d. o) (λ d. entry-short first second))

@@ -5,11 +5,11 @@ ghost use lib.ListN.{length};
 ghost use Rattle.queue_entries.specs.Told.{told};
 ghost use Rattle.bounded_machine.specs.Broken.{brokenOf};
 ghost use Rattle.bounded_machine.specs.Contents.{countIn, contentsRefusal, written, capacityOf};
-ghost use Rattle.bounded_widths.specs.Widths.{widened};
-ghost use Rattle.bounded_narrow.specs.Narrow.{makeOf, runOf, stepOf, beginOf, actOf};
-use bounded_widths::Did;
-use bounded_widths::Machine;
-use bounded_widths::Ran;
+ghost use Rattle.bounded_sixteen_bits.specs.SixteenBits.{widened};
+ghost use Rattle.bounded_narrow.specs.Narrow.{makeOf, runOf, stepOf, beginStepOf, actStepOf};
+use bounded_sixteen_bits::Did;
+use bounded_sixteen_bits::Machine;
+use bounded_sixteen_bits::Ran;
 use bounded_words::Width;
 use queue_entries::Told;
 
@@ -17,19 +17,19 @@ use queue_entries::Told;
 pub fn make(capacity: u64, workers: u64, edition: u64) -> Did
     ensures { λ r. ⌜ r ≡ makeOf capacity workers edition ⌝ }
 {
-    bounded_widths::narrow_did(bounded::make(capacity, workers, edition))
+    bounded_sixteen_bits::narrow_did(bounded::make(capacity, workers, edition))
 }
 
 pub fn broken(m: Machine) -> bool
     ensures { λ r. ⌜ r ≡ brokenOf (widened m) ⌝ }
 {
-    bounded::broken(bounded_widths::widen(m))
+    bounded::broken(bounded_sixteen_bits::widen(m))
 }
 
 pub fn capacity(m: Machine) -> Told
     ensures { λ r. ⌜ r ≡ capacityOf (widened m) ⌝ }
 {
-    bounded::capacity(bounded_widths::widen(m))
+    bounded::capacity(bounded_sixteen_bits::widen(m))
 }
 
 // The items as `Drop` would meet them, written at the buffer's start. Nothing is removed.
@@ -37,16 +37,16 @@ pub fn contents(m: Machine, buffer: &mut [u64]) -> Told
     ensures answer { λ r. ⌜ r ≡ told (contentsRefusal (widened m) (length (now (buffer .entry)))) (countIn (widened m)) ⌝ }
     ensures lent { λ r. ⌜ now (buffer .exit) ≡ written (widened m) (now (buffer .entry)) ⌝ }
 {
-    bounded::contents(bounded_widths::widen(m), buffer)
+    bounded::contents(bounded_sixteen_bits::widen(m), buffer)
 }
 
 // A schedule, entry by entry, to its end or to the first refusal.
 pub fn run(m: Machine, schedule: &[u64]) -> Ran
     ensures { λ r. ⌜ r ≡ runOf m (now (schedule .entry)) ⌝ }
 {
-    bounded_widths::narrow_ran(bounded_runs::run(
+    bounded_sixteen_bits::narrow_ran(bounded_runs::run(
         Width::Sixteen,
-        bounded_widths::widen(m),
+        bounded_sixteen_bits::widen(m),
         schedule,
     ))
 }
@@ -55,9 +55,9 @@ pub fn run(m: Machine, schedule: &[u64]) -> Ran
 pub fn step(m: Machine, first: u64, second: u64) -> Did
     ensures { λ r. ⌜ r ≡ stepOf m first second ⌝ }
 {
-    bounded_widths::narrow_did(bounded_steps::step(
+    bounded_sixteen_bits::narrow_did(bounded_step_machine::step(
         Width::Sixteen,
-        bounded_widths::widen(m),
+        bounded_sixteen_bits::widen(m),
         first,
         second,
     ))
@@ -65,11 +65,11 @@ pub fn step(m: Machine, first: u64, second: u64) -> Did
 
 // One entry that begins a call; another's code can't be read here: refusal 9.
 pub fn begin(m: Machine, first: u64, second: u64) -> Did
-    ensures { λ r. ⌜ r ≡ beginOf m first second ⌝ }
+    ensures { λ r. ⌜ r ≡ beginStepOf m first second ⌝ }
 {
-    bounded_widths::narrow_did(bounded_steps::begin(
+    bounded_sixteen_bits::narrow_did(bounded_step_machine::begin(
         Width::Sixteen,
-        bounded_widths::widen(m),
+        bounded_sixteen_bits::widen(m),
         first,
         second,
     ))
@@ -77,11 +77,11 @@ pub fn begin(m: Machine, first: u64, second: u64) -> Did
 
 // One entry that acts; another's code can't be read here: refusal 9.
 pub fn act(m: Machine, first: u64, second: u64) -> Did
-    ensures { λ r. ⌜ r ≡ actOf m first second ⌝ }
+    ensures { λ r. ⌜ r ≡ actStepOf m first second ⌝ }
 {
-    bounded_widths::narrow_did(bounded_steps::act(
+    bounded_sixteen_bits::narrow_did(bounded_step_machine::act(
         Width::Sixteen,
-        bounded_widths::widen(m),
+        bounded_sixteen_bits::widen(m),
         first,
         second,
     ))

@@ -28,13 +28,13 @@ pub fn o2(bits: Width, e: Ends, s: Slot, h: Stamp) -> Acted
     let seen = s.stamp;
     // "If the stamp is ahead of the head by 1, we may attempt to pop."
     if bounded_words::one_past(bits, seen, h) {
-        return bounded_acts::stay(e, s, Place::O3(h));
+        return bounded_acts::goes(e, s, Place::O3(h));
     }
     // Not written on this lap: nothing is there, or a push has claimed it and not yet stamped it.
     if bounded_words::same_word(seen, h) {
-        bounded_acts::stay(e, s, Place::O6(h))
+        bounded_acts::goes(e, s, Place::O6(h))
     } else {
-        bounded_acts::stay(e, s, Place::O1)
+        bounded_acts::goes(e, s, Place::O1)
     }
 }
 
@@ -43,7 +43,7 @@ pub fn o3(bits: Width, f: Fixed, e: Ends, s: Slot, h: Stamp, lose: bool) -> Acte
     ensures { λ r. ⌜ r ≡ actO3 bits f e s h lose ⌝ }
 {
     match bounded_acts::exchange(e.head, h, lose) {
-        Exchange::Won => bounded_acts::stay(head_to_next(bits, f, e, h), s, Place::O4(h)),
+        Exchange::Won => bounded_acts::goes(head_to_next(bits, f, e, h), s, Place::O4(h)),
         Exchange::Differed(found) => bounded_acts::losing(e, s, Place::O2(found), Loss::ByWords),
         Exchange::Failed => bounded_acts::losing(e, s, Place::O2(h), Loss::BySchedule),
     }
@@ -52,7 +52,7 @@ pub fn o3(bits: Width, f: Fixed, e: Ends, s: Slot, h: Stamp, lose: bool) -> Acte
 pub fn o5(bits: Width, f: Fixed, e: Ends, s: Slot, h: Stamp, value: u64) -> Acted
     ensures { λ r. ⌜ r ≡ actO5 bits f e s h value ⌝ }
 {
-    bounded_acts::stay(
+    bounded_acts::goes(
         e,
         bounded_acts::stamp_to(bits, s, h, f.lap),
         Place::Idle(Answer::Popped(value)),
@@ -68,11 +68,11 @@ pub fn o6(f: Fixed, e: Ends, s: Slot, h: Stamp) -> Acted
     // "If the tail equals the head, that means the queue is empty."
     if bounded_words::unmarked_is(f, t, h) {
         if bounded_words::marked(f, t) {
-            bounded_acts::stay(e, s, Place::Idle(Answer::PopClosed))
+            bounded_acts::goes(e, s, Place::Idle(Answer::PopClosed))
         } else {
-            bounded_acts::stay(e, s, Place::Idle(Answer::Empty))
+            bounded_acts::goes(e, s, Place::Idle(Answer::Empty))
         }
     } else {
-        bounded_acts::stay(e, s, again)
+        bounded_acts::goes(e, s, again)
     }
 }

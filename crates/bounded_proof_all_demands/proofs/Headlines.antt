@@ -6,9 +6,9 @@ use Rattle.bounded_words.specs.Limits.{narrow}
 use Rattle.bounded_acts.specs.Acts.{actOf}
 use Rattle.bounded_machine.specs.History.{lossAt}
 use Rattle.bounded_stock.specs.Stock.{talliedOf}
-use Rattle.bounded_widths.specs.Widths.{narrowed}
+use Rattle.bounded_sixteen_bits.specs.SixteenBits.{narrowed}
 use Rattle.bounded_demands.specs.Notions.{sixtyFour, sixteen, promisesOf, pushingIn, atTheEnd, withRecords, ofWidth, document01, stock, windowLength, widestLength, cutTo}
-use Rattle.bounded_parts.specs.Parts.{recordsMost}
+use Rattle.bounded_orders.specs.Orders.{recordsMost}
 use Rattle.bounded_demands.specs.Demands.{Demand1, OnlyOneCount, UnderEverySchedule, NothingWraps, ActByAct, WholeSchedules, LenTrue, ScheduledAlone, Attained, AsForetold, StockUnderEverySchedule, MostStock, StockAttained, TallyAsSaid, TalliedUnderEverySchedule, EndsTold, LossesUnderEverySchedule, CountsAside, CloseHolds, OnceClosedAnywhere, ClosedIsLast, CaseF, WithinTheWindow, WithinWindowOf, NoWider, PromptKeeps, AloneKeeps, RoundsClaim, NotIdle, WindowLengths, SameNumbers, NumbersFit, AsHeld, OnlyTheActing, LentUnbroken, OnlyOneLent, LentThroughout, SixtyFourRecords, LentDemand1, LentEachNumber, LentMixed, Mixed, MixedInWindow, OnlyOneMeets, EachNumber, AttainedBy, AtMost, AsForetoldBy, EnumsBothWays}
 use Rattle.bounded_demands.specs.Eight.{EightRuns}
 use Rattle.bounded_demands.specs.Lending.{item11, promised}
@@ -51,7 +51,7 @@ use Rattle.bounded_demands.proofs.Retries.{each-needed}
 use Rattle.bounded_proof_causes.proofs.Causes.{every-retry, eight-ways}
 use Rattle.bounded_proof_causes.proofs.Alone.{alone-back-once, retries-always, retries-in-window}
 use Rattle.bounded_proof_causes.proofs.Said.{kept-as-said, kept-of-records}
-use Rattle.bounded_walkers.specs.Walkers.{walkOf}
+use Rattle.bounded_sequences.specs.Sequences.{walkOf}
 use Rattle.bounded_demands.specs.Demands.{WalksAll, WalkTold, WalksCounted}
 use Rattle.bounded_demands.proofs.Walkings.{walks-counted}
 use Rattle.bounded_proof_walks.proofs.Walks.{walks-all, walk-told}

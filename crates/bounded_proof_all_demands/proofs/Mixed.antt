@@ -22,11 +22,11 @@ use Rattle.bounded_machine.specs.Broken.{brokenOf}
 use Rattle.bounded_machine.specs.Turn.{turnAt}
 use Rattle.bounded_machine.specs.Run.{runOfBy}
 use Rattle.bounded_machine.proofs.Kept.{either}
-use Rattle.bounded_steps.specs.Steps.{stepOfBy, beginOfBy, actOfBy}
+use Rattle.bounded_step_machine.specs.Steps.{stepOfBy, beginStepOfBy, actStepOfBy}
 use Rattle.bounded.specs.Bounded.{makeOf}
-use Rattle.bounded_widths.specs.declared.Machine as widths
-use Rattle.bounded_widths.specs.Widths.{widened, narrowed}
-use Rattle.bounded_widths.proofs.Back.{again}
+use Rattle.bounded_sixteen_bits.specs.declared.Machine as widths
+use Rattle.bounded_sixteen_bits.specs.SixteenBits.{widened, narrowed}
+use Rattle.bounded_sixteen_bits.proofs.Back.{again}
 use Rattle.bounded_demands.specs.Notions.{Face, sixtyFour, sixteen, ofWidth, document01, Allowed, ranOf, entryUnless, Asking, by-step, by-begin, by-act, by-run, leftBy, takenBy, leftByAll, takenByAll}
 use Rattle.bounded_demands.specs.Demands.{AsOneSchedule, Mixed, MixedInWindow}
 use Rattle.bounded_demands.proofs.Numbers.{picked}
@@ -86,14 +86,14 @@ module _ (bits : Width) where
     unfolding stepOfBy
     step-leads = picked Led (brokenOf m) (refused 6 m) (turnAt bits m first second) (refused-leads 6 refl) turn-leads
 
-    begin-leads : Led (beginOfBy (actOf bits) m first second)
-    unfolding beginOfBy
+    begin-leads : Led (beginStepOfBy (actOf bits) m first second)
+    unfolding beginStepOfBy
     begin-leads =
         picked Led (brokenOf m) (refused 6 m) _ (refused-leads 6 refl)
         (picked Led (ltb (first % 16) 8) (turnAt bits m first second) (refused 9 m) turn-leads (refused-leads 9 refl))
 
-    act-leads : Led (actOfBy (actOf bits) m first second)
-    unfolding actOfBy
+    act-leads : Led (actStepOfBy (actOf bits) m first second)
+    unfolding actStepOfBy
     act-leads =
         picked Led (brokenOf m) (refused 6 m) _ (refused-leads 6 refl)
         (picked Led (ltb (first % 16) 8) (refused 9 m) (turnAt bits m first second) (refused-leads 9 refl) turn-leads)
@@ -106,16 +106,16 @@ module _ (bits : Width) where
   -- ---- by a face that keeps the one machine's numbers
   record Keeps {M D R : Type 0} (f : Face M D R) : Type 0 where
     step : (m : M) (a b : ℕ) → (f .refusal (f .step m a b) ≡ stepOfBy (actOf bits) (f .wide m) a b .refusal) × (f .wide (f .left (f .step m a b)) ≡ stepOfBy (actOf bits) (f .wide m) a b .machine)
-    begin : (m : M) (a b : ℕ) → (f .refusal (f .begin m a b) ≡ beginOfBy (actOf bits) (f .wide m) a b .refusal) × (f .wide (f .left (f .begin m a b)) ≡ beginOfBy (actOf bits) (f .wide m) a b .machine)
-    act : (m : M) (a b : ℕ) → (f .refusal (f .act m a b) ≡ actOfBy (actOf bits) (f .wide m) a b .refusal) × (f .wide (f .left (f .act m a b)) ≡ actOfBy (actOf bits) (f .wide m) a b .machine)
+    begin : (m : M) (a b : ℕ) → (f .refusal (f .begin m a b) ≡ beginStepOfBy (actOf bits) (f .wide m) a b .refusal) × (f .wide (f .left (f .begin m a b)) ≡ beginStepOfBy (actOf bits) (f .wide m) a b .machine)
+    act : (m : M) (a b : ℕ) → (f .refusal (f .act m a b) ≡ actStepOfBy (actOf bits) (f .wide m) a b .refusal) × (f .wide (f .left (f .act m a b)) ≡ actStepOfBy (actOf bits) (f .wide m) a b .machine)
     run : (m : M) (s : List ℕ) → (f .placeIn (f .run m s) ≡ runOfBy (actOf bits) (f .wide m) s .place) × (f .wide (f .leftIn (f .run m s)) ≡ runOfBy (actOf bits) (f .wide m) s .machine)
     made : (c w e : ℕ) → f .refusal (f .make c w e) ≡ 0 → (makeOf c w e .refusal ≡ 0) × (f .wide (f .left (f .make c w e)) ≡ makeOf c w e .machine)
 
   module _ {M D R : Type 0} (f : Face M D R) (keeps : Keeps f) where
     one : (y : Asking) (m : M) → Leads (f .wide m) (takenBy f m y) (f .wide (leftBy f m y))
     one (by-step a b) m = moved (f .wide m) a b (stepOfBy (actOf bits) (f .wide m) a b) _ _ (keeps .step m a b) (step-leads (f .wide m) a b)
-    one (by-begin a b) m = moved (f .wide m) a b (beginOfBy (actOf bits) (f .wide m) a b) _ _ (keeps .begin m a b) (begin-leads (f .wide m) a b)
-    one (by-act a b) m = moved (f .wide m) a b (actOfBy (actOf bits) (f .wide m) a b) _ _ (keeps .act m a b) (act-leads (f .wide m) a b)
+    one (by-begin a b) m = moved (f .wide m) a b (beginStepOfBy (actOf bits) (f .wide m) a b) _ _ (keeps .begin m a b) (begin-leads (f .wide m) a b)
+    one (by-act a b) m = moved (f .wide m) a b (actStepOfBy (actOf bits) (f .wide m) a b) _ _ (keeps .act m a b) (act-leads (f .wide m) a b)
     one (by-run s) m =
         subst (Leads (f .wide m) (takenBy f m (by-run s))) (sym (keeps .run m s .1))
         (subst (λ (k : ℕ). Leads (f .wide m) (ranOf (searchBy entryOf 0 s) k s) (runOfBy (actOf bits) (f .wide m) s .machine)) (sym (keeps .run m s .0))
@@ -149,8 +149,8 @@ sixteen-keeps : Keeps Sixteen sixteen
 sixteen-keeps =
     record {
       step = λ m a b. (refl, again (stepOfBy (actOf Sixteen) (widened m) a b .machine));
-      begin = λ m a b. (refl, again (beginOfBy (actOf Sixteen) (widened m) a b .machine));
-      act = λ m a b. (refl, again (actOfBy (actOf Sixteen) (widened m) a b .machine));
+      begin = λ m a b. (refl, again (beginStepOfBy (actOf Sixteen) (widened m) a b .machine));
+      act = λ m a b. (refl, again (actStepOfBy (actOf Sixteen) (widened m) a b .machine));
       run = λ m s. (refl, again (runOfBy (actOf Sixteen) (widened m) s .machine));
       made = λ c w e h. (h, again (makeOf c w e .machine));
     }

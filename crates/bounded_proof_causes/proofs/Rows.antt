@@ -23,7 +23,7 @@ use Rattle.bounded_places.specs.declared.Place.the-variants.{Idle, P1, P2, P3, 
 use Rattle.bounded_places.specs.declared.Moved.the-variants.{Tail, Head}
 use Rattle.bounded_places.specs.Places.{viewOf, beginOf}
 use Rattle.bounded_acts.specs.declared.Acted.{Acted}
-use Rattle.bounded_acts.specs.Acts.{stay, losing, afterTail, endP3, endF6, endO3, tailTo, headTo, stampTo, valueTo, forcedTail, fullAt, countOf, yesNo, actOf}
+use Rattle.bounded_acts.specs.Acts.{goes, losing, afterTail, endP3, endF6, endO3, tailTo, headTo, stampTo, valueTo, forcedTail, fullAt, countOf, yesNo, actOf}
 use Rattle.bounded_machine.specs.History.{movedOf}
 use Rattle.bounded_machine.proofs.Kept.{either, exchanged}
 use Rattle.bounded_causes.specs.declared.Deed.{Deed}
@@ -295,8 +295,8 @@ module _ (bits : Width) (f : Fixed) (e : Ends) (s : Slot) (x : Watch) (others : 
         alone = λ b. clash _ b on;
       }
 
-  on : (p q : Place) (r : Slot) → goesBackOf (standOf p) (standOf q) ≡ false → Knows bits f e (after p q) q → (others ≡ false → Clean x p → Clean (after p q) q) → Row p (stay e r q)
-  unfolding stay losing
+  on : (p q : Place) (r : Slot) → goesBackOf (standOf p) (standOf q) ≡ false → Knows bits f e (after p q) q → (others ≡ false → Clean x p → Clean (after p q) q) → Row p (goes e r q)
+  unfolding goes losing
   on p q r b k c = forth p q e r Nothing b k c (λ h d. refl) (λ h. refl)
 
   back : (p q : Place) (l : Loss) → WayBack p q
@@ -328,20 +328,20 @@ module _ (bits : Width) (f : Fixed) (e : Ends) (s : Slot) (x : Watch) (others : 
       (λ h. forth p (Idle (Closed y)) e s l ends tt (λ o c. tt) (λ b d. refl) (λ b. refl)) (λ h. row)
 
   row-p2 : (k : Kind) (t : Stamp) (y : ℕ) → Knows bits f e x (P2 k t y) → (others ≡ false → SeesTail bits f e s t) → Row (P2 k t y) (actOf bits f e s (P2 k t y) false)
-  unfolding goesBackOf deedOf sinceWith ownAct causesOf stay losing
+  unfolding goesBackOf deedOf sinceWith ownAct causesOf goes losing
   row-p2 k t y z sees =
-      either (Row (P2 k t y)) (same (s .stamp) t) (stay e s (P3 k t y)) _
+      either (Row (P2 k t y)) (same (s .stamp) t) (goes e s (P3 k t y)) _
       (λ h. on (P2 k t y) (P3 k t y) s refl z (λ o c. (c, refl, o)))
-      (λ h. either (Row (P2 k t y)) (lapBehindOnePast bits f (s .stamp) t) (stay e s (fullAt k t y)) (stay e s (P1 k y))
+      (λ h. either (Row (P2 k t y)) (lapBehindOnePast bits f (s .stamp) t) (goes e s (fullAt k t y)) (goes e s (P1 k y))
       (λ d. full k d)
       (λ d. back (P2 k t y) (P1 k y) Nothing p2-p1 (λ a b c i. sees i .decides (z b) h d) tt tt (λ o c. (c, refl, o))))
     where
-      full : (k : Kind) → lapBehindOnePast bits f (s .stamp) t ≡ true → Row (P2 k t y) (stay e s (fullAt k t y))
+      full : (k : Kind) → lapBehindOnePast bits f (s .stamp) t ≡ true → Row (P2 k t y) (goes e s (fullAt k t y))
       full Push d = on (P2 Push t y) (P6 t y) s refl (λ a b i. sees i .full d .0) (λ o c. (c, refl, o))
       full Force d = on (P2 Force t y) (F6 t y) s refl (λ a b i. sees i .full d .1) (λ o c. (c, refl, o))
 
   row-p3 : (k : Kind) (t : Stamp) (y : ℕ) (lose : Bool) → Knows bits f e x (P3 k t y) → Row (P3 k t y) (actOf bits f e s (P3 k t y) lose)
-  unfolding goesBackOf deedOf sinceWith ownAct causesOf stay losing tailTo
+  unfolding goesBackOf deedOf sinceWith ownAct causesOf goes losing tailTo
   row-p3 k t y lose z =
       exchanged (λ (w : Exchange). Row (P3 k t y) (endP3 bits f e s k t y w)) (e .tail) t lose
       (λ h d. back (P3 k t y) (P2 k t y) BySchedule p3-p2 (λ a. absurd (true≢false a)) (λ o. same-is (e .tail) t h) refl (λ o c. c))
@@ -350,14 +350,14 @@ module _ (bits : Width) (f : Fixed) (e : Ends) (s : Slot) (x : Watch) (others : 
       (back (P3 k t y) (P2 k (e .tail) y) ByWords p3-p2 (λ a b c i. clash _ (same-self (e .tail) t (z b)) h) (λ o. refl) refl (λ o c. c)))
 
   row-p6 : (t : Stamp) (y : ℕ) → Knows bits f e x (P6 t y) → Row (P6 t y) (actOf bits f e s (P6 t y) false)
-  unfolding goesBackOf deedOf sinceWith ownAct causesOf stay losing
+  unfolding goesBackOf deedOf sinceWith ownAct causesOf goes losing
   row-p6 t y z =
-      either (Row (P6 t y)) (lapBehind bits f (e .head) t) (stay e s (Idle (Full y))) (stay e s (P1 Push y))
+      either (Row (P6 t y)) (lapBehind bits f (e .head) t) (goes e s (Idle (Full y))) (goes e s (P1 Push y))
       (λ h. on (P6 t y) (Idle (Full y)) s refl tt (λ o c. tt))
       (λ h. back (P6 t y) (P1 Push y) Nothing p6-p1 (λ a b c i. clash _ (z b c i) h) tt tt (λ o c. c))
 
   row-f6 : (t : Stamp) (y : ℕ) (lose : Bool) → Knows bits f e x (F6 t y) → Row (F6 t y) (actOf bits f e s (F6 t y) lose)
-  unfolding goesBackOf deedOf sinceWith ownAct causesOf stay losing headTo
+  unfolding goesBackOf deedOf sinceWith ownAct causesOf goes losing headTo
   row-f6 t y lose z =
       exchanged (λ (w : Exchange). Row (F6 t y) (endF6 bits f e s t y w)) (e .head) (minus bits t (f .lap)) lose
       (λ h d. back (F6 t y) (P1 Force y) BySchedule f6-p1 (λ a. absurd (true≢false a)) tt tt (λ o c. c))
@@ -365,16 +365,16 @@ module _ (bits : Width) (f : Fixed) (e : Ends) (s : Slot) (x : Watch) (others : 
       (λ h. back (F6 t y) (P1 Force y) ByWords f6-p1 (λ a b c i. clash _ (z b c i) h) tt tt (λ o c. c))
 
   row-o2 : (h : Stamp) → Knows bits f e x (O2 h) → (others ≡ false → SeesHead bits f e s h) → Row (O2 h) (actOf bits f e s (O2 h) false)
-  unfolding goesBackOf deedOf sinceWith ownAct causesOf stay losing
+  unfolding goesBackOf deedOf sinceWith ownAct causesOf goes losing
   row-o2 h z sees =
-      either (Row (O2 h)) (onePast bits (s .stamp) h) (stay e s (O3 h)) _
+      either (Row (O2 h)) (onePast bits (s .stamp) h) (goes e s (O3 h)) _
       (λ p. on (O2 h) (O3 h) s refl z (λ o c. (c, refl, o)))
-      (λ p. either (Row (O2 h)) (same (s .stamp) h) (stay e s (O6 h)) (stay e s O1)
+      (λ p. either (Row (O2 h)) (same (s .stamp) h) (goes e s (O6 h)) (goes e s O1)
       (λ d. on (O2 h) (O6 h) s refl (λ a b i. sees i .empty d) (λ o c. (c, refl, o)))
       (λ d. back (O2 h) O1 Nothing o2-o1 (λ a b c i. sees i .decides (z b) p d) tt tt (λ o c. (c, refl, o))))
 
   row-o3 : (h : Stamp) (lose : Bool) → Knows bits f e x (O3 h) → Row (O3 h) (actOf bits f e s (O3 h) lose)
-  unfolding goesBackOf deedOf sinceWith ownAct causesOf stay losing headTo
+  unfolding goesBackOf deedOf sinceWith ownAct causesOf goes losing headTo
   row-o3 h lose z =
       exchanged (λ (w : Exchange). Row (O3 h) (endO3 bits f e s h w)) (e .head) h lose
       (λ p d. back (O3 h) (O2 h) BySchedule o3-o2 (λ a. absurd (true≢false a)) (λ o. same-is (e .head) h p) refl (λ o c. c))
@@ -382,30 +382,30 @@ module _ (bits : Width) (f : Fixed) (e : Ends) (s : Slot) (x : Watch) (others : 
       (λ p. back (O3 h) (O2 (e .head)) ByWords o3-o2 (λ a b c i. clash _ (same-self (e .head) h (z b)) p) (λ o. refl) refl (λ o c. c))
 
   row-o6 : (h : Stamp) → Knows bits f e x (O6 h) → Row (O6 h) (actOf bits f e s (O6 h) false)
-  unfolding goesBackOf deedOf sinceWith ownAct causesOf stay losing
+  unfolding goesBackOf deedOf sinceWith ownAct causesOf goes losing
   row-o6 h z =
-      either (Row (O6 h)) (same (unmarkedOf f (e .tail)) h) _ (stay e s O1)
-      (λ p. either (Row (O6 h)) (markedOf f (e .tail)) (stay e s (Idle PopClosed)) (stay e s (Idle Empty))
+      either (Row (O6 h)) (same (unmarkedOf f (e .tail)) h) _ (goes e s O1)
+      (λ p. either (Row (O6 h)) (markedOf f (e .tail)) (goes e s (Idle PopClosed)) (goes e s (Idle Empty))
       (λ d. on (O6 h) (Idle PopClosed) s refl tt (λ o c. tt)) (λ d. on (O6 h) (Idle Empty) s refl tt (λ o c. tt)))
       (λ p. back (O6 h) O1 Nothing o6-o1 (λ a b c i. clash _ (z b c i) p) tt tt (λ o c. c))
 
   row-len3 : (t h : Stamp) → Knows bits f e x (Len3 t h) → Row (Len3 t h) (actOf bits f e s (Len3 t h) false)
-  unfolding goesBackOf deedOf sinceWith ownAct causesOf stay losing
+  unfolding goesBackOf deedOf sinceWith ownAct causesOf goes losing
   row-len3 t h z =
-      either (Row (Len3 t h)) (same (e .tail) t) (stay e s (Idle (Len (countOf f t h)))) (stay e s Len1)
+      either (Row (Len3 t h)) (same (e .tail) t) (goes e s (Idle (Len (countOf f t h)))) (goes e s Len1)
       (λ p. on (Len3 t h) (Idle (Len (countOf f t h))) s refl tt (λ o c. tt))
       (λ p. back (Len3 t h) Len1 Nothing len3-len1 (λ a b c i. clash _ (same-self (e .tail) t (z b)) p) tt tt (λ o c. (c, refl, refl)))
 
   row-close : Row Close1 (actOf bits f e s Close1 false)
-  unfolding goesBackOf stay losing tailTo
+  unfolding goesBackOf goes losing tailTo
   row-close =
-      either (Row Close1) (markedOf f (e .tail)) (stay e s (Idle No)) (stay (tailTo e (withMark bits f (e .tail))) s (Idle Yes))
+      either (Row Close1) (markedOf f (e .tail)) (goes e s (Idle No)) (goes (tailTo e (withMark bits f (e .tail))) s (Idle Yes))
       (λ h. on Close1 (Idle No) s refl tt (λ o c. tt))
       (λ h. forth Close1 (Idle Yes) (tailTo e (withMark bits f (e .tail))) s Nothing refl tt (λ o c. tt) (λ b d. absurd (true≢false d)) (λ b. refl))
 
   pub row : (p : Place) (lose : Bool) → Knows bits f e x p → ((k : Kind) (t : Stamp) (y : ℕ) → p ≡ P2 k t y → others ≡ false → SeesTail bits f e s t)
       → ((h : Stamp) → p ≡ O2 h → others ≡ false → SeesHead bits f e s h) → Row p (actOf bits f e s p lose)
-  unfolding goesBackOf deedOf sinceWith ownAct stay losing tailTo
+  unfolding goesBackOf deedOf sinceWith ownAct goes losing tailTo
   row (Idle a) lose z tails heads = on (Idle a) (Idle a) s refl tt (λ o c. tt)
   row (P1 k y) lose z tails heads =
       finds (P1 k y) k y Nothing refl (forth (P1 k y) (P2 k (e .tail) y) e s Nothing refl (λ o. refl) (λ o c. refl) (λ b d. refl) (λ b. refl))

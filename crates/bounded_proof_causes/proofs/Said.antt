@@ -16,7 +16,7 @@ use Rattle.bounded_causes.specs.declared.Watch.{Watch}
 use Rattle.bounded_causes.specs.declared.Watches.{Watches}
 use Rattle.bounded_causes.specs.Causes.{watchedMost, untouched, sinceWith, ownAct, otherAct, unwatched, start, watchOf, othersHold, watchedOf, namedOf}
 use Rattle.bounded_demands.specs.Notions.{watchesFrom, watches, otherHand, deed, NoneBy, DoneSince, LatestBy, Tells}
-use Rattle.bounded_parts.specs.Parts.{recordsMost}
+use Rattle.bounded_orders.specs.Orders.{recordsMost}
 use Rattle.bounded_demands.specs.Demands.{Kept, KeptAsSaid, KeptOf}
 use Rattle.bounded_proof_demand2.proofs.Lists.{Last, Earlier, split-end}
 use Rattle.bounded_proof_demand2.proofs.Reached.{nil-split}

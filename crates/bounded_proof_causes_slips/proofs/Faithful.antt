@@ -5,7 +5,7 @@ use Rattle.queue_entries.specs.Limits.{workersMost}
 use Rattle.bounded_words.specs.declared.Width.the-variants.{Sixteen, SixtyFour}
 use Rattle.bounded_machine.specs.declared.Event.{Event}
 use Rattle.bounded_causes.specs.declared.Causes.{Causes}
-use Rattle.bounded_parts.specs.Parts.{recordsMost}
+use Rattle.bounded_orders.specs.Orders.{recordsMost}
 use Rattle.bounded_demands.specs.Notions.{withRecords, ofWidth, document01}
 use Rattle.bounded_demands.specs.Demands.{EveryRetryHasACause, EachNeeded, RetriesUnderEverySchedule, RetriesInWindow}
 use Rattle.bounded_demands.proofs.Retries.{each-needed}

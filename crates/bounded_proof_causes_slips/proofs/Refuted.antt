@@ -12,7 +12,7 @@ use Rattle.bounded_words.specs.Words.{stamp, doubled, markOf, markedOf, unmarke
 use Rattle.bounded_places.specs.declared.Kind.the-variants.{Push}
 use Rattle.bounded_places.specs.declared.Loss.the-variants.{Nothing, BySchedule}
 use Rattle.bounded_places.specs.declared.Place.the-variants.{P1, P2, P3, P4, P6, O1, O2, O6, Len1, Len3}
-use Rattle.bounded_acts.specs.Acts.{stay, losing, exchangeOf, afterTail, tailTo, headTo, stampTo, valueTo, forcedTail, countOf}
+use Rattle.bounded_acts.specs.Acts.{goes, losing, exchangeOf, afterTail, tailTo, headTo, stampTo, valueTo, forcedTail, countOf}
 use Rattle.bounded_machine.specs.Machine.{emptySlots, stamped, freshSlots, idlers, freshWith, refused, accepted}
 use Rattle.bounded_machine.specs.Turn.{recordAfter, begun, stored, actedBy, turnOfBy}
 use Rattle.bounded_machine.specs.declared.Event.{Event}
@@ -58,7 +58,7 @@ takes : Event
 takes = event 0 (P3 Push (stamp 0) 5) (P4 (stamp 0) 5) Nothing
 
 pub refuted : Refuted
-unfolding doubled markOf markedOf unmarkedOf plus minus withMark nextOf same onePast lapBehind lapBehindOnePast strayOf orderOf entryOf stay losing exchangeOf afterTail tailTo headTo stampTo valueTo forcedTail countOf emptySlots stamped freshSlots idlers freshWith refused accepted recordAfter begun stored actedBy turnOfBy historyBy all goesBackOf deedOf sinceWith ownAct otherAct othersHold watchedTo watchedOf causesOf namedOf acts watchesFrom lastOf lastIn retries sinceAnswer fifth alone grabs takes
+unfolding doubled markOf markedOf unmarkedOf plus minus withMark nextOf same onePast lapBehind lapBehindOnePast strayOf orderOf entryOf goes losing exchangeOf afterTail tailTo headTo stampTo valueTo forcedTail countOf emptySlots stamped freshSlots idlers freshWith refused accepted recordAfter begun stored actedBy turnOfBy historyBy all goesBackOf deedOf sinceWith ownAct otherAct othersHold watchedTo watchedOf causesOf namedOf acts watchesFrom lastOf lastIn retries sinceAnswer fifth alone grabs takes
 refuted =
     record {
       schedule = λ r. uncaused (r (actsOf document01 1 2 1 (does 0 0 5 2)) [] (event 0 (P3 Push (stamp 0) 5) (P2 Push (stamp 0) 5) BySchedule) refl refl);

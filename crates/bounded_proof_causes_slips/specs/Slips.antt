@@ -13,7 +13,7 @@ use Rattle.bounded_causes.specs.declared.Since.{Since}
 use Rattle.bounded_causes.specs.declared.Causes.{Causes}
 use Rattle.bounded_causes.specs.declared.Watches.{Watches}
 use Rattle.bounded_causes.specs.Causes.{standOf, deedOf, watchedMost, start, untouched, sinceWith, watchOf, ownIn, otherIn, causesOf}
-use Rattle.bounded_parts.specs.Parts.{recordsMost}
+use Rattle.bounded_orders.specs.Orders.{recordsMost}
 use Rattle.bounded_demands.specs.Notions.{ofWidth, withRecords, document01, watchesFrom, watches, causesIn, otherHand}
 use Rattle.bounded_demands.specs.Demands.{EveryRetryHasACause, EachNeeded, RetriesUnderEverySchedule, RetriesInWindow}
 

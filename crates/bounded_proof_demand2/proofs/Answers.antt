@@ -20,7 +20,7 @@ use Rattle.bounded_places.specs.declared.Place.{Place}
 use Rattle.bounded_places.specs.declared.Place.the-variants.{Idle, Empty2, Full2}
 use Rattle.bounded_places.specs.Places.{viewOf}
 use Rattle.bounded_places.specs.declared.Slot.{Slot}
-use Rattle.bounded_acts.specs.Acts.{actOf, stay, yesNo}
+use Rattle.bounded_acts.specs.Acts.{actOf, goes, yesNo}
 use Rattle.bounded_machine.specs.declared.Machine.{Machine}
 use Rattle.bounded_machine.specs.declared.Did.{Did}
 use Rattle.bounded_machine.specs.declared.Event.{Event}
@@ -125,7 +125,7 @@ module _ (bits : Width) (c n workers : ℕ) (base : Base bits c n workers) (m : 
 
     pub true-empty : {records : ℕ} (w : ℕ) (next : Machine) (t : Stamp) → stood m w ≡ Empty2 t → Acts (withRecords records bits) m w next → stood next w ≡ Idle Yes
         → unmarkedOf (m .ring .fixed) (m .ring .ends .tail) ≡ m .ring .ends .head
-    unfolding stay
+    unfolding goes
     true-empty w next t at act e =
         let l = leads w next (Empty2 t) act at in
         let y = empty-yes w t at (said-yes (same (unmarkedOf F (E .tail)) t) (sym (l .2) ∙ e)) in
@@ -134,7 +134,7 @@ module _ (bits : Width) (c n workers : ℕ) (base : Base bits c n workers) (m : 
 
     pub true-full : {records : ℕ} (w : ℕ) (next : Machine) (t : Stamp) → stood m w ≡ Full2 t → Acts (withRecords records bits) m w next → stood next w ≡ Idle Yes
         → lapBehind bits (m .ring .fixed) (m .ring .ends .head) (unmarkedOf (m .ring .fixed) (m .ring .ends .tail)) ≡ true
-    unfolding stay
+    unfolding goes
     true-full w next t at act e =
         let l = leads w next (Full2 t) act at in
         let y = full-yes w t at (said-yes (lapBehind bits F (E .head) (unmarkedOf F t)) (sym (l .2) ∙ e)) in

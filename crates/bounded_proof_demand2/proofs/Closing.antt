@@ -21,7 +21,7 @@ use Rattle.bounded_places.specs.declared.Place.the-variants.{Idle, Close1}
 use Rattle.bounded_places.specs.declared.Moved.the-variants.{Neither}
 use Rattle.bounded_places.specs.Places.{viewOf}
 use Rattle.bounded_acts.specs.declared.Acted.{Acted}
-use Rattle.bounded_acts.specs.Acts.{stay, tailTo, actOf}
+use Rattle.bounded_acts.specs.Acts.{goes, tailTo, actOf}
 use Rattle.bounded_machine.specs.declared.Machine.{Machine}
 use Rattle.bounded_machine.specs.declared.Event.{Event}
 use Rattle.bounded_machine.specs.Machine.{slot, freshWith}
@@ -194,11 +194,11 @@ module _ (bits : Width) (c n workers : ℕ) (base : Base bits c n workers) where
       closes = ap (λ (p : Place). actOf bits (m .ring .fixed) (m .ring .ends) here p lose) (y .0)
 
       unmarked : markedOf (m .ring .fixed) (m .ring .ends .tail) ≡ false
-      unfolding stay
+      unfolding goes
       unmarked = go (markedOf (m .ring .fixed) (m .ring .ends .tail)) refl (sym (ap (λ (a : Acted). a .place) closes) ∙ sym went ∙ y .1)
         where
           go : (b : Bool) → markedOf (m .ring .fixed) (m .ring .ends .tail) ≡ b
-              → cond (markedOf (m .ring .fixed) (m .ring .ends .tail)) (stay (m .ring .ends) here (Idle No)) (stay (tailTo (m .ring .ends) (withMark bits (m .ring .fixed) (m .ring .ends .tail))) here (Idle Yes)) .place ≡ Idle Yes
+              → cond (markedOf (m .ring .fixed) (m .ring .ends .tail)) (goes (m .ring .ends) here (Idle No)) (goes (tailTo (m .ring .ends) (withMark bits (m .ring .fixed) (m .ring .ends .tail))) here (Idle Yes)) .place ≡ Idle Yes
               → b ≡ false
           go true e said = let q : Idle No ≡ Idle Yes = rw e at said in absurd (let z : _≡_ {A = ℕ} 0 1 = cc in omega arith)
           go false e said = refl
@@ -210,7 +210,7 @@ module _ (bits : Width) (c n workers : ℕ) (base : Base bits c n workers) where
           ∙ sym (ap (λ (f : Fixed). markedOf f (m .ring .ends .tail)) (pic .rule)) ∙ unmarked
 
       now-shut : st .shut ≡ true
-      unfolding stay tailTo
+      unfolding goes tailTo
       now-shut =
           let u = after c w (spot bits c n workers base (r .ring) m pic w l lose busy) (st .effect) (r .ring) in
           let marked : result bits c n workers base (r .ring) m pic w l lose busy .ends .tail ≡ tailWord c (markOf c) n (r .ring .tail) true =

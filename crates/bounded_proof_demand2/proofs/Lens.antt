@@ -25,7 +25,7 @@ use Rattle.bounded_places.specs.declared.Place.{Place}
 use Rattle.bounded_places.specs.declared.Place.the-variants.{Idle, Len1, Len2, Len3}
 use Rattle.bounded_places.specs.declared.Worker.{Worker}
 use Rattle.bounded_places.specs.Places.{viewOf, beginOf}
-use Rattle.bounded_acts.specs.Acts.{stay, countOf}
+use Rattle.bounded_acts.specs.Acts.{goes, countOf}
 use Rattle.bounded_machine.specs.declared.Machine.{Machine}
 use Rattle.bounded_machine.specs.declared.Event.{Event}
 use Rattle.bounded_machine.specs.Machine.{idler, freshWith}
@@ -96,8 +96,8 @@ tailers-append (e ∷ a) b =
     omega (arith, length-append x (tailersOf (a ++ b)), length-append x (tailersOf a), tailers-append a b)
 
 -- an answer of len, taken apart
-len-said : (b : Bool) (e : Ends) (z : Slot) (k n : ℕ) → cond b (stay e z (Idle (Len k))) (stay e z Len1) .place ≡ Idle (Len n) → (b ≡ true) × (n ≡ k)
-unfolding stay
+len-said : (b : Bool) (e : Ends) (z : Slot) (k n : ℕ) → cond b (goes e z (Idle (Len k))) (goes e z Len1) .place ≡ Idle (Len n) → (b ≡ true) × (n ≡ k)
+unfolding goes
 len-said true e z k n q = (refl, cc)
 len-said false e z k n q = absurd (let y : _≡_ {A = ℕ} 0 1 = cc in omega arith)
 
@@ -116,7 +116,7 @@ module _ (bits : Width) (c n workers : ℕ) (base : Base bits c n workers) (m : 
         (entered-in bits c n workers base m h (Asks w (Act (load .lose))) _ _ r window (did w (load .lose) (done .team) (done .busy) (done .early)))
 
     pub stands-loaded : stood loaded w ≡ Len3 t (W c mark n (r .ring .head))
-    unfolding stay
+    unfolding goes
     stands-loaded = leads bits c n workers base m h r w loaded (Len2 t) load at .2
 
     tail-seen : Stands c mark n (r .ring) w (r .pictured .ages w) (look c (Len2 t))

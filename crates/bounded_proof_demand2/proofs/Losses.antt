@@ -30,7 +30,7 @@ use Rattle.bounded_places.specs.declared.Place.the-variants.{Idle, P1, P2, P3, 
 use Rattle.bounded_places.specs.declared.Worker.{Worker}
 use Rattle.bounded_places.specs.Places.{viewOf, beginOf}
 use Rattle.bounded_acts.specs.declared.Acted.{Acted}
-use Rattle.bounded_acts.specs.Acts.{stay, losing, exchangeOf, endP3, endF6, endO3, tailTo, fullAt, countOf, actOf}
+use Rattle.bounded_acts.specs.Acts.{goes, losing, exchangeOf, endP3, endF6, endO3, tailTo, fullAt, countOf, actOf}
 use Rattle.bounded_machine.specs.declared.Machine.{Machine}
 use Rattle.bounded_machine.specs.declared.Event.{Event}
 use Rattle.bounded_machine.specs.Machine.{idler, recordOf, freshWith}
@@ -46,26 +46,26 @@ use Rattle.bounded_proof_demand2.proofs.Reached.{along-any, fresh-recor
 
 -- an act that is no exchange
 none-lost : (bits : Width) (f : Fixed) (e : Ends) (s : Slot) (p : Place) (lose : Bool) → viewOf p .weak ≡ false → actOf bits f e s p lose .loss ≡ Nothing
-unfolding stay
+unfolding goes
 none-lost bits f e s (Idle a) lose h = refl
 none-lost bits f e s (P1 k x) lose h = refl
 none-lost bits f e s (P2 k t x) lose h =
-    either N (same (s .stamp) t) (stay e s (P3 k t x)) _ (λ b. refl)
-    (λ b. either N (lapBehindOnePast bits f (s .stamp) t) (stay e s (fullAt k t x)) (stay e s (P1 k x)) (λ d. refl) (λ d. refl))
+    either N (same (s .stamp) t) (goes e s (P3 k t x)) _ (λ b. refl)
+    (λ b. either N (lapBehindOnePast bits f (s .stamp) t) (goes e s (fullAt k t x)) (goes e s (P1 k x)) (λ d. refl) (λ d. refl))
   where
     N : Acted → Type 0
     N a = a .loss ≡ Nothing
 none-lost bits f e s (P3 k t x) lose h = absurd (true≢false h)
 none-lost bits f e s (P4 t x) lose h = refl
 none-lost bits f e s (P5 t) lose h = refl
-none-lost bits f e s (P6 t x) lose h = either (λ (a : Acted). a .loss ≡ Nothing) (lapBehind bits f (e .head) t) (stay e s (Idle (Full x))) (stay e s (P1 Push x)) (λ b. refl) (λ b. refl)
+none-lost bits f e s (P6 t x) lose h = either (λ (a : Acted). a .loss ≡ Nothing) (lapBehind bits f (e .head) t) (goes e s (Idle (Full x))) (goes e s (P1 Push x)) (λ b. refl) (λ b. refl)
 none-lost bits f e s (F6 t x) lose h = absurd (true≢false h)
 none-lost bits f e s (F7 t x) lose h = refl
 none-lost bits f e s (F8 t x) lose h = refl
 none-lost bits f e s (F9 t old) lose h = refl
 none-lost bits f e s O1 lose h = refl
 none-lost bits f e s (O2 w) lose h =
-    either N (onePast bits (s .stamp) w) (stay e s (O3 w)) _ (λ b. refl) (λ b. either N (same (s .stamp) w) (stay e s (O6 w)) (stay e s O1) (λ d. refl) (λ d. refl))
+    either N (onePast bits (s .stamp) w) (goes e s (O3 w)) _ (λ b. refl) (λ b. either N (same (s .stamp) w) (goes e s (O6 w)) (goes e s O1) (λ d. refl) (λ d. refl))
   where
     N : Acted → Type 0
     N a = a .loss ≡ Nothing
@@ -73,20 +73,20 @@ none-lost bits f e s (O3 w) lose h = absurd (true≢false h)
 none-lost bits f e s (O4 w) lose h = refl
 none-lost bits f e s (O5 w v) lose h = refl
 none-lost bits f e s (O6 w) lose h =
-    either N (same (unmarkedOf f (e .tail)) w) _ (stay e s O1)
-    (λ b. either N (markedOf f (e .tail)) (stay e s (Idle PopClosed)) (stay e s (Idle Empty)) (λ d. refl) (λ d. refl)) (λ b. refl)
+    either N (same (unmarkedOf f (e .tail)) w) _ (goes e s O1)
+    (λ b. either N (markedOf f (e .tail)) (goes e s (Idle PopClosed)) (goes e s (Idle Empty)) (λ d. refl) (λ d. refl)) (λ b. refl)
   where
     N : Acted → Type 0
     N a = a .loss ≡ Nothing
 none-lost bits f e s Len1 lose h = refl
 none-lost bits f e s (Len2 t) lose h = refl
-none-lost bits f e s (Len3 t w) lose h = either (λ (a : Acted). a .loss ≡ Nothing) (same (e .tail) t) (stay e s (Idle (Len (countOf f t w)))) (stay e s Len1) (λ b. refl) (λ b. refl)
+none-lost bits f e s (Len3 t w) lose h = either (λ (a : Acted). a .loss ≡ Nothing) (same (e .tail) t) (goes e s (Idle (Len (countOf f t w)))) (goes e s Len1) (λ b. refl) (λ b. refl)
 none-lost bits f e s Empty1 lose h = refl
 none-lost bits f e s (Empty2 w) lose h = refl
 none-lost bits f e s Full1 lose h = refl
 none-lost bits f e s (Full2 t) lose h = refl
 none-lost bits f e s Close1 lose h =
-    either (λ (a : Acted). a .loss ≡ Nothing) (markedOf f (e .tail)) (stay e s (Idle No)) (stay (tailTo e (withMark bits f (e .tail))) s (Idle Yes)) (λ b. refl) (λ b. refl)
+    either (λ (a : Acted). a .loss ≡ Nothing) (markedOf f (e .tail)) (goes e s (Idle No)) (goes (tailTo e (withMark bits f (e .tail))) s (Idle Yes)) (λ b. refl) (λ b. refl)
 none-lost bits f e s IsClosed1 lose h = refl
 
 abbrev lossOf : Exchange → Loss
@@ -96,7 +96,7 @@ lossOf Failed = BySchedule
 
 ended : (bits : Width) (f : Fixed) (e : Ends) (s : Slot) (p : Place) (lose : Bool) (found expected : Stamp) → Exchanges bits f e p found expected
     → actOf bits f e s p lose .loss ≡ lossOf (exchangeOf found expected lose)
-unfolding stay losing
+unfolding goes losing
 ended bits f e s p lose found expected (exchangeP3 {k} {t} {x}) =
     exchanged (λ (y : Exchange). endP3 bits f e s k t x y .loss ≡ lossOf y) (e .tail) t lose (λ b d. refl) (λ b d. refl) (λ b. refl)
 ended bits f e s p lose found expected (exchangeF6 {t} {x}) =

@@ -6,7 +6,7 @@ use Rattle.bounded_machine.specs.declared.Machine.{Machine}
 use Rattle.bounded_machine.specs.declared.Ran.{Ran}
 use Rattle.bounded_machine.specs.Machine.{freshOf}
 use Rattle.bounded_machine.specs.Run.{runOfBy}
-use Rattle.bounded_widths.proofs.Back.{back, again}
+use Rattle.bounded_sixteen_bits.proofs.Back.{back, again}
 use Rattle.bounded_demands.specs.Demands.{SameNumbers}
 use Rattle.bounded_proof_demand2.proofs.Demand2.{whole-schedules}
 

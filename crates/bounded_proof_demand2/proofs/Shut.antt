@@ -20,7 +20,7 @@ use Rattle.bounded_places.specs.declared.Place.{Place}
 use Rattle.bounded_places.specs.declared.Place.the-variants.{Idle, P1, P2, P3, P4, P5, P6, F6, F7, F8, F9, O1, O2, O3, O4, O5, O6, Len1, Len2, Len3, Empty1, Empty2, Full1, Full2, Close1, IsClosed1}
 use Rattle.bounded_places.specs.Places.{viewOf, fitsOf}
 use Rattle.bounded_acts.specs.declared.Acted.{Acted}
-use Rattle.bounded_acts.specs.Acts.{stay, losing, endP3, endF6, endO3, tailTo, headTo, forcedTail, fullAt, countOf, actOf}
+use Rattle.bounded_acts.specs.Acts.{goes, losing, endP3, endF6, endO3, tailTo, headTo, forcedTail, fullAt, countOf, actOf}
 use Rattle.bounded_machine.specs.declared.Machine.{Machine}
 use Rattle.bounded_machine.specs.declared.Event.{Event}
 use Rattle.bounded_machine.specs.Turn.{begun, actedBy, stored}
@@ -43,19 +43,19 @@ module _ (bits : Width) (f : Fixed) (r : Ruled f) (two : f .edition ≡ 2) (e : 
   forced t p = rw (eq-eqb (f .edition) 2 two, marked) (mark-marked f r bits (nextOf bits f t) (next-plain f r bits t p))
 
   still-marked : (p : Place) (lose : Bool) → fitsOf f (viewOf p .held) ≡ true → Marked (actOf bits f e s p lose)
-  unfolding stay losing tailTo headTo
+  unfolding goes losing tailTo headTo
   still-marked (Idle a) lose q = marked
   still-marked (P1 k x) lose q = marked
   still-marked (P2 k t x) lose q =
-      either Marked (same (s .stamp) t) (stay e s (P3 k t x)) _ (λ b. marked)
-      (λ b. either Marked (lapBehindOnePast bits f (s .stamp) t) (stay e s (fullAt k t x)) (stay e s (P1 k x)) (λ d. marked) (λ d. marked))
+      either Marked (same (s .stamp) t) (goes e s (P3 k t x)) _ (λ b. marked)
+      (λ b. either Marked (lapBehindOnePast bits f (s .stamp) t) (goes e s (fullAt k t x)) (goes e s (P1 k x)) (λ d. marked) (λ d. marked))
   still-marked (P3 k t x) lose q =
       exchanged (λ (y : Exchange). Marked (endP3 bits f e s k t x y)) (e .tail) t lose (λ b d. marked)
       (λ b d. absurd (true≢false (sym marked ∙ ap (markedOf f) (same-is (e .tail) t b) ∙ fits-plain f t q .unmarked)))
       (λ b. marked)
   still-marked (P4 t x) lose q = marked
   still-marked (P5 t) lose q = marked
-  still-marked (P6 t x) lose q = either Marked (lapBehind bits f (e .head) t) (stay e s (Idle (Full x))) (stay e s (P1 Push x)) (λ b. marked) (λ b. marked)
+  still-marked (P6 t x) lose q = either Marked (lapBehind bits f (e .head) t) (goes e s (Idle (Full x))) (goes e s (P1 Push x)) (λ b. marked) (λ b. marked)
   still-marked (F6 t x) lose q =
       exchanged (λ (y : Exchange). Marked (endF6 bits f e s t x y)) (e .head) (minus bits t (f .lap)) lose (λ b d. marked) (λ b d. marked) (λ b. marked)
   still-marked (F7 t x) lose q = forced t (fits-plain f t q)
@@ -63,23 +63,23 @@ module _ (bits : Width) (f : Fixed) (r : Ruled f) (two : f .edition ≡ 2) (e : 
   still-marked (F9 t old) lose q = marked
   still-marked O1 lose q = marked
   still-marked (O2 h) lose q =
-      either Marked (onePast bits (s .stamp) h) (stay e s (O3 h)) _ (λ b. marked)
-      (λ b. either Marked (same (s .stamp) h) (stay e s (O6 h)) (stay e s O1) (λ d. marked) (λ d. marked))
+      either Marked (onePast bits (s .stamp) h) (goes e s (O3 h)) _ (λ b. marked)
+      (λ b. either Marked (same (s .stamp) h) (goes e s (O6 h)) (goes e s O1) (λ d. marked) (λ d. marked))
   still-marked (O3 h) lose q = exchanged (λ (y : Exchange). Marked (endO3 bits f e s h y)) (e .head) h lose (λ b d. marked) (λ b d. marked) (λ b. marked)
   still-marked (O4 h) lose q = marked
   still-marked (O5 h v) lose q = marked
   still-marked (O6 h) lose q =
-      either Marked (same (unmarkedOf f (e .tail)) h) _ (stay e s O1)
-      (λ b. either Marked (markedOf f (e .tail)) (stay e s (Idle PopClosed)) (stay e s (Idle Empty)) (λ d. marked) (λ d. marked)) (λ b. marked)
+      either Marked (same (unmarkedOf f (e .tail)) h) _ (goes e s O1)
+      (λ b. either Marked (markedOf f (e .tail)) (goes e s (Idle PopClosed)) (goes e s (Idle Empty)) (λ d. marked) (λ d. marked)) (λ b. marked)
   still-marked Len1 lose q = marked
   still-marked (Len2 t) lose q = marked
-  still-marked (Len3 t h) lose q = either Marked (same (e .tail) t) (stay e s (Idle (Len (countOf f t h)))) (stay e s Len1) (λ b. marked) (λ b. marked)
+  still-marked (Len3 t h) lose q = either Marked (same (e .tail) t) (goes e s (Idle (Len (countOf f t h)))) (goes e s Len1) (λ b. marked) (λ b. marked)
   still-marked Empty1 lose q = marked
   still-marked (Empty2 h) lose q = marked
   still-marked Full1 lose q = marked
   still-marked (Full2 t) lose q = marked
   still-marked Close1 lose q =
-      either Marked (markedOf f (e .tail)) (stay e s (Idle No)) (stay (tailTo e (withMark bits f (e .tail))) s (Idle Yes)) (λ b. marked)
+      either Marked (markedOf f (e .tail)) (goes e s (Idle No)) (goes (tailTo e (withMark bits f (e .tail))) s (Idle Yes)) (λ b. marked)
       (λ b. absurd (true≢false (sym marked ∙ b)))
   still-marked IsClosed1 lose q = marked
 

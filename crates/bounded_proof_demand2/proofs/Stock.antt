@@ -29,7 +29,7 @@ use Rattle.bounded_places.specs.declared.Moved.{Moved}
 use Rattle.bounded_places.specs.declared.Moved.the-variants.{Neither, Tail, Head}
 use Rattle.bounded_places.specs.Places.{viewOf, beginOf}
 use Rattle.bounded_acts.specs.declared.Acted.{Acted}
-use Rattle.bounded_acts.specs.Acts.{stay, losing, afterTail, endP3, endF6, endO3, tailTo, fullAt, countOf, actOf}
+use Rattle.bounded_acts.specs.Acts.{goes, losing, afterTail, endP3, endF6, endO3, tailTo, fullAt, countOf, actOf}
 use Rattle.bounded_machine.specs.declared.Machine.{Machine}
 use Rattle.bounded_machine.specs.declared.Event.{Event}
 use Rattle.bounded_machine.specs.declared.Tally.{Tally}
@@ -77,18 +77,18 @@ full-kept Push j t x = omega arith
 full-kept Force j t x = omega arith
 
 act-kept : (bits : Width) (f : Fixed) (e : Ends) (s : Slot) (p : Place) (lose : Bool) → Kept p (actOf bits f e s p lose .place)
-unfolding stay losing
+unfolding goes losing
 act-kept bits f e s (Idle a) lose = omega arith
 act-kept bits f e s (P1 k x) lose = found-kept f (e .tail) k x (P1 k x) refl refl
 act-kept bits f e s (P2 k t x) lose =
-    either (λ (a : Acted). Kept (P2 k t x) (a .place)) (same (s .stamp) t) (stay e s (P3 k t x)) (cond (lapBehindOnePast bits f (s .stamp) t) (stay e s (fullAt k t x)) (stay e s (P1 k x))) (λ z. omega arith) (λ z. either (λ (a : Acted). Kept (P2 k t x) (a .place)) (lapBehindOnePast bits f (s .stamp) t) (stay e s (fullAt k t x)) (stay e s (P1 k x)) (λ y. full-kept k k t x) (λ y. omega arith))
+    either (λ (a : Acted). Kept (P2 k t x) (a .place)) (same (s .stamp) t) (goes e s (P3 k t x)) (cond (lapBehindOnePast bits f (s .stamp) t) (goes e s (fullAt k t x)) (goes e s (P1 k x))) (λ z. omega arith) (λ z. either (λ (a : Acted). Kept (P2 k t x) (a .place)) (lapBehindOnePast bits f (s .stamp) t) (goes e s (fullAt k t x)) (goes e s (P1 k x)) (λ y. full-kept k k t x) (λ y. omega arith))
 act-kept bits f e s (P3 k t x) lose =
     exchanged (λ (y : Exchange). Kept (P3 k t x) (endP3 bits f e s k t x y .place)) (e .tail) t lose (λ b d. omega arith) (λ b d. omega arith)
     (λ b. found-kept f (e .tail) k x (P3 k t x) refl refl)
 act-kept bits f e s (P4 t x) lose = omega arith
 act-kept bits f e s (P5 t) lose = omega arith
 act-kept bits f e s (P6 t x) lose =
-    either (λ (a : Acted). Kept (P6 t x) (a .place)) (lapBehind bits f (e .head) t) (stay e s (Idle (Full x))) (stay e s (P1 Push x)) (λ z. omega arith) (λ z. omega arith)
+    either (λ (a : Acted). Kept (P6 t x) (a .place)) (lapBehind bits f (e .head) t) (goes e s (Idle (Full x))) (goes e s (P1 Push x)) (λ z. omega arith) (λ z. omega arith)
 act-kept bits f e s (F6 t x) lose =
     exchanged (λ (y : Exchange). Kept (F6 t x) (endF6 bits f e s t x y .place)) (e .head) (minus bits t (f .lap)) lose (λ b d. omega arith) (λ b d. omega arith) (λ b. omega arith)
 act-kept bits f e s (F7 t x) lose = omega arith
@@ -96,23 +96,23 @@ act-kept bits f e s (F8 t x) lose = omega arith
 act-kept bits f e s (F9 t old) lose = omega arith
 act-kept bits f e s O1 lose = omega arith
 act-kept bits f e s (O2 h) lose =
-    either (λ (a : Acted). Kept (O2 h) (a .place)) (onePast bits (s .stamp) h) (stay e s (O3 h)) (cond (same (s .stamp) h) (stay e s (O6 h)) (stay e s O1)) (λ z. omega arith) (λ z. either (λ (a : Acted). Kept (O2 h) (a .place)) (same (s .stamp) h) (stay e s (O6 h)) (stay e s O1) (λ y. omega arith) (λ y. omega arith))
+    either (λ (a : Acted). Kept (O2 h) (a .place)) (onePast bits (s .stamp) h) (goes e s (O3 h)) (cond (same (s .stamp) h) (goes e s (O6 h)) (goes e s O1)) (λ z. omega arith) (λ z. either (λ (a : Acted). Kept (O2 h) (a .place)) (same (s .stamp) h) (goes e s (O6 h)) (goes e s O1) (λ y. omega arith) (λ y. omega arith))
 act-kept bits f e s (O3 h) lose =
     exchanged (λ (y : Exchange). Kept (O3 h) (endO3 bits f e s h y .place)) (e .head) h lose (λ b d. omega arith) (λ b d. omega arith) (λ b. omega arith)
 act-kept bits f e s (O4 h) lose = omega arith
 act-kept bits f e s (O5 h v) lose = omega arith
 act-kept bits f e s (O6 h) lose =
-    either (λ (a : Acted). Kept (O6 h) (a .place)) (same (unmarkedOf f (e .tail)) h) (cond (markedOf f (e .tail)) (stay e s (Idle PopClosed)) (stay e s (Idle Empty))) (stay e s O1) (λ z. either (λ (a : Acted). Kept (O6 h) (a .place)) (markedOf f (e .tail)) (stay e s (Idle PopClosed)) (stay e s (Idle Empty)) (λ y. omega arith) (λ y. omega arith)) (λ z. omega arith)
+    either (λ (a : Acted). Kept (O6 h) (a .place)) (same (unmarkedOf f (e .tail)) h) (cond (markedOf f (e .tail)) (goes e s (Idle PopClosed)) (goes e s (Idle Empty))) (goes e s O1) (λ z. either (λ (a : Acted). Kept (O6 h) (a .place)) (markedOf f (e .tail)) (goes e s (Idle PopClosed)) (goes e s (Idle Empty)) (λ y. omega arith) (λ y. omega arith)) (λ z. omega arith)
 act-kept bits f e s Len1 lose = omega arith
 act-kept bits f e s (Len2 t) lose = omega arith
 act-kept bits f e s (Len3 t h) lose =
-    either (λ (a : Acted). Kept (Len3 t h) (a .place)) (same (e .tail) t) (stay e s (Idle (Len (countOf f t h)))) (stay e s Len1) (λ z. omega arith) (λ z. omega arith)
+    either (λ (a : Acted). Kept (Len3 t h) (a .place)) (same (e .tail) t) (goes e s (Idle (Len (countOf f t h)))) (goes e s Len1) (λ z. omega arith) (λ z. omega arith)
 act-kept bits f e s Empty1 lose = omega arith
 act-kept bits f e s (Empty2 h) lose = omega arith
 act-kept bits f e s Full1 lose = omega arith
 act-kept bits f e s (Full2 t) lose = omega arith
 act-kept bits f e s Close1 lose =
-    either (λ (a : Acted). Kept Close1 (a .place)) (markedOf f (e .tail)) (stay e s (Idle No)) (stay (tailTo e (withMark bits f (e .tail))) s (Idle Yes)) (λ z. omega arith) (λ z. omega arith)
+    either (λ (a : Acted). Kept Close1 (a .place)) (markedOf f (e .tail)) (goes e s (Idle No)) (goes (tailTo e (withMark bits f (e .tail))) s (Idle Yes)) (λ z. omega arith) (λ z. omega arith)
 act-kept bits f e s IsClosed1 lose = omega arith
 
 no-tail : (x : Moved) → (x ≡ Tail → ⊥) → tails x ≡ 0

@@ -20,7 +20,7 @@ use Rattle.bounded_places.specs.declared.Place.{Place}
 use Rattle.bounded_places.specs.declared.Place.the-variants.{Idle, P1, P2, P3, P4, P5, P6, F6, F7, F8, F9, O1, O2, O3, O4, O5, O6, Len1, Len2, Len3, Empty1, Empty2, Full1, Full2, Close1, IsClosed1}
 use Rattle.bounded_places.specs.Places.{viewOf}
 use Rattle.bounded_acts.specs.declared.Acted.{Acted}
-use Rattle.bounded_acts.specs.Acts.{stay, losing, exchangeOf, afterTail, endP3, endF6, endO3, tailTo, headTo, actOf, actP2, actP3, fullAt, countOf}
+use Rattle.bounded_acts.specs.Acts.{goes, losing, exchangeOf, afterTail, endP3, endF6, endO3, tailTo, headTo, actOf, actP2, actP3, fullAt, countOf}
 use Rattle.bounded_machine.proofs.Kept.{either, exchanged}
 use Rattle.bounded_demands.specs.Notions.{oneMore, mostOf}
 use Rattle.bounded_proof_demand3.specs.Rank.{rankOf}
@@ -113,11 +113,11 @@ module _ (bits : Width) (f : Fixed) (e : Ends) (s : Slot) where
   finds k x n in-date pos = either (λ (p : Place). rankOf bits f e p < n) (markedOf f (e .tail)) (Idle (Closed x)) (P2 k (e .tail) x) (λ h. pos) in-date
 
   falls-p2 : (k : Kind) (t : Stamp) (x : ℕ) → FindsTail bits f e s t → Less (rankOf bits f e (P2 k t x)) (actP2 bits f e s k t x)
-  unfolding stay
+  unfolding goes
   falls-p2 k t x d =
-      either (Less (rankOf bits f e (P2 k t x))) (same (s .stamp) t) (stay e s (P3 k t x)) _
+      either (Less (rankOf bits f e (P2 k t x))) (same (s .stamp) t) (goes e s (P3 k t x)) _
       (λ h. both (same (unmarkedOf f (e .tail)) t) _ _ _ _ (omega arith) (omega arith))
-      (λ h. either (Less (rankOf bits f e (P2 k t x))) (lapBehindOnePast bits f (s .stamp) t) (stay e s (fullAt k t x)) (stay e s (P1 k x))
+      (λ h. either (Less (rankOf bits f e (P2 k t x))) (lapBehindOnePast bits f (s .stamp) t) (goes e s (fullAt k t x)) (goes e s (P1 k x))
       (λ g. full k (d .full g))
       (λ g. second (same (unmarkedOf f (e .tail)) t) _ _ _ (λ q. d .decides q h g) (omega arith)))
     where
@@ -126,7 +126,7 @@ module _ (bits : Width) (f : Fixed) (e : Ends) (s : Slot) where
       full Force q = now-at (same (e .head) (minus bits t (f .lap))) _ _ _ (q .1) (low (same (unmarkedOf f (e .tail)) t) _ _ _ (omega arith) (omega arith))
 
   falls-p3 : (k : Kind) (t : Stamp) (x : ℕ) → Less (rankOf bits f e (P3 k t x)) (actP3 bits f e s k t x false)
-  unfolding stay losing
+  unfolding goes losing
   falls-p3 k t x =
       exchanged (λ (y : Exchange). Less (rankOf bits f e (P3 k t x)) (endP3 bits f e s k t x y)) (e .tail) t false (λ h g. absurd (true≢false (sym g)))
       (λ h g. low (same (unmarkedOf f (e .tail)) t) _ _ _ (omega arith) (omega arith))
@@ -139,11 +139,11 @@ module _ (bits : Width) (f : Fixed) (e : Ends) (s : Slot) where
       lost h g q = true≢false (sym q ∙ ap (λ (z : Stamp). same z t) (clear-is f (e .tail) g) ∙ h)
 
   falls-o2 : (h : Stamp) → FindsHead bits f e s h → Less (rankOf bits f e (O2 h)) (actOf bits f e s (O2 h) false)
-  unfolding stay
+  unfolding goes
   falls-o2 h d =
-      either (Less (rankOf bits f e (O2 h))) (onePast bits (s .stamp) h) (stay e s (O3 h)) _
+      either (Less (rankOf bits f e (O2 h))) (onePast bits (s .stamp) h) (goes e s (O3 h)) _
       (λ p. both (same (e .head) h) _ _ _ _ (omega arith) (omega arith))
-      (λ p. either (Less (rankOf bits f e (O2 h))) (same (s .stamp) h) (stay e s (O6 h)) (stay e s O1)
+      (λ p. either (Less (rankOf bits f e (O2 h))) (same (s .stamp) h) (goes e s (O6 h)) (goes e s O1)
       (λ q. now-at (same (unmarkedOf f (e .tail)) h) _ _ _ (d .empty q) (low (same (e .head) h) _ _ _ (omega arith) (omega arith)))
       (λ q. second (same (e .head) h) _ _ _ (λ z. d .decides z p q) (omega arith)))
 
@@ -163,7 +163,7 @@ module _ (bits : Width) (f : Fixed) (e : Ends) (s : Slot) where
       go false = q
 
   pub falls : (p : Place) → viewOf p .busy ≡ true → Finds bits f e s p → rankOf bits f (actOf bits f e s p false .ends) (actOf bits f e s p false .place) < rankOf bits f e p
-  unfolding stay losing tailTo headTo
+  unfolding goes losing tailTo headTo
   falls (Idle a) busy d = absurd (true≢false (sym busy))
   falls (P1 k x) busy d =
       finds k x _ (λ g. now-at (same (unmarkedOf f (e .tail)) (e .tail)) _ _ _ (clear-same f (e .tail) g) (omega arith)) (omega arith)
@@ -171,7 +171,7 @@ module _ (bits : Width) (f : Fixed) (e : Ends) (s : Slot) where
   falls (P3 k t x) busy d = falls-p3 k t x
   falls (P4 t x) busy d = omega arith
   falls (P5 t) busy d = omega arith
-  falls (P6 t x) busy d = back (lapBehind bits f (e .head) t) (stay e s (Idle (Full x))) (stay e s (P1 Push x)) _ _ (omega arith) (omega arith)
+  falls (P6 t x) busy d = back (lapBehind bits f (e .head) t) (goes e s (Idle (Full x))) (goes e s (P1 Push x)) _ _ (omega arith) (omega arith)
   falls (F6 t x) busy d =
       back-lost (endF6 bits f e s t x) (e .head) (minus bits t (f .lap)) _ _ (omega arith) (omega arith)
   falls (F7 t x) busy d = omega arith
@@ -185,17 +185,17 @@ module _ (bits : Width) (f : Fixed) (e : Ends) (s : Slot) where
   falls (O4 h) busy d = omega arith
   falls (O5 h v) busy d = omega arith
   falls (O6 h) busy d =
-      back (same (unmarkedOf f (e .tail)) h) _ (stay e s O1) _ _
-      (either (Less _) (markedOf f (e .tail)) (stay e s (Idle PopClosed)) (stay e s (Idle Empty)) (λ q. omega arith) (λ q. omega arith)) (omega arith)
+      back (same (unmarkedOf f (e .tail)) h) _ (goes e s O1) _ _
+      (either (Less _) (markedOf f (e .tail)) (goes e s (Idle PopClosed)) (goes e s (Idle Empty)) (λ q. omega arith) (λ q. omega arith)) (omega arith)
   falls Len1 busy d = now-at (same (e .tail) (e .tail)) _ _ _ (same-self (e .tail)) (omega arith)
   falls (Len2 t) busy d = both (same (e .tail) t) _ _ _ _ (omega arith) (omega arith)
-  falls (Len3 t h) busy d = back (same (e .tail) t) (stay e s (Idle (Len (countOf f t h)))) (stay e s Len1) _ _ (omega arith) (omega arith)
+  falls (Len3 t h) busy d = back (same (e .tail) t) (goes e s (Idle (Len (countOf f t h)))) (goes e s Len1) _ _ (omega arith) (omega arith)
   falls Empty1 busy d = omega arith
   falls (Empty2 h) busy d = omega arith
   falls Full1 busy d = omega arith
   falls (Full2 t) busy d = omega arith
   falls Close1 busy d =
-      either (Less _) (markedOf f (e .tail)) (stay e s (Idle No)) (stay (tailTo e (withMark bits f (e .tail))) s (Idle Yes)) (λ q. omega arith) (λ q. omega arith)
+      either (Less _) (markedOf f (e .tail)) (goes e s (Idle No)) (goes (tailTo e (withMark bits f (e .tail))) s (Idle Yes)) (λ q. omega arith) (λ q. omega arith)
   falls IsClosed1 busy d = omega arith
 
 -- the rank is within document 01's numbers

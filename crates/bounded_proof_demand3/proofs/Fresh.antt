@@ -17,7 +17,7 @@ use Rattle.bounded_places.specs.declared.Exchange.{Exchange}
 use Rattle.bounded_places.specs.declared.Place.{Place}
 use Rattle.bounded_places.specs.declared.Place.the-variants.{Idle, P1, P2, P3, P4, P5, P6, F6, F7, F8, F9, O1, O2, O3, O4, O5, O6, Len1, Len2, Len3, Empty1, Empty2, Full1, Full2, Close1, IsClosed1}
 use Rattle.bounded_acts.specs.declared.Acted.{Acted}
-use Rattle.bounded_acts.specs.Acts.{stay, losing, afterTail, endP3, endF6, endO3, tailTo, fullAt, countOf, actOf}
+use Rattle.bounded_acts.specs.Acts.{goes, losing, afterTail, endP3, endF6, endO3, tailTo, fullAt, countOf, actOf}
 use Rattle.bounded_machine.specs.History.{movedOf}
 use Rattle.bounded_machine.proofs.Kept.{either, exchanged}
 use Rattle.bounded_demands.specs.Notions.{tailBy, headBy, holdingAt}
@@ -64,19 +64,19 @@ module _ (c mark n : ℕ) (s : Shared) (a : Age) where
   full-leads Force j t x = λ r. r refl
 
   pub leads-on : (bits : Width) (f : Fixed) (e : Ends) (z : Slot) (p : Place) (lose : Bool) → Leads p (actOf bits f e z p lose .place)
-  unfolding stay losing
+  unfolding goes losing
   leads-on bits f e z (Idle x) lose = tt
   leads-on bits f e z (P1 k x) lose = finds f (e .tail) k x (P1 k x)
   leads-on bits f e z (P2 k t x) lose =
-      either (λ (y : Acted). Leads (P2 k t x) (y .place)) (same (z .stamp) t) (stay e z (P3 k t x)) (cond (lapBehindOnePast bits f (z .stamp) t) (stay e z (fullAt k t x)) (stay e z (P1 k x)))
+      either (λ (y : Acted). Leads (P2 k t x) (y .place)) (same (z .stamp) t) (goes e z (P3 k t x)) (cond (lapBehindOnePast bits f (z .stamp) t) (goes e z (fullAt k t x)) (goes e z (P1 k x)))
       (λ b r. r refl)
-      (λ b. either (λ (y : Acted). Leads (P2 k t x) (y .place)) (lapBehindOnePast bits f (z .stamp) t) (stay e z (fullAt k t x)) (stay e z (P1 k x)) (λ d. full-leads k k t x) (λ d. tt))
+      (λ b. either (λ (y : Acted). Leads (P2 k t x) (y .place)) (lapBehindOnePast bits f (z .stamp) t) (goes e z (fullAt k t x)) (goes e z (P1 k x)) (λ d. full-leads k k t x) (λ d. tt))
   leads-on bits f e z (P3 k t x) lose =
       exchanged (λ (y : Exchange). Leads (P3 k t x) (endP3 bits f e z k t x y .place)) (e .tail) t lose (λ b d. tt) (λ b d. tt) (λ b. finds f (e .tail) k x (P3 k t x))
   leads-on bits f e z (P4 t x) lose = tt
   leads-on bits f e z (P5 t) lose = tt
   leads-on bits f e z (P6 t x) lose =
-      either (λ (y : Acted). Leads (P6 t x) (y .place)) (lapBehind bits f (e .head) t) (stay e z (Idle (Full x))) (stay e z (P1 Push x)) (λ b. tt) (λ b. tt)
+      either (λ (y : Acted). Leads (P6 t x) (y .place)) (lapBehind bits f (e .head) t) (goes e z (Idle (Full x))) (goes e z (P1 Push x)) (λ b. tt) (λ b. tt)
   leads-on bits f e z (F6 t x) lose =
       exchanged (λ (y : Exchange). Leads (F6 t x) (endF6 bits f e z t x y .place)) (e .head) (minus bits t (f .lap)) lose (λ b d. tt) (λ b d. tt) (λ b. tt)
   leads-on bits f e z (F7 t x) lose = tt
@@ -84,25 +84,25 @@ module _ (c mark n : ℕ) (s : Shared) (a : Age) where
   leads-on bits f e z (F9 t old) lose = tt
   leads-on bits f e z O1 lose = tt
   leads-on bits f e z (O2 h) lose =
-      either (λ (y : Acted). Leads (O2 h) (y .place)) (onePast bits (z .stamp) h) (stay e z (O3 h)) (cond (same (z .stamp) h) (stay e z (O6 h)) (stay e z O1)) (λ b r. r refl)
-      (λ b. either (λ (y : Acted). Leads (O2 h) (y .place)) (same (z .stamp) h) (stay e z (O6 h)) (stay e z O1) (λ d r. r refl) (λ d. tt))
+      either (λ (y : Acted). Leads (O2 h) (y .place)) (onePast bits (z .stamp) h) (goes e z (O3 h)) (cond (same (z .stamp) h) (goes e z (O6 h)) (goes e z O1)) (λ b r. r refl)
+      (λ b. either (λ (y : Acted). Leads (O2 h) (y .place)) (same (z .stamp) h) (goes e z (O6 h)) (goes e z O1) (λ d r. r refl) (λ d. tt))
   leads-on bits f e z (O3 h) lose =
       exchanged (λ (y : Exchange). Leads (O3 h) (endO3 bits f e z h y .place)) (e .head) h lose (λ b d. tt) (λ b d. tt) (λ b. tt)
   leads-on bits f e z (O4 h) lose = tt
   leads-on bits f e z (O5 h v) lose = tt
   leads-on bits f e z (O6 h) lose =
-      either (λ (y : Acted). Leads (O6 h) (y .place)) (same (unmarkedOf f (e .tail)) h) (cond (markedOf f (e .tail)) (stay e z (Idle PopClosed)) (stay e z (Idle Empty))) (stay e z O1)
-      (λ b. either (λ (y : Acted). Leads (O6 h) (y .place)) (markedOf f (e .tail)) (stay e z (Idle PopClosed)) (stay e z (Idle Empty)) (λ d. tt) (λ d. tt)) (λ b. tt)
+      either (λ (y : Acted). Leads (O6 h) (y .place)) (same (unmarkedOf f (e .tail)) h) (cond (markedOf f (e .tail)) (goes e z (Idle PopClosed)) (goes e z (Idle Empty))) (goes e z O1)
+      (λ b. either (λ (y : Acted). Leads (O6 h) (y .place)) (markedOf f (e .tail)) (goes e z (Idle PopClosed)) (goes e z (Idle Empty)) (λ d. tt) (λ d. tt)) (λ b. tt)
   leads-on bits f e z Len1 lose = tt
   leads-on bits f e z (Len2 t) lose = λ r. r
   leads-on bits f e z (Len3 t h) lose =
-      either (λ (y : Acted). Leads (Len3 t h) (y .place)) (same (e .tail) t) (stay e z (Idle (Len (countOf f t h)))) (stay e z Len1) (λ b. tt) (λ b. tt)
+      either (λ (y : Acted). Leads (Len3 t h) (y .place)) (same (e .tail) t) (goes e z (Idle (Len (countOf f t h)))) (goes e z Len1) (λ b. tt) (λ b. tt)
   leads-on bits f e z Empty1 lose = tt
   leads-on bits f e z (Empty2 h) lose = tt
   leads-on bits f e z Full1 lose = tt
   leads-on bits f e z (Full2 t) lose = tt
   leads-on bits f e z Close1 lose =
-      either (λ (y : Acted). Leads Close1 (y .place)) (markedOf f (e .tail)) (stay e z (Idle No)) (stay (tailTo e (withMark bits f (e .tail))) z (Idle Yes)) (λ b. tt) (λ b. tt)
+      either (λ (y : Acted). Leads Close1 (y .place)) (markedOf f (e .tail)) (goes e z (Idle No)) (goes (tailTo e (withMark bits f (e .tail))) z (Idle Yes)) (λ b. tt) (λ b. tt)
   leads-on bits f e z IsClosed1 lose = tt
 
   -- the ring afterwards

@@ -24,7 +24,7 @@ use Rattle.bounded_places.specs.declared.Place.{Place}
 use Rattle.bounded_places.specs.declared.Place.the-variants.{Idle}
 use Rattle.bounded_places.specs.declared.Worker.{Worker}
 use Rattle.bounded_places.specs.Places.{viewOf}
-use Rattle.bounded_acts.specs.Acts.{stay, actOf}
+use Rattle.bounded_acts.specs.Acts.{goes, actOf}
 use Rattle.bounded_machine.specs.declared.Machine.{Machine}
 use Rattle.bounded_machine.specs.declared.Event.{Event}
 use Rattle.bounded_machine.specs.Machine.{idler}
@@ -43,7 +43,7 @@ pub data After (p q : Place) : Type 0 where
   gone : (a : Answer) → q ≡ Idle a → mostOf p ≡ 1 → After p q
 
 pub hand-act : (bits : Width) (f : Fixed) (e : Ends) (s : Slot) (p : Place) (t : Stamp) (lose : Bool) → InHand p t → After p (actOf bits f e s p lose .place)
-unfolding stay
+unfolding goes
 hand-act bits f e s p t lose handP4 = holds t handP5 refl
 hand-act bits f e s p t lose handP5 = gone Pushed refl refl
 hand-act bits f e s p t lose handF7 = holds t handF8 refl

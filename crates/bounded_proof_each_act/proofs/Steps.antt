@@ -23,7 +23,7 @@ use Rattle.bounded_places.specs.declared.Place.{Place}
 use Rattle.bounded_places.specs.declared.Place.the-variants.{Idle, P1, P2, P3, P4, P5, P6, F6, F7, F8, F9, O1, O2, O3, O4, O5, O6, Len1, Len2, Len3, Empty1, Empty2, Full1, Full2, Close1, IsClosed1}
 use Rattle.bounded_places.specs.Places.{viewOf}
 use Rattle.bounded_acts.specs.declared.Acted.{Acted}
-use Rattle.bounded_acts.specs.Acts.{stay, losing, afterTail, endP3, endF6, endO3, tailTo, headTo, stampTo, valueTo, actOf, actP1, actP2, actP3, actP5, actP6, actF6, actF7, actF8, actF9, actO2, actO3, actO5, actO6, actLen3, actClose1, fullAt, yesNo, countOf}
+use Rattle.bounded_acts.specs.Acts.{goes, losing, afterTail, endP3, endF6, endO3, tailTo, headTo, stampTo, valueTo, actOf, actP1, actP2, actP3, actP5, actP6, actF6, actF7, actF8, actF9, actO2, actO3, actO5, actO6, actLen3, actClose1, fullAt, yesNo, countOf}
 use Rattle.bounded_machine.specs.Turn.{spotOf}
 use Rattle.bounded_machine.proofs.Kept.{either, exchanged}
 use Rattle.bounded_demands.specs.Notions.{Truth, Writes, writeP4, writeF8, holdingAt}
@@ -158,8 +158,8 @@ module _ (bits : Width) (c mark n ed : ℕ) (g : Ground bits c mark n) (s : Shar
       }
 
   still : (b : Bool) (p q : Place) → (HandAt mark (look c p) i → ⊥) → tale (look c q) ≡ Quiet → Says bits c mark n ed s b (answerIn (look c q))
-      → Stands c mark n s w (aged s age (holdingAt q)) (look c q) → Does b p (stay (E b) S q)
-  unfolding stay losing
+      → Stands c mark n s w (aged s age (holdingAt q)) (look c q) → Does b p (goes (E b) S q)
+  unfolding goes losing
   still = lost loss.Nothing
 
   no-hand : {P : Type 0} → (false ≡ true) × P → ⊥
@@ -178,7 +178,7 @@ module _ (bits : Width) (c mark n ed : ℕ) (g : Ground bits c mark n) (s : Shar
       (λ h. lost l b p (P2 k (E b .tail) x) loose refl tt (s .tail, clear-tail b h, omega arith, omega arith))
 
   loads : (b : Bool) (p : Place) (k : Kind) (x : ℕ) → (HandAt mark (look c p) i → ⊥) → Does b p (actP1 f (E b) S k x)
-  unfolding stay losing
+  unfolding goes losing
   loads = finds loss.Nothing
 
   ok-here : CellOk c s i (s .cell i)
@@ -196,9 +196,9 @@ module _ (bits : Width) (c mark n ed : ℕ) (g : Ground bits c mark n) (s : Shar
 
   p2 : (b : Bool) (k : Kind) (m x : ℕ) → m % c ≡ i → m ≤ s .tail → Late m → Does b (P2 k (Word m) x) (actP2 bits f (E b) S k (Word m) x)
   p2 b k m x at le late =
-      either (Does b (P2 k (Word m) x)) (same (S .stamp) (Word m)) (stay (E b) S (P3 k (Word m) x)) _
+      either (Does b (P2 k (Word m) x)) (same (S .stamp) (Word m)) (goes (E b) S (P3 k (Word m) x)) _
       (λ h. still b (P2 k (Word m) x) (P3 k (Word m) x) no-hand refl tt (m, refl, (le, free h), late .0))
-      (λ h. either (Does b (P2 k (Word m) x)) (lapBehindOnePast bits f (S .stamp) (Word m)) (stay (E b) S (fullAt k (Word m) x)) (stay (E b) S (P1 k x))
+      (λ h. either (Does b (P2 k (Word m) x)) (lapBehindOnePast bits f (S .stamp) (Word m)) (goes (E b) S (fullAt k (Word m) x)) (goes (E b) S (P1 k x))
       (λ d. behind k d)
       (λ d. still b (P2 k (Word m) x) (P1 k x) no-hand refl tt tt))
     where
@@ -210,7 +210,7 @@ module _ (bits : Width) (c mark n ed : ℕ) (g : Ground bits c mark n) (s : Shar
           let r : Near (n * c) (number (s .cell i)) m = omega (arith, near, turn, inv .low, inv .high, late) in
           rw at (waits m at r h e)
 
-      behind : (k : Kind) → lapBehindOnePast bits f (S .stamp) (Word m) ≡ true → Does b (P2 k (Word m) x) (stay (E b) S (fullAt k (Word m) x))
+      behind : (k : Kind) → lapBehindOnePast bits f (S .stamp) (Word m) ≡ true → Does b (P2 k (Word m) x) (goes (E b) S (fullAt k (Word m) x))
       behind Push d = still b (P2 Push (Word m) x) (P6 (Word m) x) no-hand refl tt (m, refl, le, late .0)
       behind Force d =
           let r : full (s .cell i) ≡ true → Near (n * c) (number (s .cell i) + c) m =
@@ -230,8 +230,8 @@ module _ (bits : Width) (c mark n ed : ℕ) (g : Ground bits c mark n) (s : Shar
   newest who m = (omega arith, upd-same who m w, λ k a z. absurd (omega arith))
 
   won-tail : (k : Kind) (x : ℕ) → s .tail % c ≡ i → s .cell i ≡ Await (s .tail)
-      → Does false (P3 k (Word (s .tail)) x) (stay (tailTo (E false) (nextOf bits f (Word (s .tail)))) S (P4 (Word (s .tail)) x))
-  unfolding stay tailTo
+      → Does false (P3 k (Word (s .tail)) x) (goes (tailTo (E false) (nextOf bits f (Word (s .tail)))) S (P4 (Word (s .tail)) x))
+  unfolding goes tailTo
   won-tail k x at e =
       record {
         effect = Tailed x;
@@ -266,7 +266,7 @@ module _ (bits : Width) (c mark n ed : ℕ) (g : Ground bits c mark n) (s : Shar
           let q = unless b _ (sym (Stamps.same-tail bits c mark n g (s .tail) m b r) ∙ h) in
           (q .0, eqb-true _ _ (q .1))
 
-      won : same (E b .tail) (Word m) ≡ true → Does b (P3 k (Word m) x) (stay (tailTo (E b) (nextOf bits f (Word m))) S (P4 (Word m) x))
+      won : same (E b .tail) (Word m) ≡ true → Does b (P3 k (Word m) x) (goes (tailTo (E b) (nextOf bits f (Word m))) S (P4 (Word m) x))
       won h =
           let q = found h in
           let e : s .tail ≡ m = q .1 in
@@ -276,8 +276,8 @@ module _ (bits : Width) (c mark n ed : ℕ) (g : Ground bits c mark n) (s : Shar
   owned-here : (st : Stage) (k : ℕ) → k % c ≡ i → Owned c s w st k → s .cell i ≡ Hand st k w
   owned-here st k at o = ap (s .cell) (sym at) ∙ o .0
 
-  p4 : (b : Bool) (m x : ℕ) → m % c ≡ i → ViewOk c s w (Keeps Fill m x m) → Does b (P4 (Word m) x) (stay (E b) (valueTo S x) (P5 (Word m)))
-  unfolding stay valueTo
+  p4 : (b : Bool) (m x : ℕ) → m % c ≡ i → ViewOk c s w (Keeps Fill m x m) → Does b (P4 (Word m) x) (goes (E b) (valueTo S x) (P5 (Word m)))
+  unfolding goes valueTo
   p4 b m x at o =
       let e = owned-here Fill m at (o .0) in
       record {
@@ -299,7 +299,7 @@ module _ (bits : Width) (c mark n ed : ℕ) (g : Ground bits c mark n) (s : Shar
   gone y l m = absurd (loose-mine w y l (rw (upd-same (s .cell) i y) at m))
 
   p5 : (b : Bool) (m : ℕ) → m % c ≡ i → ViewOk c s w (Owns Filled m) → Does b (P5 (Word m)) (actP5 bits (E b) S (Word m))
-  unfolding stay stampTo
+  unfolding goes stampTo
   p5 b m at o =
       let e = owned-here Filled m at o in
       let k = ok-at c s w i small inv (Hand Filled m w) e in
@@ -319,7 +319,7 @@ module _ (bits : Width) (c mark n ed : ℕ) (g : Ground bits c mark n) (s : Shar
 
   p6 : (b : Bool) (m x : ℕ) → m ≤ s .tail → Late m → Does b (P6 (Word m) x) (actP6 bits f (E b) S (Word m) x)
   p6 b m x le late =
-      either (Does b (P6 (Word m) x)) (lapBehind bits f (E b .head) (Word m)) (stay (E b) S (Idle (Full x))) (stay (E b) S (P1 Push x))
+      either (Does b (P6 (Word m) x)) (lapBehind bits f (E b .head) (Word m)) (goes (E b) S (Idle (Full x))) (goes (E b) S (P1 Push x))
       (λ h. still b (P6 (Word m) x) (Idle (Full x)) no-hand refl (full-true h) tt)
       (λ h. still b (P6 (Word m) x) (P1 Push x) no-hand refl tt tt)
     where
@@ -331,8 +331,8 @@ module _ (bits : Width) (c mark n ed : ℕ) (g : Ground bits c mark n) (s : Shar
           rw (Stamps.unmarked-tail bits c mark n g ed (s .tail) b, e) h
 
   won-grab : (b : Bool) (x : ℕ) → s .head % c ≡ i → s .cell i ≡ Hold (s .head) → s .head + c ≤ s .tail
-      → Does b (F6 (Word (s .head + c)) x) (stay (headTo (E b) (minus bits (nextOf bits f (Word (s .head + c))) (2 * mark))) S (F7 (Word (s .head + c)) x))
-  unfolding stay headTo
+      → Does b (F6 (Word (s .head + c)) x) (goes (headTo (E b) (minus bits (nextOf bits f (Word (s .head + c))) (2 * mark))) S (F7 (Word (s .head + c)) x))
+  unfolding goes headTo
   won-grab b x at e le =
       record {
         effect = Grabbed;
@@ -357,7 +357,7 @@ module _ (bits : Width) (c mark n ed : ℕ) (g : Ground bits c mark n) (s : Shar
       (λ h. lost loss.ByWords b (F6 (Word (m + c)) x) (P1 Force x) no-hand refl tt tt)
     where
       won : same (E b .head) (minus bits (Word (m + c)) (2 * mark)) ≡ true
-          → Does b (F6 (Word (m + c)) x) (stay (headTo (E b) (minus bits (nextOf bits f (Word (m + c))) (2 * mark))) S (F7 (Word (m + c)) x))
+          → Does b (F6 (Word (m + c)) x) (goes (headTo (E b) (minus bits (nextOf bits f (Word (m + c))) (2 * mark))) S (F7 (Word (m + c)) x))
       won h =
           let r : Near (n * c) (s .head) m = omega (arith, turn, inv .low, o .0, late) in
           let e : s .head ≡ m = eqb-true _ _ (sym (Stamps.before-is bits c mark n g (s .head) m r) ∙ h) in
@@ -370,8 +370,8 @@ module _ (bits : Width) (c mark n ed : ℕ) (g : Ground bits c mark n) (s : Shar
 
   -- force_push's tail claim, whatever the act makes of the mark
   forces : (b shut : Bool) → (ed ≡ 2 → b ≡ true → shut ≡ true) → (m x : ℕ) → m % c ≡ i → ViewOk c s w (Owns Grab m)
-      → Does b (F7 (Word (m + c)) x) (stay (tailTo (E b) (tailWord c mark n (m + c + 1) shut)) S (F8 (Word (m + c)) x))
-  unfolding stay tailTo
+      → Does b (F7 (Word (m + c)) x) (goes (tailTo (E b) (tailWord c mark n (m + c + 1) shut)) S (F8 (Word (m + c)) x))
+  unfolding goes tailTo
   forces b shut kept m x at o =
       let e = owned-here Grab m at o in
       let k = ok-at c s w i small inv (Hand Grab m w) e in
@@ -397,7 +397,7 @@ module _ (bits : Width) (c mark n ed : ℕ) (g : Ground bits c mark n) (s : Shar
       (forces b (cond (eqb ed 2) b false) (λ two shut. ap (λ (z : Bool). cond z b false) (eq-eqb ed 2 two) ∙ shut) m x at o)
 
   f8 : (b : Bool) (m x : ℕ) → m % c ≡ i → ViewOk c s w (Keeps Swap m x (m + c)) → Does b (F8 (Word (m + c)) x) (actF8 (E b) S (Word (m + c)) x)
-  unfolding stay valueTo
+  unfolding goes valueTo
   f8 b m x at o =
       let e = owned-here Swap m at (o .0) in
       let k = ok-at c s w i small inv (Hand Swap m w) e in
@@ -417,7 +417,7 @@ module _ (bits : Width) (c mark n ed : ℕ) (g : Ground bits c mark n) (s : Shar
       }
 
   f9 : (b : Bool) (m v : ℕ) → m % c ≡ i → ViewOk c s w (Keeps Swapped m v m) → Does b (F9 (Word (m + c)) v) (actF9 bits (E b) S (Word (m + c)) v)
-  unfolding stay stampTo
+  unfolding goes stampTo
   f9 b m v at o =
       let e = owned-here Swapped m at (o .0) in
       let k = ok-at c s w i small inv (Hand Swapped m w) e in
@@ -438,9 +438,9 @@ module _ (bits : Width) (c mark n ed : ℕ) (g : Ground bits c mark n) (s : Shar
 
   o2 : (b : Bool) (m : ℕ) → m % c ≡ i → m ≤ s .head → LateHead m → Does b (O2 (Word m)) (actO2 bits (E b) S (Word m))
   o2 b m at le late =
-      either (Does b (O2 (Word m))) (onePast bits (S .stamp) (Word m)) (stay (E b) S (O3 (Word m))) _
+      either (Does b (O2 (Word m))) (onePast bits (S .stamp) (Word m)) (goes (E b) S (O3 (Word m))) _
       (λ h. still b (O2 (Word m)) (O3 (Word m)) no-hand refl tt (m, refl, (le, holds h), late .0))
-      (λ h. either (Does b (O2 (Word m))) (same (S .stamp) (Word m)) (stay (E b) S (O6 (Word m))) (stay (E b) S O1)
+      (λ h. either (Does b (O2 (Word m))) (same (S .stamp) (Word m)) (goes (E b) S (O6 (Word m))) (goes (E b) S O1)
       (λ d. still b (O2 (Word m)) (O6 (Word m)) no-hand refl tt (m, refl, (le, rests d), late .0))
       (λ d. still b (O2 (Word m)) O1 no-hand refl tt tt))
     where
@@ -456,8 +456,8 @@ module _ (bits : Width) (c mark n ed : ℕ) (g : Ground bits c mark n) (s : Shar
           rw at (waits m at r h e)
 
   won-take : (b : Bool) → s .head % c ≡ i → s .cell i ≡ Hold (s .head)
-      → Does b (O3 (Word (s .head))) (stay (headTo (E b) (nextOf bits f (Word (s .head)))) S (O4 (Word (s .head))))
-  unfolding stay headTo
+      → Does b (O3 (Word (s .head))) (goes (headTo (E b) (nextOf bits f (Word (s .head)))) S (O4 (Word (s .head))))
+  unfolding goes headTo
   won-take b at e =
       record {
         effect = Taken;
@@ -485,14 +485,14 @@ module _ (bits : Width) (c mark n ed : ℕ) (g : Ground bits c mark n) (s : Shar
           let r : Near (n * c) (s .head) m = omega (arith, turn, o .0, late) in
           eqb-true _ _ (sym (Stamps.same-is bits c mark n g (s .head) m r) ∙ h)
 
-      won : same (E b .head) (Word m) ≡ true → Does b (O3 (Word m)) (stay (headTo (E b) (nextOf bits f (Word m))) S (O4 (Word m)))
+      won : same (E b .head) (Word m) ≡ true → Does b (O3 (Word m)) (goes (headTo (E b) (nextOf bits f (Word m))) S (O4 (Word m)))
       won h =
           let e : s .head ≡ m = found h in
           let here : s .cell i ≡ Hold (s .head) = ap (s .cell) (sym at) ∙ o .1 e ∙ ap Hold (sym e) in
           rw (← e) (won-take b (ap (λ (z : ℕ). z % c) e ∙ at) here)
 
-  o4 : (b : Bool) (m : ℕ) → m % c ≡ i → ViewOk c s w (Owns Take m) → Does b (O4 (Word m)) (stay (E b) S (O5 (Word m) (S .value)))
-  unfolding stay
+  o4 : (b : Bool) (m : ℕ) → m % c ≡ i → ViewOk c s w (Owns Take m) → Does b (O4 (Word m)) (goes (E b) S (O5 (Word m) (S .value)))
+  unfolding goes
   o4 b m at o =
       let k = ok-at c s w i small inv (Hand Take m w) (owned-here Take m at o) in
       record {
@@ -510,7 +510,7 @@ module _ (bits : Width) (c mark n ed : ℕ) (g : Ground bits c mark n) (s : Shar
       }
 
   o5 : (b : Bool) (m v : ℕ) → m % c ≡ i → ViewOk c s w (Keeps Take m v m) → Does b (O5 (Word m) v) (actO5 bits f (E b) S (Word m) v)
-  unfolding stay stampTo
+  unfolding goes stampTo
   o5 b m v at o =
       let e = owned-here Take m at (o .0) in
       let k = ok-at c s w i small inv (Hand Take m w) e in
@@ -531,8 +531,8 @@ module _ (bits : Width) (c mark n ed : ℕ) (g : Ground bits c mark n) (s : Shar
 
   o6 : (b : Bool) (m : ℕ) → ViewOk c s w (Rests m) → LateHead m → Does b (O6 (Word m)) (actO6 f (E b) S (Word m))
   o6 b m o late =
-      either (Does b (O6 (Word m))) (same (unmarkedOf f (E b .tail)) (Word m)) _ (stay (E b) S O1)
-      (λ h. either (Does b (O6 (Word m))) (markedOf f (E b .tail)) (stay (E b) S (Idle PopClosed)) (stay (E b) S (Idle Empty))
+      either (Does b (O6 (Word m))) (same (unmarkedOf f (E b .tail)) (Word m)) _ (goes (E b) S O1)
+      (λ h. either (Does b (O6 (Word m))) (markedOf f (E b .tail)) (goes (E b) S (Idle PopClosed)) (goes (E b) S (Idle Empty))
       (λ d. still b (O6 (Word m)) (Idle PopClosed) no-hand refl
       ((d, Stamps.unmarked-tail bits c mark n g ed (s .tail) b ∙ ap Word (even h)), even h, sym (Stamps.marked-tail bits c mark n g ed (s .tail) b) ∙ d, rests h) tt)
       (λ d. still b (O6 (Word m)) (Idle Empty) no-hand refl (d, clear-tail b d ∙ ap Word (even h)) tt))
@@ -551,25 +551,25 @@ module _ (bits : Width) (c mark n ed : ℕ) (g : Ground bits c mark n) (s : Shar
       rests h = let e : s .tail ≡ m = found h in rw e (o .1 e)
 
   -- the lookers change nothing
-  says : (b : Bool) (p : Place) (a : Bool) → (HandAt mark (look c p) i → ⊥) → Does b p (stay (E b) S (Idle (yesNo a)))
+  says : (b : Bool) (p : Place) (a : Bool) → (HandAt mark (look c p) i → ⊥) → Does b p (goes (E b) S (Idle (yesNo a)))
   says b p true loose = still b p (Idle Yes) loose refl tt tt
   says b p false loose = still b p (Idle No) loose refl tt tt
 
   no-word : ⊥ → ⊥
   no-word h = h
 
-  len2 : (b : Bool) (t : Stamp) → Stands c mark n s w age (Tails t) → Does b (Len2 t) (stay (E b) S (Len3 t (E b .head)))
+  len2 : (b : Bool) (t : Stamp) → Stands c mark n s w age (Tails t) → Does b (Len2 t) (goes (E b) S (Len3 t (E b .head)))
   len2 b t o =
       still b (Len2 t) (Len3 t (E b .head)) no-word refl tt (o .0, o .1, s .head, o .2, refl, o .3, λ e. omega (arith, inv .low, inv .high), o .4)
 
   len3 : (b : Bool) (t h : Stamp) → Does b (Len3 t h) (actLen3 f (E b) S t h)
   len3 b t h =
-      either (Does b (Len3 t h)) (same (E b .tail) t) (stay (E b) S (Idle (Len (countOf f t h)))) (stay (E b) S Len1)
+      either (Does b (Len3 t h)) (same (E b .tail) t) (goes (E b) S (Idle (Len (countOf f t h)))) (goes (E b) S Len1)
       (λ d. still b (Len3 t h) (Idle (Len (countOf f t h))) no-word refl tt tt) (λ d. still b (Len3 t h) Len1 no-word refl tt tt)
 
   -- the mark is outside the ring
-  closes : (b : Bool) → markedOf f (E b .tail) ≡ false → Does b Close1 (stay (tailTo (E b) (withMark bits f (E b .tail))) S (Idle Yes))
-  unfolding stay tailTo
+  closes : (b : Bool) → markedOf f (E b .tail) ≡ false → Does b Close1 (goes (tailTo (E b) (withMark bits f (E b .tail))) S (Idle Yes))
+  unfolding goes tailTo
   closes b h =
       let q : b ≡ false = sym (Stamps.marked-tail bits c mark n g ed (s .tail) b) ∙ h in
       record {
@@ -588,7 +588,7 @@ module _ (bits : Width) (c mark n ed : ℕ) (g : Ground bits c mark n) (s : Shar
 
   close1 : (b : Bool) → Does b Close1 (actClose1 bits f (E b) S)
   close1 b =
-      either (Does b Close1) (markedOf f (E b .tail)) (stay (E b) S (Idle No)) (stay (tailTo (E b) (withMark bits f (E b .tail))) S (Idle Yes))
+      either (Does b Close1) (markedOf f (E b .tail)) (goes (E b) S (Idle No)) (goes (tailTo (E b) (withMark bits f (E b .tail))) S (Idle Yes))
       (λ h. still b Close1 (Idle No) no-word refl tt tt) (closes b)
 
   -- the slot of the act is that of the claim

@@ -14,7 +14,7 @@ use Rattle.bounded_words.specs.Words.{stamp, doubled, markOf, markedOf, unmarke
 use Rattle.bounded_places.specs.declared.Kind.the-variants.{Push}
 use Rattle.bounded_places.specs.declared.Place.the-variants.{P3}
 use Rattle.bounded_places.specs.Places.{viewOf, inside}
-use Rattle.bounded_acts.specs.Acts.{stay, losing, exchangeOf, afterTail, tailTo}
+use Rattle.bounded_acts.specs.Acts.{goes, losing, exchangeOf, afterTail, tailTo}
 use Rattle.bounded_machine.specs.declared.Machine.{Machine}
 use Rattle.bounded_machine.specs.declared.Did.{Did}
 use Rattle.bounded_machine.specs.declared.Ran.{Ran}
@@ -22,9 +22,9 @@ use Rattle.bounded_machine.specs.Machine.{placeOf, emptySlots, stamped, freshSl
 use Rattle.bounded_machine.specs.Broken.{byRule, endsFit, placeFits, recordFits, recordsFit, ringFits, brokenWith}
 use Rattle.bounded_machine.specs.Turn.{recordAfter, begun, stored, actedBy, turnOfBy}
 use Rattle.bounded_machine.specs.Run.{ran}
-use Rattle.bounded_steps.specs.Steps.{stepOfBy, beginOfBy}
+use Rattle.bounded_step_machine.specs.Steps.{stepOfBy, beginStepOfBy}
 use Rattle.bounded.specs.Bounded.{makeOf}
-use Rattle.bounded_parts.specs.Parts.{meteredOf}
+use Rattle.bounded_orders.specs.Orders.{meteredOf}
 use Rattle.bounded_demands.specs.Notions.{has, by-run, by-step, leftByAll, takenByAll}
 use Rattle.bounded_demands.specs.Lending.{holding}
 use Rattle.bounded_proof_faces_slips.specs.Slips.{Faithful}
@@ -52,7 +52,7 @@ unfolding strayOf orderOf entryOf
 readable e = let q : _≡_ {A = ℕ} 0 1 = cc in omega arith
 
 pub refuted : Refuted
-unfolding m₀ exchanging busy unmetered inside doubled markOf markedOf unmarkedOf plus minus withMark nextOf same onePast lapBehind lapBehindOnePast strayOf orderOf entryOf stay losing exchangeOf afterTail tailTo emptySlots stamped freshSlots idlers freshWith blank refused accepted inLimits all byRule endsFit placeFits recordFits recordsFit brokenWith ringFits recordAfter begun stored actedBy turnOfBy ran runBy searchBy scheduleBy stepOfBy beginOfBy makeOf has leftByAll takenByAll
+unfolding m₀ exchanging busy unmetered inside doubled markOf markedOf unmarkedOf plus minus withMark nextOf same onePast lapBehind lapBehindOnePast strayOf orderOf entryOf goes losing exchangeOf afterTail tailTo emptySlots stamped freshSlots idlers freshWith blank refused accepted inLimits all byRule endsFit placeFits recordFits recordsFit brokenWith ringFits recordAfter begun stored actedBy turnOfBy ran runBy searchBy scheduleBy stepOfBy beginStepOfBy makeOf has leftByAll takenByAll
 refuted =
     record {
       unchanged = λ r. true≢false (sym (ap unmetered (r .step m₀ 8 0 (λ e. omega (arith, e)))));

@@ -71,7 +71,7 @@ stepWith n m first second =
     (bounded.stepOf m first second))
 
 abbrev beginWith : ℕ → Machine → ℕ → ℕ → Did
-beginWith n m first second = cond (eqb n beginActs) (bounded.stepOf m first second) (bounded.beginOf m first second)
+beginWith n m first second = cond (eqb n beginActs) (bounded.stepOf m first second) (bounded.beginStepOf m first second)
 
 abbrev runWith : ℕ → Machine → List ℕ → Ran
 runWith n m s =
@@ -94,7 +94,7 @@ faceWith n =
       make = makeWith n;
       step = stepWith n;
       begin = beginWith n;
-      act = bounded.actOf;
+      act = bounded.actStepOf;
       run = runWith n;
       entries = sixtyFour .entries;
     }

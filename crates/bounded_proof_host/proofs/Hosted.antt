@@ -26,9 +26,9 @@ use Rattle.bounded_machine.specs.Run.{runOf}
 use Rattle.bounded_machine.specs.History.{eventsOf}
 use Rattle.bounded_machine.proofs.Kept.{either}
 use Rattle.bounded.specs.Bounded.{stepOf}
-use Rattle.bounded_parts.specs.declared.Metered.{Metered}
-use Rattle.bounded_parts.specs.declared.Report.{Report}
-use Rattle.bounded_parts.specs.Parts.{makeRefusal, meteredOf, report, capacityTold}
+use Rattle.bounded_orders.specs.declared.Metered.{Metered}
+use Rattle.bounded_orders.specs.declared.Report.{Report}
+use Rattle.bounded_orders.specs.Orders.{makeRefusal, meteredOf, report, capacityTold}
 use Rattle.bounded_lent.specs.Lent.{held, brokenLent, Lent, lent, lentOf, turnLent, stepLent, Gone, gone, goneOf, runLent, makeLent}
 use Rattle.bounded_rows.specs.Rows.{Words, wordsOf, meteredIn, recordsIn, shaped, stand, After, after, afterOf}
 use Rattle.bounded_rows.proofs.Standing.{Standing, standing, same-words, same-ring, same-records, written-stand}

@@ -9,7 +9,7 @@ use Rattle.queue_entries.specs.Schedules.{searchBy}
 use Rattle.bounded_words.specs.declared.Width.the-variants.{SixtyFour}
 use Rattle.bounded_places.specs.declared.Worker.{Worker}
 use Rattle.bounded_machine.specs.declared.Machine.{Machine}
-use Rattle.bounded_parts.specs.declared.Metered.{Metered}
+use Rattle.bounded_orders.specs.declared.Metered.{Metered}
 use Rattle.bounded_lent.specs.Lent.{brokenLent, Lent, lent, Gone, makeLent}
 use Rattle.bounded_rows.specs.Rows.{Words, meteredIn, recordsIn, stand, After}
 use Rattle.bounded_host.specs.Host.{makeWords, Ended}

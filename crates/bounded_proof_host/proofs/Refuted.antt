@@ -12,15 +12,15 @@ use Rattle.queue_entries.specs.Schedules.{runBy, searchBy, scheduleBy}
 use Rattle.bounded_words.specs.Words.{stamp, doubled, markOf, markedOf, unmarkedOf, plus, minus, withMark, nextOf, same, onePast, lapBehind, lapBehindOnePast}
 use Rattle.bounded_places.specs.declared.Worker.{Worker}
 use Rattle.bounded_places.specs.Places.{viewOf, inside}
-use Rattle.bounded_acts.specs.Acts.{stay, losing, exchangeOf, afterTail, tailTo}
+use Rattle.bounded_acts.specs.Acts.{goes, losing, exchangeOf, afterTail, tailTo}
 use Rattle.bounded_machine.specs.declared.Machine.{Machine}
 use Rattle.bounded_machine.specs.declared.Did.{Did}
 use Rattle.bounded_machine.specs.Machine.{placeOf, emptySlots, stamped, freshSlots, idlers, freshWith, blank, refused, accepted}
 use Rattle.bounded_machine.specs.Broken.{byRule, endsFit, placeFits, recordFits, recordsFit, ringFits, brokenWith}
 use Rattle.bounded_machine.specs.Turn.{recordAfter, begun, stored, actedBy, turnOfBy}
 use Rattle.bounded_machine.specs.Run.{ran}
-use Rattle.bounded_steps.specs.Steps.{stepOfBy}
-use Rattle.bounded_parts.specs.Parts.{makeRefusalWith}
+use Rattle.bounded_step_machine.specs.Steps.{stepOfBy}
+use Rattle.bounded_orders.specs.Orders.{makeRefusalWith}
 use Rattle.bounded_lent.specs.Lent.{brokenLent, stepLent, runLent, makeLent}
 use Rattle.bounded_codes.specs.Codes.{triple, placeIn, standsFor}
 use Rattle.bounded_rows.specs.Rows.{Words, words, headOf, slotsOf, recordsOf, wordsOf, fixedIn, endsIn, slotsIn, recordsIn, shaped, placed, stand, After}
@@ -65,7 +65,7 @@ some-number : (n : ℕ) → eqb n 0 ≡ false → n ≡ 0 → ⊥
 some-number n h e = true≢false (sym (ap (λ (k : ℕ). eqb k 0) e) ∙ h)
 
 pub refuted : Refuted
-unfolding blanks fresh otherLayout code99 inside stepOfBy doubled markOf markedOf unmarkedOf plus minus withMark nextOf same onePast lapBehind lapBehindOnePast strayOf orderOf entryOf stay losing exchangeOf afterTail tailTo emptySlots stamped freshSlots idlers freshWith blank refused accepted inLimits all byRule endsFit placeFits recordFits recordsFit brokenWith ringFits recordAfter begun stored actedBy turnOfBy makeRefusalWith brokenLent stepLent runLent makeLent runBy searchBy scheduleBy ran triple placeIn standsFor headOf slotsOf recordsOf wordsOf fixedIn endsIn slotsIn recordsIn shaped placed stand brokenWords makeWords stepWords runWords leftBy entriesBy actsWords allTakenWords
+unfolding blanks fresh otherLayout code99 inside stepOfBy doubled markOf markedOf unmarkedOf plus minus withMark nextOf same onePast lapBehind lapBehindOnePast strayOf orderOf entryOf goes losing exchangeOf afterTail tailTo emptySlots stamped freshSlots idlers freshWith blank refused accepted inLimits all byRule endsFit placeFits recordFits recordsFit brokenWith ringFits recordAfter begun stored actedBy turnOfBy makeRefusalWith brokenLent stepLent runLent makeLent runBy searchBy scheduleBy ran triple placeIn standsFor headOf slotsOf recordsOf wordsOf fixedIn endsIn slotsIn recordsIn shaped placed stand brokenWords makeWords stepWords runWords leftBy entriesBy actsWords allTakenWords
 refuted =
     record {
       one-to-one = λ r. true≢false (ap (λ (w : Words). eqb (getD (w .records) 0 0) 38) (r .written code99 refl));

@@ -18,8 +18,8 @@ use Rattle.bounded_machine.specs.Machine.{recordOf}
 use Rattle.bounded_machine.specs.History.{eventsOf}
 use Rattle.bounded_machine.specs.Run.{runOf}
 use Rattle.bounded.specs.Bounded.{stepOf}
-use Rattle.bounded_parts.specs.declared.Metered.{Metered}
-use Rattle.bounded_parts.specs.Parts.{report}
+use Rattle.bounded_orders.specs.declared.Metered.{Metered}
+use Rattle.bounded_orders.specs.Orders.{report}
 use Rattle.bounded_lent.specs.Lent.{held, lent, gone}
 use Rattle.bounded_rows.specs.Rows.{Words, wordsOf, meteredIn, recordsIn, stand, After, after}
 use Rattle.bounded_slices.specs.Slices.{brokenWords}

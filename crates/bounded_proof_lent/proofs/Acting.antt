@@ -21,10 +21,10 @@ use Rattle.bounded_machine.specs.declared.Did.{Did}
 use Rattle.bounded_machine.specs.Machine.{recordOf, placeOf, idler, freshWith, blank, refused, accepted}
 use Rattle.bounded_machine.specs.Turn.{verdictOf, begun, stored, actedBy, carried, turn, turnOf, turnOfBy}
 use Rattle.bounded_machine.proofs.Kept.{either}
-use Rattle.bounded_parts.specs.declared.Metered.{Metered}
-use Rattle.bounded_parts.specs.Parts.{makeRefusal, meteredOf}
+use Rattle.bounded_orders.specs.declared.Metered.{Metered}
+use Rattle.bounded_orders.specs.Orders.{makeRefusal, meteredOf}
 use Rattle.bounded_lent.specs.Lent.{held, brokenLent, Lent, lent, lentOf, turnLent, stepLent, makeLent}
-use Rattle.bounded_entries.proofs.Back.{Who, who}
+use Rattle.bounded_step_record.proofs.Back.{Who, who}
 use Rattle.bounded_lent.proofs.Running.{turned-whole, unchanged}
 use Rattle.bounded_demands.specs.Lending.{item11, promised}
 use Rattle.bounded_demands.specs.Demands.{OnlyTheActing, OnlyOneLent}

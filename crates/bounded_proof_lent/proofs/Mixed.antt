@@ -12,7 +12,7 @@ use Rattle.bounded_words.specs.declared.Width.the-variants.{SixtyFour}
 use Rattle.bounded_places.specs.declared.Worker.{Worker}
 use Rattle.bounded_machine.specs.declared.Machine.{Machine}
 use Rattle.bounded_machine.specs.Machine.{freshWith}
-use Rattle.bounded_parts.specs.declared.Metered.{Metered}
+use Rattle.bounded_orders.specs.declared.Metered.{Metered}
 use Rattle.bounded_lent.specs.Lent.{held, brokenLent, Lent, lent, stepLent, runLent, makeLent}
 use Rattle.bounded_lent.proofs.Running.{Whole, turned-whole, held-again}
 use Rattle.bounded_demands.specs.Notions.{withRecords, AllowedWith, windowLength, widestLength}

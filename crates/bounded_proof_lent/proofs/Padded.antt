@@ -35,9 +35,9 @@ use Rattle.bounded_machine.specs.Turn.{verdictOf, spotOf, beginner, recordAfter
 use Rattle.bounded_machine.specs.Run.{ran, runAt, runOf}
 use Rattle.bounded_acts.specs.Acts.{actOf}
 use Rattle.bounded_machine.proofs.Kept.{every, all-of, UnbrokenWith, unbroken-of, of-unbroken}
-use Rattle.bounded_parts.specs.declared.Metered.{Metered}
-use Rattle.bounded_parts.specs.Parts.{recordsMost, makeRefusalWith, makeRefusal, meteredOf, capacityTold, filled, contentsBy}
-use Rattle.bounded_steps.specs.Steps.{stepOfBy}
+use Rattle.bounded_orders.specs.declared.Metered.{Metered}
+use Rattle.bounded_orders.specs.Orders.{recordsMost, makeRefusalWith, makeRefusal, meteredOf, capacityTold, filled, contentsBy}
+use Rattle.bounded_step_machine.specs.Steps.{stepOfBy}
 use Rattle.bounded.specs.Bounded.{makeOf, stepOf}
 use Rattle.bounded_lent.specs.Lent.{held, brokenLent, Lent, lent, lentOf, turnLent, stepLent, Gone, goneOf, runLent, makeLent, capacityLent, contentsLent}
 use Rattle.bounded_lent.proofs.Turning.{unbroken-lent, lent-unbroken}

@@ -16,16 +16,16 @@ use Rattle.bounded_places.specs.declared.Kind.the-variants.{Push}
 use Rattle.bounded_places.specs.declared.Place.the-variants.{P3}
 use Rattle.bounded_places.specs.declared.Worker.{Worker}
 use Rattle.bounded_places.specs.Places.{viewOf, inside}
-use Rattle.bounded_acts.specs.Acts.{stay, losing, exchangeOf, afterTail, tailTo}
+use Rattle.bounded_acts.specs.Acts.{goes, losing, exchangeOf, afterTail, tailTo}
 use Rattle.bounded_machine.specs.declared.Did.{Did}
 use Rattle.bounded_machine.specs.declared.Machine.{Machine}
 use Rattle.bounded_machine.specs.Machine.{emptySlots, stamped, freshSlots, idler, idlers, freshWith, blank, refused, accepted}
 use Rattle.bounded_machine.specs.Broken.{byRule, endsFit, placeFits, recordFits, recordsFit, ringFits, brokenWith}
 use Rattle.bounded_machine.specs.Turn.{recordAfter, begun, stored, actedBy, turnOfBy}
 use Rattle.bounded_machine.specs.Run.{ran}
-use Rattle.bounded_steps.specs.Steps.{stepOfBy}
-use Rattle.bounded_parts.specs.declared.Metered.{Metered}
-use Rattle.bounded_parts.specs.Parts.{makeRefusalWith, meteredOf, contentsBy}
+use Rattle.bounded_step_machine.specs.Steps.{stepOfBy}
+use Rattle.bounded_orders.specs.declared.Metered.{Metered}
+use Rattle.bounded_orders.specs.Orders.{makeRefusalWith, meteredOf, contentsBy}
 use Rattle.bounded_lent.specs.Lent.{brokenLent, Lent, lent, stepLent, Gone, runLent, makeLent, contentsLent}
 use Rattle.bounded_demands.specs.Notions.{has, acts}
 use Rattle.bounded_demands.specs.Lending.{steps, actsLent, stepping, running, leftLent, allTakenLent}
@@ -55,7 +55,7 @@ unfolding strayOf orderOf entryOf
 readable e = let q : _≡_ {A = ℕ} 0 1 = cc in omega arith
 
 pub refuted : Refuted
-unfolding inside ring pushing stepOfBy busy first-busy doubled markOf markedOf unmarkedOf plus minus withMark nextOf same onePast lapBehind lapBehindOnePast strayOf orderOf entryOf stay losing exchangeOf afterTail tailTo emptySlots stamped freshSlots idlers freshWith blank refused accepted inLimits all byRule endsFit placeFits recordFits recordsFit brokenWith ringFits recordAfter begun stored actedBy turnOfBy makeRefusalWith brokenLent stepLent makeLent steps actsLent ran runBy searchBy scheduleBy runLent contentsBy contentsLent told has leftLent allTakenLent acts
+unfolding inside ring pushing stepOfBy busy first-busy doubled markOf markedOf unmarkedOf plus minus withMark nextOf same onePast lapBehind lapBehindOnePast strayOf orderOf entryOf goes losing exchangeOf afterTail tailTo emptySlots stamped freshSlots idlers freshWith blank refused accepted inLimits all byRule endsFit placeFits recordFits recordsFit brokenWith ringFits recordAfter begun stored actedBy turnOfBy makeRefusalWith brokenLent stepLent makeLent steps actsLent ran runBy searchBy scheduleBy runLent contentsBy contentsLent told has leftLent allTakenLent acts
 refuted =
     record {
       as-held = λ r. true≢false (ap (λ (d : Did). eqb (d .refusal) 0) (r .step ring (idler ∷ []) 16 5 (omega arith)));

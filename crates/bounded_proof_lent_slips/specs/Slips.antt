@@ -8,8 +8,8 @@ use lib.ListN.{length, set}
 use Rattle.bounded_places.specs.declared.Worker.{Worker}
 use Rattle.bounded_machine.specs.Machine.{machineOf, recordOf, idler, freshWith, accepted}
 use Rattle.bounded_machine.specs.Turn.{turnOf}
-use Rattle.bounded_parts.specs.declared.Metered.{Metered}
-use Rattle.bounded_parts.specs.Parts.{report, Filled, filled}
+use Rattle.bounded_orders.specs.declared.Metered.{Metered}
+use Rattle.bounded_orders.specs.Orders.{report, Filled, filled}
 use Rattle.bounded_lent.specs.Lent.{brokenLent, Lent, lent, lentOf, stepLent, Gone, gone, runLent, makeLent, capacityLent, contentsLent}
 use Rattle.bounded_demands.specs.Lending.{Lending, item11, Promise, promised, refusalOf, stepByStep}
 use Rattle.bounded_demands.specs.Demands.{AsHeld, OnlyTheActing, LentUnbroken, OnlyOneLent, LentThroughout, SixtyFourRecords, LentDemand1, LentEachNumber, LentMixed}

@@ -31,7 +31,7 @@ use Rattle.bounded_places.specs.declared.Place.{Place}
 use Rattle.bounded_places.specs.declared.Place.the-variants.{Idle, P1, P2, P3, P4, P5, P6, F6, F7, F8, F9, O1, O2, O3, O4, O5, O6, Len1, Len2, Len3, Empty1, Empty2, Full1, Full2, Close1, IsClosed1}
 use Rattle.bounded_places.specs.declared.Moved.the-variants.{Neither}
 use Rattle.bounded_places.specs.Places.{viewOf}
-use Rattle.bounded_acts.specs.Acts.{stay, actOf}
+use Rattle.bounded_acts.specs.Acts.{goes, actOf}
 use Rattle.bounded_machine.specs.declared.Machine.{Machine}
 use Rattle.bounded_machine.specs.declared.Event.{Event}
 use Rattle.bounded_machine.specs.Machine.{slot}
@@ -112,7 +112,7 @@ module _ (bits : Width) (c n workers : ℕ) (base : Base bits c n workers) (ed :
   lead = leads bits (m .ring .fixed) (m .ring .ends) (getD (m .ring .slots) (i bits c n workers base ed m st o w l lose busy young early) (slot 0 0)) (stood m w) lose busy
 
   from-f7 : (t : Stamp) (x : ℕ) → stood m w ≡ F7 t x → q ≡ F8 t x
-  unfolding stay
+  unfolding goes
   from-f7 t x h =
       ap (λ (y : Place). actOf bits (m .ring .fixed) (m .ring .ends) (getD (m .ring .slots) (i bits c n workers base ed m st o w l lose busy young early) (slot 0 0)) y lose .place) h
 

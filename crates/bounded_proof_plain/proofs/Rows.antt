@@ -35,7 +35,7 @@ use Rattle.bounded_places.specs.declared.Place.the-variants.{Idle, P1, P2, P3, 
 use Rattle.bounded_places.specs.declared.Moved.the-variants.{Neither, Tail}
 use Rattle.bounded_places.specs.Places.{viewOf}
 use Rattle.bounded_acts.specs.declared.Acted.{Acted}
-use Rattle.bounded_acts.specs.Acts.{stay, losing, afterTail, endP3, endF6, endO3, tailTo, headTo, valueTo, fullAt, forcedTail, countOf, yesNo, actOf}
+use Rattle.bounded_acts.specs.Acts.{goes, losing, afterTail, endP3, endF6, endO3, tailTo, headTo, valueTo, fullAt, forcedTail, countOf, yesNo, actOf}
 use Rattle.bounded_machine.specs.declared.Event.{Event}
 use Rattle.bounded_machine.specs.History.{event, movedOf}
 use Rattle.bounded_machine.proofs.Kept.{either, exchanged}
@@ -298,10 +298,10 @@ module _ (bits : Width) (c n ed : ℕ) (g : Ground bits c (markOf c) n) (st : St
   -- ---- rows
 
   -- an act that leads on, and one that answers; neither changes the ends
-  goes : (z : Slot) (k : Loss) (p q : Place) → Still p q → ((x : Answer) → q ≡ Idle x → ⊥)
+  goes-on : (z : Slot) (k : Loss) (p q : Place) → Still p q → ((x : Answer) → q ≡ Idle x → ⊥)
       → ((u : Shared) → Moves c s u w i q → Due c n ed (now p q) u (aged s age (holdingAt q)) w (task q)) → Row p (losing E z q k)
   unfolding losing
-  goes z k p q o busy due u mv =
+  goes-on z k p q o busy due u mv =
       record {
         due = due u mv;
         said = λ x e. absurd (busy x e);
@@ -311,9 +311,9 @@ module _ (bits : Width) (c n ed : ℕ) (g : Ground bits c (markOf c) n) (st : St
       }
 
   leads : (z : Slot) (p q : Place) → Still p q → ((x : Answer) → q ≡ Idle x → ⊥)
-      → ((u : Shared) → Moves c s u w i q → Due c n ed (now p q) u (aged s age (holdingAt q)) w (task q)) → Row p (stay E z q)
-  unfolding stay losing
-  leads z = goes z loss.Nothing
+      → ((u : Shared) → Moves c s u w i q → Due c n ed (now p q) u (aged s age (holdingAt q)) w (task q)) → Row p (goes E z q)
+  unfolding goes losing
+  leads z = goes-on z loss.Nothing
 
   answers : (z : Slot) (k : Loss) (p : Place) (a : Answer) → Still p (Idle a) → Ended p a → Row p (losing E z (Idle a) k)
   unfolding losing
@@ -326,8 +326,8 @@ module _ (bits : Width) (c n ed : ℕ) (g : Ground bits c (markOf c) n) (st : St
         changes = still-changes p (Idle a) o;
       }
 
-  ends : (z : Slot) (p : Place) (a : Answer) → Still p (Idle a) → Ended p a → Row p (stay E z (Idle a))
-  unfolding stay losing
+  ends : (z : Slot) (p : Place) (a : Answer) → Still p (Idle a) → Ended p a → Row p (goes E z (Idle a))
+  unfolding goes losing
   ends z = answers z loss.Nothing
 
   -- ---- push and force_push
@@ -367,23 +367,23 @@ module _ (bits : Width) (c n ed : ℕ) (g : Ground bits c (markOf c) n) (st : St
       (record { still = refl; puts = refl; takes = refl; back = λ y e. pushed-item kd x ∙ e; shut = λ e. absurd (not-close kd x e) })
       (ap (λ (r : Reply). r ∷ []) (closed-to kd x (known c ed st .queue) (shelf .flag ∙ sym marked-now ∙ h)))))
       (λ h. let clear : b ≡ false = sym marked-now ∙ h in
-      goes z k p (P2 kd (E .tail) x) (loads (E .tail)) (not-idle (P2 kd (E .tail) x) refl)
+      goes-on z k p (P2 kd (E .tail) x) (loads (E .tail)) (not-idle (P2 kd (E .tail) x) refl)
       (given-now p (P2 kd (E .tail) x) refl refl (pushing kd x) (E .tail) work clear (rw clear)))
 
-  p1 : (z : Slot) (kd : Kind) (x : ℕ) → Work c n ed st w (pushing kd x) [] [] → Row (P1 kd x) (stay E z (afterTail f kd (E .tail) x))
-  unfolding stay losing
+  p1 : (z : Slot) (kd : Kind) (x : ℕ) → Work c n ed st w (pushing kd x) [] [] → Row (P1 kd x) (goes E z (afterTail f kd (E .tail) x))
+  unfolding goes losing
   p1 z kd x work =
       finds z loss.Nothing (P1 kd x) kd x (quietly refl refl refl refl) (λ t. quietly refl refl refl refl) work
 
   p2 : (z : Slot) (kd : Kind) (t : Stamp) (x : ℕ) (lose : Bool) → GivenBy c n ed st s age w (pushing kd x) t → Row (P2 kd t x) (actOf bits f E z (P2 kd t x) lose)
   p2 z kd t x lose o =
-      either (Row (P2 kd t x)) (same (z .stamp) t) (stay E z (P3 kd t x)) _
+      either (Row (P2 kd t x)) (same (z .stamp) t) (goes E z (P3 kd t x)) _
       (λ h. leads z (P2 kd t x) (P3 kd t x) (quietly refl refl refl refl) (not-idle (P3 kd t x) refl) (given-kept (P2 kd t x) (P3 kd t x) refl refl (pushing kd x) t o))
-      (λ h. either (Row (P2 kd t x)) (lapBehindOnePast bits f (z .stamp) t) (stay E z (fullAt kd t x)) (stay E z (P1 kd x))
+      (λ h. either (Row (P2 kd t x)) (lapBehindOnePast bits f (z .stamp) t) (goes E z (fullAt kd t x)) (goes E z (P1 kd x))
       (λ d. behind kd o)
       (λ d. leads z (P2 kd t x) (P1 kd x) (quietly refl refl refl refl) (not-idle (P1 kd x) refl) (λ u mv. work-still (P2 kd t x) (P1 kd x) refl _ _ _ (o .work))))
     where
-      behind : (kd : Kind) → GivenBy c n ed st s age w (pushing kd x) t → Row (P2 kd t x) (stay E z (fullAt kd t x))
+      behind : (kd : Kind) → GivenBy c n ed st s age w (pushing kd x) t → Row (P2 kd t x) (goes E z (fullAt kd t x))
       behind Push o =
           leads z (P2 Push t x) (P6 t x) (quietly refl refl refl refl) (not-idle (P6 t x) refl) (given-kept (P2 Push t x) (P6 t x) refl refl (call.Push x) t o)
       behind Force o =
@@ -403,8 +403,8 @@ module _ (bits : Width) (c n ed : ℕ) (g : Ground bits c (markOf c) n) (st : St
   capacity-is = shelf .room
 
   -- the exchange of tail, won
-  won-tail : (z : Slot) (kd : Kind) (t : Stamp) (x : ℕ) → GivenBy c n ed st s age w (pushing kd x) t → b ≡ false → Row (P3 kd t x) (stay (tailTo E (nextOf bits f t)) z (P4 t x))
-  unfolding stay tailTo
+  won-tail : (z : Slot) (kd : Kind) (t : Stamp) (x : ℕ) → GivenBy c n ed st s age w (pushing kd x) t → b ≡ false → Row (P3 kd t x) (goes (tailTo E (nextOf bits f t)) z (P4 t x))
+  unfolding goes tailTo
   won-tail z kd t x o clear u mv =
       let few : length (known c ed st .queue .items) < c = omega (arith, mv .tails, mv .heads, mv .inv .high, shelf .long) in
       let made = timed-now (P3 kd t x) (P4 t x) refl in
@@ -438,12 +438,12 @@ module _ (bits : Width) (c n ed : ℕ) (g : Ground bits c (markOf c) n) (st : St
   p3 z kd t x lose o young =
       exchanged (λ (y : Exchange). Row (P3 kd t x) (endP3 bits f E z kd t x y)) (E .tail) t lose
       (λ h d. let q = found t (o .word) (o .set .point .tails-up) young h in
-      goes z loss.BySchedule (P3 kd t x) (P2 kd t x) (quietly refl refl refl refl) (not-idle (P2 kd t x) refl)
+      goes-on z loss.BySchedule (P3 kd t x) (P2 kd t x) (quietly refl refl refl refl) (not-idle (P2 kd t x) refl)
       (given-now (P3 kd t x) (P2 kd t x) refl refl (pushing kd x) t (o .work) (q .0) (o .word ∙ ap Word (sym (q .1)))))
       (λ h d. won-tail z kd t x o (found t (o .word) (o .set .point .tails-up) young h .0))
       (λ h. finds z loss.ByWords (P3 kd t x) kd x (quietly refl refl refl refl) (λ t₂. quietly refl refl refl refl) (o .work))
 
-  p4 : (z : Slot) (t : Stamp) (x : ℕ) (kd : Kind) → EnteredBy c n ed st s w kd x → Row (P4 t x) (stay E z (P5 t))
+  p4 : (z : Slot) (t : Stamp) (x : ℕ) (kd : Kind) → EnteredBy c n ed st s w kd x → Row (P4 t x) (goes E z (P5 t))
   p4 z t x kd o =
       leads z (P4 t x) (P5 t) (quietly refl refl refl refl) (not-idle (P5 t) refl)
       (λ u mv. (
@@ -459,7 +459,7 @@ module _ (bits : Width) (c n ed : ℕ) (g : Ground bits c (markOf c) n) (st : St
         },
       ))
 
-  p5 : (z : Slot) (t : Stamp) (kd : Kind) (x : ℕ) → EnteredBy c n ed st s w kd x → Row (P5 t) (stay E z (Idle Pushed))
+  p5 : (z : Slot) (t : Stamp) (kd : Kind) (x : ℕ) → EnteredBy c n ed st s w kd x → Row (P5 t) (goes E z (Idle Pushed))
   p5 z t kd x o =
       ends z (P5 t) Pushed (quietly refl refl refl refl)
       (ended-then (P5 t) (pushing kd x) (x ∷ []) [] Pushed refl (o .work)
@@ -475,7 +475,7 @@ module _ (bits : Width) (c n ed : ℕ) (g : Ground bits c (markOf c) n) (st : St
 
   p6 : (z : Slot) (t : Stamp) (x : ℕ) (lose : Bool) → GivenBy c n ed st s age w (call.Push x) t → Young c mark n s age → Row (P6 t x) (actOf bits f E z (P6 t x) lose)
   p6 z t x lose o young =
-      either (Row (P6 t x)) (lapBehind bits f (E .head) t) (stay E z (Idle (Full x))) (stay E z (P1 Push x))
+      either (Row (P6 t x)) (lapBehind bits f (E .head) t) (goes E z (Idle (Full x))) (goes E z (P1 Push x))
       (λ h. ends z (P6 t x) (Full x) (quietly refl refl refl refl)
       (ended-then (P6 t x) (call.Push x) [] [] (Full x) refl (o .work)
       (record { still = refl; puts = refl; takes = refl; back = λ y e. pushed-item Push x ∙ e; shut = λ e. absurd (not-close Push x e) })
@@ -507,8 +507,8 @@ module _ (bits : Width) (c n ed : ℕ) (g : Ground bits c (markOf c) n) (st : St
       let q : s .head ≡ grip .k = eqb-true _ _ (sym (Stamps.before-is bits c mark n g (s .head) (grip .k) r) ∙ ap (λ (y : Stamp). same (E .head) (minus bits y (f .lap))) (sym (grip .word)) ∙ h) in
       omega arith
 
-  won-head : (z : Slot) (t : Stamp) (x : ℕ) (h : Stamp) → GivenBy c n ed st s age w (call.ForcePush x) t → s .head + c ≡ age .tail → Row (F6 t x) (stay (headTo E h) z (F7 t x))
-  unfolding stay headTo
+  won-head : (z : Slot) (t : Stamp) (x : ℕ) (h : Stamp) → GivenBy c n ed st s age w (call.ForcePush x) t → s .head + c ≡ age .tail → Row (F6 t x) (goes (headTo E h) z (F7 t x))
+  unfolding goes headTo
   won-head z t x h o full u mv =
       let p = o .set .point in
       let even : age .head ≡ s .head = omega (arith, p .long, p .most, p .heads-up, p .tails-up, inv .high) in
@@ -560,9 +560,9 @@ module _ (bits : Width) (c n ed : ℕ) (g : Ground bits c (markOf c) n) (st : St
   f6 : (z : Slot) (t : Stamp) (x : ℕ) (lose : Bool) → GivenBy c n ed st s age w (call.ForcePush x) t → Grips t → Young c mark n s age → Row (F6 t x) (actOf bits f E z (F6 t x) lose)
   f6 z t x lose o grip young =
       exchanged (λ (y : Exchange). Row (F6 t x) (endF6 bits f E z t x y)) (E .head) (minus bits t (f .lap)) lose
-      (λ h d. goes z loss.BySchedule (F6 t x) (P1 Force x) (quietly refl refl refl refl) (not-idle (P1 Force x) refl) (λ u mv. work-still (F6 t x) (P1 Force x) refl _ _ _ (o .work)))
+      (λ h d. goes-on z loss.BySchedule (F6 t x) (P1 Force x) (quietly refl refl refl refl) (not-idle (P1 Force x) refl) (λ u mv. work-still (F6 t x) (P1 Force x) refl _ _ _ (o .work)))
       (λ h d. won-head z t x _ o (head-tests (call.ForcePush x) t o grip young h))
-      (λ h. goes z loss.ByWords (F6 t x) (P1 Force x) (quietly refl refl refl refl) (not-idle (P1 Force x) refl) (λ u mv. work-still (F6 t x) (P1 Force x) refl _ _ _ (o .work)))
+      (λ h. goes-on z loss.ByWords (F6 t x) (P1 Force x) (quietly refl refl refl refl) (not-idle (P1 Force x) refl) (λ u mv. work-still (F6 t x) (P1 Force x) refl _ _ _ (o .work)))
 
   -- what stays of a displacing force_push, and of a pop
   front-kept : (p q : Place) → (movedOf q ≡ Tail) ⊎ (movedOf q ≡ Neither) → timingOf p q ≡ Stays → (v : ℕ) (o : Front c n ed st s w v) (u : Shared) → Moves c s u w i q → Front c n ed (now p q) u w v
@@ -600,8 +600,8 @@ module _ (bits : Width) (c n ed : ℕ) (g : Ground bits c (markOf c) n) (st : St
         full = front-then p q no-head stays (o .v) (o .front) u mv (λ (z : Queue). length (z .items) ≡ c) (o .full);
       }
 
-  f7 : (z : Slot) (t : Stamp) (x k : ℕ) → t ≡ Word k → SwapsBy c n ed st s w x [] → Row (F7 t x) (stay (tailTo E (forcedTail bits f (E .tail) t)) z (F8 t x))
-  unfolding stay tailTo
+  f7 : (z : Slot) (t : Stamp) (x k : ℕ) → t ≡ Word k → SwapsBy c n ed st s w x [] → Row (F7 t x) (goes (tailTo E (forcedTail bits f (E .tail) t)) z (F8 t x))
+  unfolding goes tailTo
   f7 z t x k word o u mv =
       let r = work-on (F7 t x) (F8 t x) (call.ForcePush x) [] (o .v ∷ []) (o .work) in
       let few : length (known c ed st .queue .items) < c = omega (arith, mv .tails, mv .heads, mv .inv .high, shelf .long) in
@@ -628,12 +628,12 @@ module _ (bits : Width) (c n ed : ℕ) (g : Ground bits c (markOf c) n) (st : St
       reopened true = refl
       reopened false = refl
 
-  f8 : (z : Slot) (t : Stamp) (x old : ℕ) → SwapsBy c n ed st s w x (x ∷ []) → Row (F8 t x) (stay E z (F9 t old))
+  f8 : (z : Slot) (t : Stamp) (x old : ℕ) → SwapsBy c n ed st s w x (x ∷ []) → Row (F8 t x) (goes E z (F9 t old))
   f8 z t x old o =
       leads z (F8 t x) (F9 t old) (quietly refl refl refl refl) (not-idle (F9 t old) refl)
       (λ u mv. (x, swaps-kept (F8 t x) (F9 t old) (inr refl) refl x (x ∷ []) (x ∷ []) o u mv (work-still (F8 t x) (F9 t old) refl _ _ _ (o .work))))
 
-  f9 : (z : Slot) (t : Stamp) (x old k : ℕ) → Latest (s .taker) (s .head) w k → old ≡ s .item k → SwapsBy c n ed st s w x (x ∷ []) → Row (F9 t old) (stay E z (Idle (Displaced old)))
+  f9 : (z : Slot) (t : Stamp) (x old k : ℕ) → Latest (s .taker) (s .head) w k → old ≡ s .item k → SwapsBy c n ed st s w x (x ∷ []) → Row (F9 t old) (goes E z (Idle (Displaced old)))
   f9 z t x old k mine is o =
       let fr = o .front in
       let one : fr .heads ≡ k = latest-same (s .taker) (s .head) w (fr .heads) k (fr .latest) mine in
@@ -653,19 +653,19 @@ module _ (bits : Width) (c n ed : ℕ) (g : Ground bits c (markOf c) n) (st : St
 
   -- ---- pop
 
-  pops : (z : Slot) (p q : Place) → Still p q → ((x : Answer) → q ≡ Idle x → ⊥) → task q ≡ task O1 → Work c n ed st w call.Pop [] [] → Row p (stay E z q)
+  pops : (z : Slot) (p q : Place) → Still p q → ((x : Answer) → q ≡ Idle x → ⊥) → task q ≡ task O1 → Work c n ed st w call.Pop [] [] → Row p (goes E z q)
   pops z p q o busy e work = leads z p q o busy (λ u mv. rw e (work-still p q (o .neither) _ _ _ work))
 
   o2 : (z : Slot) (h : Stamp) (lose : Bool) → Work c n ed st w call.Pop [] [] → Row (O2 h) (actOf bits f E z (O2 h) lose)
   o2 z h lose o =
-      either (Row (O2 h)) (onePast bits (z .stamp) h) (stay E z (O3 h)) _
+      either (Row (O2 h)) (onePast bits (z .stamp) h) (goes E z (O3 h)) _
       (λ d. pops z (O2 h) (O3 h) (quietly refl refl refl refl) (not-idle (O3 h) refl) refl o)
-      (λ d. either (Row (O2 h)) (same (z .stamp) h) (stay E z (O6 h)) (stay E z O1)
+      (λ d. either (Row (O2 h)) (same (z .stamp) h) (goes E z (O6 h)) (goes E z O1)
       (λ y. pops z (O2 h) (O6 h) (quietly refl refl refl refl) (not-idle (O6 h) refl) refl o)
       (λ y. pops z (O2 h) O1 (quietly refl refl refl refl) (not-idle O1 refl) refl o))
 
-  won-take : (z : Slot) (h to : Stamp) → Work c n ed st w call.Pop [] [] → Row (O3 h) (stay (headTo E to) z (O4 h))
-  unfolding stay headTo
+  won-take : (z : Slot) (h to : Stamp) → Work c n ed st w call.Pop [] [] → Row (O3 h) (goes (headTo E to) z (O4 h))
+  unfolding goes headTo
   won-take z h to o u mv =
       let some : 0 < length (known c ed st .queue .items) = omega (arith, mv .heads, mv .tails, mv .inv .low, shelf .long) in
       let made = timed-now (O3 h) (O4 h) refl in
@@ -705,16 +705,16 @@ module _ (bits : Width) (c n ed : ℕ) (g : Ground bits c (markOf c) n) (st : St
   o3 : (z : Slot) (h : Stamp) (lose : Bool) → Work c n ed st w call.Pop [] [] → Row (O3 h) (actOf bits f E z (O3 h) lose)
   o3 z h lose o =
       exchanged (λ (y : Exchange). Row (O3 h) (endO3 bits f E z h y)) (E .head) h lose
-      (λ d e. goes z loss.BySchedule (O3 h) (O2 h) (quietly refl refl refl refl) (not-idle (O2 h) refl) (λ u mv. work-still (O3 h) (O2 h) refl _ _ _ o))
+      (λ d e. goes-on z loss.BySchedule (O3 h) (O2 h) (quietly refl refl refl refl) (not-idle (O2 h) refl) (λ u mv. work-still (O3 h) (O2 h) refl _ _ _ o))
       (λ d e. won-take z h _ o)
-      (λ d. goes z loss.ByWords (O3 h) (O2 (E .head)) (quietly refl refl refl refl) (not-idle (O2 (E .head)) refl) (λ u mv. work-still (O3 h) (O2 (E .head)) refl _ _ _ o))
+      (λ d. goes-on z loss.ByWords (O3 h) (O2 (E .head)) (quietly refl refl refl refl) (not-idle (O2 (E .head)) refl) (λ u mv. work-still (O3 h) (O2 (E .head)) refl _ _ _ o))
 
-  o4 : (z : Slot) (h : Stamp) (v : ℕ) → TakesBy c n ed st s w → Row (O4 h) (stay E z (O5 h v))
+  o4 : (z : Slot) (h : Stamp) (v : ℕ) → TakesBy c n ed st s w → Row (O4 h) (goes E z (O5 h v))
   o4 z h v o =
       leads z (O4 h) (O5 h v) (quietly refl refl refl refl) (not-idle (O5 h v) refl)
       (λ u mv. record { v = o .v; work = work-still (O4 h) (O5 h v) refl _ _ _ (o .work); front = front-kept (O4 h) (O5 h v) (inr refl) refl (o .v) (o .front) u mv })
 
-  o5 : (z : Slot) (h : Stamp) (v k : ℕ) → Latest (s .taker) (s .head) w k → v ≡ s .item k → TakesBy c n ed st s w → Row (O5 h v) (stay E z (Idle (Popped v)))
+  o5 : (z : Slot) (h : Stamp) (v k : ℕ) → Latest (s .taker) (s .head) w k → v ≡ s .item k → TakesBy c n ed st s w → Row (O5 h v) (goes E z (Idle (Popped v)))
   o5 z h v k mine is o =
       let fr = o .front in
       let one : fr .heads ≡ k = latest-same (s .taker) (s .head) w (fr .heads) k (fr .latest) mine in
@@ -744,8 +744,8 @@ module _ (bits : Width) (c n ed : ℕ) (g : Ground bits c (markOf c) n) (st : St
 
   o6 : (z : Slot) (h : Stamp) (lose : Bool) (k : ℕ) → h ≡ Word k → k ≤ s .head → age .head ≤ k → Young c mark n s age → Work c n ed st w call.Pop [] [] → Row (O6 h) (actOf bits f E z (O6 h) lose)
   o6 z h lose k word low late young o =
-      either (Row (O6 h)) (same (unmarkedOf f (E .tail)) h) _ (stay E z O1)
-      (λ d. either (Row (O6 h)) (markedOf f (E .tail)) (stay E z (Idle PopClosed)) (stay E z (Idle Empty))
+      either (Row (O6 h)) (same (unmarkedOf f (E .tail)) h) _ (goes E z O1)
+      (λ d. either (Row (O6 h)) (markedOf f (E .tail)) (goes E z (Idle PopClosed)) (goes E z (Idle Empty))
       (λ y. ends z (O6 h) PopClosed (quietly refl refl refl refl)
       (ended-now (O6 h) call.Pop [] [] PopClosed refl o speaks-closed (ap (λ (r : Reply). r ∷ []) (pop-none (known c ed st .queue) (none-now (even d)) ∙ rw (shelf .flag ∙ sym marked-now ∙ y)))))
       (λ y. ends z (O6 h) Empty (quietly refl refl refl refl)
@@ -765,11 +765,11 @@ module _ (bits : Width) (c n ed : ℕ) (g : Ground bits c (markOf c) n) (st : St
 
   -- ---- the lookers, and close
 
-  len1 : (z : Slot) → Work c n ed st w call.Len [] [] → Row Len1 (stay E z (Len2 (E .tail)))
+  len1 : (z : Slot) → Work c n ed st w call.Len [] [] → Row Len1 (goes E z (Len2 (E .tail)))
   len1 z o =
       leads z Len1 (Len2 (E .tail)) (quietly refl refl refl refl) (not-idle (Len2 (E .tail)) refl) (λ u mv. (work-still Len1 (Len2 (E .tail)) refl _ _ _ o, b, refl))
 
-  len2 : (z : Slot) (t : Stamp) (m : Bool) → t ≡ tailWord c mark n (age .tail) m → age .tail ≤ s .tail → Work c n ed st w call.Len [] [] → Row (Len2 t) (stay E z (Len3 t (E .head)))
+  len2 : (z : Slot) (t : Stamp) (m : Bool) → t ≡ tailWord c mark n (age .tail) m → age .tail ≤ s .tail → Work c n ed st w call.Len [] [] → Row (Len2 t) (goes E z (Len3 t (E .head)))
   len2 z t m word up o =
       leads z (Len2 t) (Len3 t (E .head)) (quietly refl refl refl refl) (not-idle (Len3 t (E .head)) refl)
       (λ u mv. record {
@@ -785,7 +785,7 @@ module _ (bits : Width) (c n ed : ℕ) (g : Ground bits c (markOf c) n) (st : St
 
   len3 : (z : Slot) (t h : Stamp) (lose : Bool) → CountsBy c n ed st s age w t h → Young c mark n s age → Row (Len3 t h) (actOf bits f E z (Len3 t h) lose)
   len3 z t h lose o young =
-      either (Row (Len3 t h)) (same (E .tail) t) (stay E z (Idle (Len (countOf f t h)))) (stay E z Len1)
+      either (Row (Len3 t h)) (same (E .tail) t) (goes E z (Idle (Len (countOf f t h)))) (goes E z Len1)
       (λ d. ends z (Len3 t h) (Len (countOf f t h)) (quietly refl refl refl refl)
       (ended-then (Len3 t h) call.Len [] [] (Len (countOf f t h)) refl (o .work)
       (record { still = refl; puts = refl; takes = refl; back = λ y e. absurd (let q : _≡_ {A = ℕ} 0 1 = cc in omega arith); shut = λ e. absurd (let q : _≡_ {A = ℕ} 0 1 = cc in omega arith) })
@@ -814,7 +814,7 @@ module _ (bits : Width) (c n ed : ℕ) (g : Ground bits c (markOf c) n) (st : St
   gives-none true x e = let q : _≡_ {A = ℕ} 0 1 = cc in omega arith
   gives-none false x e = let q : _≡_ {A = ℕ} 0 1 = cc in omega arith
 
-  empty1 : (z : Slot) → Work c n ed st w call.IsEmpty [] [] → Row Empty1 (stay E z (Empty2 (E .head)))
+  empty1 : (z : Slot) → Work c n ed st w call.IsEmpty [] [] → Row Empty1 (goes E z (Empty2 (E .head)))
   empty1 z o =
       leads z Empty1 (Empty2 (E .head)) (quietly refl refl refl refl) (not-idle (Empty2 (E .head)) refl)
       (λ u mv. (work-still Empty1 (Empty2 (E .head)) refl _ _ _ o, refl, go u mv (eqb (length (known c ed st .queue .items)) 0) refl))
@@ -839,7 +839,7 @@ module _ (bits : Width) (c n ed : ℕ) (g : Ground bits c (markOf c) n) (st : St
           })
 
   empty2 : (z : Slot) (h : Stamp) → h ≡ Word (age .head) → age .head ≤ s .head → Young c mark n s age → Work c n ed st w call.IsEmpty [] [] → SeenSome c n ed st s w ⊎ NoneYet c n ed st s age w
-      → Row (Empty2 h) (stay E z (Idle (yesNo (same (unmarkedOf f (E .tail)) h))))
+      → Row (Empty2 h) (goes E z (Idle (yesNo (same (unmarkedOf f (E .tail)) h))))
   empty2 z h word up young o seen = go (same (unmarkedOf f (E .tail)) h) refl seen
     where
       tests : same (unmarkedOf f (E .tail)) h ≡ eqb (s .tail) (age .head)
@@ -847,7 +847,7 @@ module _ (bits : Width) (c n ed : ℕ) (g : Ground bits c (markOf c) n) (st : St
           let r : Near (n * c) (s .tail) (age .head) = omega (arith, turn, inv .low, inv .high, young) in
           ap (λ (y : Stamp). same y h) (Stamps.unmarked-tail bits c mark n g ed (s .tail) b) ∙ ap (same (Word (s .tail))) word ∙ Stamps.same-is bits c mark n g (s .tail) (age .head) r
 
-      go : (y : Bool) → same (unmarkedOf f (E .tail)) h ≡ y → SeenSome c n ed st s w ⊎ NoneYet c n ed st s age w → Row (Empty2 h) (stay E z (Idle (yesNo y)))
+      go : (y : Bool) → same (unmarkedOf f (E .tail)) h ≡ y → SeenSome c n ed st s w ⊎ NoneYet c n ed st s age w → Row (Empty2 h) (goes E z (Idle (yesNo y)))
       go true e any =
           let q : s .tail ≡ age .head = eqb-true _ _ (sym tests ∙ e) in
           let even : s .tail ≡ s .head = omega (arith, inv .low) in
@@ -861,7 +861,7 @@ module _ (bits : Width) (c n ed : ℕ) (g : Ground bits c (markOf c) n) (st : St
           (rw (ne-eqb (length (then c n ed (p .set) .items)) 0 (λ q. omega (arith, p .some)))))
       go false e (inr p) = absurd (true≢false (sym (eq-eqb (s .tail) (age .head) (p .tail)) ∙ sym tests ∙ e))
 
-  full1 : (z : Slot) → Work c n ed st w call.IsFull [] [] → Row Full1 (stay E z (Full2 (E .tail)))
+  full1 : (z : Slot) → Work c n ed st w call.IsFull [] [] → Row Full1 (goes E z (Full2 (E .tail)))
   full1 z o =
       leads z Full1 (Full2 (E .tail)) (quietly refl refl refl refl) (not-idle (Full2 (E .tail)) refl)
       (λ u mv. (work-still Full1 (Full2 (E .tail)) refl _ _ _ o, b, refl, go u mv (fullOf (known c ed st .queue)) refl))
@@ -887,7 +887,7 @@ module _ (bits : Width) (c n ed : ℕ) (g : Ground bits c (markOf c) n) (st : St
           })
 
   full2 : (z : Slot) (t : Stamp) (m : Bool) → t ≡ tailWord c mark n (age .tail) m → age .tail ≤ s .tail → Young c mark n s age → Work c n ed st w call.IsFull [] [] → SeenRoom c n ed st s w ⊎ FullYet c n ed st s age w
-      → Row (Full2 t) (stay E z (Idle (yesNo (lapBehind bits f (E .head) (unmarkedOf f t)))))
+      → Row (Full2 t) (goes E z (Idle (yesNo (lapBehind bits f (E .head) (unmarkedOf f t)))))
   full2 z t m word up young o seen = go (lapBehind bits f (E .head) (unmarkedOf f t)) refl seen
     where
       tests : lapBehind bits f (E .head) (unmarkedOf f t) ≡ eqb (s .head + c) (age .tail)
@@ -896,7 +896,7 @@ module _ (bits : Width) (c n ed : ℕ) (g : Ground bits c (markOf c) n) (st : St
           ap (λ (y : Stamp). lapBehind bits f (E .head) (unmarkedOf f y)) word ∙ ap (lapBehind bits f (E .head)) (Stamps.unmarked-tail bits c mark n g ed (age .tail) m)
           ∙ Stamps.behind-is bits c mark n g ed (s .head) (age .tail) r
 
-      go : (y : Bool) → lapBehind bits f (E .head) (unmarkedOf f t) ≡ y → SeenRoom c n ed st s w ⊎ FullYet c n ed st s age w → Row (Full2 t) (stay E z (Idle (yesNo y)))
+      go : (y : Bool) → lapBehind bits f (E .head) (unmarkedOf f t) ≡ y → SeenRoom c n ed st s w ⊎ FullYet c n ed st s age w → Row (Full2 t) (goes E z (Idle (yesNo y)))
       go true e any =
           let q : s .head + c ≡ age .tail = eqb-true _ _ (sym tests ∙ e) in
           let long : length (known c ed st .queue .items) ≡ known c ed st .queue .capacity = omega (arith, shelf .long, capacity-is, inv .high) in
@@ -909,10 +909,10 @@ module _ (bits : Width) (c n ed : ℕ) (g : Ground bits c (markOf c) n) (st : St
           (rw (ne-eqb (length (then c n ed (p .set) .items)) (then c n ed (p .set) .capacity) (λ q. omega (arith, p .room, p .set .point .room)))))
       go false e (inr p) = absurd (true≢false (sym (eq-eqb (s .head + c) (age .tail) (p .head)) ∙ sym tests ∙ e))
 
-  is-closed1 : (z : Slot) → Work c n ed st w call.IsClosed [] [] → Row IsClosed1 (stay E z (Idle (yesNo (markedOf f (E .tail)))))
+  is-closed1 : (z : Slot) → Work c n ed st w call.IsClosed [] [] → Row IsClosed1 (goes E z (Idle (yesNo (markedOf f (E .tail)))))
   is-closed1 z o = go (markedOf f (E .tail)) refl
     where
-      go : (y : Bool) → markedOf f (E .tail) ≡ y → Row IsClosed1 (stay E z (Idle (yesNo y)))
+      go : (y : Bool) → markedOf f (E .tail) ≡ y → Row IsClosed1 (goes E z (Idle (yesNo y)))
       go true e =
           ends z IsClosed1 Yes (quietly refl refl refl refl)
           (ended-now IsClosed1 call.IsClosed [] [] Yes refl o (speaks IsClosed1 call.IsClosed true (gives-none true) (λ q. absurd (let y : _≡_ {A = ℕ} 0 1 = cc in omega arith))) (rw (shelf .flag ∙ sym marked-now ∙ e)))
@@ -920,8 +920,8 @@ module _ (bits : Width) (c n ed : ℕ) (g : Ground bits c (markOf c) n) (st : St
           ends z IsClosed1 No (quietly refl refl refl refl)
           (ended-now IsClosed1 call.IsClosed [] [] No refl o (speaks IsClosed1 call.IsClosed false (gives-none false) (λ q. absurd (let y : _≡_ {A = ℕ} 0 1 = cc in omega arith))) (rw (shelf .flag ∙ sym marked-now ∙ e)))
 
-  shuts : (z : Slot) → b ≡ false → Work c n ed st w call.Close [] [] → Row Close1 (stay (tailTo E (withMark bits f (E .tail))) z (Idle Yes))
-  unfolding stay tailTo
+  shuts : (z : Slot) → b ≡ false → Work c n ed st w call.Close [] [] → Row Close1 (goes (tailTo E (withMark bits f (E .tail))) z (Idle Yes))
+  unfolding goes tailTo
   shuts z clear o u mv =
       record {
         due = tt;
@@ -942,7 +942,7 @@ module _ (bits : Width) (c n ed : ℕ) (g : Ground bits c (markOf c) n) (st : St
 
   close1 : (z : Slot) (lose : Bool) → Work c n ed st w call.Close [] [] → Row Close1 (actOf bits f E z Close1 lose)
   close1 z lose o =
-      either (Row Close1) (markedOf f (E .tail)) (stay E z (Idle No)) (stay (tailTo E (withMark bits f (E .tail))) z (Idle Yes))
+      either (Row Close1) (markedOf f (E .tail)) (goes E z (Idle No)) (goes (tailTo E (withMark bits f (E .tail))) z (Idle Yes))
       (λ h. let set : b ≡ true = sym marked-now ∙ h in
       ends z Close1 No (quietly refl refl refl refl)
       (ended-now Close1 call.Close [] [] No refl o (speaks Close1 call.Close false (gives-none false) (λ q. open-flag Close1 (Idle No) refl refl ∙ set)) (rw (shelf .flag ∙ set))))

@@ -22,7 +22,7 @@ use Rattle.bounded_places.specs.declared.Answer.the-variants.{Nothing, Pushed, 
 use Rattle.bounded_places.specs.declared.Place.{Place}
 use Rattle.bounded_places.specs.declared.Place.the-variants.{Idle, P1, P2, P3, P4, P5, P6, F6, F7, F8, F9, O1, O2, O3, O4, O5, O6, Len1, Len2, Len3, Empty1, Empty2, Full1, Full2, Close1, IsClosed1}
 use Rattle.bounded_places.specs.Places.{saysYes}
-use Rattle.bounded_acts.specs.Acts.{forcedTail, stay, losing, exchangeOf, afterTail, tailTo, headTo, stampTo, valueTo, countOf}
+use Rattle.bounded_acts.specs.Acts.{forcedTail, goes, losing, exchangeOf, afterTail, tailTo, headTo, stampTo, valueTo, countOf}
 use Rattle.bounded_machine.specs.declared.Event.{Event}
 use Rattle.bounded_machine.specs.Machine.{emptySlots, stamped, freshSlots, idlers, freshWith, refused, accepted}
 use Rattle.bounded_machine.specs.Turn.{recordAfter, begun, stored, actedBy, turnOfBy}
@@ -155,5 +155,5 @@ module _ (s : Story) (o : OneByOne 1 1 s) (k w : ℕ) (few : k + 3 < length s)
       true≢false (sym (subst (λ (i : ℕ). o .queues i .closed ≡ true) same two) ∙ b .was)
 
 pub closes-not-one-step : ClosesNotOneStep document01
-unfolding forcedTail doubled markOf markedOf unmarkedOf plus minus withMark nextOf same onePast lapBehind lapBehindOnePast strayOf orderOf entryOf stay losing exchangeOf afterTail tailTo headTo stampTo valueTo countOf emptySlots stamped freshSlots idlers freshWith refused accepted all recordAfter begun stored actedBy turnOfBy ran runBy historyBy acts knownFrom twoCloses
+unfolding forcedTail doubled markOf markedOf unmarkedOf plus minus withMark nextOf same onePast lapBehind lapBehindOnePast strayOf orderOf entryOf goes losing exchangeOf afterTail tailTo headTo stampTo valueTo countOf emptySlots stamped freshSlots idlers freshWith refused accepted all recordAfter begun stored actedBy turnOfBy ran runBy historyBy acts knownFrom twoCloses
 closes-not-one-step o = not-both (storyOf document01 1 2 1 twoCloses) o 11 1 (omega arith) refl refl refl refl refl refl refl refl

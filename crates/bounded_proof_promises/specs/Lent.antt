@@ -15,10 +15,10 @@ use contract.Monad.{Fun, fact}
 use denote.Ref.{RefT}
 use Rattle.queue_entries.specs.declared.Told.{Told}
 use Rattle.bounded_places.specs.declared.Worker.{Worker}
-use Rattle.bounded_parts.specs.declared.Metered.{Metered}
-use Rattle.bounded_parts.specs.declared.Report.{Report}
-use Rattle.bounded_parts.specs.declared.Made.{Made}
-use Rattle.bounded_parts.specs.Parts.{filled}
+use Rattle.bounded_orders.specs.declared.Metered.{Metered}
+use Rattle.bounded_orders.specs.declared.Report.{Report}
+use Rattle.bounded_orders.specs.declared.Made.{Made}
+use Rattle.bounded_orders.specs.Orders.{filled}
 use Rattle.bounded_lent.specs.Lent.{lent, gone}
 use Rattle.bounded_demands.specs.Lending.{promised, item11}
 use Rattle.bounded_lent.proofs.broken as broken

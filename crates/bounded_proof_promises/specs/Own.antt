@@ -15,9 +15,9 @@ use Rattle.bounded_machine.specs.declared.Machine.{Machine}
 use Rattle.bounded_machine.specs.declared.Did.{Did}
 use Rattle.bounded_machine.specs.declared.Ran.{Ran}
 use Rattle.bounded_machine.specs.declared.Tally.{Tally}
-use Rattle.bounded_widths.specs.declared.Machine as widths
-use Rattle.bounded_widths.specs.declared.Did as widths-did
-use Rattle.bounded_widths.specs.declared.Ran as widths-ran
+use Rattle.bounded_sixteen_bits.specs.declared.Machine as widths
+use Rattle.bounded_sixteen_bits.specs.declared.Did as widths-did
+use Rattle.bounded_sixteen_bits.specs.declared.Ran as widths-ran
 use Rattle.bounded_walks.specs.declared.Sized.{Sized}
 use Rattle.bounded_causes.specs.declared.Watches.{Watches}
 use Rattle.bounded_causes.specs.declared.Named.{Named}

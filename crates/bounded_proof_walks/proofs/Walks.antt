@@ -22,7 +22,7 @@ use Rattle.bounded_machine.specs.Broken.{brokenOf, allIdle}
 use Rattle.bounded_machine.specs.Turn.{turnOf}
 use Rattle.bounded_machine.specs.Run.{ran, runFrom}
 use Rattle.bounded_machine.proofs.Kept.{either, unbroken-of, few-workers}
-use Rattle.bounded_walkers.specs.Walkers.{walkOf}
+use Rattle.bounded_sequences.specs.Sequences.{walkOf}
 use Rattle.bounded_walks.specs.Walks.{allBusy, sizeRefusal, walkRefusal, listed, sizeOf}
 use Rattle.bounded_walks.specs.declared.Sized.{Sized}
 use Rattle.bounded_walks.specs.declared.Sized.the-variants as sized

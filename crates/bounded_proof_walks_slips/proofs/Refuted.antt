@@ -13,14 +13,14 @@ use Rattle.queue_walks.specs.Walks.{after, inTurn, choiceBy, walkBy}
 use Rattle.queue_walks.specs.Meaning.{Before, lower, sooner, further, none-left, all-idle, goes-on}
 use Rattle.bounded_words.specs.Words.{doubled, markOf, markedOf, unmarkedOf, plus, minus, withMark, nextOf, same, onePast, lapBehind, lapBehindOnePast}
 use Rattle.bounded_places.specs.Places.{inside}
-use Rattle.bounded_acts.specs.Acts.{stay, losing, exchangeOf, afterTail, tailTo, headTo, stampTo, valueTo, forcedTail}
+use Rattle.bounded_acts.specs.Acts.{goes, losing, exchangeOf, afterTail, tailTo, headTo, stampTo, valueTo, forcedTail}
 use Rattle.bounded_machine.specs.declared.Machine.{Machine}
 use Rattle.bounded_machine.specs.Machine.{emptySlots, stamped, freshSlots, idlers, freshWith, refused, accepted}
 use Rattle.bounded_machine.specs.Broken.{byRule, endsFit, placeFits, recordFits, recordsFit, ringFits, brokenWith, allIdle}
 use Rattle.bounded_machine.specs.Turn.{recordAfter, begun, stored, actedBy, turnOfBy}
 use Rattle.bounded_machine.specs.Run.{ran}
 use Rattle.bounded_walks.specs.Walks.{allBusy}
-use Rattle.bounded_walkers.specs.Walkers.{walkOf}
+use Rattle.bounded_sequences.specs.Sequences.{walkOf}
 use Rattle.bounded_demands.specs.Notions.{document01, machineAfter, acts, Tried}
 use Rattle.bounded_demands.specs.Demands.{WalksAll}
 use Rattle.bounded_proof_walks.proofs.Walks.{walks-all}
@@ -68,7 +68,7 @@ not-ended : (left : ℕ) (m : Machine) → allIdle (m .workers) ≡ false → Tr
 not-ended left m busy (all-idle e) = true≢false (sym e ∙ busy)
 
 pub refuted : Refuted
-unfolding two alone doubled markOf markedOf unmarkedOf plus minus withMark nextOf same onePast lapBehind lapBehindOnePast inside strayOf orderOf entryOf stay losing exchangeOf afterTail tailTo headTo stampTo valueTo forcedTail emptySlots stamped freshSlots idlers freshWith refused accepted byRule endsFit placeFits recordFits recordsFit brokenWith ringFits recordAfter begun stored actedBy turnOfBy ran runBy all inLimits allIdle allBusy acts after inTurn choiceBy walkBy turnsWith walkWith
+unfolding two alone doubled markOf markedOf unmarkedOf plus minus withMark nextOf same onePast lapBehind lapBehindOnePast inside strayOf orderOf entryOf goes losing exchangeOf afterTail tailTo headTo stampTo valueTo forcedTail emptySlots stamped freshSlots idlers freshWith refused accepted byRule endsFit placeFits recordFits recordsFit brokenWith ringFits recordAfter begun stored actedBy turnOfBy ran runBy all inLimits allIdle allBusy acts after inTurn choiceBy walkBy turnsWith walkWith
 refuted =
     record {
       nine-first = λ r. not-before 144 128 refl (omega arith) (r .order 1 two refl .0 (128 ∷ []) (List·Memᴰ·head refl));

@@ -9,7 +9,7 @@ use Rattle.bounded_machine.specs.declared.Machine.{Machine}
 use Rattle.bounded_machine.specs.declared.Did.{Did}
 use Rattle.bounded_machine.specs.Broken.{allIdle}
 use Rattle.bounded_machine.specs.Turn.{turnOf}
-use Rattle.bounded_walkers.specs.Walkers.{walkOf}
+use Rattle.bounded_sequences.specs.Sequences.{walkOf}
 use Rattle.bounded_walks.specs.Walks.{allBusy}
 use Rattle.bounded_demands.specs.Demands.{WalksAll}
 

@@ -22,13 +22,13 @@ use Rattle.bounded_places.specs.declared.Place.{Place}
 use Rattle.bounded_places.specs.declared.Place.the-variants.{Idle}
 use Rattle.bounded_places.specs.declared.Worker.{Worker}
 use Rattle.bounded_places.specs.Places.{viewOf, beginOf}
-use Rattle.bounded_acts.specs.Acts.{stay, actOf}
+use Rattle.bounded_acts.specs.Acts.{goes, actOf}
 use Rattle.bounded_machine.specs.declared.Machine.{Machine}
 use Rattle.bounded_machine.specs.declared.Event.{Event}
 use Rattle.bounded_machine.specs.Machine.{slot, idler, machineOf, placeOf, accepted}
 use Rattle.bounded_machine.specs.Turn.{spotOf, beginner, recordAfter, begun, stored, acted, actedBy, turnAt, turnOfBy}
 use Rattle.bounded_machine.specs.History.{event, lossAt, eventsOf}
-use Rattle.bounded_proof_window.proofs.Paths.{Goes, goes, ending}
+use Rattle.bounded_proof_window.proofs.Paths.{Goes, goes as goes-path, ending}
 
 -- of any machine
 begun-turn : (bits : Width) (m : Machine) (w first second : ℕ) (q : Call) → entryOf first second ≡ Asks w (Begin q) → w < m .count → viewOf (placeOf (m .workers) w) .busy ≡ false
@@ -65,14 +65,14 @@ module _ (bits : Width) (f : Fixed) (count w : ℕ) (team : w < count) (others :
   begins e slots a q first second meter asks rest =
       subst (λ (done : List Event). Goes bits (at e slots (Idle a) meter) (first ∷ second ∷ rest) (at e slots (beginOf q) meter) rest done)
       (ap (λ (x : Entry). eventsOf bits (at e slots (Idle a) meter) x (at e slots (beginOf q) meter)) asks)
-      (goes bits _ _ first second rest (begins-turn e slots a q first second meter asks))
+      (goes-path bits _ _ first second rest (begins-turn e slots a q first second meter asks))
 
   abbrev pub moves : Ends → List Slot → Place → Place → ℕ → List Event
   moves e slots p q meter = event w p q (lossAt bits (at e slots p meter) w false) ∷ []
 
   -- an act, by what the table says of its place
   module _ (e u : Ends) (slots : List Slot) (z : Slot) (p q : Place) (meter : ℕ) (busy : viewOf p .busy ≡ true) (early : meter < meterMost)
-      (is : actOf bits f e (getD slots (spotOf f (viewOf p .held)) (slot 0 0)) p false ≡ stay u z q) where
+      (is : actOf bits f e (getD slots (spotOf f (viewOf p .held)) (slot 0 0)) p false ≡ goes u z q) where
     abbrev after : Machine
     after = at u (set slots (spotOf f (viewOf p .held)) z) q (meter + 1)
 
@@ -82,7 +82,7 @@ module _ (bits : Width) (f : Fixed) (count w : ℕ) (team : w < count) (others :
         ∙ ap (λ (y : Place). accepted (acted bits (at e slots p meter) w y false)) (there p)
 
     acted-to : acted bits (at e slots p meter) w p false ≡ after
-    unfolding actedBy stored recordAfter stay
+    unfolding actedBy stored recordAfter goes
     acted-to = rw (is, itself p, set-set others w (beginner p) (beginner q))
 
     pub acts-to : (rest : List ℕ) → Goes bits (at e slots p meter) ((16 * w + 8) ∷ 0 ∷ rest) after rest (moves e slots p q meter)
@@ -91,11 +91,11 @@ module _ (bits : Width) (f : Fixed) (count w : ℕ) (team : w < count) (others :
         (ap (λ (x : Entry). eventsOf bits (at e slots p meter) x after) (act-entry w)
         ∙ ap (λ (y : Place). event w y (placeOf (set others w (beginner q)) w) (lossAt bits (at e slots p meter) w false) ∷ []) (there p)
         ∙ ap (λ (y : Place). event w p y (lossAt bits (at e slots p meter) w false) ∷ []) (there q))
-        (goes bits _ _ (16 * w + 8) 0 rest (taken ∙ ap accepted acted-to))
+        (goes-path bits _ _ (16 * w + 8) 0 rest (taken ∙ ap accepted acted-to))
 
   -- one that leaves the slot as it was
   pub looks-to : (e u : Ends) (slots : List Slot) (p q : Place) (meter : ℕ) → viewOf p .busy ≡ true → meter < meterMost
-      → actOf bits f e (getD slots (spotOf f (viewOf p .held)) (slot 0 0)) p false ≡ stay u (getD slots (spotOf f (viewOf p .held)) (slot 0 0)) q → (rest : List ℕ)
+      → actOf bits f e (getD slots (spotOf f (viewOf p .held)) (slot 0 0)) p false ≡ goes u (getD slots (spotOf f (viewOf p .held)) (slot 0 0)) q → (rest : List ℕ)
       → Goes bits (at e slots p meter) ((16 * w + 8) ∷ 0 ∷ rest) (at u slots q (meter + 1)) rest (moves e slots p q meter)
   looks-to e u slots p q meter busy early is rest =
       ending bits (ap (λ (l : List Slot). at u l q (meter + 1)) (set-getD slots (spotOf f (viewOf p .held)) (slot 0 0))) (acts-to e u slots _ p q meter busy early is rest)

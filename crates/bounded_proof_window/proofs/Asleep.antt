@@ -26,7 +26,7 @@ use Rattle.bounded_places.specs.declared.Loss.the-variants.{Nothing}
 use Rattle.bounded_places.specs.declared.Place.{Place}
 use Rattle.bounded_places.specs.declared.Place.the-variants.{Idle, P1, P2, P3, P4, P5, P6, O1, O2, O3, O4, O5, O6, Close1}
 use Rattle.bounded_places.specs.declared.Worker.{Worker}
-use Rattle.bounded_acts.specs.Acts.{stay, losing, exchangeOf, afterTail, tailTo, headTo, stampTo, valueTo}
+use Rattle.bounded_acts.specs.Acts.{goes, losing, exchangeOf, afterTail, tailTo, headTo, stampTo, valueTo}
 use Rattle.bounded_machine.specs.declared.Machine.{Machine}
 use Rattle.bounded_machine.specs.declared.Event.{Event}
 use Rattle.bounded_machine.specs.declared.Tally.{Tally}
@@ -113,7 +113,7 @@ pushing =
     ∷ to 8 0 (stand 1 empties 4 4 4 7 (Idle (Popped 7)) (P6 (stamp 4) 9) 12) ∷ []
 
 pub pushes : Follows Sixteen (fresh 1) pushing
-unfolding markedOf unmarkedOf plus withMark nextOf same onePast lapBehind lapBehindOnePast strayOf orderOf entryOf stay losing exchangeOf afterTail tailTo headTo stampTo valueTo accepted recordAfter begun stored actedBy turnOfBy
+unfolding markedOf unmarkedOf plus withMark nextOf same onePast lapBehind lapBehindOnePast strayOf orderOf entryOf goes losing exchangeOf afterTail tailTo headTo stampTo valueTo accepted recordAfter begun stored actedBy turnOfBy
 pushes = (refl, (refl, (refl, (refl, (refl, (refl, (refl, (refl, (refl, (refl, (refl, (refl, (refl, (refl, (refl, tt)))))))))))))))
 
 pub pushed-on : Rounds Sixteen 1 2 16384 1 ground (others 1 (P6 (stamp 4) 9)) 2 two (ringAt 1 (P6 (stamp 4) 9) 1 (slot (word 1 2 16384 1) 7 ∷ empties) (Popped 7) 12) 16383 16384 163842 []
@@ -144,7 +144,7 @@ abbrev late : List Event
 late = event 1 (P2 Push (stamp 4) 9) (P6 (stamp 4) 9) Nothing ∷ event 0 (O4 (stamp 0)) (O5 (stamp 0) 7) Nothing ∷ event 0 (O5 (stamp 0) 7) (Idle (Popped 7)) Nothing ∷ []
 
 since-load : (h : List Event) → sinceFrom 1 [] (doneBy Sixteen (fresh 1) pushing ++ h) ≡ sinceFrom 1 late h
-unfolding markedOf unmarkedOf plus withMark nextOf same onePast lapBehind lapBehindOnePast strayOf orderOf entryOf stay losing exchangeOf afterTail tailTo headTo stampTo valueTo accepted recordAfter begun stored actedBy turnOfBy sinceFrom
+unfolding markedOf unmarkedOf plus withMark nextOf same onePast lapBehind lapBehindOnePast strayOf orderOf entryOf goes losing exchangeOf afterTail tailTo headTo stampTo valueTo accepted recordAfter begun stored actedBy turnOfBy sinceFrom
 since-load h = refl
 
 -- another's acts give it no word
@@ -161,7 +161,7 @@ claimed =
     ∙ tally-both late (pushed-on .done) untallied
 
 untrue-at : (slots : List Slot) (a : Answer) → AnswersTrue (ofWidth Sixteen) (ringAt 1 (P6 (stamp 4) 9) 16384 slots a 163842) → ⊥
-unfolding word markedOf unmarkedOf plus same lapBehind strayOf orderOf entryOf stay losing accepted recordAfter stored actedBy turnOfBy
+unfolding word markedOf unmarkedOf plus same lapBehind strayOf orderOf entryOf goes losing accepted recordAfter stored actedBy turnOfBy
 untrue-at slots a o =
     true≢false
     (sym (o 1 (acted Sixteen (ringAt 1 (P6 (stamp 4) 9) 16384 slots a 163842) 1 (P6 (stamp 4) 9) false) (Full 9) (record { first = 24; second = 0; lose = false; asks = refl; done = refl }) refl))
@@ -175,7 +175,7 @@ popping =
     ∷ to 24 0 (stand 2 empties 0 0 0 0 (Idle answer.Nothing) (O6 (stamp 0)) 2) ∷ []
 
 pops : Follows Sixteen (fresh 2) popping
-unfolding markedOf unmarkedOf plus withMark nextOf same onePast lapBehind lapBehindOnePast strayOf orderOf entryOf stay losing exchangeOf afterTail tailTo headTo stampTo valueTo accepted recordAfter begun stored actedBy turnOfBy
+unfolding markedOf unmarkedOf plus withMark nextOf same onePast lapBehind lapBehindOnePast strayOf orderOf entryOf goes losing exchangeOf afterTail tailTo headTo stampTo valueTo accepted recordAfter begun stored actedBy turnOfBy
 pops = (refl, (refl, (refl, tt)))
 
 -- the slot's value, the other slots and the first worker's last answer when it wakes
@@ -195,7 +195,7 @@ module _ (v : ℕ) (slots : List Slot) (a : Answer) where
       ∷ to 8 0 (stand 2 slots 65532 2 65533 7 (Idle Yes) (O6 (stamp 0)) 163838) ∷ []
 
   closes : Follows Sixteen waking closing
-  unfolding markedOf unmarkedOf plus withMark nextOf same onePast lapBehind lapBehindOnePast strayOf orderOf entryOf stay losing exchangeOf afterTail tailTo headTo stampTo valueTo accepted recordAfter begun stored actedBy turnOfBy
+  unfolding markedOf unmarkedOf plus withMark nextOf same onePast lapBehind lapBehindOnePast strayOf orderOf entryOf goes losing exchangeOf afterTail tailTo headTo stampTo valueTo accepted recordAfter begun stored actedBy turnOfBy
   closes = (refl, (refl, (refl, (refl, (refl, (refl, (refl, (refl, tt))))))))
 
   abbrev answering : List (Step Sixteen)
@@ -207,7 +207,7 @@ module _ (v : ℕ) (slots : List Slot) (a : Answer) where
       ∷ to 8 0 (stand 2 slots 0 2 65533 7 (O4 (stamp 65532)) (Idle PopClosed) 163842) ∷ []
 
   answers : Follows Sixteen (lastOf Sixteen waking closing) answering
-  unfolding markedOf unmarkedOf plus withMark nextOf same onePast lapBehind lapBehindOnePast strayOf orderOf entryOf stay losing exchangeOf afterTail tailTo headTo stampTo valueTo accepted recordAfter begun stored actedBy turnOfBy
+  unfolding markedOf unmarkedOf plus withMark nextOf same onePast lapBehind lapBehindOnePast strayOf orderOf entryOf goes losing exchangeOf afterTail tailTo headTo stampTo valueTo accepted recordAfter begun stored actedBy turnOfBy
   answers = (refl, (refl, (refl, (refl, (refl, tt)))))
 
   -- from its waking

@@ -28,7 +28,7 @@ use Rattle.bounded_places.specs.declared.Answer.{Answer}
 use Rattle.bounded_places.specs.declared.Answer.the-variants.{Nothing, Pushed}
 use Rattle.bounded_places.specs.declared.Place.the-variants.{Idle, P1, P2, F6, F7, F8}
 use Rattle.bounded_places.specs.declared.Worker.{Worker}
-use Rattle.bounded_acts.specs.Acts.{stay, exchangeOf, afterTail, tailTo, headTo, forcedTail, actOf}
+use Rattle.bounded_acts.specs.Acts.{goes, exchangeOf, afterTail, tailTo, headTo, forcedTail, actOf}
 use Rattle.bounded_machine.specs.declared.Machine.{Machine}
 use Rattle.bounded_machine.specs.declared.Event.{Event}
 use Rattle.bounded_machine.specs.declared.Tally.{Tally}
@@ -182,14 +182,14 @@ module _ (bits : Width) (c mark n ed : ℕ) (g : Ground bits c mark n) where
       abbrev half : Ends
       half = record { head = W c mark n (k + 1); tail = W c mark n (k + c) }
 
-      p1 : actOf bits f (lapped k) (getD slots 0 (slot 0 0)) (P1 Force 8) false ≡ stay (lapped k) (getD slots 0 (slot 0 0)) (P2 Force t 8)
+      p1 : actOf bits f (lapped k) (getD slots 0 (slot 0 0)) (P1 Force 8) false ≡ goes (lapped k) (getD slots 0 (slot 0 0)) (P2 Force t 8)
       unfolding afterTail
       p1 = rw (stamps.marked-tail bits c mark n g ed (k + c) false)
 
-      p2 : actOf bits f (lapped k) (getD slots i (slot 0 0)) (P2 Force t 8) false ≡ stay (lapped k) (getD slots i (slot 0 0)) (F6 t 8)
+      p2 : actOf bits f (lapped k) (getD slots i (slot 0 0)) (P2 Force t 8) false ≡ goes (lapped k) (getD slots i (slot 0 0)) (F6 t 8)
       p2 = rw (unlike, behind)
 
-      f6 : actOf bits f (lapped k) (getD slots i (slot 0 0)) (F6 t 8) false ≡ stay half (getD slots i (slot 0 0)) (F7 t 8)
+      f6 : actOf bits f (lapped k) (getD slots i (slot 0 0)) (F6 t 8) false ≡ goes half (getD slots i (slot 0 0)) (F7 t 8)
       unfolding exchangeOf headTo
       f6 = rw (same-self (W c mark n k) (minus bits t (2 * mark)) (sym (stamps.minus-lap bits c mark n g k)), stamps.next-back bits c mark n g ed k)
 
@@ -199,7 +199,7 @@ module _ (bits : Width) (c mark n ed : ℕ) (g : Ground bits c mark n) where
           stamps.forced-is bits c mark n g ed (k + c) (k + c) false
           ∙ ap (λ (b : Bool). stamps.tailWord c mark n (k + c + 1) b) (either-way (eqb ed 2)) ∙ ap (W c mark n) q
 
-      f7 : actOf bits f half (getD slots i (slot 0 0)) (F7 t 8) false ≡ stay (lapped (k + 1)) (getD slots i (slot 0 0)) (F8 t 8)
+      f7 : actOf bits f half (getD slots i (slot 0 0)) (F7 t 8) false ≡ goes (lapped (k + 1)) (getD slots i (slot 0 0)) (F8 t 8)
       unfolding tailTo
       f7 = rw tail-next
 

@@ -25,7 +25,7 @@ use Rattle.bounded_places.specs.declared.Place.the-variants.{Idle, P1, P2, P6, 
 use Rattle.bounded_places.specs.declared.Worker.{Worker}
 use Rattle.bounded_places.specs.declared.Moved.{Moved}
 use Rattle.bounded_places.specs.declared.Moved.the-variants.{Neither, Tail, Head}
-use Rattle.bounded_acts.specs.Acts.{stay, losing, exchangeOf, afterTail, tailTo, headTo, stampTo, valueTo}
+use Rattle.bounded_acts.specs.Acts.{goes, losing, exchangeOf, afterTail, tailTo, headTo, stampTo, valueTo}
 use Rattle.bounded_machine.specs.declared.Machine.{Machine}
 use Rattle.bounded_machine.specs.declared.Event.{Event}
 use Rattle.bounded_machine.specs.declared.Tally.{Tally}
@@ -109,7 +109,7 @@ loading =
     ∷ to 8 0 (stand 1 empties 4 4 4 7 (P2 Push (stamp 4) 7) sleeper 13) ∷ []
 
 loads : Follows Sixteen (lastOf Sixteen (fresh 1) pushing) loading
-unfolding markedOf strayOf orderOf entryOf stay losing afterTail accepted recordAfter begun stored actedBy turnOfBy
+unfolding markedOf strayOf orderOf entryOf goes losing afterTail accepted recordAfter begun stored actedBy turnOfBy
 loads = (refl, (refl, tt))
 
 abbrev begun-by : List Event
@@ -133,11 +133,11 @@ whole-is =
 -- ---- its claims
 
 first-tally : tally (doneBy Sixteen (fresh 1) pushing) ≡ record { tail = claim 1; head = claim 1; reads = 1 }
-unfolding markedOf unmarkedOf plus withMark nextOf same onePast lapBehind lapBehindOnePast strayOf orderOf entryOf stay losing exchangeOf afterTail tailTo headTo stampTo valueTo accepted recordAfter begun stored actedBy turnOfBy tallyOf
+unfolding markedOf unmarkedOf plus withMark nextOf same onePast lapBehind lapBehindOnePast strayOf orderOf entryOf goes losing exchangeOf afterTail tailTo headTo stampTo valueTo accepted recordAfter begun stored actedBy turnOfBy tallyOf
 first-tally = refl
 
 begun-claims : (length (tailersOf begun-by) ≡ 1) × (length (takersOf begun-by) ≡ 1) × (length begun-by ≡ 13)
-unfolding markedOf unmarkedOf plus withMark nextOf same onePast lapBehind lapBehindOnePast strayOf orderOf entryOf stay losing exchangeOf afterTail tailTo headTo stampTo valueTo accepted recordAfter begun stored actedBy turnOfBy tailersOf takersOf
+unfolding markedOf unmarkedOf plus withMark nextOf same onePast lapBehind lapBehindOnePast strayOf orderOf entryOf goes losing exchangeOf afterTail tailTo headTo stampTo valueTo accepted recordAfter begun stored actedBy turnOfBy tailersOf takersOf
 begun-claims = (refl, refl, refl)
 
 whole-tally : tally whole ≡ tallyOf (pushed-on .done) (record { tail = claim 1; head = claim 1; reads = 1 })
@@ -171,7 +171,7 @@ Calm w l = (h : List Event) → since w (begun-by ++ h) ≡ sinceFrom w l h
 
 -- worker 0 has just got its own, and worker 1 has slept through these
 own-since : Calm 0 []
-unfolding markedOf unmarkedOf plus withMark nextOf same onePast lapBehind lapBehindOnePast strayOf orderOf entryOf stay losing exchangeOf afterTail tailTo headTo stampTo valueTo accepted recordAfter begun stored actedBy turnOfBy sinceFrom
+unfolding markedOf unmarkedOf plus withMark nextOf same onePast lapBehind lapBehindOnePast strayOf orderOf entryOf goes losing exchangeOf afterTail tailTo headTo stampTo valueTo accepted recordAfter begun stored actedBy turnOfBy sinceFrom
 own-since h = refl
 
 abbrev slept : List Event
@@ -182,7 +182,7 @@ slept =
     ∷ event 0 (P1 Push 7) (P2 Push (stamp 4) 7) loss.Nothing ∷ []
 
 slept-since : Calm 1 slept
-unfolding markedOf unmarkedOf plus withMark nextOf same onePast lapBehind lapBehindOnePast strayOf orderOf entryOf stay losing exchangeOf afterTail tailTo headTo stampTo valueTo accepted recordAfter begun stored actedBy turnOfBy sinceFrom
+unfolding markedOf unmarkedOf plus withMark nextOf same onePast lapBehind lapBehindOnePast strayOf orderOf entryOf goes losing exchangeOf afterTail tailTo headTo stampTo valueTo accepted recordAfter begun stored actedBy turnOfBy sinceFrom
 slept-since h = refl
 
 slept-none : (tally slept .tail .0 ≡ 0) × (tally slept .head .0 ≡ 0)

@@ -26,7 +26,7 @@ use Rattle.bounded_places.specs.declared.Answer.the-variants.{Pushed}
 use Rattle.bounded_places.specs.declared.Place.{Place}
 use Rattle.bounded_places.specs.declared.Place.the-variants.{Idle, P1, P2, P3, P4, P5}
 use Rattle.bounded_places.specs.declared.Worker.{Worker}
-use Rattle.bounded_acts.specs.Acts.{stay, exchangeOf, afterTail, tailTo, stampTo, valueTo, actOf}
+use Rattle.bounded_acts.specs.Acts.{goes, exchangeOf, afterTail, tailTo, stampTo, valueTo, actOf}
 use Rattle.bounded_machine.specs.declared.Event.{Event}
 use Rattle.bounded_machine.specs.declared.Machine.{Machine}
 use Rattle.bounded_machine.specs.declared.Tally.{Tally}
@@ -110,14 +110,14 @@ module _ (bits : Width) (c mark n ed : ℕ) (g : Ground bits c mark n) (others :
     free : same (getD slots i (slot 0 0) .stamp) t ≡ true
     free = same-self _ _ (ap (λ (j : ℕ). getD slots j (slot 0 0) .stamp) at-slot ∙ free-at)
 
-    p1 : actOf bits f (ends head k) (getD slots 0 (slot 0 0)) (P1 Push 7) false ≡ stay (ends head k) (getD slots 0 (slot 0 0)) (P2 Push t 7)
+    p1 : actOf bits f (ends head k) (getD slots 0 (slot 0 0)) (P1 Push 7) false ≡ goes (ends head k) (getD slots 0 (slot 0 0)) (P2 Push t 7)
     unfolding afterTail
     p1 = rw marked
 
-    p2 : actOf bits f (ends head k) (getD slots i (slot 0 0)) (P2 Push t 7) false ≡ stay (ends head k) (getD slots i (slot 0 0)) (P3 Push t 7)
+    p2 : actOf bits f (ends head k) (getD slots i (slot 0 0)) (P2 Push t 7) false ≡ goes (ends head k) (getD slots i (slot 0 0)) (P3 Push t 7)
     p2 = rw free
 
-    p3 : actOf bits f (ends head k) (getD slots i (slot 0 0)) (P3 Push t 7) false ≡ stay (ends head (k + 1)) (getD slots i (slot 0 0)) (P4 t 7)
+    p3 : actOf bits f (ends head k) (getD slots i (slot 0 0)) (P3 Push t 7) false ≡ goes (ends head (k + 1)) (getD slots i (slot 0 0)) (P4 t 7)
     unfolding exchangeOf tailTo
     p3 = rw (same-self t t refl, stamps.next-is bits c mark n g ed k)
 

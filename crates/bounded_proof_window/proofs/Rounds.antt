@@ -25,7 +25,7 @@ use Rattle.bounded_places.specs.declared.Answer.the-variants.{Pushed, Popped}
 use Rattle.bounded_places.specs.declared.Place.{Place}
 use Rattle.bounded_places.specs.declared.Place.the-variants.{Idle, O1, O2, O3, O4, O5}
 use Rattle.bounded_places.specs.declared.Worker.{Worker}
-use Rattle.bounded_acts.specs.Acts.{stay, exchangeOf, headTo, stampTo, actOf}
+use Rattle.bounded_acts.specs.Acts.{goes, exchangeOf, headTo, stampTo, actOf}
 use Rattle.bounded_machine.specs.declared.Machine.{Machine}
 use Rattle.bounded_machine.specs.declared.Event.{Event}
 use Rattle.bounded_machine.specs.declared.Tally.{Tally}
@@ -101,10 +101,10 @@ module _ (bits : Width) (c mark n ed : ℕ) (g : Ground bits c mark n) (others :
     unfolding onePast
     held = same-self _ _ (pushing.full-stamp bits c mark n ed g others count some t k slots (o .long) here)
 
-    o2 : actOf bits f halfway (getD full i (slot 0 0)) (O2 t) false ≡ stay halfway (getD full i (slot 0 0)) (O3 t)
+    o2 : actOf bits f halfway (getD full i (slot 0 0)) (O2 t) false ≡ goes halfway (getD full i (slot 0 0)) (O3 t)
     o2 = rw held
 
-    o3 : actOf bits f halfway (getD full i (slot 0 0)) (O3 t) false ≡ stay (both (k + 1)) (getD full i (slot 0 0)) (O4 t)
+    o3 : actOf bits f halfway (getD full i (slot 0 0)) (O3 t) false ≡ goes (both (k + 1)) (getD full i (slot 0 0)) (O4 t)
     unfolding exchangeOf headTo
     o3 = rw (same-self t t refl, stamps.next-is bits c mark n g ed k)
 

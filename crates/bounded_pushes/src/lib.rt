@@ -39,7 +39,7 @@ pub fn p1(f: Fixed, e: Ends, s: Slot, k: Kind, item: u64) -> Acted
     requires { ⌜ Fair f ⌝ }
     ensures { λ r. ⌜ r ≡ actP1 f e s k item ⌝ }
 {
-    bounded_acts::stay(e, s, after_tail(f, k, e.tail, item))
+    bounded_acts::goes(e, s, after_tail(f, k, e.tail, item))
 }
 
 fn full_at(k: Kind, t: Stamp, item: u64) -> Place
@@ -57,13 +57,13 @@ pub fn p2(bits: Width, f: Fixed, e: Ends, s: Slot, k: Kind, t: Stamp, item: u64)
     let seen = s.stamp;
     // "If the tail and the stamp match, we may attempt to push."
     if bounded_words::same_word(seen, t) {
-        return bounded_acts::stay(e, s, Place::P3(k, t, item));
+        return bounded_acts::goes(e, s, Place::P3(k, t, item));
     }
     // The last lap's item is still there: full, or a pop is about to take it.
     if bounded_words::lap_behind_one_past(bits, f, seen, t) {
-        bounded_acts::stay(e, s, full_at(k, t, item))
+        bounded_acts::goes(e, s, full_at(k, t, item))
     } else {
-        bounded_acts::stay(e, s, Place::P1(k, item))
+        bounded_acts::goes(e, s, Place::P1(k, item))
     }
 }
 
@@ -81,7 +81,7 @@ pub fn p3(
     ensures { λ r. ⌜ r ≡ actP3 bits f e s k t item lose ⌝ }
 {
     match bounded_acts::exchange(e.tail, t, lose) {
-        Exchange::Won => bounded_acts::stay(tail_to_next(bits, f, e, t), s, Place::P4(t, item)),
+        Exchange::Won => bounded_acts::goes(tail_to_next(bits, f, e, t), s, Place::P4(t, item)),
         Exchange::Differed(found) => {
             bounded_acts::losing(e, s, after_tail(f, k, found, item), Loss::ByWords)
         }
@@ -92,7 +92,7 @@ pub fn p3(
 pub fn p5(bits: Width, e: Ends, s: Slot, t: Stamp) -> Acted
     ensures { λ r. ⌜ r ≡ actP5 bits e s t ⌝ }
 {
-    bounded_acts::stay(
+    bounded_acts::goes(
         e,
         bounded_acts::stamp_to(bits, s, t, 1),
         Place::Idle(Answer::Pushed),
@@ -105,8 +105,8 @@ pub fn p6(bits: Width, f: Fixed, e: Ends, s: Slot, t: Stamp, item: u64) -> Acted
     let h = e.head;
     // "If the head lags one lap behind the tail as well.. then the queue is full."
     if bounded_words::lap_behind(bits, f, h, t) {
-        bounded_acts::stay(e, s, Place::Idle(Answer::Full(item)))
+        bounded_acts::goes(e, s, Place::Idle(Answer::Full(item)))
     } else {
-        bounded_acts::stay(e, s, Place::P1(Kind::Push, item))
+        bounded_acts::goes(e, s, Place::P1(Kind::Push, item))
     }
 }

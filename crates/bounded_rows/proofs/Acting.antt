@@ -22,7 +22,7 @@ use Rattle.bounded_machine.specs.Broken.{recordFits}
 use Rattle.bounded_machine.specs.Turn.{spotOf, recordAfter}
 use Rattle.bounded_machine.proofs.Kept.{UnbrokenWith, few-differed, few-failed, of-record}
 use Rattle.bounded_codes.specs.Codes.{placeIn}
-use Rattle.bounded_entries.specs.Entries.{slotOf}
+use Rattle.bounded_step_record.specs.Entries.{slotOf}
 use Rattle.bounded_lent.specs.Lent.{held}
 use Rattle.bounded_lent.proofs.Turning.{unbroken-lent, fair-lent, record-fits, spot-below}
 use Rattle.bounded_rows.specs.Rows.{words, fixedIn, endsIn, withHead, recordAt, withRecord, slotAt, withSlot, recordsIn, meteredIn, Moving, actedAt, actedIn}

@@ -18,7 +18,7 @@ use Rattle.bounded_codes.specs.Codes.{triple, codeOf, placeIn, standsFor}
 use Rattle.bounded_codes.proofs.Codes.{read-back}
 use Rattle.bounded_codes.proofs.Standing.{written-stands, written-back}
 use Rattle.queue_entries.proofs.Pick.{both-left, both-right}
-use Rattle.bounded_parts.specs.declared.Metered.{Metered}
+use Rattle.bounded_orders.specs.declared.Metered.{Metered}
 use Rattle.bounded_rows.specs.Rows.{words, layout, headOf, slotsOf, recordsOf, fixedIn, endsIn, meteredIn, placed, withHead, recordFrom, recordAt, five, withRecord, slotAt, withSlot, slotsIn, recordsIn}
 
 -- ---- records

@@ -12,7 +12,7 @@ use Rattle.bounded_words.specs.Limits.{slotsMost}
 use Rattle.bounded_places.specs.declared.Ends.{Ends}
 use Rattle.bounded_places.specs.declared.Slot.{Slot}
 use Rattle.bounded_places.specs.declared.Worker.{Worker}
-use Rattle.bounded_parts.specs.declared.Metered.{Metered}
+use Rattle.bounded_orders.specs.declared.Metered.{Metered}
 use Rattle.bounded_lent.specs.Lent.{Lent, lent}
 use Rattle.bounded_rows.specs.Rows.{Words, words, layout, headOf, slotsOf, recordsOf, wordsOf, fixedIn, endsIn, slotsIn, recordsIn, meteredIn, shaped, placed, stand, withHead, withRecord, withSlot, After, after, afterOf}
 use Rattle.bounded_rows.proofs.Lists.{whole-records, whole-slots, whole-head, records-back, records-placed, records-long, slots-back, slots-long, still-placed, same-layout, long-head, long-slot, long-record}

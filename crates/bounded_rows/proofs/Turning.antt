@@ -28,8 +28,8 @@ use Rattle.bounded_machine.specs.Turn.{verdictOf, spotOf, beginner, recordAfter
 use Rattle.bounded_machine.proofs.Kept.{UnbrokenWith}
 use Rattle.bounded_machine.proofs.Turns.{turn-of-unbroken, move-busy, move-in-time}
 use Rattle.bounded_codes.specs.Codes.{placeIn}
-use Rattle.bounded_parts.specs.Parts.{recordsMost}
-use Rattle.bounded_entries.specs.Entries.{slotOf}
+use Rattle.bounded_orders.specs.Orders.{recordsMost}
+use Rattle.bounded_step_record.specs.Entries.{slotOf}
 use Rattle.bounded_lent.specs.Lent.{held, brokenLent, lentOf}
 use Rattle.bounded_lent.proofs.Turning.{unbroken-lent, lent-unbroken, few-lent, spot-below}
 use Rattle.bounded_rows.specs.Rows.{

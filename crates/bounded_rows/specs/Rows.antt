@@ -19,9 +19,9 @@ use Rattle.bounded_acts.specs.Acts.{actOf}
 use Rattle.bounded_machine.specs.Machine.{slot}
 use Rattle.bounded_codes.specs.declared.Coded.{Coded}
 use Rattle.bounded_codes.specs.Codes.{codeOf, placeIn, standsFor}
-use Rattle.bounded_parts.specs.declared.Metered.{Metered}
+use Rattle.bounded_orders.specs.declared.Metered.{Metered}
 use Rattle.bounded_machine.specs.Turn.{turnAt, recordAfter}
-use Rattle.bounded_entries.specs.Entries.{slotOf}
+use Rattle.bounded_step_record.specs.Entries.{slotOf}
 use Rattle.bounded_lent.specs.Lent.{Lent, held, brokenLent, lentOf}
 
 -- the three slices that a host lends

@@ -1,6 +1,6 @@
 // A ring that is lent other records than it last saw: fewer, more, none, busy ones with words that do not fit, counts above the meter. The file `stdout` is written from documents 01 and 02.
-use bounded_lends::Stepped;
-use bounded_parts::Metered;
+use bounded_lent_by_value::Stepped;
+use bounded_orders::Metered;
 use bounded_places::Answer;
 use bounded_places::Kind;
 use bounded_places::Place;
@@ -33,11 +33,11 @@ fn same(x: Worker, y: Worker) -> bool {
 
 // The first record that is another; as many as there are where none is.
 fn first_changed(
-    a: [Worker; bounded_parts::RECORDS],
-    b: [Worker; bounded_parts::RECORDS],
+    a: [Worker; bounded_orders::RECORDS],
+    b: [Worker; bounded_orders::RECORDS],
 ) -> usize {
     let mut i = 0;
-    while i < bounded_parts::RECORDS {
+    while i < bounded_orders::RECORDS {
         let x = a[i];
         let y = b[i];
         if same(x, y) {} else {
@@ -59,12 +59,12 @@ fn say_ring(l: Metered) {
 // The line of one step: how many records are lent, the entry, the refusal, the first record that changed, and the ring.
 fn shown(
     l: Metered,
-    records: [Worker; bounded_parts::RECORDS],
+    records: [Worker; bounded_orders::RECORDS],
     count: usize,
     first: u64,
     second: u64,
 ) -> Stepped {
-    let s = bounded_lends::lend(l, records, count, first, second);
+    let s = bounded_lent_by_value::lend(l, records, count, first, second);
     let after = s.records;
     let changed = first_changed(records, after);
     let numbers = [count as u64, first, second, s.refusal, changed as u64];
@@ -74,10 +74,10 @@ fn shown(
 }
 
 fn with(
-    records: [Worker; bounded_parts::RECORDS],
+    records: [Worker; bounded_orders::RECORDS],
     p: Place,
     differed: u64,
-) -> [Worker; bounded_parts::RECORDS] {
+) -> [Worker; bounded_orders::RECORDS] {
     let mut other = records;
     other[3] = Worker {
         place: p,
@@ -147,9 +147,9 @@ fn strange(s: Stepped) {
 }
 
 fn main() {
-    let made = bounded_parts::make(4, 2, 1);
-    let idle = bounded_parts::idle();
-    let records = [idle; bounded_parts::RECORDS];
+    let made = bounded_orders::make(4, 2, 1);
+    let idle = bounded_orders::idle();
+    let records = [idle; bounded_orders::RECORDS];
     let begun = shown(made.ring, records, 4, 16, 5);
     let busy = begun.records;
     let acted = shown(begun.ring, busy, 4, 24, 0);

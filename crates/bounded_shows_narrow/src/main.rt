@@ -1,7 +1,7 @@
 // The face of sixteen bits on the compiled code: words that come round, and what is handed in. The file `stdout` is written from documents 01 and 02.
-use bounded_widths::Did;
-use bounded_widths::Machine;
-use bounded_widths::Ran;
+use bounded_sixteen_bits::Did;
+use bounded_sixteen_bits::Machine;
+use bounded_sixteen_bits::Ran;
 use queue_entries::Told;
 
 // A push of 5 and its five acts, a pop and its five.

@@ -10,7 +10,7 @@ use Rattle.bounded_places.specs.declared.Slot.{Slot}
 use Rattle.bounded_machine.specs.Machine.{slot}
 use Rattle.bounded_words.specs.Limits.{slotsMost}
 use Rattle.bounded_words.specs.declared.Fixed.{Fixed}
-use Rattle.bounded_parts.specs.declared.Metered.{Metered}
+use Rattle.bounded_orders.specs.declared.Metered.{Metered}
 use Rattle.bounded_rows.specs.Rows.{layout, headOf, slotsOf, slotsIn, slotAt, withSlot, withHead}
 use Rattle.bounded_slices.specs.Slices.{withFixed}
 use Rattle.bounded_rows.proofs.Lists.{many-slots, get-slot, put-slot, whole-slots, long-slot, long-head}

@@ -20,7 +20,7 @@ use Rattle.bounded_places.specs.Places.{viewOf, fitsOf}
 use Rattle.bounded_machine.specs.Broken.{placeFits, recordFits}
 use Rattle.bounded_codes.specs.Codes.{placeIn, standsFor, within}
 use Rattle.bounded_codes.proofs.Ranges.{busy-is}
-use Rattle.bounded_parts.specs.Parts.{ringFitsLent}
+use Rattle.bounded_orders.specs.Orders.{ringFitsLent}
 use Rattle.bounded_lent.specs.Lent.{eachFits, brokenLent}
 use Rattle.bounded_lent.proofs.Turning.{ring-broken, records-broken, ring-fair}
 use Rattle.bounded_rows.specs.Rows.{words, layout, fixedIn, endsIn, recordAt, placedAt, recordsIn, meteredIn, shaped, placed, stand}

@@ -11,7 +11,7 @@ ghost use Rattle.bounded_machine.specs.Broken.{recordFits};
 ghost use Rattle.bounded_lent.specs.Lent.{eachFits};
 ghost use Rattle.bounded_rows.specs.Rows.{words, headOf, slotsOf, slotsIn, recordAt, placedAt, recordsIn, shaped, placed};
 ghost use Rattle.bounded_slices.specs.Slices.{fitting, withFixed, brokenWords};
-use bounded_parts::Metered;
+use bounded_orders::Metered;
 use bounded_places::Slot;
 use bounded_words::Fixed;
 use bounded_words::Stamp;
@@ -132,7 +132,7 @@ pub fn broken(head: &[u64], slots: &[u64], records: &[u64]) -> bool
     }
     let f = bounded_rows::fixed_in(head);
     let e = bounded_rows::ends_in(head);
-    if bounded_parts::ring_fits(f, e, records.len() / RECORD) {} else {
+    if bounded_orders::ring_fits(f, e, records.len() / RECORD) {} else {
         return true;
     }
     !records_fit(records, f, head[6], true)

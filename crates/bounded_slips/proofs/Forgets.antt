@@ -12,7 +12,7 @@ use Rattle.bounded_words.specs.declared.Width.the-variants.{Sixteen}
 use Rattle.bounded_words.specs.Words.{doubled, markOf, markedOf, fixedOf}
 use Rattle.bounded_places.specs.declared.Place.{Place}
 use Rattle.bounded_places.specs.declared.Place.the-variants.{Idle, P1, P2, P3, P4, P5, P6, F6, F7, F8, F9, O1, O2, O3, O4, O5, O6, Len1, Len2, Len3, Empty1, Empty2, Full1, Full2, Close1, IsClosed1}
-use Rattle.bounded_acts.specs.Acts.{stay, afterTail}
+use Rattle.bounded_acts.specs.Acts.{goes, afterTail}
 use Rattle.bounded_machine.specs.declared.Machine.{Machine}
 use Rattle.bounded_machine.specs.declared.Event.{Event}
 use Rattle.bounded_machine.specs.declared.Tally.{Tally}
@@ -126,15 +126,15 @@ module _ (g : Rounds Sixteen 1 (markOf 1) (laps Sixteen 1 1 one-one) 1 (ground S
 
   -- it holds the word that it has just loaded
   held : holds (holdingAt (placeOf (runAt Sixteen left 0 loads .machine .workers) 0)) ≡ true
-  unfolding doubled markOf markedOf strayOf orderOf entryOf stay afterTail accepted recordAfter begun stored actedBy turnOfBy ran runBy
+  unfolding doubled markOf markedOf strayOf orderOf entryOf goes afterTail accepted recordAfter begun stored actedBy turnOfBy ran runBy
   held = rw unmarked
 
   window : windowLength Sixteen (runAt Sixteen left 0 loads .machine .ring .fixed) ≡ 16382
-  unfolding doubled markOf markedOf strayOf orderOf entryOf stay afterTail accepted recordAfter begun stored actedBy turnOfBy ran runBy
+  unfolding doubled markOf markedOf strayOf orderOf entryOf goes afterTail accepted recordAfter begun stored actedBy turnOfBy ran runBy
   window = refl
 
   last-claims : (t : Tally) → tallyOf (historyAt Sixteen left loads) t .tail .0 ≡ t .tail .0
-  unfolding doubled markOf markedOf strayOf orderOf entryOf stay afterTail accepted recordAfter begun stored actedBy turnOfBy ran runBy historyBy tallyOf
+  unfolding doubled markOf markedOf strayOf orderOf entryOf goes afterTail accepted recordAfter begun stored actedBy turnOfBy ran runBy historyBy tallyOf
   last-claims t = rw unmarked
 
   claimed : tally (since 0 (unloaded (historyAt Sixteen start (rounds 16383 ++ loads)))) .tail .0 ≡ 16383

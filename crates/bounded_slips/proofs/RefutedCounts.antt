@@ -15,7 +15,7 @@ use Rattle.bounded_places.specs.declared.Kind.the-variants.{Push}
 use Rattle.bounded_places.specs.declared.Loss.the-variants as loss
 use Rattle.bounded_places.specs.declared.Place.the-variants.{P3, O3, O4, O5}
 use Rattle.bounded_places.specs.Places.{inside}
-use Rattle.bounded_acts.specs.Acts.{forcedTail, stay, losing, exchangeOf, afterTail, tailTo, headTo, stampTo, valueTo}
+use Rattle.bounded_acts.specs.Acts.{forcedTail, goes, losing, exchangeOf, afterTail, tailTo, headTo, stampTo, valueTo}
 use Rattle.bounded_machine.specs.declared.Machine.{Machine}
 use Rattle.bounded_machine.specs.declared.Event.{Event}
 use Rattle.bounded_machine.specs.Machine.{slot, machineOf, emptySlots, stamped, freshSlots, idlers, freshWith, refused, accepted}
@@ -23,7 +23,7 @@ use Rattle.bounded_machine.specs.Broken.{byRule, endsFit, placeFits, recordFits
 use Rattle.bounded_machine.specs.Turn.{beginner, recordAfter, begun, stored, actedBy, turnOfBy}
 use Rattle.bounded_machine.specs.Run.{ran}
 use Rattle.bounded_machine.specs.History.{event, tallyOf, stockOf, untakenOf}
-use Rattle.bounded_widths.specs.Widths.{Short, ShortSlots}
+use Rattle.bounded_sixteen_bits.specs.SixteenBits.{Short, ShortSlots}
 use Rattle.bounded_demands.specs.Notions.{acts, talliedFrom, readsIn, takersOf, lostFrom, cutTo}
 use Rattle.bounded_demands.specs.Shelves.{pushes, forces}
 use Rattle.bounded_slips.specs.Refuted.{does, popLoses, closedF, reached}
@@ -50,7 +50,7 @@ unfolding nearEnd
 short = record { head = omega arith; tail = omega arith; slots = one-short }
 
 pub refuted-counts : RefutedCounts
-unfolding read taken nearEnd forcedTail doubled markOf markedOf unmarkedOf plus minus withMark nextOf same onePast lapBehind lapBehindOnePast inside strayOf orderOf entryOf stay losing exchangeOf afterTail tailTo headTo stampTo valueTo emptySlots stamped freshSlots idlers freshWith refused accepted all inLimits byRule endsFit placeFits recordFits recordsFit brokenWith ringFits recordAfter begun stored actedBy turnOfBy ran runBy historyBy tallyOf stockOf untakenOf acts talliedFrom readsIn takersOf lostFrom cutTo pushes forces
+unfolding read taken nearEnd forcedTail doubled markOf markedOf unmarkedOf plus minus withMark nextOf same onePast lapBehind lapBehindOnePast inside strayOf orderOf entryOf goes losing exchangeOf afterTail tailTo headTo stampTo valueTo emptySlots stamped freshSlots idlers freshWith refused accepted all inLimits byRule endsFit placeFits recordFits recordsFit brokenWith ringFits recordAfter begun stored actedBy turnOfBy ran runBy historyBy tallyOf stockOf untakenOf acts talliedFrom readsIn takersOf lostFrom cutTo pushes forces
 refuted-counts =
     record {
       reads = λ t. let q : _≡_ {A = ℕ} 0 1 = t .reads read (omega arith) in omega arith;

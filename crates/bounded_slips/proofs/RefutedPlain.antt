@@ -20,7 +20,7 @@ use Rattle.bounded_places.specs.declared.Answer.{Answer}
 use Rattle.bounded_places.specs.declared.Place.{Place}
 use Rattle.bounded_places.specs.declared.Place.the-variants.{Idle}
 use Rattle.bounded_places.specs.Places.{viewOf}
-use Rattle.bounded_acts.specs.Acts.{forcedTail, stay, losing, exchangeOf, afterTail, tailTo, headTo, stampTo, valueTo, countOf}
+use Rattle.bounded_acts.specs.Acts.{forcedTail, goes, losing, exchangeOf, afterTail, tailTo, headTo, stampTo, valueTo, countOf}
 use Rattle.bounded_machine.specs.declared.Event.{Event}
 use Rattle.bounded_machine.specs.Machine.{emptySlots, stamped, freshSlots, idlers, freshWith, refused, accepted}
 use Rattle.bounded_machine.specs.Turn.{recordAfter, begun, stored, actedBy, turnOfBy}
@@ -142,7 +142,7 @@ module _ (t : Trial) (some : 0 < t .capacity) (few : t .capacity < 4) (first : 0
       true≢false (sym (checked (t .capacity) (t .edition) (storyOf (slipped (t .slip)) (t .capacity) 2 (t .edition) (t .schedule)) (o .answers) (o .changes) _ [] refl) ∙ nope)
 
 pub refuted-plain : RefutedPlain
-unfolding forcedTail doubled markOf markedOf unmarkedOf plus minus withMark nextOf same onePast lapBehind lapBehindOnePast strayOf orderOf entryOf stay losing exchangeOf afterTail tailTo headTo stampTo valueTo countOf emptySlots stamped freshSlots idlers freshWith refused accepted all recordAfter begun stored actedBy turnOfBy ran runBy historyBy acts itemsBegun knownFrom momentFrom repliesAre asked said rightly checkedFrom
+unfolding forcedTail doubled markOf markedOf unmarkedOf plus minus withMark nextOf same onePast lapBehind lapBehindOnePast strayOf orderOf entryOf goes losing exchangeOf afterTail tailTo headTo stampTo valueTo countOf emptySlots stamped freshSlots idlers freshWith refused accepted all recordAfter begun stored actedBy turnOfBy ran runBy historyBy acts itemsBegun knownFrom momentFrom repliesAre asked said rightly checkedFrom
 refuted-plain =
     record {
       -- at P4 and F7 the worker has another item than it began with

@@ -26,7 +26,7 @@ use Rattle.bounded_places.specs.declared.Moved.{Moved}
 use Rattle.bounded_places.specs.declared.Moved.the-variants.{Neither, Tail, Head}
 use Rattle.bounded_places.specs.Places.{viewOf}
 use Rattle.bounded_acts.specs.declared.Acted.{Acted}
-use Rattle.bounded_acts.specs.Acts.{stay, losing, afterTail, tailTo, headTo, stampTo, valueTo, countOf, yesNo, actOf}
+use Rattle.bounded_acts.specs.Acts.{goes, losing, afterTail, tailTo, headTo, stampTo, valueTo, countOf, yesNo, actOf}
 use Rattle.bounded_machine.specs.declared.Machine.{Machine}
 use Rattle.bounded_machine.specs.declared.Did.{Did}
 use Rattle.bounded_machine.specs.declared.Event.{Event}
@@ -227,65 +227,65 @@ onWin found lose wrong right = cond found (cond lose right wrong) right
 abbrev pub actWith : ℕ → Fixed → Ends → Slot → Place → Bool → Acted
 actWith n f e s (Idle a) lose = actOf SixtyFour f e s (Idle a) lose
 actWith n f e s (P1 k x) lose = actOf SixtyFour f e s (P1 k x) lose
-actWith n f e s (P2 k t x) lose = but n pushStampUntested (stay e s (P3 k t x)) (actOf SixtyFour f e s (P2 k t x) lose)
+actWith n f e s (P2 k t x) lose = but n pushStampUntested (goes e s (P3 k t x)) (actOf SixtyFour f e s (P2 k t x) lose)
 actWith n f e s (P3 k t x) lose =
-    but n lostPushGoesOn (stay (tailTo e (nextOf SixtyFour f t)) s (P4 t x))
-    (but n closedUnseen (cond (same (e .tail) t) (actOf SixtyFour f e s (P3 k t x) lose) (stay e s (Idle (Closed x))))
-    (but n unwrapped (onWin (same (e .tail) t) lose (stay (tailTo e (plus SixtyFour t 1)) s (P4 t x)) (actOf SixtyFour f e s (P3 k t x) lose))
-    (but n tailUnmoved (onWin (same (e .tail) t) lose (stay e s (P4 t x)) (actOf SixtyFour f e s (P3 k t x) lose))
+    but n lostPushGoesOn (goes (tailTo e (nextOf SixtyFour f t)) s (P4 t x))
+    (but n closedUnseen (cond (same (e .tail) t) (actOf SixtyFour f e s (P3 k t x) lose) (goes e s (Idle (Closed x))))
+    (but n unwrapped (onWin (same (e .tail) t) lose (goes (tailTo e (plus SixtyFour t 1)) s (P4 t x)) (actOf SixtyFour f e s (P3 k t x) lose))
+    (but n tailUnmoved (onWin (same (e .tail) t) lose (goes e s (P4 t x)) (actOf SixtyFour f e s (P3 k t x) lose))
     (but n bothBySchedule (cond (same (e .tail) t) (actOf SixtyFour f e s (P3 k t x) lose) (cond lose (losing e s (afterTail f k (e .tail) x) BySchedule) (actOf SixtyFour f e s (P3 k t x) lose)))
-    (but n anotherItem (onWin (same (e .tail) t) lose (stay (tailTo e (nextOf SixtyFour f t)) s (P4 t (x + 1))) (actOf SixtyFour f e s (P3 k t x) lose))
-    (but n lostSaysPushed (cond (same (e .tail) t) (actOf SixtyFour f e s (P3 k t x) lose) (stay e s (Idle Pushed)))
-    (but n lostDropsTheMark (cond (same (e .tail) t) (actOf SixtyFour f e s (P3 k t x) lose) (stay e s (P2 k (unmarkedOf f (e .tail)) x)))
+    (but n anotherItem (onWin (same (e .tail) t) lose (goes (tailTo e (nextOf SixtyFour f t)) s (P4 t (x + 1))) (actOf SixtyFour f e s (P3 k t x) lose))
+    (but n lostSaysPushed (cond (same (e .tail) t) (actOf SixtyFour f e s (P3 k t x) lose) (goes e s (Idle Pushed)))
+    (but n lostDropsTheMark (cond (same (e .tail) t) (actOf SixtyFour f e s (P3 k t x) lose) (goes e s (P2 k (unmarkedOf f (e .tail)) x)))
     (actOf SixtyFour f e s (P3 k t x) lose))))))))
 actWith n f e s (P4 t x) lose =
-    but n unwritten (stay e s (P5 t)) (but n pushWritesLate (stay e (stampTo s (plus SixtyFour t 1)) (F9 t x)) (actOf SixtyFour f e s (P4 t x) lose))
-actWith n f e s (P5 t) lose = but n unstamped (stay e s (Idle Pushed)) (actOf SixtyFour f e s (P5 t) lose)
-actWith n f e s (P6 t x) lose = but n fullUnseen (stay e s (Idle (Full x))) (actOf SixtyFour f e s (P6 t x) lose)
+    but n unwritten (goes e s (P5 t)) (but n pushWritesLate (goes e (stampTo s (plus SixtyFour t 1)) (F9 t x)) (actOf SixtyFour f e s (P4 t x) lose))
+actWith n f e s (P5 t) lose = but n unstamped (goes e s (Idle Pushed)) (actOf SixtyFour f e s (P5 t) lose)
+actWith n f e s (P6 t x) lose = but n fullUnseen (goes e s (Idle (Full x))) (actOf SixtyFour f e s (P6 t x) lose)
 actWith n f e s (F6 t x) lose =
-    but n tailBeforeHead (stay (tailTo e (nextOf SixtyFour f t)) s (F7 t x))
-    (but n lostForceKeepsItsWord (cond (same (e .head) (minus SixtyFour t (f .lap))) (actOf SixtyFour f e s (F6 t x) lose) (stay e s (P2 Force t x)))
-    (but n lostForceTakesTheHead (cond (same (e .head) (minus SixtyFour t (f .lap))) (actOf SixtyFour f e s (F6 t x) lose) (stay e s (P2 Force (e .head) x)))
-    (but n forceUncounted (onWin (same (e .head) (minus SixtyFour t (f .lap))) lose (actOf SixtyFour f e s (F6 t x) lose) (stay e s (P1 Force x)))
-    (but n anotherForced (onWin (same (e .head) (minus SixtyFour t (f .lap))) lose (stay (headTo e (minus SixtyFour (nextOf SixtyFour f t) (f .lap))) s (F7 t (x + 1))) (actOf SixtyFour f e s (F6 t x) lose))
-    (but n forceUncompared (stay (headTo e (minus SixtyFour (nextOf SixtyFour f t) (f .lap))) s (F7 t x))
+    but n tailBeforeHead (goes (tailTo e (nextOf SixtyFour f t)) s (F7 t x))
+    (but n lostForceKeepsItsWord (cond (same (e .head) (minus SixtyFour t (f .lap))) (actOf SixtyFour f e s (F6 t x) lose) (goes e s (P2 Force t x)))
+    (but n lostForceTakesTheHead (cond (same (e .head) (minus SixtyFour t (f .lap))) (actOf SixtyFour f e s (F6 t x) lose) (goes e s (P2 Force (e .head) x)))
+    (but n forceUncounted (onWin (same (e .head) (minus SixtyFour t (f .lap))) lose (actOf SixtyFour f e s (F6 t x) lose) (goes e s (P1 Force x)))
+    (but n anotherForced (onWin (same (e .head) (minus SixtyFour t (f .lap))) lose (goes (headTo e (minus SixtyFour (nextOf SixtyFour f t) (f .lap))) s (F7 t (x + 1))) (actOf SixtyFour f e s (F6 t x) lose))
+    (but n forceUncompared (goes (headTo e (minus SixtyFour (nextOf SixtyFour f t) (f .lap))) s (F7 t x))
     (actOf SixtyFour f e s (F6 t x) lose))))))
 actWith n f e s (F7 t x) lose =
-    but n forceForgets (stay (tailTo e (nextOf SixtyFour f t)) s (F8 t x))
-    (but n forceKeeps (stay (tailTo e (cond (markedOf f (e .tail)) (withMark SixtyFour f (nextOf SixtyFour f t)) (nextOf SixtyFour f t))) s (F8 t x))
+    but n forceForgets (goes (tailTo e (nextOf SixtyFour f t)) s (F8 t x))
+    (but n forceKeeps (goes (tailTo e (cond (markedOf f (e .tail)) (withMark SixtyFour f (nextOf SixtyFour f t)) (nextOf SixtyFour f t))) s (F8 t x))
     (but n tailBeforeHead
-    (cond (same (e .head) (minus SixtyFour t (f .lap))) (stay (headTo e (minus SixtyFour (nextOf SixtyFour f t) (f .lap))) s (F8 t x)) (stay e s (P1 Force x)))
+    (cond (same (e .head) (minus SixtyFour t (f .lap))) (goes (headTo e (minus SixtyFour (nextOf SixtyFour f t) (f .lap))) s (F8 t x)) (goes e s (P1 Force x)))
     (actOf SixtyFour f e s (F7 t x) lose)))
-actWith n f e s (F8 t x) lose = but n stampBeforeValue (stay e (stampTo s (plus SixtyFour t 1)) (F9 t x)) (actOf SixtyFour f e s (F8 t x) lose)
-actWith n f e s (F9 t x) lose = but n stampBeforeValue (stay e (valueTo s x) (Idle (Displaced (s .value))))
-    (but n pushWritesLate (stay e (valueTo s x) (Idle Pushed)) (actOf SixtyFour f e s (F9 t x) lose))
+actWith n f e s (F8 t x) lose = but n stampBeforeValue (goes e (stampTo s (plus SixtyFour t 1)) (F9 t x)) (actOf SixtyFour f e s (F8 t x) lose)
+actWith n f e s (F9 t x) lose = but n stampBeforeValue (goes e (valueTo s x) (Idle (Displaced (s .value))))
+    (but n pushWritesLate (goes e (valueTo s x) (Idle Pushed)) (actOf SixtyFour f e s (F9 t x) lose))
 actWith n f e s O1 lose = actOf SixtyFour f e s O1 lose
-actWith n f e s (O2 h) lose = but n stampUntested (stay e s (O3 h)) (actOf SixtyFour f e s (O2 h) lose)
+actWith n f e s (O2 h) lose = but n stampUntested (goes e s (O3 h)) (actOf SixtyFour f e s (O2 h) lose)
 actWith n f e s (O3 h) lose =
     but n wonCounted (onWin (same (e .head) h) lose (losing (headTo e (nextOf SixtyFour f h)) s (O4 h) ByWords) (actOf SixtyFour f e s (O3 h) lose)) (actOf SixtyFour f e s (O3 h) lose)
-actWith n f e s (O4 h) lose = but n readsAfterItsStore (stay e (stampTo s (plus SixtyFour h (f .lap))) (O5 h 0)) (actOf SixtyFour f e s (O4 h) lose)
+actWith n f e s (O4 h) lose = but n readsAfterItsStore (goes e (stampTo s (plus SixtyFour h (f .lap))) (O5 h 0)) (actOf SixtyFour f e s (O4 h) lose)
 actWith n f e s (O5 h v) lose =
-    but n readsAfterItsStore (stay e s (Idle (Popped (s .value))))
-    (but n releasesWithNext (stay e (stampTo s (nextOf SixtyFour f h)) (Idle (Popped v)))
-    (but n neverLetsGo (stay e s (O4 h)) (actOf SixtyFour f e s (O5 h v) lose)))
+    but n readsAfterItsStore (goes e s (Idle (Popped (s .value))))
+    (but n releasesWithNext (goes e (stampTo s (nextOf SixtyFour f h)) (Idle (Popped v)))
+    (but n neverLetsGo (goes e s (O4 h)) (actOf SixtyFour f e s (O5 h v) lose)))
 actWith n f e s (O6 h) lose =
-    but n emptyUnseen (stay e s (Idle Empty))
-    (but n handsOutAgain (cond (same (unmarkedOf f (e .tail)) h) (stay e s (Idle (Popped (s .value)))) (actOf SixtyFour f e s (O6 h) lose))
-    (but n popKeepsItsWord (cond (same (unmarkedOf f (e .tail)) h) (actOf SixtyFour f e s (O6 h) lose) (stay e s (O2 h)))
-    (but n closedTooSoon (cond (markedOf f (e .tail)) (stay e s (Idle PopClosed)) (actOf SixtyFour f e s (O6 h) lose))
-    (but n emptyOfClosed (cond (same (unmarkedOf f (e .tail)) h) (stay e s (Idle Empty)) (actOf SixtyFour f e s (O6 h) lose))
+    but n emptyUnseen (goes e s (Idle Empty))
+    (but n handsOutAgain (cond (same (unmarkedOf f (e .tail)) h) (goes e s (Idle (Popped (s .value)))) (actOf SixtyFour f e s (O6 h) lose))
+    (but n popKeepsItsWord (cond (same (unmarkedOf f (e .tail)) h) (actOf SixtyFour f e s (O6 h) lose) (goes e s (O2 h)))
+    (but n closedTooSoon (cond (markedOf f (e .tail)) (goes e s (Idle PopClosed)) (actOf SixtyFour f e s (O6 h) lose))
+    (but n emptyOfClosed (cond (same (unmarkedOf f (e .tail)) h) (goes e s (Idle Empty)) (actOf SixtyFour f e s (O6 h) lose))
     (actOf SixtyFour f e s (O6 h) lose)))))
 actWith n f e s Len1 lose = actOf SixtyFour f e s Len1 lose
 actWith n f e s (Len2 t) lose = actOf SixtyFour f e s (Len2 t) lose
-actWith n f e s (Len3 t h) lose = but n lenLooksOnce (stay e s (Idle (Len (countOf f t h)))) (actOf SixtyFour f e s (Len3 t h) lose)
-actWith n f e s Empty1 lose = but n emptyTailFirst (stay e s (Empty2 (e .tail))) (actOf SixtyFour f e s Empty1 lose)
+actWith n f e s (Len3 t h) lose = but n lenLooksOnce (goes e s (Idle (Len (countOf f t h)))) (actOf SixtyFour f e s (Len3 t h) lose)
+actWith n f e s Empty1 lose = but n emptyTailFirst (goes e s (Empty2 (e .tail))) (actOf SixtyFour f e s Empty1 lose)
 actWith n f e s (Empty2 t) lose =
-    but n emptyTailFirst (stay e s (Idle (yesNo (same (unmarkedOf f t) (e .head))))) (but n emptySaysNo (stay e s (Idle No)) (actOf SixtyFour f e s (Empty2 t) lose))
-actWith n f e s Full1 lose = but n fullHeadFirst (stay e s (Full2 (e .head))) (actOf SixtyFour f e s Full1 lose)
+    but n emptyTailFirst (goes e s (Idle (yesNo (same (unmarkedOf f t) (e .head))))) (but n emptySaysNo (goes e s (Idle No)) (actOf SixtyFour f e s (Empty2 t) lose))
+actWith n f e s Full1 lose = but n fullHeadFirst (goes e s (Full2 (e .head))) (actOf SixtyFour f e s Full1 lose)
 actWith n f e s (Full2 h) lose =
-    but n fullHeadFirst (stay e s (Idle (yesNo (lapBehind SixtyFour f h (unmarkedOf f (e .tail)))))) (but n fullSaysNo (stay e s (Idle No)) (actOf SixtyFour f e s (Full2 h) lose))
-actWith n f e s Close1 lose = but n closeSaysYes (stay (tailTo e (withMark SixtyFour f (e .tail))) s (Idle Yes)) (actOf SixtyFour f e s Close1 lose)
-actWith n f e s IsClosed1 lose = but n closedSaysNo (stay e s (Idle No)) (actOf SixtyFour f e s IsClosed1 lose)
+    but n fullHeadFirst (goes e s (Idle (yesNo (lapBehind SixtyFour f h (unmarkedOf f (e .tail)))))) (but n fullSaysNo (goes e s (Idle No)) (actOf SixtyFour f e s (Full2 h) lose))
+actWith n f e s Close1 lose = but n closeSaysYes (goes (tailTo e (withMark SixtyFour f (e .tail))) s (Idle Yes)) (actOf SixtyFour f e s Close1 lose)
+actWith n f e s IsClosed1 lose = but n closedSaysNo (goes e s (Idle No)) (actOf SixtyFour f e s IsClosed1 lose)
 
 -- ---- the machine with a slip
 

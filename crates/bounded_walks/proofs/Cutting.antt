@@ -23,9 +23,9 @@ use Rattle.bounded_machine.specs.Machine.{machineOf, idler, recordOf, placeOf}
 use Rattle.bounded_machine.specs.Broken.{placeFits, recordFits, allIdle}
 use Rattle.bounded_machine.specs.Turn.{spotOf, recordAfter, actAt, stored, actedBy}
 use Rattle.bounded_machine.proofs.Kept.{every, all-of, Unbroken, acted-unbroken}
-use Rattle.bounded_walkers.specs.Walkers.{walkOf, choiceOf, codeOf, mayAct}
-use Rattle.bounded_walkers.proofs.Acting.{choice-moves, choice-stays, may-busy}
-use Rattle.bounded_walkers.proofs.Lasting.{same-turns}
+use Rattle.bounded_sequences.specs.Sequences.{walkOf, choiceOf, codeOf, mayAct}
+use Rattle.bounded_sequences.proofs.Acting.{choice-moves, choice-stays, may-busy}
+use Rattle.bounded_sequences.proofs.Lasting.{same-turns}
 
 abbrev pub cut : Machine → Machine
 cut m = machineOf (m .ring .fixed) (m .ring .ends) (m .ring .slots) (take walkersMost (m .workers)) (m .count) (m .meter)

@@ -37,8 +37,8 @@ use Rattle.bounded_machine.specs.Machine.{slot, machineOf, recordOf, placeOf, r
 use Rattle.bounded_machine.specs.Broken.{brokenOf, allIdle}
 use Rattle.bounded_machine.specs.Turn.{verdictOf, begun, stored, actedBy, carried, turn, turnOf, turnOfBy}
 use Rattle.bounded_machine.proofs.Kept.{either, every, Unbroken, unbroken-of, of-unbroken}
-use Rattle.bounded_walkers.specs.declared.State.{State}
-use Rattle.bounded_walkers.specs.Walkers.{walkOf, slotsOf, machineIn, walkFrom, Sound}
+use Rattle.bounded_sequences.specs.declared.State.{State}
+use Rattle.bounded_sequences.specs.Sequences.{walkOf, slotsOf, machineIn, walkFrom, Sound}
 use Rattle.bounded_walks.proofs.Cutting.{walk-cut, cut-fits}
 use Rattle.bounded_walks.specs.declared.Sized.{Sized}
 use Rattle.bounded_walks.specs.declared.Sized.the-variants as sized

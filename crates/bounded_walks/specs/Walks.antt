@@ -14,7 +14,7 @@ use Rattle.bounded_places.specs.Places.{viewOf}
 use Rattle.bounded_machine.specs.declared.Machine.{Machine}
 use Rattle.bounded_machine.specs.Machine.{placeOf}
 use Rattle.bounded_machine.specs.Broken.{brokenOf}
-use Rattle.bounded_walkers.specs.Walkers.{walkOf}
+use Rattle.bounded_sequences.specs.Sequences.{walkOf}
 use Rattle.bounded_walks.specs.declared.Sized.{Sized}
 use Rattle.bounded_walks.specs.declared.Sized.the-variants as sized
 

@@ -8,12 +8,12 @@ ghost use lib.Seq.{sets};
 ghost use Rattle.queue_entries.specs.Limits.{workersMost, meterMost};
 ghost use Rattle.queue_walks.specs.Walks.{walkersMost};
 ghost use Rattle.queue_walks.specs.Listed.{bytesOf, walked, counted};
-ghost use Rattle.bounded_walkers.specs.Walkers.{walkOf};
+ghost use Rattle.bounded_sequences.specs.Sequences.{walkOf};
 ghost use Rattle.bounded_walks.specs.Walks.{allBusy, sizeRefusal, walkTold, listed, sizeOf, numberOf, rowOf};
 use bounded_machine::Machine;
 use bounded_places::Slot;
 use bounded_places::Worker;
-use bounded_walkers::State;
+use bounded_sequences::State;
 use queue_entries::Told;
 use queue_walks::Walked;
 
@@ -96,12 +96,12 @@ fn row_of(slots: [Slot; bounded_words::SLOTS], value: bool) -> [u64; bounded_wor
 }
 
 // The records that a walk can use; those past them are idle all along.
-fn first_records(workers: [Worker; queue_entries::WORKERS]) -> [Worker; bounded_walkers::RECORDS]
+fn first_records(workers: [Worker; queue_entries::WORKERS]) -> [Worker; bounded_sequences::RECORDS]
     ensures answer { λ r. ⌜ r ≡ take walkersMost workers ⌝ }
     ensures whole { λ r. ⌜ length workers ≡ workersMost ⌝ }
 {
     let worker = workers[0];
-    let mut first = [worker; bounded_walkers::RECORDS];
+    let mut first = [worker; bounded_sequences::RECORDS];
     first[1] = workers[1];
     first[2] = workers[2];
     first
@@ -121,7 +121,7 @@ fn walk_into(m: Machine, depth: u64, out: &mut [u8]) -> Walked
     let workers = first_records(records);
     let mut stamps = row_of(slots, false);
     let mut values = row_of(slots, true);
-    bounded_walkers::walk_state(
+    bounded_sequences::walk_state(
         State {
             fixed: f,
             ends: e,

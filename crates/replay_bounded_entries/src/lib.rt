@@ -47,7 +47,7 @@ pub fn ring_in(head: &[u64]) -> [u64; 8] {
 // The words of the record that an entry asks for; of the first where there is none with that number.
 fn record_in(records: &[u64], first: u64) -> [u64; 5] {
     let count = records.len() / bounded_slices::RECORD;
-    let w = bounded_entries::worker_of(first, count);
+    let w = bounded_step_record::worker_of(first, count);
     if w < count {} else {
         return [0u64; 5];
     }

@@ -1,7 +1,7 @@
 // All entries of a list at once, by the one loop over a machine (crate bounded_runs), which is read out of the words before it and stored as words after it.
 use bounded_machine::Machine;
 use bounded_machine::Ring;
-use bounded_parts::Metered;
+use bounded_orders::Metered;
 use bounded_places::Worker;
 use bounded_words::Width;
 use replay_survey::pieces::Run;
@@ -12,7 +12,7 @@ pub const ROOM: usize = queue_entries::WORKERS * bounded_slices::RECORD;
 // The records, and idle ones behind them.
 fn workers_in(records: &[u64]) -> [Worker; queue_entries::WORKERS] {
     let n = records.len() / bounded_slices::RECORD;
-    let idle = bounded_parts::idle();
+    let idle = bounded_orders::idle();
     let mut workers = [idle; queue_entries::WORKERS];
     let mut i = 0;
     while i < queue_entries::WORKERS {

@@ -22,7 +22,7 @@ use Rattle.single_machine.specs.Contents.{contentsOf, countIn, contentsRefusal,
 use Rattle.single_machine.specs.Run.{ran, runOf}
 use Rattle.single_machine.specs.Turn.{turnOf}
 use Rattle.single_machine.proofs.Turns.{single-queue, ran-refusal, ran-machine, turn-of-unread}
-use Rattle.single.specs.Single.{makeOf, stepOf, beginOf, actOf}
+use Rattle.single.specs.Single.{makeOf, stepOf, beginStepOf, actStepOf}
 
 -- ---- making
 module _ (workers : ℕ) (b : Bool) (e : b ≡ inLimits workers workersMost) (m : Machine) (r : Did) where
@@ -103,12 +103,12 @@ one-entry m first second r e = ap whole e ∙ go (brokenOf m) refl
 
 -- ---- one that begins, one that acts
 module _ (m : Machine) (first second : ℕ) (r : Did) (b : Bool) (e : b ≡ brokenOf m) where
-  pub begin-6 : b ≡ true → r ≡ refused 6 m → r ≡ beginOf m first second
-  unfolding beginOf
+  pub begin-6 : b ≡ true → r ≡ refused 6 m → r ≡ beginStepOf m first second
+  unfolding beginStepOf
   begin-6 h q = yes _ b _ _ _ e h q
 
-  pub act-6 : b ≡ true → r ≡ refused 6 m → r ≡ actOf m first second
-  unfolding actOf
+  pub act-6 : b ≡ true → r ≡ refused 6 m → r ≡ actStepOf m first second
+  unfolding actStepOf
   act-6 h q = yes _ b _ _ _ e h q
 
   module _ (h : b ≡ false) where
@@ -116,18 +116,18 @@ module _ (m : Machine) (first second : ℕ) (r : Did) (b : Bool) (e : b ≡ brok
     unfolding stepOf
     steps q = q ∙ sym (no _ b _ _ _ e h refl)
 
-    pub begin-9 : 8 ≤ first % 16 → r ≡ refused 9 m → r ≡ beginOf m first second
-    unfolding beginOf
+    pub begin-9 : 8 ≤ first % 16 → r ≡ refused 9 m → r ≡ beginStepOf m first second
+    unfolding beginStepOf
     begin-9 g q = no _ b _ _ _ e h (above (first % 16) 8 _ _ _ g q)
 
-    pub begin-step : first % 16 < 8 → r ≡ stepOf m first second → r ≡ beginOf m first second
-    unfolding beginOf
+    pub begin-step : first % 16 < 8 → r ≡ stepOf m first second → r ≡ beginStepOf m first second
+    unfolding beginStepOf
     begin-step g q = no _ b _ _ _ e h (below (first % 16) 8 _ _ _ g (steps q))
 
-    pub act-9 : first % 16 < 8 → r ≡ refused 9 m → r ≡ actOf m first second
-    unfolding actOf
+    pub act-9 : first % 16 < 8 → r ≡ refused 9 m → r ≡ actStepOf m first second
+    unfolding actStepOf
     act-9 g q = no _ b _ _ _ e h (below (first % 16) 8 _ _ _ g q)
 
-    pub act-step : 8 ≤ first % 16 → r ≡ stepOf m first second → r ≡ actOf m first second
-    unfolding actOf
+    pub act-step : 8 ≤ first % 16 → r ≡ stepOf m first second → r ≡ actStepOf m first second
+    unfolding actStepOf
     act-step g q = no _ b _ _ _ e h (above (first % 16) 8 _ _ _ g (steps q))

@@ -18,11 +18,11 @@ unfoldable pub stepOf : Machine → ℕ → ℕ → Did
 stepOf m first second = cond (brokenOf m) (refused 6 m) (turnOf m first second)
 
 -- Order: begin 6, 9, 3, 4. Codes 0 to 7 begin a call; any other is an entry that can't be read as a beginning.
-unfoldable pub beginOf : Machine → ℕ → ℕ → Did
-beginOf m first second =
+unfoldable pub beginStepOf : Machine → ℕ → ℕ → Did
+beginStepOf m first second =
     cond (brokenOf m) (refused 6 m) (cond (ltb (first % 16) 8) (turnOf m first second) (refused 9 m))
 
 -- Order: act 6, 9, 3, 5, 7, 8. Codes 8 and 9 act; any other is an entry that can't be read as an act.
-unfoldable pub actOf : Machine → ℕ → ℕ → Did
-actOf m first second =
+unfoldable pub actStepOf : Machine → ℕ → ℕ → Did
+actStepOf m first second =
     cond (brokenOf m) (refused 6 m) (cond (ltb (first % 16) 8) (refused 9 m) (turnOf m first second))

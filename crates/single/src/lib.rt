@@ -5,7 +5,7 @@ ghost use Rattle.queue_entries.specs.Told.{told};
 ghost use Rattle.single_machine.specs.Broken.{brokenOf};
 ghost use Rattle.single_machine.specs.Contents.{countIn, contentsRefusal, written, capacityOf};
 ghost use Rattle.single_machine.specs.Run.{runOf};
-ghost use Rattle.single.specs.Single.{makeOf, stepOf, beginOf, actOf};
+ghost use Rattle.single.specs.Single.{makeOf, stepOf, beginStepOf, actStepOf};
 use queue_entries::Told;
 use single_machine::Did;
 use single_machine::Machine;
@@ -84,7 +84,7 @@ pub fn step(m: Machine, first: u64, second: u64) -> Did
 
 // One entry that begins a call; another's code can't be read here: refusal 9.
 pub fn begin(m: Machine, first: u64, second: u64) -> Did
-    ensures { λ r. ⌜ r ≡ beginOf m first second ⌝ }
+    ensures { λ r. ⌜ r ≡ beginStepOf m first second ⌝ }
 {
     if single_machine::broken(m) {
         return single_machine::refuse(m, 6);
@@ -98,7 +98,7 @@ pub fn begin(m: Machine, first: u64, second: u64) -> Did
 
 // One entry that acts; another's code can't be read here: refusal 9.
 pub fn act(m: Machine, first: u64, second: u64) -> Did
-    ensures { λ r. ⌜ r ≡ actOf m first second ⌝ }
+    ensures { λ r. ⌜ r ≡ actStepOf m first second ⌝ }
 {
     if single_machine::broken(m) {
         return single_machine::refuse(m, 6);

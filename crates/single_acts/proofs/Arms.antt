@@ -9,19 +9,19 @@ use Rattle.single_places.specs.declared.Answer.the-variants.{Len}
 use Rattle.single_places.specs.declared.Place.{Place}
 use Rattle.single_places.specs.declared.Place.the-variants.{Idle, B1, C1}
 use Rattle.single_acts.specs.declared.Acted.{Acted}
-use Rattle.single_acts.specs.Acts.{stay, stateTo, exchanged, actOf}
+use Rattle.single_acts.specs.Acts.{goes, stateTo, exchanged, actOf}
 
-pub singles : (s s′ : Single) (p : Place) (r : Acted) → r ≡ stay s′ p → s′ ≡ s → r ≡ stay s p
-singles s s′ p r q h = q ∙ ap (λ (x : Single). stay x p) h
+pub singles : (s s′ : Single) (p : Place) (r : Acted) → r ≡ goes s′ p → s′ ≡ s → r ≡ goes s p
+singles s s′ p r q h = q ∙ ap (λ (x : Single). goes x p) h
 
-pub places : (s : Single) (p p′ : Place) (r : Acted) → r ≡ stay s p′ → p′ ≡ p → r ≡ stay s p
-places s p p′ r q h = q ∙ ap (stay s) h
+pub places : (s : Single) (p p′ : Place) (r : Acted) → r ≡ goes s p′ → p′ ≡ p → r ≡ goes s p
+places s p p′ r q h = q ∙ ap (goes s) h
 
-pub answers : (s : Single) (a a′ : Answer) (r : Acted) → r ≡ stay s (Idle a′) → a′ ≡ a → r ≡ stay s (Idle a)
-answers s a a′ r q h = q ∙ ap (λ (x : Answer). stay s (Idle x)) h
+pub answers : (s : Single) (a a′ : Answer) (r : Acted) → r ≡ goes s (Idle a′) → a′ ≡ a → r ≡ goes s (Idle a)
+answers s a a′ r q h = q ∙ ap (λ (x : Answer). goes s (Idle x)) h
 
-pub lens : (s : Single) (n k : ℕ) (r : Acted) → r ≡ stay s (Idle (Len n)) → n ≡ k → r ≡ stay s (Idle (Len k))
-lens s n k r q h = q ∙ ap (λ (x : ℕ). stay s (Idle (Len x))) h
+pub lens : (s : Single) (n k : ℕ) (r : Acted) → r ≡ goes s (Idle (Len n)) → n ≡ k → r ≡ goes s (Idle (Len k))
+lens s n k r q h = q ∙ ap (λ (x : ℕ). goes s (Idle (Len x))) h
 
 pub states : (s : Single) (w w′ : State) (r : Single) → r ≡ stateTo s w′ → w′ ≡ w → r ≡ stateTo s w
 states s w w′ r q h = q ∙ ap (stateTo s) h

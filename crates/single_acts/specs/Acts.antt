@@ -10,8 +10,8 @@ use Rattle.single_places.specs.declared.Place.the-variants.{Idle, A1, A2, A3, B
 use Rattle.single_acts.specs.declared.Acted.{Acted}
 
 -- The queue is this, and the worker goes to p.
-unfoldable pub stay : Single → Place → Acted
-stay s p = record { single = s; place = p }
+unfoldable pub goes : Single → Place → Acted
+goes s p = record { single = s; place = p }
 
 -- The kinds of effect: the word, the value.
 unfoldable pub stateTo : Single → State → Single
@@ -34,18 +34,18 @@ unlockedIn s = stateTo s (unlocked (s .state))
 --   if state == 0 {  ..  } else if state & CLOSED != 0 { Err(PushError::Closed(value)) } else { Err(PushError::Full(value)) }
 abbrev pub actA1 : Single → ℕ → Acted
 actA1 s x =
-    stay (exchanged s (state 0) filled)
+    goes (exchanged s (state 0) filled)
     (cond (same (s .state) (state 0)) (A2 x) (cond (closedIn (s .state)) (Idle (Closed x)) (Idle (Full x))))
 
 -- A2 | write the item | A3
 --   slot.write(MaybeUninit::new(value));
 abbrev pub actA2 : Single → ℕ → Acted
-actA2 s x = stay (valueTo s x) A3
+actA2 s x = goes (valueTo s x) A3
 
 -- A3 | unlock | Pushed
 --   self.state.fetch_and(!LOCKED, Ordering::Release); Ok(())
 abbrev pub actA3 : Single → Acted
-actA3 s = stay (unlockedIn s) (Idle Pushed)
+actA3 s = goes (unlockedIn s) (Idle Pushed)
 
 -- ---- force_push
 
@@ -56,29 +56,29 @@ actA3 s = stay (unlockedIn s) (Idle Pushed)
 --   if prev & LOCKED == 0 { state = prev; } else { busy_wait(); state = prev & !LOCKED; }
 abbrev pub actB1 : Single → State → ℕ → Acted
 actB1 s e x =
-    stay (exchanged s e filled)
+    goes (exchanged s e filled)
     (cond (closedIn (s .state)) (Idle (Closed x))
     (cond (same (s .state) e) (cond (pushedIn (s .state)) (B4 x) (B2 x)) (B1 (unlocked (s .state)) x)))
 
 -- B2 | write the item | B3
 --   slot.write(MaybeUninit::new(value));
 abbrev pub actB2 : Single → ℕ → Acted
-actB2 s x = stay (valueTo s x) B3
+actB2 s x = goes (valueTo s x) B3
 
 -- B3 | unlock | Pushed
 --   self.state.fetch_and(!LOCKED, Ordering::Release); return Ok(None)
 abbrev pub actB3 : Single → Acted
-actB3 s = stay (unlockedIn s) (Idle Pushed)
+actB3 s = goes (unlockedIn s) (Idle Pushed)
 
 -- B4 | replace the value by the item | B5 with the old one
 --   ptr::replace(slot, MaybeUninit::new(value)).assume_init()
 abbrev pub actB4 : Single → ℕ → Acted
-actB4 s x = stay (valueTo s x) (B5 (s .value))
+actB4 s x = goes (valueTo s x) (B5 (s .value))
 
 -- B5 | unlock | Displaced(old)
 --   self.state.fetch_and(!LOCKED, Ordering::Release); return Ok(Some(prev_value))
 abbrev pub actB5 : Single → ℕ → Acted
-actB5 s old = stay (unlockedIn s) (Idle (Displaced old))
+actB5 s old = goes (unlockedIn s) (Idle (Displaced old))
 
 -- ---- pop
 
@@ -89,19 +89,19 @@ actB5 s old = stay (unlockedIn s) (Idle (Displaced old))
 --   if prev & LOCKED == 0 { state = prev; } else { busy_wait(); state = prev & !LOCKED; }
 abbrev pub actC1 : Single → State → Acted
 actC1 s e =
-    stay (exchanged s e (takenOf e))
+    goes (exchanged s e (takenOf e))
     (cond (same (s .state) e) C2
     (cond (pushedIn (s .state)) (C1 (unlocked (s .state))) (cond (closedIn (s .state)) (Idle PopClosed) (Idle Empty))))
 
 -- C2 | read the value | C3 with it
 --   slot.read().assume_init()
 abbrev pub actC2 : Single → Acted
-actC2 s = stay s (C3 (s .value))
+actC2 s = goes s (C3 (s .value))
 
 -- C3 | unlock | Popped(value)
 --   self.state.fetch_and(!LOCKED, Ordering::Release); return Ok(value);
 abbrev pub actC3 : Single → ℕ → Acted
-actC3 s v = stay (unlockedIn s) (Idle (Popped v))
+actC3 s v = goes (unlockedIn s) (Idle (Popped v))
 
 -- ---- the lookers, one load each, and close
 
@@ -110,27 +110,27 @@ abbrev pub lenOf : State → ℕ
 lenOf w = cond (pushedIn w) 1 0
 
 abbrev pub actLen1 : Single → Acted
-actLen1 s = stay s (Idle (Len (lenOf (s .state))))
+actLen1 s = goes s (Idle (Len (lenOf (s .state))))
 
 -- self.len() == 0
 abbrev pub actEmpty1 : Single → Acted
-actEmpty1 s = stay s (Idle (cond (pushedIn (s .state)) No Yes))
+actEmpty1 s = goes s (Idle (cond (pushedIn (s .state)) No Yes))
 
 -- self.len() == 1
 abbrev pub actFull1 : Single → Acted
-actFull1 s = stay s (Idle (cond (pushedIn (s .state)) Yes No))
+actFull1 s = goes s (Idle (cond (pushedIn (s .state)) Yes No))
 
 -- let state = self.state.fetch_or(CLOSED, Ordering::SeqCst); state & CLOSED == 0
 abbrev pub actClose1 : Single → Acted
-actClose1 s = stay (stateTo s (closedOf (s .state))) (Idle (cond (closedIn (s .state)) No Yes))
+actClose1 s = goes (stateTo s (closedOf (s .state))) (Idle (cond (closedIn (s .state)) No Yes))
 
 -- self.state.load(Ordering::SeqCst) & CLOSED != 0
 abbrev pub actIsClosed1 : Single → Acted
-actIsClosed1 s = stay s (Idle (cond (closedIn (s .state)) Yes No))
+actIsClosed1 s = goes s (Idle (cond (closedIn (s .state)) Yes No))
 
 -- The act at a place. (An idle worker does not act: refusal 5.)
 abbrev pub actOf : Single → Place → Acted
-actOf s (Idle a) = stay s (Idle a)
+actOf s (Idle a) = goes s (Idle a)
 actOf s (A1 x) = actA1 s x
 actOf s (A2 x) = actA2 s x
 actOf s A3 = actA3 s

@@ -2,7 +2,7 @@
 // One function for each place, and which is taken where: specs/Acts.antt has them beside the source's lines.
 ghost use mathlib.Core.Path.{_≡_};
 ghost use Rattle.single_words.specs.Words.{takenOf, closedOf};
-ghost use Rattle.single_acts.specs.Acts.{stay, stateTo, valueTo, exchanged, unlockedIn, lenOf, actA1, actA2, actA3, actB1, actB2, actB3, actB4, actB5, actC1, actC2, actC3, actLen1, actEmpty1, actFull1, actClose1, actIsClosed1};
+ghost use Rattle.single_acts.specs.Acts.{goes, stateTo, valueTo, exchanged, unlockedIn, lenOf, actA1, actA2, actA3, actB1, actB2, actB3, actB4, actB5, actC1, actC2, actC3, actLen1, actEmpty1, actFull1, actClose1, actIsClosed1};
 use single_places::Answer;
 use single_places::Place;
 use single_places::Single;
@@ -14,8 +14,8 @@ pub struct Acted {
     pub place: Place,
 }
 
-pub fn stay(s: Single, p: Place) -> Acted
-    ensures { λ r. ⌜ r ≡ stay s p ⌝ }
+pub fn goes(s: Single, p: Place) -> Acted
+    ensures { λ r. ⌜ r ≡ goes s p ⌝ }
 {
     Acted {
         single: s,
@@ -86,25 +86,25 @@ pub fn a1(s: Single, item: u64) -> Acted
         State(single_words::LOCKED | single_words::PUSHED),
     );
     if single_words::same(found, State(0)) {
-        return stay(after, Place::A2(item));
+        return goes(after, Place::A2(item));
     }
     if single_words::closed(found) {
-        stay(after, Place::Idle(Answer::Closed(item)))
+        goes(after, Place::Idle(Answer::Closed(item)))
     } else {
-        stay(after, Place::Idle(Answer::Full(item)))
+        goes(after, Place::Idle(Answer::Full(item)))
     }
 }
 
 pub fn a2(s: Single, item: u64) -> Acted
     ensures { λ r. ⌜ r ≡ actA2 s item ⌝ }
 {
-    stay(value_to(s, item), Place::A3)
+    goes(value_to(s, item), Place::A3)
 }
 
 pub fn a3(s: Single) -> Acted
     ensures { λ r. ⌜ r ≡ actA3 s ⌝ }
 {
-    stay(unlock(s), Place::Idle(Answer::Pushed))
+    goes(unlock(s), Place::Idle(Answer::Pushed))
 }
 
 // force_push
@@ -115,43 +115,43 @@ pub fn b1(s: Single, e: State, item: u64) -> Acted
     let found = s.state;
     let after = exchange(s, e, State(single_words::LOCKED | single_words::PUSHED));
     if single_words::closed(found) {
-        return stay(after, Place::Idle(Answer::Closed(item)));
+        return goes(after, Place::Idle(Answer::Closed(item)));
     }
     if single_words::same(found, e) {
         if single_words::pushed(found) {
-            stay(after, Place::B4(item))
+            goes(after, Place::B4(item))
         } else {
-            stay(after, Place::B2(item))
+            goes(after, Place::B2(item))
         }
     } else {
         let again = single_words::unlocked(found);
-        stay(after, Place::B1(again, item))
+        goes(after, Place::B1(again, item))
     }
 }
 
 pub fn b2(s: Single, item: u64) -> Acted
     ensures { λ r. ⌜ r ≡ actB2 s item ⌝ }
 {
-    stay(value_to(s, item), Place::B3)
+    goes(value_to(s, item), Place::B3)
 }
 
 pub fn b3(s: Single) -> Acted
     ensures { λ r. ⌜ r ≡ actB3 s ⌝ }
 {
-    stay(unlock(s), Place::Idle(Answer::Pushed))
+    goes(unlock(s), Place::Idle(Answer::Pushed))
 }
 
 pub fn b4(s: Single, item: u64) -> Acted
     ensures { λ r. ⌜ r ≡ actB4 s item ⌝ }
 {
     let old = s.value;
-    stay(value_to(s, item), Place::B5(old))
+    goes(value_to(s, item), Place::B5(old))
 }
 
 pub fn b5(s: Single, old: u64) -> Acted
     ensures { λ r. ⌜ r ≡ actB5 s old ⌝ }
 {
-    stay(unlock(s), Place::Idle(Answer::Displaced(old)))
+    goes(unlock(s), Place::Idle(Answer::Displaced(old)))
 }
 
 pub fn c1(s: Single, e: State) -> Acted
@@ -160,16 +160,16 @@ pub fn c1(s: Single, e: State) -> Acted
     let found = s.state;
     let after = take(s, e);
     if single_words::same(found, e) {
-        return stay(after, Place::C2);
+        return goes(after, Place::C2);
     }
     if single_words::pushed(found) {
         let again = single_words::unlocked(found);
-        return stay(after, Place::C1(again));
+        return goes(after, Place::C1(again));
     }
     if single_words::closed(found) {
-        stay(after, Place::Idle(Answer::PopClosed))
+        goes(after, Place::Idle(Answer::PopClosed))
     } else {
-        stay(after, Place::Idle(Answer::Empty))
+        goes(after, Place::Idle(Answer::Empty))
     }
 }
 
@@ -177,13 +177,13 @@ pub fn c2(s: Single) -> Acted
     ensures { λ r. ⌜ r ≡ actC2 s ⌝ }
 {
     let value = s.value;
-    stay(s, Place::C3(value))
+    goes(s, Place::C3(value))
 }
 
 pub fn c3(s: Single, value: u64) -> Acted
     ensures { λ r. ⌜ r ≡ actC3 s value ⌝ }
 {
-    stay(unlock(s), Place::Idle(Answer::Popped(value)))
+    goes(unlock(s), Place::Idle(Answer::Popped(value)))
 }
 
 // The lookers, and close.
@@ -198,7 +198,7 @@ pub fn len1(s: Single) -> Acted
     ensures { λ r. ⌜ r ≡ actLen1 s ⌝ }
 {
     let found = s.state;
-    stay(s, Place::Idle(Answer::Len(len_of(found))))
+    goes(s, Place::Idle(Answer::Len(len_of(found))))
 }
 
 pub fn empty1(s: Single) -> Acted
@@ -206,9 +206,9 @@ pub fn empty1(s: Single) -> Acted
 {
     let found = s.state;
     if single_words::pushed(found) {
-        stay(s, Place::Idle(Answer::No))
+        goes(s, Place::Idle(Answer::No))
     } else {
-        stay(s, Place::Idle(Answer::Yes))
+        goes(s, Place::Idle(Answer::Yes))
     }
 }
 
@@ -217,9 +217,9 @@ pub fn full1(s: Single) -> Acted
 {
     let found = s.state;
     if single_words::pushed(found) {
-        stay(s, Place::Idle(Answer::Yes))
+        goes(s, Place::Idle(Answer::Yes))
     } else {
-        stay(s, Place::Idle(Answer::No))
+        goes(s, Place::Idle(Answer::No))
     }
 }
 
@@ -229,9 +229,9 @@ pub fn close1(s: Single) -> Acted
     let found = s.state;
     let after = shut(s);
     if single_words::closed(found) {
-        stay(after, Place::Idle(Answer::No))
+        goes(after, Place::Idle(Answer::No))
     } else {
-        stay(after, Place::Idle(Answer::Yes))
+        goes(after, Place::Idle(Answer::Yes))
     }
 }
 
@@ -240,8 +240,8 @@ pub fn is_closed1(s: Single) -> Acted
 {
     let found = s.state;
     if single_words::closed(found) {
-        stay(s, Place::Idle(Answer::Yes))
+        goes(s, Place::Idle(Answer::Yes))
     } else {
-        stay(s, Place::Idle(Answer::No))
+        goes(s, Place::Idle(Answer::No))
     }
 }

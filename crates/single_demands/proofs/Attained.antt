@@ -8,7 +8,7 @@ use Rattle.queue_entries.specs.Limits.{all, inLimits}
 use Rattle.queue_schedules.specs.Alone.{acts}
 use Rattle.single_words.specs.Words.{same, pushedIn, closedIn, unlocked, takenOf, closedOf}
 use Rattle.single_places.specs.declared.Place.the-variants.{Idle, A1, A2, A3, B1, B2, B3, B4, B5, C1, C2, C3, Len1, Empty1, Full1, Close1, IsClosed1}
-use Rattle.single_acts.specs.Acts.{stay, stateTo, valueTo, exchanged, unlockedIn}
+use Rattle.single_acts.specs.Acts.{goes, stateTo, valueTo, exchanged, unlockedIn}
 use Rattle.single_machine.specs.Machine.{idlers, freshOf, refused, accepted}
 use Rattle.single_machine.specs.Broken.{recordFits, idleFrom, brokenOf}
 use Rattle.single_machine.specs.Turn.{begun, stored, actedBy, turnOfBy}
@@ -18,7 +18,7 @@ use Rattle.single_demands.specs.Attained.{attained, seenIn, sightOf, nee
 use Rattle.single_demands.specs.Demands.{AtMost, Attained}
 
 pub numbers-attained : Attained
-unfolding same pushedIn closedIn unlocked takenOf closedOf strayOf orderOf entryOf stay stateTo valueTo exchanged unlockedIn idlers freshOf refused accepted all inLimits recordFits idleFrom brokenOf begun stored actedBy turnOfBy ran runBy searchBy scheduleBy acts attained seenIn sightOf needed othersIdle
+unfolding same pushedIn closedIn unlocked takenOf closedOf strayOf orderOf entryOf goes stateTo valueTo exchanged unlockedIn idlers freshOf refused accepted all inLimits recordFits idleFrom brokenOf begun stored actedBy turnOfBy ran runBy searchBy scheduleBy acts attained seenIn sightOf needed othersIdle
 numbers-attained = refl
 
 pub at-most : AtMost mostOf

@@ -74,15 +74,15 @@ module _ (m : Machine) (a b : ℕ) where
   unfolding face.stepOf has refused
   step-among = picked (Among steps) (brokenOf m) (refused 6 m) (turnOf m a b) refl turn-any
 
-  begin-among : Among (0 ∷ 3 ∷ 4 ∷ 6 ∷ 9 ∷ []) (face.beginOf m a b)
-  unfolding face.beginOf has within refused
+  begin-among : Among (0 ∷ 3 ∷ 4 ∷ 6 ∷ 9 ∷ []) (face.beginStepOf m a b)
+  unfolding face.beginStepOf has within refused
   begin-among =
       picked (Among (0 ∷ 3 ∷ 4 ∷ 6 ∷ 9 ∷ [])) (brokenOf m) (refused 6 m) _ refl
       (either (Among (0 ∷ 3 ∷ 4 ∷ 6 ∷ 9 ∷ [])) (ltb (a % 16) 8) (turnOf m a b) (refused 9 m)
       (λ l. wider begins (0 ∷ 3 ∷ 4 ∷ 6 ∷ 9 ∷ []) (turnOf m a b .refusal) refl (turn-begin l)) (λ l. refl))
 
-  act-among : Among (0 ∷ 3 ∷ 5 ∷ 6 ∷ 7 ∷ 8 ∷ 9 ∷ []) (face.actOf m a b)
-  unfolding face.actOf has within refused
+  act-among : Among (0 ∷ 3 ∷ 5 ∷ 6 ∷ 7 ∷ 8 ∷ 9 ∷ []) (face.actStepOf m a b)
+  unfolding face.actStepOf has within refused
   act-among =
       picked (Among (0 ∷ 3 ∷ 5 ∷ 6 ∷ 7 ∷ 8 ∷ 9 ∷ [])) (brokenOf m) (refused 6 m) _ refl
       (either (Among (0 ∷ 3 ∷ 5 ∷ 6 ∷ 7 ∷ 8 ∷ 9 ∷ [])) (ltb (a % 16) 8) (refused 9 m) (turnOf m a b)

@@ -36,8 +36,8 @@ pub only-one : OnlyOne
 only-one = record {
   make = (λ w. one (face.makeOf w));
   step = (λ m a b. one (face.stepOf m a b));
-  begin = (λ m a b. one (face.beginOf m a b));
-  act = (λ m a b. one (face.actOf m a b));
+  begin = (λ m a b. one (face.beginStepOf m a b));
+  act = (λ m a b. one (face.actStepOf m a b));
   run = (λ m s. one (runOf m s));
   contents = (λ m before x y a b p q. (one _ x y (p .0) (q .0), one _ a b (p .1) (q .1)));
   capacity = (λ m. one _);
@@ -50,14 +50,14 @@ module _ (P : Machine → Did → Type 0) (no : (m : Machine) (k : ℕ) → k �
   unfolding face.stepOf
   of-step = picked (P m) (brokenOf m) (refused 6 m) (turnOf m a b) (no m 6 (omega arith)) (each m a b)
 
-  of-begin : P m (face.beginOf m a b)
-  unfolding face.beginOf
+  of-begin : P m (face.beginStepOf m a b)
+  unfolding face.beginStepOf
   of-begin =
       picked (P m) (brokenOf m) (refused 6 m) _ (no m 6 (omega arith))
       (picked (P m) (ltb (a % 16) 8) (turnOf m a b) (refused 9 m) (each m a b) (no m 9 (omega arith)))
 
-  of-act : P m (face.actOf m a b)
-  unfolding face.actOf
+  of-act : P m (face.actStepOf m a b)
+  unfolding face.actStepOf
   of-act =
       picked (P m) (brokenOf m) (refused 6 m) _ (no m 6 (omega arith))
       (picked (P m) (ltb (a % 16) 8) (refused 9 m) (turnOf m a b) (no m 9 (omega arith)) (each m a b))

@@ -6,7 +6,7 @@ use Rattle.queue_entries.specs.Limits.{all, inLimits}
 use Rattle.queue_entries.specs.Told.{told}
 use Rattle.queue_schedules.specs.Alone.{acts}
 use Rattle.single_words.specs.Words.{same, pushedIn, closedIn, unlocked, takenOf, closedOf}
-use Rattle.single_acts.specs.Acts.{stay, stateTo, valueTo, exchanged, unlockedIn}
+use Rattle.single_acts.specs.Acts.{goes, stateTo, valueTo, exchanged, unlockedIn}
 use Rattle.single_machine.specs.Machine.{idlers, freshOf, refused, accepted}
 use Rattle.single_machine.specs.Broken.{recordFits, idleFrom, brokenOf}
 use Rattle.single_machine.specs.Contents.{contentsOf, capacityOf}
@@ -17,5 +17,5 @@ use Rattle.single_demands.specs.Notions.{waitingFrom, closedBy}
 use Rattle.single_demands.specs.Runs.{RunsHold, found, foundIn, table}
 
 pub runs-hold : RunsHold
-unfolding same pushedIn closedIn unlocked takenOf closedOf strayOf orderOf entryOf stay stateTo valueTo exchanged unlockedIn idlers freshOf refused accepted all inLimits recordFits idleFrom brokenOf told contentsOf capacityOf begun stored actedBy turnOfBy ran runBy searchBy scheduleBy historyBy makeOf acts waitingFrom closedBy found foundIn table
+unfolding same pushedIn closedIn unlocked takenOf closedOf strayOf orderOf entryOf goes stateTo valueTo exchanged unlockedIn idlers freshOf refused accepted all inLimits recordFits idleFrom brokenOf told contentsOf capacityOf begun stored actedBy turnOfBy ran runBy searchBy scheduleBy historyBy makeOf acts waitingFrom closedBy found foundIn table
 runs-hold = refl

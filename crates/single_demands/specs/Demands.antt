@@ -37,7 +37,7 @@ use Rattle.single_machine.specs.Broken.{brokenOf, idleFrom}
 use Rattle.single_machine.specs.Contents.{countIn, contentsOf, contentsRefusal, written, capacityOf}
 use Rattle.single_machine.specs.Run.{ran, runFrom, runOf}
 use Rattle.single_machine.specs.History.{eventsOf}
-use Rattle.single.specs.Single.{makeOf, stepOf, beginOf, actOf}
+use Rattle.single.specs.Single.{makeOf, stepOf, beginStepOf, actStepOf}
 use Rattle.single_demands.specs.Notions.{Definition, Allowed, machineAfter, actsOf, Acts, AtEach, InHand, OtherHand, Popping, accessOf, isRead, Holds, HandsOut, Stands, Came, waiting, OneSlot, Took, closedBy, queueAnswer, Looks, FullWord, EmptyWord, PopClosedWord, Truth, mostOf, passed, ownActs, LetsGo}
 use Rattle.single_demands.specs.Notions.{freshOne, pushingOne, stockedOne, spentOne}
 use Rattle.single_demands.specs.Stories.{Story, storyOf, changeOf, actor, known, replyOf, putBy, takenBy, givenBack, itemAt, roomTaken, askedAt, momentOf}
@@ -134,8 +134,8 @@ pub record RefusedUnchanged : Type 0 where
   -- refusal 2 returns the blank machine
   pub make : (workers : ℕ) → (makeOf workers .refusal ≡ 0 → ⊥) → makeOf workers .machine ≡ blank
   pub step : (m : Machine) (first second : ℕ) → (stepOf m first second .refusal ≡ 0 → ⊥) → stepOf m first second .machine ≡ m
-  pub begin : (m : Machine) (first second : ℕ) → (beginOf m first second .refusal ≡ 0 → ⊥) → beginOf m first second .machine ≡ m
-  pub act : (m : Machine) (first second : ℕ) → (actOf m first second .refusal ≡ 0 → ⊥) → actOf m first second .machine ≡ m
+  pub begin : (m : Machine) (first second : ℕ) → (beginStepOf m first second .refusal ≡ 0 → ⊥) → beginStepOf m first second .machine ≡ m
+  pub act : (m : Machine) (first second : ℕ) → (actStepOf m first second .refusal ≡ 0 → ⊥) → actStepOf m first second .machine ≡ m
   -- a schedule that is refused at a place leaves what the entries before that place leave: they stand, and no more
   pub run : (m : Machine) (s : List ℕ) → (runOf m s .refusal ≡ 0 → ⊥) → (runOf m s .refusal ≡ 9 → ⊥)
       → runOf m s .machine ≡ runOf m (take (2 * runOf m s .place) s) .machine
@@ -149,8 +149,8 @@ refusals =
     record {
       make = λ workers. makeOf workers .refusal;
       step = λ m first second. stepOf m first second .refusal;
-      begin = λ m first second. beginOf m first second .refusal;
-      act = λ m first second. actOf m first second .refusal;
+      begin = λ m first second. beginStepOf m first second .refusal;
+      act = λ m first second. actStepOf m first second .refusal;
       run = λ m s. runOf m s .refusal;
       contents = contentsRefusal;
     }
@@ -199,8 +199,8 @@ pub record StaysUnbroken : Type 0 where
 pub record OnlyOne : Type 0 where
   pub make : (workers : ℕ) (x y : Did) → x ≡ makeOf workers → y ≡ makeOf workers → x ≡ y
   pub step : (m : Machine) (first second : ℕ) (x y : Did) → x ≡ stepOf m first second → y ≡ stepOf m first second → x ≡ y
-  pub begin : (m : Machine) (first second : ℕ) (x y : Did) → x ≡ beginOf m first second → y ≡ beginOf m first second → x ≡ y
-  pub act : (m : Machine) (first second : ℕ) (x y : Did) → x ≡ actOf m first second → y ≡ actOf m first second → x ≡ y
+  pub begin : (m : Machine) (first second : ℕ) (x y : Did) → x ≡ beginStepOf m first second → y ≡ beginStepOf m first second → x ≡ y
+  pub act : (m : Machine) (first second : ℕ) (x y : Did) → x ≡ actStepOf m first second → y ≡ actStepOf m first second → x ≡ y
   pub run : (m : Machine) (s : List ℕ) (x y : Ran) → x ≡ runOf m s → y ≡ runOf m s → x ≡ y
   pub contents : (m : Machine) (before : List ℕ) (x y : Told) (a b : List ℕ)
       → (x ≡ told (contentsRefusal m (length before)) (countIn m)) × (a ≡ written m before)

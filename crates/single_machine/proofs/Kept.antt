@@ -19,7 +19,7 @@ use Rattle.single_places.specs.declared.Place.the-variants.{Idle, A1, A2, A3, B
 use Rattle.single_places.specs.declared.Worker.{Worker}
 use Rattle.single_places.specs.Places.{viewOf, beginOf}
 use Rattle.single_acts.specs.declared.Acted.{Acted}
-use Rattle.single_acts.specs.Acts.{stay, stateTo, valueTo, exchanged, unlockedIn, actOf}
+use Rattle.single_acts.specs.Acts.{goes, stateTo, valueTo, exchanged, unlockedIn, actOf}
 use Rattle.single_machine.specs.declared.Machine.{Machine}
 use Rattle.single_machine.specs.Machine.{placeOf, idler}
 use Rattle.single_machine.specs.Broken.{recordFits, idleFrom, brokenOf}
@@ -87,7 +87,7 @@ module _ (s : Single) (low : Low s) where
   value-low v = low
 
   pub act-low : (p : Place) → Low (actOf s p .single)
-  unfolding stay
+  unfolding goes
   act-low (Idle a) = low
   act-low (A1 x) = filled-low (state 0)
   act-low (A2 x) = value-low x

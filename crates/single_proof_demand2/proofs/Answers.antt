@@ -22,7 +22,7 @@ use Rattle.single_places.specs.declared.Answer.the-variants.{Pushed, Full, Clos
 use Rattle.single_places.specs.declared.Place.{Place}
 use Rattle.single_places.specs.declared.Place.the-variants.{Idle, A1, A2, A3, B1, B2, B3, B4, B5, C1, C2, C3, Len1, Empty1, Full1, Close1, IsClosed1}
 use Rattle.single_places.specs.Places.{viewOf, beginOf}
-use Rattle.single_acts.specs.Acts.{stay, lenOf, actOf}
+use Rattle.single_acts.specs.Acts.{goes, lenOf, actOf}
 use Rattle.single_machine.specs.declared.Machine.{Machine}
 use Rattle.single_machine.specs.declared.Did.{Did}
 use Rattle.single_machine.specs.declared.Event.{Event}
@@ -86,7 +86,7 @@ module _ (s : Single) where
   yes-no a b false p q = q
 
   true-at : (p : Place) → viewOf p .busy ≡ true → TruthAt (s .state) (actOf s p .place)
-  unfolding stay
+  unfolding goes
   true-at (Idle a) busy = absurd (true≢false (sym busy))
   true-at (A1 x) busy =
       either (TruthAt (s .state)) (same (s .state) (state 0)) (A2 x) (cond (closedIn (s .state)) (Idle (Closed x)) (Idle (Full x))) (λ t. tt)
@@ -116,11 +116,11 @@ module _ (s : Single) where
   -- ---- and the other way: where the word says so, the answer is given
   module _ (x : ℕ) where
     pub push-won : s .state .0 ≡ 0 → actOf s (A1 x) .place ≡ A2 x
-    unfolding stay same
+    unfolding goes same
     push-won z = rw (eq-eqb (s .state .0) 0 z)
 
     pub push-won-then : actOf s (A1 x) .place ≡ A2 x → s .state .0 ≡ 0
-    unfolding stay same
+    unfolding goes same
     push-won-then e = go (same (s .state) (state 0)) refl e
       where
         go : (t : Bool) → same (s .state) (state 0) ≡ t → cond t (A2 x) (cond (closedIn (s .state)) (Idle (Closed x)) (Idle (Full x))) ≡ A2 x → s .state .0 ≡ 0
@@ -132,11 +132,11 @@ module _ (s : Single) where
             idle false q = true≢false (sym (ap (λ (p : Place). viewOf p .busy) q))
 
     pub push-full : FullWord (s .state) → actOf s (A1 x) .place ≡ Idle (Full x)
-    unfolding stay same
+    unfolding goes same
     push-full f = rw (ne-eqb (s .state .0) 0 (f .0), f .1)
 
     pub push-closed : closedIn (s .state) ≡ true → actOf s (A1 x) .place ≡ Idle (Closed x)
-    unfolding stay closedIn
+    unfolding goes closedIn
     push-closed d = go (same (s .state) (state 0)) refl
       where
         go : (t : Bool) → same (s .state) (state 0) ≡ t → cond (same (s .state) (state 0)) (A2 x) (cond (closedIn (s .state)) (Idle (Closed x)) (Idle (Full x))) ≡ Idle (Closed x)
@@ -144,7 +144,7 @@ module _ (s : Single) where
         go false t = rw (t, d)
 
     pub force-closed : (e : State) → closedIn (s .state) ≡ true → actOf s (B1 e x) .place ≡ Idle (Closed x)
-    unfolding stay
+    unfolding goes
     force-closed e d = rw d
 
   module _ (e : State) (k : Expects (C1 e)) where
@@ -157,11 +157,11 @@ module _ (s : Single) where
         go false t = refl
 
     pub pop-empty : EmptyWord (s .state) → actOf s (C1 e) .place ≡ Idle Empty
-    unfolding stay
+    unfolding goes
     pop-empty n = rw (unexpected (n .0), n .0, n .1)
 
     pub pop-closed : PopClosedWord (s .state) → actOf s (C1 e) .place ≡ Idle PopClosed
-    unfolding stay
+    unfolding goes
     pop-closed n = rw (unexpected (n .0), n .0, n .1)
 
 -- ---- what a one-slot queue answers at once
@@ -215,7 +215,7 @@ module _ (workers : ℕ) (m : Machine) (h : List Event) (r : Reached workers m h
 
   -- a pop in progress does not answer Full
   not-popping : (w x : ℕ) (next : Machine) → Did-act m w next → placeOf (next .workers) w ≡ Idle (Full x) → Popping (stood m w) → ⊥
-  unfolding stay
+  unfolding goes
   not-popping w x next d e k = go (stood m w) k (sym (went w next d) ∙ e)
     where
       go : (p : Place) → Popping p → actOf (m .single) p .place ≡ Idle (Full x) → ⊥
@@ -266,7 +266,7 @@ module _ (workers : ℕ) (m : Machine) (h : List Event) (r : Reached workers m h
       }
 
   pub lookers : LookersTrue source m h
-  unfolding stay
+  unfolding goes
   lookers w next c k acts e = went-from w next (beginOf c) acts e ∙ go c k
     where
       shut : Bool

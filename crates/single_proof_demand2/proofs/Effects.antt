@@ -13,7 +13,7 @@ use Rattle.single_places.specs.declared.Place.the-variants.{Idle, A1, A2, A3, B
 use Rattle.single_places.specs.Places.{viewOf}
 use Rattle.queue_schedules.proofs.Schedules.{either}
 use Rattle.single_acts.specs.declared.Acted.{Acted}
-use Rattle.single_acts.specs.Acts.{stay, stateTo, valueTo, exchanged, unlockedIn, lenOf, actOf}
+use Rattle.single_acts.specs.Acts.{goes, stateTo, valueTo, exchanged, unlockedIn, lenOf, actOf}
 use Rattle.single_demands.specs.Notions.{Access, none, writes, swaps, reads, accessOf, HandsOut, popped, displaced, isClose}
 use Rattle.single_proof_demand2.proofs.Words.{word, locked-of, pushed-of, closed-of, same-locked, same-pushed, same-closed, same-is, unlocked-word, taken-word, shut-word}
 
@@ -213,15 +213,15 @@ pub data LetsOff : Hand → Place → Type 0 where
 
 -- Of an act at p, on a queue whose word has these bits.
 pub data Effect (s : Single) (l b c : Bool) (p : Place) : Acted → Type 0 where
-  rests : (q : Place) → handOf p ≡ free → handOf q ≡ free → isClose p ≡ false → outOf q ≡ [] → Effect s l b c p (stay s q)
+  rests : (q : Place) → handOf p ≡ free → handOf q ≡ free → isClose p ≡ false → outOf q ≡ [] → Effect s l b c p (goes s q)
   shuts : (q : Place) → handOf p ≡ free → handOf q ≡ free → isClose p ≡ true → outOf q ≡ []
-      → Effect s l b c p (stay (stateTo s (word l b true)) q)
+      → Effect s l b c p (goes (stateTo s (word l b true)) q)
   locks : (q : Place) (g : Hand) → handOf p ≡ free → l ≡ false → handOf q ≡ g → Opens b g → isClose p ≡ false
-      → Effect s l b c p (stay (stateTo s (word true (fills g) c)) q)
-  puts : (q : Place) (x : ℕ) → handOf p ≡ putting x → handOf q ≡ put → isClose p ≡ false → Effect s l b c p (stay (valueTo s x) q)
-  swaps-in : (q : Place) (x : ℕ) → handOf p ≡ swapping x → q ≡ B5 (s .value) → isClose p ≡ false → Effect s l b c p (stay (valueTo s x) q)
-  gets : (q : Place) → handOf p ≡ taking → q ≡ C3 (s .value) → isClose p ≡ false → Effect s l b c p (stay s q)
-  unlocks : (q : Place) → LetsOff (handOf p) q → isClose p ≡ false → Effect s l b c p (stay (stateTo s (word false b c)) q)
+      → Effect s l b c p (goes (stateTo s (word true (fills g) c)) q)
+  puts : (q : Place) (x : ℕ) → handOf p ≡ putting x → handOf q ≡ put → isClose p ≡ false → Effect s l b c p (goes (valueTo s x) q)
+  swaps-in : (q : Place) (x : ℕ) → handOf p ≡ swapping x → q ≡ B5 (s .value) → isClose p ≡ false → Effect s l b c p (goes (valueTo s x) q)
+  gets : (q : Place) → handOf p ≡ taking → q ≡ C3 (s .value) → isClose p ≡ false → Effect s l b c p (goes s q)
+  unlocks : (q : Place) → LetsOff (handOf p) q → isClose p ≡ false → Effect s l b c p (goes (stateTo s (word false b c)) q)
 
 module _ (s : Single) (l b c : Bool) (is : s .state ≡ word l b c) where
   -- ---- an exchange
@@ -233,14 +233,14 @@ module _ (s : Single) (l b c : Bool) (is : s .state ≡ word l b c) where
   unfolding exchanged
   lost e w h = rw h
 
-  unlocking : (p q : Place) → LetsOff (handOf p) q → isClose p ≡ false → Effect s l b c p (stay (unlockedIn s) q)
+  unlocking : (p q : Place) → LetsOff (handOf p) q → isClose p ≡ false → Effect s l b c p (goes (unlockedIn s) q)
   unfolding unlockedIn
   unlocking p q k n =
-      subst (λ (w : State). Effect s l b c p (stay (stateTo s w) q)) (sym (ap unlocked is ∙ unlocked-word l b c)) (unlocks q k n)
+      subst (λ (w : State). Effect s l b c p (goes (stateTo s w) q)) (sym (ap unlocked is ∙ unlocked-word l b c)) (unlocks q k n)
 
   looking : (p q q′ : Place) (t : Bool) → handOf p ≡ free → isClose p ≡ false → handOf q ≡ free → handOf q′ ≡ free
-      → outOf q ≡ [] → outOf q′ ≡ [] → Effect s l b c p (stay s (cond t q q′))
-  looking p q q′ t h n f f′ o o′ = either (λ (x : Place). Effect s l b c p (stay s x)) t q q′ (λ z. rests q h f n o) (λ z. rests q′ h f′ n o′)
+      → outOf q ≡ [] → outOf q′ ≡ [] → Effect s l b c p (goes s (cond t q q′))
+  looking p q q′ t h n f f′ o o′ = either (λ (x : Place). Effect s l b c p (goes s x)) t q q′ (λ z. rests q h f n o) (λ z. rests q′ h f′ n o′)
 
   push-takes : (x : ℕ) → Effect s l b c (A1 x) (actOf s (A1 x))
   push-takes x = go (same (s .state) (state 0)) refl
@@ -250,7 +250,7 @@ module _ (s : Single) (l b c : Bool) (is : s .state ≡ word l b c) where
           let z : s .state ≡ word false false false = same-is (s .state) (state 0) t in
           let w : word true true c ≡ filled = ap (word true true) (same-closed (s .state) l b c is false false false z) in
           rw (won (state 0) filled t, t)
-          (subst (λ (y : State). Effect s l b c (A1 x) (stay (stateTo s y) (A2 x))) w
+          (subst (λ (y : State). Effect s l b c (A1 x) (goes (stateTo s y) (A2 x))) w
           (locks (A2 x) (putting x) refl (same-locked (s .state) l b c is false false false z) refl
           (subst (λ (y : Bool). Opens y (putting x)) (sym (same-pushed (s .state) l b c is false false false z)) opens-put) refl))
       go false t =
@@ -266,11 +266,11 @@ module _ (s : Single) (l b c : Bool) (is : s .state ≡ word l b c) where
           let open-still : closedIn (s .state) ≡ false = closed-of (s .state) false (k .0) false z in
           let w : word true true c ≡ filled = ap (word true true) (same-closed (s .state) l b c is false (k .0) false z) in
           rw (won e filled t, open-still, t)
-          (subst (λ (y : State). Effect s l b c (B1 e x) (stay (stateTo s y) (cond (pushedIn (s .state)) (B4 x) (B2 x)))) w
-          (subst (λ (y : Bool). Effect s l b c (B1 e x) (stay (stateTo s (word true true c)) (cond y (B4 x) (B2 x)))) (sym (pushed-of (s .state) l b c is))
+          (subst (λ (y : State). Effect s l b c (B1 e x) (goes (stateTo s y) (cond (pushedIn (s .state)) (B4 x) (B2 x)))) w
+          (subst (λ (y : Bool). Effect s l b c (B1 e x) (goes (stateTo s (word true true c)) (cond y (B4 x) (B2 x)))) (sym (pushed-of (s .state) l b c is))
           (takes b (same-locked (s .state) l b c is false (k .0) false z))))
         where
-          takes : (b : Bool) → l ≡ false → Effect s l b c (B1 e x) (stay (stateTo s (word true true c)) (cond b (B4 x) (B2 x)))
+          takes : (b : Bool) → l ≡ false → Effect s l b c (B1 e x) (goes (stateTo s (word true true c)) (cond b (B4 x) (B2 x)))
           takes true f = locks (B4 x) (swapping x) refl f refl opens-swap refl
           takes false f = locks (B2 x) (putting x) refl f refl opens-put refl
       go false t true h = rw (lost e filled t, h) (rests (Idle (Closed x)) refl refl refl refl)
@@ -285,7 +285,7 @@ module _ (s : Single) (l b c : Bool) (is : s .state ≡ word l b c) where
           let w : word true false c ≡ takenOf e =
           ap (word true false) (same-closed (s .state) l b c is false true (k .0) z) ∙ sym (ap takenOf (k .1) ∙ taken-word false true (k .0)) in
           rw (won e (takenOf e) t, t)
-          (subst (λ (y : State). Effect s l b c (C1 e) (stay (stateTo s y) C2)) w
+          (subst (λ (y : State). Effect s l b c (C1 e) (goes (stateTo s y) C2)) w
           (locks C2 taking refl (same-locked (s .state) l b c is false true (k .0) z) refl
           (subst (λ (y : Bool). Opens y taking) (sym (same-pushed (s .state) l b c is false true (k .0) z)) opens-take) refl))
       go false t true h = rw (lost e (takenOf e) t, t, h) (rests (C1 (unlocked (s .state))) refl refl refl refl)
@@ -295,14 +295,14 @@ module _ (s : Single) (l b c : Bool) (is : s .state ≡ word l b c) where
 
   closes : Effect s l b c Close1 (actOf s Close1)
   closes =
-      subst (λ (w : State). Effect s l b c Close1 (stay (stateTo s w) (Idle (cond (closedIn (s .state)) No Yes)))) (sym (ap closedOf is ∙ shut-word l b c))
+      subst (λ (w : State). Effect s l b c Close1 (goes (stateTo s w) (Idle (cond (closedIn (s .state)) No Yes)))) (sym (ap closedOf is ∙ shut-word l b c))
       (go (closedIn (s .state)))
     where
-      go : (t : Bool) → Effect s l b c Close1 (stay (stateTo s (word l b true)) (Idle (cond t No Yes)))
+      go : (t : Bool) → Effect s l b c Close1 (goes (stateTo s (word l b true)) (Idle (cond t No Yes)))
       go true = shuts (Idle No) refl refl refl refl
       go false = shuts (Idle Yes) refl refl refl refl
 
-  answers : (p : Place) (a a′ : Answer) (t : Bool) → handOf p ≡ free → isClose p ≡ false → outBy a ≡ [] → outBy a′ ≡ [] → Effect s l b c p (stay s (Idle (cond t a a′)))
+  answers : (p : Place) (a a′ : Answer) (t : Bool) → handOf p ≡ free → isClose p ≡ false → outBy a ≡ [] → outBy a′ ≡ [] → Effect s l b c p (goes s (Idle (cond t a a′)))
   answers p a a′ true h n o o′ = rests (Idle a) h refl n o
   answers p a a′ false h n o o′ = rests (Idle a′) h refl n o′
 
@@ -327,7 +327,7 @@ module _ (s : Single) (l b c : Bool) (is : s .state ≡ word l b c) where
 
   -- and an exchange that is tried again expects what it found, unlocked
   pub expects-after : (p : Place) → Expects p → Expects (actOf s p .place)
-  unfolding stay
+  unfolding goes
   expects-after (Idle a) k = tt
   expects-after (A1 x) k =
       either Expects (same (s .state) (state 0)) (A2 x) (cond (closedIn (s .state)) (Idle (Closed x)) (Idle (Full x))) (λ t. tt)

@@ -10,7 +10,7 @@ use Rattle.single_places.specs.declared.Place.{Place}
 use Rattle.single_places.specs.declared.Place.the-variants.{B5, C3}
 use Rattle.single_places.specs.Places.{viewOf}
 use Rattle.single_acts.specs.declared.Acted.{Acted}
-use Rattle.single_acts.specs.Acts.{stay, stateTo, valueTo}
+use Rattle.single_acts.specs.Acts.{goes, stateTo, valueTo}
 use Rattle.single_machine.specs.declared.Event.{Event}
 use Rattle.single_machine.specs.History.{event}
 use Rattle.single_demands.specs.Notions.{Access, none, writes, swaps, reads, accessOf, itemOf, isRead, Holds, holdsC3, holdsB5, HandsOut, Stands, Came, Took, waitsAfter, waiting, OneSlot, enters, displaces, leaves, isClose}
@@ -167,7 +167,7 @@ module _ (hands hands′ : ℕ → Hand) (s : Single) (h : List Event) (c : Bool
   -- on a slot in nobody's hand
   module _ (b : Bool) (is : s .state ≡ word false b c) (none-holds : (v : ℕ) → hands v ≡ free) (r : Rests h (s .value) b) where
     pub from-loose : (a : Acted) → Effect s false b c p a → Leads a
-    unfolding stay stateTo
+    unfolding goes stateTo
     from-loose a (rests q f fq n o) e =
         let qp = accesses p free f in let qq = accesses q free fq in
         record {
@@ -215,7 +215,7 @@ module _ (hands hands′ : ℕ → Hand) (s : Single) (h : List Event) (c : Bool
         go (no nw) = others v nw ∙ alone v nv
 
     pub from-other : (a : Acted) → Effect s true (fills g) c p a → Leads a
-    unfolding stay stateTo
+    unfolding goes stateTo
     from-other a (rests q f fq n o) e =
         let qp = accesses p free f in let qq = accesses q free fq in
         record {
@@ -275,7 +275,7 @@ module _ (hands hands′ : ℕ → Hand) (s : Single) (h : List Event) (c : Bool
         )
 
     pub from-own : (a : Acted) → Effect s true (fills g) c p a → Leads a
-    unfolding stay stateTo valueTo
+    unfolding goes stateTo valueTo
     from-own a (rests q f fq n o) e = absurd (does-as free f)
     from-own a (shuts q f fq n o) e = absurd (does-as free f)
     from-own a (locks q k f l hq o n) e = absurd (does-as free f)

@@ -15,7 +15,7 @@ use Rattle.single_places.specs.declared.Place.{Place}
 use Rattle.single_places.specs.declared.Place.the-variants.{Idle, A1, A2, A3, B1, B2, B3, B4, B5, C1, C2, C3, Len1, Empty1, Full1, Close1, IsClosed1}
 use Rattle.single_places.specs.Places.{viewOf}
 use Rattle.single_acts.specs.declared.Acted.{Acted}
-use Rattle.single_acts.specs.Acts.{stay, stateTo, valueTo, exchanged, actOf}
+use Rattle.single_acts.specs.Acts.{goes, stateTo, valueTo, exchanged, actOf}
 use Rattle.single_demands.specs.Notions.{mostOf}
 use Rattle.single_demands.specs.Foretold.{foretoldOf}
 use Rattle.single_proof_demand2.proofs.Words.{word, pushed-of, closed-of, same-is, unlocked-word}
@@ -94,7 +94,7 @@ module _ (s : Single) (l b c : Bool) (is : s .state ≡ word l b c) where
           absurd (true≢false (sym (eq-eqb (s .state .0) 0 z) ∙ t))
 
   push-alone : (x : ℕ) → l ≡ false → Alone s (A1 x) (actOf s (A1 x))
-  unfolding stay stateTo exchanged pushedIn closedIn
+  unfolding goes stateTo exchanged pushedIn closedIn
   push-alone x f = go (same (s .state) (state 0)) refl (closedIn (s .state)) refl
     where
       go : (t : Bool) → same (s .state) (state 0) ≡ t → (d : Bool) → closedIn (s .state) ≡ d → Alone s (A1 x) (actOf s (A1 x))
@@ -107,7 +107,7 @@ module _ (s : Single) (l b c : Bool) (is : s .state ≡ word l b c) where
       go false t false k = record { falls = rw (t, k) (omega arith); told = rw (t, k, must-be-pushed f t k) }
 
   force-alone : (e : State) (x : ℕ) → l ≡ false → Alone s (B1 e x) (actOf s (B1 e x))
-  unfolding stay stateTo
+  unfolding goes stateTo
   force-alone e x f = go (same (s .state) e) refl (closedIn (s .state)) refl (pushedIn (s .state)) refl
     where
       go : (t : Bool) → same (s .state) e ≡ t → (d : Bool) → closedIn (s .state) ≡ d → (y : Bool) → pushedIn (s .state) ≡ y → Alone s (B1 e x) (actOf s (B1 e x))
@@ -115,11 +115,11 @@ module _ (s : Single) (l b c : Bool) (is : s .state ≡ word l b c) where
       go true t false k true u = let q = won s l b c is e filled t in record { falls = rw (q, t, k, u) (omega arith); told = rw (q, t, k, u) refl }
       go true t false k false u = let q = won s l b c is e filled t in record { falls = rw (q, t, k, u) (omega arith); told = rw (q, t, k, u) refl }
       go false t false k y u =
-          let again : actOf s (B1 e x) ≡ stay s (B1 (unlocked (s .state)) x) = rw (lost s l b c is e filled t, k, t) in
+          let again : actOf s (B1 e x) ≡ goes s (B1 (unlocked (s .state)) x) = rw (lost s l b c is e filled t, k, t) in
           subst (Alone s (B1 e x)) (sym again) (record { falls = rw (k, t, found-again f) (omega arith); told = refl })
 
   pop-alone : (e : State) → Expects (C1 e) → l ≡ false → Alone s (C1 e) (actOf s (C1 e))
-  unfolding stay stateTo
+  unfolding goes stateTo
   pop-alone e k f = go (same (s .state) e) refl (pushedIn (s .state)) refl (closedIn (s .state)) refl
     where
       go : (t : Bool) → same (s .state) e ≡ t → (y : Bool) → pushedIn (s .state) ≡ y → (d : Bool) → closedIn (s .state) ≡ d → Alone s (C1 e) (actOf s (C1 e))
@@ -128,13 +128,13 @@ module _ (s : Single) (l b c : Bool) (is : s .state ≡ word l b c) where
           let q = won s l b c is e (takenOf e) t in
           record { falls = rw (q, t) (omega arith); told = rw (q, t, full) refl }
       go false t true u d g =
-          let again : actOf s (C1 e) ≡ stay s (C1 (unlocked (s .state))) = rw (lost s l b c is e (takenOf e) t, t, u) in
+          let again : actOf s (C1 e) ≡ goes s (C1 (unlocked (s .state))) = rw (lost s l b c is e (takenOf e) t, t, u) in
           subst (Alone s (C1 e)) (sym again) (record { falls = rw (t, u, found-again f) (omega arith); told = refl })
       go false t false u true g = record { falls = rw (t, u, g) (omega arith); told = rw (t, u, g) }
       go false t false u false g = record { falls = rw (t, u, g) (omega arith); told = rw (t, u, g) }
 
   pub act-alone : (p : Place) → viewOf p .busy ≡ true → Expects p → (handOf p ≡ free → l ≡ false) → Alone s p (actOf s p)
-  unfolding stay stateTo valueTo
+  unfolding goes stateTo valueTo
   act-alone (Idle a) busy k f = absurd (true≢false (sym busy))
   act-alone (A1 x) busy k f = push-alone x (f refl)
   act-alone (A2 x) busy k f = record { falls = omega arith; told = refl }

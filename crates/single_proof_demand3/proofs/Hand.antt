@@ -11,14 +11,14 @@ use borrow.Author.Tests.{eq-eqb, ne-eqb, eqb-true, eqb-false}
 use Rattle.queue_entries.specs.declared.Entry.{Entry}
 use Rattle.queue_entries.specs.Entries.{entryOf}
 use Rattle.queue_schedules.specs.Alone.{actBy}
-use Rattle.queue_schedules.proofs.Alone.{part, Was, others, its-own, its-last, Gone, goes}
+use Rattle.queue_schedules.proofs.Alone.{part, Was, others, its-own, its-last, Gone, goes as goes-alone}
 use Rattle.single_places.specs.declared.Single.{Single}
 use Rattle.single_places.specs.declared.Answer.{Answer}
 use Rattle.single_places.specs.declared.Answer.the-variants.{Pushed, Displaced, Popped}
 use Rattle.single_places.specs.declared.Place.{Place}
 use Rattle.single_places.specs.declared.Place.the-variants.{Idle, A1, A2, A3, B1, B2, B3, B4, B5, C1, C2, C3, Len1, Empty1, Full1, Close1, IsClosed1}
 use Rattle.single_places.specs.Places.{viewOf, beginOf}
-use Rattle.single_acts.specs.Acts.{stay, actOf}
+use Rattle.single_acts.specs.Acts.{goes, actOf}
 use Rattle.single_machine.specs.declared.Machine.{Machine}
 use Rattle.single_machine.specs.declared.Event.{Event}
 use Rattle.single_machine.specs.Turn.{turnOf, turnOfBy, begun, acted}
@@ -35,7 +35,7 @@ data After (p q : Place) : Type 0 where
   gone : (a : Answer) → q ≡ Idle a → mostOf p ≡ 1 → After p q
 
 hand-act : (s : Single) (p : Place) → InHand p → After p (actOf s p .place)
-unfolding stay
+unfolding goes
 hand-act s (Idle a) i = absurd (true≢false (sym i))
 hand-act s (A1 x) i = absurd (true≢false (sym i))
 hand-act s (A2 x) i = holds refl refl
@@ -117,5 +117,5 @@ module _ (workers w : ℕ) where
   pub lets-go : (s : List ℕ) (m : Machine) (h : List Event) → Reached workers m h → InHand (stood m w)
       → mostOf (stood m w) ≤ Rattle.single_demands.specs.Notions.ownActs source w m s → LetsGo source m w s (mostOf (stood m w))
   lets-go s m h r i enough =
-      let g = goes single-queue w In Out most some each s m (record { history = h; reached = r; hand = i }) enough in
+      let g = goes-alone single-queue w In Out most some each s m (record { history = h; reached = r; hand = i }) enough in
       record { before = g .before; after = g .after; split = g .split; own = g .count; answer = g .out .0; ends = g .out .1 }

@@ -20,7 +20,7 @@ use Rattle.single_places.specs.declared.Answer.the-variants.{Pushed, Full}
 use Rattle.single_places.specs.declared.Place.{Place}
 use Rattle.single_places.specs.declared.Place.the-variants.{Idle, A1, A2, A3, B1, B2, B3, B4, B5, C1, C2, C3, Len1, Empty1, Full1, Close1, IsClosed1}
 use Rattle.single_places.specs.Places.{viewOf}
-use Rattle.single_acts.specs.Acts.{stay, stateTo, valueTo, exchanged, unlockedIn}
+use Rattle.single_acts.specs.Acts.{goes, stateTo, valueTo, exchanged, unlockedIn}
 use Rattle.single_machine.specs.declared.Machine.{Machine}
 use Rattle.single_machine.specs.declared.Did.{Did}
 use Rattle.single_machine.specs.declared.Event.{Event}
@@ -168,5 +168,5 @@ before-full =
     ∷ Begun 1 (call.Push 6) ∷ []
 
 pub room-needed : RoomNeeded source
-unfolding same pushedIn closedIn unlocked takenOf strayOf orderOf entryOf stay stateTo valueTo exchanged unlockedIn idlers freshOf refused accepted begun stored actedBy turnOfBy historyBy acts itemsOf knownFrom before-full
+unfolding same pushedIn closedIn unlocked takenOf strayOf orderOf entryOf goes stateTo valueTo exchanged unlockedIn idlers freshOf refused accepted begun stored actedBy turnOfBy historyBy acts itemsOf knownFrom before-full
 room-needed = (before-full, event 1 (A1 6) (Idle (Full 6)), refl, refl, refl)

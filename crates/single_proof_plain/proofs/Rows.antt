@@ -25,7 +25,7 @@ use Rattle.single_places.specs.declared.Answer.the-variants.{Pushed, Full, Clos
 use Rattle.single_places.specs.declared.Place.{Place}
 use Rattle.single_places.specs.declared.Place.the-variants.{Idle, A1, A2, A3, B1, B2, B3, B4, B5, C1, C2, C3, Len1, Empty1, Full1, Close1, IsClosed1}
 use Rattle.single_places.specs.Places.{viewOf}
-use Rattle.single_acts.specs.Acts.{stay, stateTo, exchanged, lenOf, actOf}
+use Rattle.single_acts.specs.Acts.{goes, stateTo, exchanged, lenOf, actOf}
 use Rattle.single_machine.specs.declared.Event.{Event}
 use Rattle.single_machine.specs.History.{event}
 use Rattle.single_demands.specs.Notions.{Access, none, accessOf, itemOf, isRead}
@@ -198,7 +198,7 @@ module _ (st : Story) (s : Single) (l b c : Bool) (sc : Scene st s l b c) (w : �
 
   -- while a pop keeps the room of an open queue, it goes back
   pub goes-back : (e : State) (x : ℕ) → Expects (B1 e x) → l ≡ true → b ≡ false → c ≡ false → actOf s (B1 e x) .place ≡ B1 (state 0) x
-  unfolding stay
+  unfolding goes
   goes-back e x k el eb ec =
       let is : s .state ≡ word true false false = sc .is ∙ rw (el, eb, ec) in
       rw (closed-of (s .state) true false false is, other (same (s .state) e) refl) (ap (λ (z : State). B1 z x) (ap unlocked is ∙ unlocked-word true false false))
@@ -242,7 +242,7 @@ module _ (st : Story) (s : Single) (l b c : Bool) (sc : Scene st s l b c) (w : �
       speaks p a r v says cl (rw (no-put, no-take) (here p (Idle a) refl at cl r o is))
 
   pub row : (p : Place) → viewOf p .busy ≡ true → Expects p → Due st (s .value) w p → Outcome p (actOf s p .place) (actOf s p .single .value)
-  unfolding stay
+  unfolding goes
   row (Idle a) busy k o = absurd (true≢false (sym busy))
   row (A1 x) busy k o = a1 x _ o
   row (A2 x) busy k o = to (A2 x) A3 refl _ refl (x, kept (A2 x) A3 refl refl _ _ _ _ o)

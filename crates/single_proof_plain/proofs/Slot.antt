@@ -17,7 +17,7 @@ use Rattle.single_places.specs.declared.Place.{Place}
 use Rattle.single_places.specs.declared.Place.the-variants.{Idle, A1, A2, A3, B1, B2, B3, B4, B5, C1, C2, C3, Len1, Empty1, Full1, Close1, IsClosed1}
 use Rattle.single_places.specs.Places.{viewOf}
 use Rattle.single_acts.specs.declared.Acted.{Acted}
-use Rattle.single_acts.specs.Acts.{stay, stateTo, valueTo}
+use Rattle.single_acts.specs.Acts.{goes, stateTo, valueTo}
 use Rattle.single_machine.specs.History.{event}
 use Rattle.single_demands.specs.Notions.{none, accessOf, itemOf, isClose}
 use Rattle.single_demands.specs.Stories.{Story, known, itemAt, popping, roomTaken}
@@ -138,7 +138,7 @@ module _ (s : Single) (l b c : Bool) (p : Place) where
     pub opens : Opens b hand
 
   pub kind-of : (a : Acted) → Effect s l b c p a → (accessOf (a .place) ≡ none) ⊎ Takes (a .place)
-  unfolding stay
+  unfolding goes
   kind-of a (rests q f fq n o) = inl (access-is q ∙ ap accessBy fq)
   kind-of a (shuts q f fq n o) = inl (access-is q ∙ ap accessBy fq)
   kind-of a (locks q g f e hq o n) = inr (record { hand = g; unlocked-then = e; is = access-is q ∙ ap accessBy hq; opens = o })
@@ -154,7 +154,7 @@ module _ (s : Single) (l b c : Bool) (p : Place) where
 
   -- a worker that has not the slot in hand leaves the value
   pub value-kept : (a : Acted) → Effect s l b c p a → handOf p ≡ free → a .single .value ≡ s .value
-  unfolding stay stateTo valueTo
+  unfolding goes stateTo valueTo
   value-kept a (rests q f fq n o) e = refl
   value-kept a (shuts q f fq n o) e = refl
   value-kept a (locks q g f z hq o n) e = refl
@@ -195,7 +195,7 @@ module _ (st : Story) (s : Single) (l b c : Bool) (is : s .state ≡ word l b c)
   same-room n = omega arith
 
   pub room-on : (a : Acted) → Effect s l b c p a → Leaves (a .place) (a .single .state)
-  unfolding stay stateTo valueTo
+  unfolding goes stateTo valueTo
   room-on a (rests q f fq n o) = leaves q (s .state) free free f fq (same-room _ ∙ sym (room-word (s .state) l b c is))
   room-on a (shuts q f fq n o) = leaves q (word l b true) free free f fq (same-room _ ∙ sym (room-word (word l b true) l b true refl))
   room-on a (locks q g f e hq o n) =

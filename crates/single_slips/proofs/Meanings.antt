@@ -19,7 +19,7 @@ use Rattle.single_words.specs.Words.{state, same, lockedIn, pushedIn, closedIn,
 use Rattle.single_places.specs.declared.Answer.{Answer}
 use Rattle.single_places.specs.declared.Answer.the-variants.{Pushed, Full, Displaced, Popped, Empty, Len, Yes}
 use Rattle.single_places.specs.declared.Place.the-variants.{Idle, A1, A2, A3, B1, B4, B5, C1, C2, C3, Len1, Close1}
-use Rattle.single_acts.specs.Acts.{stay, stateTo, valueTo, exchanged, unlockedIn}
+use Rattle.single_acts.specs.Acts.{goes, stateTo, valueTo, exchanged, unlockedIn}
 use Rattle.single_machine.specs.declared.Event.{Event}
 use Rattle.single_machine.specs.Machine.{idlers, freshOf, refused, accepted}
 use Rattle.single_machine.specs.Broken.{recordFits, idleFrom}
@@ -78,17 +78,17 @@ unfolding itemsOf knownFrom
 forced-unput o = no-cons (o .put)
 
 pub plain-push-drops : PlainIn (pushActs pushDrops) → ⊥
-unfolding same strayOf orderOf entryOf stay idlers freshOf refused accepted begun stored actedBy turnOfBy historyBy acts
+unfolding same strayOf orderOf entryOf goes idlers freshOf refused accepted begun stored actedBy turnOfBy historyBy acts
 plain-push-drops p = pushed-unput (p .answers push-begun [] (event 0 (A1 5) (Idle Pushed)) Pushed refl refl .1)
 
 pub plain-force-drops : PlainIn forcePastPop → ⊥
-unfolding same lockedIn pushedIn closedIn unlocked takenOf strayOf orderOf entryOf stay stateTo valueTo exchanged unlockedIn idlers freshOf refused accepted begun stored actedBy turnOfBy historyBy acts
+unfolding same lockedIn pushedIn closedIn unlocked takenOf strayOf orderOf entryOf goes stateTo valueTo exchanged unlockedIn idlers freshOf refused accepted begun stored actedBy turnOfBy historyBy acts
 plain-force-drops p = forced-unput (p .answers force-past [] (event 1 (B1 (state 2) 6) (Idle Pushed)) Pushed refl refl .1)
 
 -- ---- another item put in, another handed out, or none taken out
 
 pub plain-another-in : PlainIn (pushActs pushesAnother) → ⊥
-unfolding same strayOf orderOf entryOf stay stateTo idlers freshOf refused accepted begun stored actedBy turnOfBy ran runBy historyBy acts itemsOf knownFrom
+unfolding same strayOf orderOf entryOf goes stateTo idlers freshOf refused accepted begun stored actedBy turnOfBy ran runBy historyBy acts itemsOf knownFrom
 plain-another-in p = let q : _≡_ {A = ℕ} 5 6 = cons-first {xs = []} {ys = []} (p .item-kept 0 6 refl) in omega arith
 
 popped-other : Meant (pop-takes ++ Does (event 0 C2 (C3 6)) ∷ []) (event 0 (C3 6) (Idle (Popped 6))) (Popped 6) → ⊥
@@ -104,15 +104,15 @@ unfolding itemsOf knownFrom
 popped-untaken o = no-cons (o .took)
 
 pub plain-another-out : PlainIn (pushPop popsAnother) → ⊥
-unfolding same lockedIn pushedIn closedIn unlocked takenOf strayOf orderOf entryOf stay stateTo valueTo exchanged unlockedIn idlers freshOf refused accepted begun stored actedBy turnOfBy historyBy acts
+unfolding same lockedIn pushedIn closedIn unlocked takenOf strayOf orderOf entryOf goes stateTo valueTo exchanged unlockedIn idlers freshOf refused accepted begun stored actedBy turnOfBy historyBy acts
 plain-another-out p = popped-other (p .answers (pop-takes ++ Does (event 0 C2 (C3 6)) ∷ []) [] (event 0 (C3 6) (Idle (Popped 6))) (Popped 6) refl refl .1)
 
 pub plain-own-out : PlainIn forceDisplaces → ⊥
-unfolding same lockedIn pushedIn closedIn unlocked takenOf strayOf orderOf entryOf stay stateTo valueTo exchanged unlockedIn idlers freshOf refused accepted begun stored actedBy turnOfBy historyBy acts
+unfolding same lockedIn pushedIn closedIn unlocked takenOf strayOf orderOf entryOf goes stateTo valueTo exchanged unlockedIn idlers freshOf refused accepted begun stored actedBy turnOfBy historyBy acts
 plain-own-out p = displaced-own (p .answers force-swaps [] (event 0 (B5 6) (Idle (Displaced 6))) (Displaced 6) refl refl .1)
 
 pub plain-peeks : PlainIn pushPeek → ⊥
-unfolding same lockedIn pushedIn closedIn unlocked takenOf strayOf orderOf entryOf stay stateTo valueTo exchanged unlockedIn idlers freshOf refused accepted begun stored actedBy turnOfBy historyBy acts
+unfolding same lockedIn pushedIn closedIn unlocked takenOf strayOf orderOf entryOf goes stateTo valueTo exchanged unlockedIn idlers freshOf refused accepted begun stored actedBy turnOfBy historyBy acts
 plain-peeks p = popped-untaken (p .answers pop-begun [] (event 0 (C1 (state 2)) (Idle (Popped 5))) (Popped 5) refl refl .1)
 
 -- ---- Full of a queue with room, Empty of one where an item waits, a second close that says yes, len 0 where one waits
@@ -151,19 +151,19 @@ yes-untrue o =
     let q : _≡_ {A = ℕ} 0 1 = cc in omega arith
 
 pub plain-full : PlainIn (pushActs alwaysFull) → ⊥
-unfolding same strayOf orderOf entryOf stay idlers freshOf refused accepted begun stored actedBy turnOfBy historyBy acts
+unfolding same strayOf orderOf entryOf goes idlers freshOf refused accepted begun stored actedBy turnOfBy historyBy acts
 plain-full p = full-untrue (p .answers push-begun [] (event 0 (A1 5) (Idle (Full 5))) (Full 5) refl refl .0)
 
 pub plain-empty : PlainIn popWhilePush → ⊥
-unfolding same lockedIn closedIn strayOf orderOf entryOf stay stateTo exchanged idlers freshOf refused accepted begun stored actedBy turnOfBy historyBy acts
+unfolding same lockedIn closedIn strayOf orderOf entryOf goes stateTo exchanged idlers freshOf refused accepted begun stored actedBy turnOfBy historyBy acts
 plain-empty p = empty-untrue (p .answers pop-besides [] (event 1 (C1 (state 2)) (Idle Empty)) Empty refl refl .0)
 
 pub plain-close : PlainIn closeTwice → ⊥
-unfolding strayOf orderOf entryOf stay idlers freshOf refused accepted begun stored actedBy turnOfBy historyBy acts
+unfolding strayOf orderOf entryOf goes idlers freshOf refused accepted begun stored actedBy turnOfBy historyBy acts
 plain-close p = yes-untrue (p .answers closed-once [] (event 0 Close1 (Idle Yes)) Yes refl refl .0)
 
 pub plain-len : PlainIn lenWhilePush → ⊥
-unfolding same lockedIn closedIn strayOf orderOf entryOf stay stateTo exchanged idlers freshOf refused accepted begun stored actedBy turnOfBy historyBy acts
+unfolding same lockedIn closedIn strayOf orderOf entryOf goes stateTo exchanged idlers freshOf refused accepted begun stored actedBy turnOfBy historyBy acts
 plain-len p = len-untrue (p .answers len-besides [] (event 1 Len1 (Idle (Len 0))) (Len 0) refl refl .0)
 
 -- ---- an item put in while a pop has not let go
@@ -176,7 +176,7 @@ unfolding followedFrom
 put-beside-pop o = let q : _≡_ {A = ℕ} 1 0 = o .let-go (inr refl) in omega arith
 
 pub plain-room : PlainIn pushWhilePop → ⊥
-unfolding same lockedIn pushedIn closedIn unlocked takenOf strayOf orderOf entryOf stay stateTo valueTo exchanged unlockedIn idlers freshOf refused accepted begun stored actedBy turnOfBy historyBy acts
+unfolding same lockedIn pushedIn closedIn unlocked takenOf strayOf orderOf entryOf goes stateTo valueTo exchanged unlockedIn idlers freshOf refused accepted begun stored actedBy turnOfBy historyBy acts
 plain-room p = put-beside-pop (p .changes push-besides [] (event 1 (A1 6) (A2 6)) refl)
 
 second-pop : Story
@@ -187,7 +187,7 @@ unfolding followedFrom second-pop
 two-rooms o = omega arith
 
 pub plain-two-pops : PlainIn popWhilePop → ⊥
-unfolding same lockedIn pushedIn closedIn unlocked takenOf strayOf orderOf entryOf stay stateTo valueTo exchanged unlockedIn idlers freshOf refused accepted begun stored actedBy turnOfBy historyBy acts second-pop
+unfolding same lockedIn pushedIn closedIn unlocked takenOf strayOf orderOf entryOf goes stateTo valueTo exchanged unlockedIn idlers freshOf refused accepted begun stored actedBy turnOfBy historyBy acts second-pop
 plain-two-pops p = let is : told popWhilePop ≡ second-pop = refl in two-rooms (subst (λ (z : Story). roomTaken z ≤ 1) is (p .room .most))
 
 -- ---- a force_push that keeps LOCKED in the word that it expects
@@ -203,11 +203,11 @@ kept-locked o =
     let q : _≡_ {A = ℕ} 1 0 = ap (λ (z : State). z .0) words in omega arith
 
 pub plain-goes-back : PlainIn forceWhilePop → ⊥
-unfolding same lockedIn pushedIn closedIn unlocked takenOf strayOf orderOf entryOf stay stateTo valueTo exchanged unlockedIn idlers freshOf refused accepted begun stored actedBy turnOfBy historyBy acts
+unfolding same lockedIn pushedIn closedIn unlocked takenOf strayOf orderOf entryOf goes stateTo valueTo exchanged unlockedIn idlers freshOf refused accepted begun stored actedBy turnOfBy historyBy acts
 plain-goes-back p = kept-locked (p .changes force-besides [] (event 1 (B1 (state 0) 6) (B1 (state 1) 6)) refl)
 
 -- ---- an item that waits, and is not in the contents
 
 pub plain-lost : PlainIn (onePush unlockClearsPushed) → ⊥
-unfolding same lockedIn pushedIn closedIn unlocked takenOf strayOf orderOf entryOf stay stateTo valueTo exchanged unlockedIn idlers freshOf refused accepted all inLimits recordFits idleFrom contentsOf begun stored actedBy turnOfBy ran runBy historyBy acts itemsOf knownFrom
+unfolding same lockedIn pushedIn closedIn unlocked takenOf strayOf orderOf entryOf goes stateTo valueTo exchanged unlockedIn idlers freshOf refused accepted all inLimits recordFits idleFrom contentsOf begun stored actedBy turnOfBy ran runBy historyBy acts itemsOf knownFrom
 plain-lost p = no-cons (p .nothing-lost .contents refl)

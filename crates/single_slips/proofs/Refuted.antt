@@ -19,7 +19,7 @@ use Rattle.single_places.specs.declared.Answer.the-variants.{Nothing, Pushed, F
 use Rattle.single_places.specs.declared.Place.{Place}
 use Rattle.single_places.specs.declared.Place.the-variants.{Idle, A1, A2, A3, B1, B2, B3, B4, B5, C1, C2, C3, Len1, Empty1, Full1, Close1, IsClosed1}
 use Rattle.single_places.specs.Places.{viewOf}
-use Rattle.single_acts.specs.Acts.{stay, stateTo, valueTo, exchanged, unlockedIn}
+use Rattle.single_acts.specs.Acts.{goes, stateTo, valueTo, exchanged, unlockedIn}
 use Rattle.single_machine.specs.declared.Machine.{Machine}
 use Rattle.single_machine.specs.declared.Ran.{Ran}
 use Rattle.single_machine.specs.declared.Event.{Event}
@@ -150,7 +150,7 @@ unfolding strayOf orderOf entryOf
 readable e = let q : _≡_ {A = ℕ} 0 1 = cc in omega arith
 
 pub refuted : Refuted
-unfolding has same lockedIn pushedIn closedIn unlocked takenOf closedOf strayOf orderOf entryOf stay stateTo valueTo exchanged unlockedIn idlers freshOf refused accepted all inLimits recordFits idleFrom brokenOf contentsOf begun stored actedBy turnOfBy ran runBy searchBy scheduleBy historyBy acts passedBy ownActsBy waitingFrom closedBy anyIn heldBy standing runsFrom always busyAlong
+unfolding has same lockedIn pushedIn closedIn unlocked takenOf closedOf strayOf orderOf entryOf goes stateTo valueTo exchanged unlockedIn idlers freshOf refused accepted all inLimits recordFits idleFrom brokenOf contentsOf begun stored actedBy turnOfBy ran runBy searchBy scheduleBy historyBy acts passedBy ownActsBy waitingFrom closedBy anyIn heldBy standing runsFrom always busyAlong
 refuted =
     record {
       plain-push-drops = plain-push-drops;

@@ -10,7 +10,7 @@ use Rattle.single_places.specs.declared.Answer.the-variants.{Pushed, Full, Popp
 use Rattle.single_places.specs.declared.Place.{Place}
 use Rattle.single_places.specs.declared.Place.the-variants.{Idle, A1, A2, A3, B1, B2, B3, B4, B5, C1, C2, C3, Len1, Empty1, Full1, Close1, IsClosed1}
 use Rattle.single_acts.specs.declared.Acted.{Acted}
-use Rattle.single_acts.specs.Acts.{stay, stateTo, valueTo, exchanged, unlockedIn, actOf}
+use Rattle.single_acts.specs.Acts.{goes, stateTo, valueTo, exchanged, unlockedIn, actOf}
 use Rattle.single_machine.specs.declared.Machine.{Machine}
 use Rattle.single_machine.specs.Machine.{refused}
 use Rattle.single_machine.specs.Turn.{turnOf}
@@ -160,43 +160,43 @@ but n slip wrong right = cond (eqb n slip) wrong right
 abbrev pub actWith : ℕ → Single → Place → Acted
 actWith n s (Idle a) = actOf s (Idle a)
 actWith n s (A1 x) =
-    but n pushTakesAny (stay (stateTo s filled) (A2 x))
-    (but n pushWaits (cond (same (s .state) (state 0)) (actOf s (A1 x)) (cond (closedIn (s .state)) (actOf s (A1 x)) (stay s (A1 x))))
-    (but n alwaysFull (stay s (Idle (Full x)))
-    (but n pushDrops (cond (same (s .state) (state 0)) (stay s (Idle Pushed)) (actOf s (A1 x)))
-    (but n pushesAnother (cond (same (s .state) (state 0)) (stay (stateTo s filled) (A2 (x + 1))) (actOf s (A1 x))) (actOf s (A1 x))))))
-actWith n s (A2 x) = but n unwritten (stay s A3) (but n unlocksFirst (stay (unlockedIn s) (B2 x)) (actOf s (A2 x)))
+    but n pushTakesAny (goes (stateTo s filled) (A2 x))
+    (but n pushWaits (cond (same (s .state) (state 0)) (actOf s (A1 x)) (cond (closedIn (s .state)) (actOf s (A1 x)) (goes s (A1 x))))
+    (but n alwaysFull (goes s (Idle (Full x)))
+    (but n pushDrops (cond (same (s .state) (state 0)) (goes s (Idle Pushed)) (actOf s (A1 x)))
+    (but n pushesAnother (cond (same (s .state) (state 0)) (goes (stateTo s filled) (A2 (x + 1))) (actOf s (A1 x))) (actOf s (A1 x))))))
+actWith n s (A2 x) = but n unwritten (goes s A3) (but n unlocksFirst (goes (unlockedIn s) (B2 x)) (actOf s (A2 x)))
 actWith n s A3 =
-    but n unlockClearsPushed (stay (stateTo s (state (s .state .0 / 4 * 4))) (Idle Pushed)) (but n staysLocked (stay s (Idle Pushed)) (actOf s A3))
+    but n unlockClearsPushed (goes (stateTo s (state (s .state .0 / 4 * 4))) (Idle Pushed)) (but n staysLocked (goes s (Idle Pushed)) (actOf s A3))
 actWith n s (B1 e x) =
-    but n forceKeepsLocked (cond (closedIn (s .state)) (actOf s (B1 e x)) (cond (same (s .state) e) (actOf s (B1 e x)) (stay s (B1 (s .state) x))))
-    (but n forceKeepsItsWord (cond (closedIn (s .state)) (actOf s (B1 e x)) (cond (same (s .state) e) (actOf s (B1 e x)) (stay s (B1 e x))))
-    (but n forceUnclosed (stay (exchanged s e filled) (cond (same (s .state) e) (cond (pushedIn (s .state)) (B4 x) (B2 x)) (B1 (unlocked (s .state)) x)))
-    (but n forceNeverDisplaces (cond (same (s .state) e) (stay (exchanged s e filled) (B2 x)) (actOf s (B1 e x)))
-    (but n forceAlwaysDisplaces (cond (same (s .state) e) (stay (exchanged s e filled) (B4 x)) (actOf s (B1 e x)))
-    (but n forceDrops (cond (same (s .state) (state 0)) (cond (same e (state 2)) (stay s (Idle Pushed)) (actOf s (B1 e x))) (actOf s (B1 e x))) (actOf s (B1 e x)))))))
+    but n forceKeepsLocked (cond (closedIn (s .state)) (actOf s (B1 e x)) (cond (same (s .state) e) (actOf s (B1 e x)) (goes s (B1 (s .state) x))))
+    (but n forceKeepsItsWord (cond (closedIn (s .state)) (actOf s (B1 e x)) (cond (same (s .state) e) (actOf s (B1 e x)) (goes s (B1 e x))))
+    (but n forceUnclosed (goes (exchanged s e filled) (cond (same (s .state) e) (cond (pushedIn (s .state)) (B4 x) (B2 x)) (B1 (unlocked (s .state)) x)))
+    (but n forceNeverDisplaces (cond (same (s .state) e) (goes (exchanged s e filled) (B2 x)) (actOf s (B1 e x)))
+    (but n forceAlwaysDisplaces (cond (same (s .state) e) (goes (exchanged s e filled) (B4 x)) (actOf s (B1 e x)))
+    (but n forceDrops (cond (same (s .state) (state 0)) (cond (same e (state 2)) (goes s (Idle Pushed)) (actOf s (B1 e x))) (actOf s (B1 e x))) (actOf s (B1 e x)))))))
 actWith n s (B2 x) = actOf s (B2 x)
 actWith n s B3 = actOf s B3
-actWith n s (B4 x) = but n displacesItsOwn (stay (valueTo s x) (B5 x)) (actOf s (B4 x))
+actWith n s (B4 x) = but n displacesItsOwn (goes (valueTo s x) (B5 x)) (actOf s (B4 x))
 actWith n s (B5 old) = actOf s (B5 old)
 actWith n s (C1 e) =
-    but n popKeepsLocked (cond (same (s .state) e) (actOf s (C1 e)) (cond (pushedIn (s .state)) (stay s (C1 (s .state))) (actOf s (C1 e))))
-    (but n popWaits (cond (pushedIn (s .state)) (actOf s (C1 e)) (cond (lockedIn (s .state)) (stay s (C1 e)) (actOf s (C1 e))))
-    (but n popLeavesPushed (cond (same (s .state) e) (stay (stateTo s (state (e .0 + 1))) C2) (actOf s (C1 e)))
-    (but n emptyUnclosed (cond (pushedIn (s .state)) (actOf s (C1 e)) (stay s (Idle Empty)))
-    (but n popKeepsItsWord (cond (same (s .state) e) (actOf s (C1 e)) (cond (pushedIn (s .state)) (stay s (C1 e)) (actOf s (C1 e))))
-    (but n popTakesAny (stay (stateTo s (takenOf (s .state))) C2)
-    (but n popPeeks (cond (same (s .state) e) (stay s (Idle (Popped (s .value)))) (actOf s (C1 e)))
-    (but n emptyIsLocked (cond (lockedIn (s .state)) (stay s (Idle Empty)) (actOf s (C1 e))) (actOf s (C1 e)))))))))
-actWith n s C2 = but n readsAfterUnlock (stay (unlockedIn s) (C3 0)) (but n popsAnother (stay s (C3 (s .value + 1))) (actOf s C2))
-actWith n s (C3 v) = but n readsAfterUnlock (stay s (Idle (Popped (s .value)))) (but n neverLetsGo (stay s C2) (actOf s (C3 v)))
-actWith n s Len1 = but n lenUnlocked (cond (lockedIn (s .state)) (stay s (Idle (Len 0))) (actOf s Len1)) (actOf s Len1)
-actWith n s Empty1 = but n emptyIsZero (stay s (Idle (cond (same (s .state) (state 0)) Yes No))) (actOf s Empty1)
-actWith n s Full1 = but n emptyIsZero (stay s (Idle (cond (same (s .state) (state 0)) No Yes))) (actOf s Full1)
+    but n popKeepsLocked (cond (same (s .state) e) (actOf s (C1 e)) (cond (pushedIn (s .state)) (goes s (C1 (s .state))) (actOf s (C1 e))))
+    (but n popWaits (cond (pushedIn (s .state)) (actOf s (C1 e)) (cond (lockedIn (s .state)) (goes s (C1 e)) (actOf s (C1 e))))
+    (but n popLeavesPushed (cond (same (s .state) e) (goes (stateTo s (state (e .0 + 1))) C2) (actOf s (C1 e)))
+    (but n emptyUnclosed (cond (pushedIn (s .state)) (actOf s (C1 e)) (goes s (Idle Empty)))
+    (but n popKeepsItsWord (cond (same (s .state) e) (actOf s (C1 e)) (cond (pushedIn (s .state)) (goes s (C1 e)) (actOf s (C1 e))))
+    (but n popTakesAny (goes (stateTo s (takenOf (s .state))) C2)
+    (but n popPeeks (cond (same (s .state) e) (goes s (Idle (Popped (s .value)))) (actOf s (C1 e)))
+    (but n emptyIsLocked (cond (lockedIn (s .state)) (goes s (Idle Empty)) (actOf s (C1 e))) (actOf s (C1 e)))))))))
+actWith n s C2 = but n readsAfterUnlock (goes (unlockedIn s) (C3 0)) (but n popsAnother (goes s (C3 (s .value + 1))) (actOf s C2))
+actWith n s (C3 v) = but n readsAfterUnlock (goes s (Idle (Popped (s .value)))) (but n neverLetsGo (goes s C2) (actOf s (C3 v)))
+actWith n s Len1 = but n lenUnlocked (cond (lockedIn (s .state)) (goes s (Idle (Len 0))) (actOf s Len1)) (actOf s Len1)
+actWith n s Empty1 = but n emptyIsZero (goes s (Idle (cond (same (s .state) (state 0)) Yes No))) (actOf s Empty1)
+actWith n s Full1 = but n emptyIsZero (goes s (Idle (cond (same (s .state) (state 0)) No Yes))) (actOf s Full1)
 actWith n s Close1 =
-    but n closeByStore (stay (stateTo s (state 4)) (Idle (cond (closedIn (s .state)) No Yes)))
-    (but n closeAdds (stay (stateTo s (state (s .state .0 + 4))) (Idle (cond (closedIn (s .state)) No Yes)))
-    (but n closeIdle (stay s (Idle Yes)) (actOf s Close1)))
+    but n closeByStore (goes (stateTo s (state 4)) (Idle (cond (closedIn (s .state)) No Yes)))
+    (but n closeAdds (goes (stateTo s (state (s .state .0 + 4))) (Idle (cond (closedIn (s .state)) No Yes)))
+    (but n closeIdle (goes s (Idle Yes)) (actOf s Close1)))
 actWith n s IsClosed1 = actOf s IsClosed1
 
 -- ---- the machine with a slip

@@ -10,7 +10,7 @@ pub fn act_at(s: Single, p: Place) -> Acted
     ensures { λ r. ⌜ r ≡ actOf s p ⌝ }
 {
     match p {
-        Place::Idle(a) => single_acts::stay(s, Place::Idle(a)),
+        Place::Idle(a) => single_acts::goes(s, Place::Idle(a)),
         Place::A1(item) => single_acts::a1(s, item),
         Place::A2(item) => single_acts::a2(s, item),
         Place::A3 => single_acts::a3(s),

@@ -27,7 +27,7 @@ use Rattle.unbounded_machine.specs.Run.{ran, runFrom, runOf}
 use Rattle.unbounded_machine.proofs.Fits.{either}
 use Rattle.unbounded.specs.declared.Bound.{Bound}
 use Rattle.unbounded.specs.declared.Bound.the-variants as bound
-use Rattle.unbounded.specs.Unbounded.{makeOf, stepOf, beginOf, actOf, capacityOf}
+use Rattle.unbounded.specs.Unbounded.{makeOf, stepOf, beginStepOf, actStepOf, capacityOf}
 
 -- ---- a refused entry changes nothing
 abbrev pub Unchanged : Machine → Did → Type 0
@@ -95,29 +95,29 @@ one-entry m first second r e = ap whole e ∙ go (brokenOf sizes m) refl
 
 -- ---- one that begins, one that acts
 module _ (m : Machine) (first second : ℕ) (r : Did) (b : Bool) (e : b ≡ brokenOf sizes m) where
-  pub begin-6 : b ≡ true → r ≡ refused 6 m → r ≡ beginOf sizes m first second
-  unfolding beginOf
+  pub begin-6 : b ≡ true → r ≡ refused 6 m → r ≡ beginStepOf sizes m first second
+  unfolding beginStepOf
   begin-6 h q = yes _ b _ _ _ e h q
 
-  pub act-6 : b ≡ true → r ≡ refused 6 m → r ≡ actOf sizes m first second
-  unfolding actOf
+  pub act-6 : b ≡ true → r ≡ refused 6 m → r ≡ actStepOf sizes m first second
+  unfolding actStepOf
   act-6 h q = yes _ b _ _ _ e h q
 
   module _ (h : b ≡ false) where
-    pub begin-9 : 8 ≤ first % 16 → r ≡ refused 9 m → r ≡ beginOf sizes m first second
-    unfolding beginOf
+    pub begin-9 : 8 ≤ first % 16 → r ≡ refused 9 m → r ≡ beginStepOf sizes m first second
+    unfolding beginStepOf
     begin-9 g q = no _ b _ _ _ e h (above (first % 16) 8 _ _ _ g q)
 
-    pub begin-step : first % 16 < 8 → r ≡ stepOf sizes m first second → r ≡ beginOf sizes m first second
-    unfolding beginOf
+    pub begin-step : first % 16 < 8 → r ≡ stepOf sizes m first second → r ≡ beginStepOf sizes m first second
+    unfolding beginStepOf
     begin-step g q = no _ b _ _ _ e h (below (first % 16) 8 _ _ _ g q)
 
-    pub act-9 : first % 16 < 8 → r ≡ refused 9 m → r ≡ actOf sizes m first second
-    unfolding actOf
+    pub act-9 : first % 16 < 8 → r ≡ refused 9 m → r ≡ actStepOf sizes m first second
+    unfolding actStepOf
     act-9 g q = no _ b _ _ _ e h (below (first % 16) 8 _ _ _ g q)
 
-    pub act-step : 8 ≤ first % 16 → r ≡ stepOf sizes m first second → r ≡ actOf sizes m first second
-    unfolding actOf
+    pub act-step : 8 ≤ first % 16 → r ≡ stepOf sizes m first second → r ≡ actStepOf sizes m first second
+    unfolding actStepOf
     act-step g q = no _ b _ _ _ e h (above (first % 16) 8 _ _ _ g q)
 
 -- ---- making and capacity

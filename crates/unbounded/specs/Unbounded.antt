@@ -21,13 +21,13 @@ abbrev pub stepOf : Sizes → Machine → ℕ → ℕ → Did
 stepOf = turnOf
 
 -- Order: begin 6, 9, 3, 4. Codes 0 to 7 begin a call (code 1 is 9); any other is an entry that can't be read as a beginning.
-unfoldable pub beginOf : Sizes → Machine → ℕ → ℕ → Did
-beginOf z m first second =
+unfoldable pub beginStepOf : Sizes → Machine → ℕ → ℕ → Did
+beginStepOf z m first second =
     cond (brokenOf z m) (refused 6 m) (cond (ltb (first % 16) 8) (turnOf z m first second) (refused 9 m))
 
 -- Order: act 6, 9, 3, 5, 7, 8, 23. Codes 8 and 9 act; any other is an entry that can't be read as an act.
-unfoldable pub actOf : Sizes → Machine → ℕ → ℕ → Did
-actOf z m first second =
+unfoldable pub actStepOf : Sizes → Machine → ℕ → ℕ → Did
+actStepOf z m first second =
     cond (brokenOf z m) (refused 6 m) (cond (ltb (first % 16) 8) (refused 9 m) (turnOf z m first second))
 
 -- `capacity`: 6, else none (the crate's dispatch answers None for this queue).

@@ -6,7 +6,7 @@ ghost use Rattle.unbounded_words.specs.Words.{sizes};
 ghost use Rattle.unbounded_machine.specs.Broken.{brokenOf};
 ghost use Rattle.unbounded_machine.specs.Contents.{countIn, contentsRefusal, written};
 ghost use Rattle.unbounded_machine.specs.Run.{runOf};
-ghost use Rattle.unbounded.specs.Unbounded.{makeOf, stepOf, beginOf, actOf, capacityOf};
+ghost use Rattle.unbounded.specs.Unbounded.{makeOf, stepOf, beginStepOf, actStepOf, capacityOf};
 use queue_entries::Told;
 use unbounded_machine::Did;
 use unbounded_machine::Machine;
@@ -122,7 +122,7 @@ pub fn step(m: Machine, first: u64, second: u64) -> Did
 
 // One entry that begins a call; another's code can't be read here: refusal 9.
 pub fn begin(m: Machine, first: u64, second: u64) -> Did
-    ensures { λ r. ⌜ r ≡ beginOf sizes m first second ⌝ }
+    ensures { λ r. ⌜ r ≡ beginStepOf sizes m first second ⌝ }
 {
     if broken(m) {
         return unbounded_machine::refuse(m, 6);
@@ -136,7 +136,7 @@ pub fn begin(m: Machine, first: u64, second: u64) -> Did
 
 // One entry that acts; another's code can't be read here: refusal 9.
 pub fn act(m: Machine, first: u64, second: u64) -> Did
-    ensures { λ r. ⌜ r ≡ actOf sizes m first second ⌝ }
+    ensures { λ r. ⌜ r ≡ actStepOf sizes m first second ⌝ }
 {
     if broken(m) {
         return unbounded_machine::refuse(m, 6);

@@ -100,14 +100,14 @@ module _ (m : Machine) where
         go true l = wider beginnings steps (turnOf sizes m a b .refusal) refl (turn-begin l)
         go false l = wider takings steps (turnOf sizes m a b .refusal) refl (turn-act l)
 
-    begin-among : Among beginnings (face.beginOf sizes m a b)
-    unfolding face.beginOf has refused
+    begin-among : Among beginnings (face.beginStepOf sizes m a b)
+    unfolding face.beginStepOf has refused
     begin-among =
         picked (Among beginnings) (brokenOf sizes m) (refused 6 m) _ refl
         (either (Among beginnings) (ltb (a % 16) 8) (turnOf sizes m a b) (refused 9 m) turn-begin (λ l. refl))
 
-    act-among : Among takings (face.actOf sizes m a b)
-    unfolding face.actOf has refused
+    act-among : Among takings (face.actStepOf sizes m a b)
+    unfolding face.actStepOf has refused
     act-among =
         picked (Among takings) (brokenOf sizes m) (refused 6 m) _ refl
         (either (Among takings) (ltb (a % 16) 8) (refused 9 m) (turnOf sizes m a b) (λ l. refl) turn-act)

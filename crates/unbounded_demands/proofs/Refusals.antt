@@ -40,8 +40,8 @@ pub only-one : OnlyOne
 only-one = record {
   make = (λ w. one (face.makeOf sizes w));
   step = (λ m a b. one (face.stepOf sizes m a b));
-  begin = (λ m a b. one (face.beginOf sizes m a b));
-  act = (λ m a b. one (face.actOf sizes m a b));
+  begin = (λ m a b. one (face.beginStepOf sizes m a b));
+  act = (λ m a b. one (face.actStepOf sizes m a b));
   run = (λ m s. one (runOf sizes m s));
   contents = (λ m before x y a b p q. (one _ x y (p .0) (q .0), one _ a b (p .1) (q .1)));
   capacity = (λ m. one _);
@@ -68,14 +68,14 @@ pub turn-kept : (m : Machine) (a b : ℕ) → Kept m (turnOf sizes m a b)
 turn-kept m a b h = turn-unchanged m a b (ne-eqb _ _ h)
 
 module _ (m : Machine) (a b : ℕ) where
-  begin-kept : Kept m (face.beginOf sizes m a b)
-  unfolding face.beginOf
+  begin-kept : Kept m (face.beginStepOf sizes m a b)
+  unfolding face.beginStepOf
   begin-kept =
       picked (Kept m) (brokenOf sizes m) (refused 6 m) _ (refused-kept 6 m)
       (picked (Kept m) (ltb (a % 16) 8) (turnOf sizes m a b) (refused 9 m) (turn-kept m a b) (refused-kept 9 m))
 
-  act-kept : Kept m (face.actOf sizes m a b)
-  unfolding face.actOf
+  act-kept : Kept m (face.actStepOf sizes m a b)
+  unfolding face.actStepOf
   act-kept =
       picked (Kept m) (brokenOf sizes m) (refused 6 m) _ (refused-kept 6 m)
       (picked (Kept m) (ltb (a % 16) 8) (refused 9 m) (turnOf sizes m a b) (refused-kept 9 m) (turn-kept m a b))

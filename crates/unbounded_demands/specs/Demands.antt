@@ -44,7 +44,7 @@ use Rattle.unbounded_machine.specs.Turn.{entryHere, lowestFree}
 use Rattle.unbounded_machine.specs.Run.{ran, runFrom, runOf}
 use Rattle.unbounded_machine.specs.History.{eventsOf}
 use Rattle.unbounded.specs.declared.Bound.{Bound}
-use Rattle.unbounded.specs.Unbounded.{makeOf, stepOf, beginOf, actOf, capacityOf}
+use Rattle.unbounded.specs.Unbounded.{makeOf, stepOf, beginStepOf, actStepOf, capacityOf}
 use Rattle.unbounded_demands.specs.Notions.{Definition, Allowed, machineAfter, actsOf, Acts, Asking, Pushing, Popping, Reads, valueAt, stateAt, takingsOf, freeingsOf, signOf, HandsOut, itemsOf, takersOf, LatestIn, ItemIn, waiting, Fifo, position, Truth, chained}
 use Rattle.unbounded_demands.specs.Waiting.{PushingIn, PoppingIn, OneSlot, Crossing, Tying, Leaving, Fronting, pushLeft, passed, ownActs, Holding, popMost, pushMost, lookMost}
 use Rattle.unbounded_demands.specs.Attained.{Case, seenBy, exactly, oldPops, crossingPops, endingPops, beginningPushes, goingPushes, endingPushes}
@@ -184,8 +184,8 @@ pub record RefusedUnchanged : Type 0 where
   -- refusal 2 returns the blank machine
   pub make : (workers : ℕ) → (makeOf sizes workers .refusal ≡ 0 → ⊥) → makeOf sizes workers .machine ≡ blank sizes
   pub step : (m : Machine) (first second : ℕ) → (stepOf sizes m first second .refusal ≡ 0 → ⊥) → stepOf sizes m first second .machine ≡ m
-  pub begin : (m : Machine) (first second : ℕ) → (beginOf sizes m first second .refusal ≡ 0 → ⊥) → beginOf sizes m first second .machine ≡ m
-  pub act : (m : Machine) (first second : ℕ) → (actOf sizes m first second .refusal ≡ 0 → ⊥) → actOf sizes m first second .machine ≡ m
+  pub begin : (m : Machine) (first second : ℕ) → (beginStepOf sizes m first second .refusal ≡ 0 → ⊥) → beginStepOf sizes m first second .machine ≡ m
+  pub act : (m : Machine) (first second : ℕ) → (actStepOf sizes m first second .refusal ≡ 0 → ⊥) → actStepOf sizes m first second .machine ≡ m
   -- a schedule that is refused at a place leaves what the entries before that place leave: they stand, and no more
   pub run : (m : Machine) (s : List ℕ) → (runOf sizes m s .refusal ≡ 0 → ⊥) → (runOf sizes m s .refusal ≡ 9 → ⊥)
       → runOf sizes m s .machine ≡ runOf sizes m (take (2 * runOf sizes m s .place) s) .machine
@@ -207,8 +207,8 @@ refusals =
     record {
       make = λ workers. makeOf sizes workers .refusal;
       step = λ m first second. stepOf sizes m first second .refusal;
-      begin = λ m first second. beginOf sizes m first second .refusal;
-      act = λ m first second. actOf sizes m first second .refusal;
+      begin = λ m first second. beginStepOf sizes m first second .refusal;
+      act = λ m first second. actStepOf sizes m first second .refusal;
       run = λ m s. runOf sizes m s .refusal;
       contents = contentsRefusal sizes;
     }
@@ -257,8 +257,8 @@ pub record EnumsBothWays : Type 0 where
 pub record OnlyOne : Type 0 where
   pub make : (workers : ℕ) (x y : Did) → x ≡ makeOf sizes workers → y ≡ makeOf sizes workers → x ≡ y
   pub step : (m : Machine) (first second : ℕ) (x y : Did) → x ≡ stepOf sizes m first second → y ≡ stepOf sizes m first second → x ≡ y
-  pub begin : (m : Machine) (first second : ℕ) (x y : Did) → x ≡ beginOf sizes m first second → y ≡ beginOf sizes m first second → x ≡ y
-  pub act : (m : Machine) (first second : ℕ) (x y : Did) → x ≡ actOf sizes m first second → y ≡ actOf sizes m first second → x ≡ y
+  pub begin : (m : Machine) (first second : ℕ) (x y : Did) → x ≡ beginStepOf sizes m first second → y ≡ beginStepOf sizes m first second → x ≡ y
+  pub act : (m : Machine) (first second : ℕ) (x y : Did) → x ≡ actStepOf sizes m first second → y ≡ actStepOf sizes m first second → x ≡ y
   pub run : (m : Machine) (s : List ℕ) (x y : Ran) → x ≡ runOf sizes m s → y ≡ runOf sizes m s → x ≡ y
   pub contents : (m : Machine) (before : List ℕ) (x y : Told) (a b : List ℕ)
       → (x ≡ told (contentsRefusal sizes m (length before)) (countIn sizes m)) × (a ≡ written sizes m before)

@@ -9,7 +9,7 @@ use Rattle.unbounded_words.specs.Words.{index}
 use Rattle.unbounded_places.specs.declared.Block.{Block}
 use Rattle.unbounded_machine.specs.Drop.{walkFrom, walkOf}
 use Rattle.unbounded_machine.specs.Contents.{countIn, contentsRefusal}
-use Rattle.unbounded.specs.Unbounded.{makeOf, beginOf}
+use Rattle.unbounded.specs.Unbounded.{makeOf, beginStepOf}
 use Rattle.unbounded.specs.Unbounded as face
 use Rattle.queue_entries.specs.Schedules.{runBy, searchBy, scheduleBy}
 use Rattle.queue_entries.specs.Entries.{strayOf, orderOf, entryOf, entryBut}
@@ -104,7 +104,7 @@ pub each-number : EachNumber refusals
 unfolding pastSlots lastSlot markedOf unmarkedOf withMark later same samePosition sameBlock minus settled behind countOf strayOf orderOf entryOf leave headTo
     frontTo tailTo backTo nextTo freed stateTo valueTo has with firstOr answered lacksNext pushFrom setAside claimed takeOr popFrom newHead taken nextIndex
     destroyFrom readOut destroyIf live freeBlocks emptySlots idlers freshOf blank refused accepted all inLimits recordFits recordsFit allIdle dropFits brokenIn
-    entryBut lowestFrom lowestFree clearedFrom cleared begun stored actedAt movedBy turnWith ran runBy searchBy scheduleBy acts makeOf beginOf face.actOf
+    entryBut lowestFrom lowestFree clearedFrom cleared begun stored actedAt movedBy turnWith ran runBy searchBy scheduleBy acts makeOf beginStepOf face.actStepOf
 each-number =
     record {
       make = refl;

@@ -5,7 +5,7 @@ use Rattle.bounded.proofs.capacity.Tie as tie
 use Rattle.bounded.proofs.capacity.Reads as reads
 use Rattle.bounded.proofs.capacity.Lts as lts
 use Rattle.bounded_machine.proofs.broken.Reads as broken-reads
-use Rattle.bounded_parts.proofs.capacity_told.Reads as capacity-told-reads
+use Rattle.bounded_orders.proofs.capacity_told.Reads as capacity-told-reads
 
 -- src/lib.rt:44:34
 broken-requires : tie.Need-broken-requires

@@ -6,7 +6,7 @@ use Rattle.bounded.proofs.contents.Reads as reads
 use Rattle.bounded.proofs.contents.Lts as lts
 use Rattle.bounded_machine.proofs.all_idle.Reads as all-idle-reads
 use Rattle.bounded_machine.proofs.broken.Reads as broken-reads
-use Rattle.bounded_parts.proofs.contents_by.Reads as contents-by-reads
+use Rattle.bounded_orders.proofs.contents_by.Reads as contents-by-reads
 
 -- src/lib.rt:54:16
 all-idle-requires : tie.Need-all-idle-requires

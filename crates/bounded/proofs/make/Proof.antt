@@ -3,8 +3,8 @@ use Rattle.bounded_machine.proofs.accept.Reads as accept-reads
 use Rattle.bounded_machine.proofs.blank.Reads as blank-reads
 use Rattle.bounded_machine.proofs.fresh.Reads as fresh-reads
 use Rattle.bounded_machine.proofs.refuse.Reads as refuse-reads
-use Rattle.bounded_parts.proofs.Making.{slots-few}
-use Rattle.bounded_parts.proofs.make_refusal.Reads as make-refusal-reads
+use Rattle.bounded_orders.proofs.Making.{slots-few}
+use Rattle.bounded_orders.proofs.make_refusal.Reads as make-refusal-reads
 use Rattle.bounded.proofs.Answers.{made, turned}
 use Rattle.bounded.proofs.make.Statement.{statement}
 use Rattle.bounded.proofs.make.Tie as tie

@@ -7,7 +7,7 @@ use Rattle.bounded_forces.proofs.f6.Lts as lts
 use Rattle.bounded_acts.proofs.exchange.Reads as exchange-reads
 use Rattle.bounded_forces.proofs.head_to_lap_before_next.Reads as head-to-lap-before-next-reads
 use Rattle.bounded_acts.proofs.losing.Reads as losing-reads
-use Rattle.bounded_acts.proofs.stay.Reads as stay-reads
+use Rattle.bounded_acts.proofs.goes.Reads as goes-reads
 use Rattle.bounded_words.proofs.earlier.Reads as earlier-reads
 
 -- src/lib.rt:60:9
@@ -27,8 +27,8 @@ head-to-lap-before-next-requires : tie.Need-head-to-lap-before-next-requires
 head-to-lap-before-next-requires c κs = search needs
 
 -- src/lib.rt:62:26
-stay-requires : tie.Need-stay-requires
-stay-requires c κs = search needs
+goes-requires : tie.Need-goes-requires
+goes-requires c κs = search needs
 
 -- src/lib.rt:63:57
 enum-told-2 : tie.Need-enum-told-2
@@ -66,7 +66,7 @@ f6-spec =
     exchange-requires
     enum-told
     head-to-lap-before-next-requires
-    stay-requires
+    goes-requires
     enum-told-2
     losing-requires
     enum-told-3

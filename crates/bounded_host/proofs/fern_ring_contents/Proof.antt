@@ -5,7 +5,7 @@ use Rattle.bounded_host.proofs.fern_ring_contents.Tie as tie
 use Rattle.bounded_host.proofs.fern_ring_contents.Reads as reads
 use Rattle.bounded_host.proofs.fern_ring_contents.Lts as lts
 use Rattle.bounded_host.proofs.reply_of.Reads as reply-of-reads
-use Rattle.bounded_parts.proofs.contents_on.Reads as contents-on-reads
+use Rattle.bounded_orders.proofs.contents_on.Reads as contents-on-reads
 use Rattle.bounded_rows.proofs.ends_in.Reads as ends-in-reads
 use Rattle.bounded_rows.proofs.fixed_in.Reads as fixed-in-reads
 use Rattle.bounded_slices.proofs.broken.Reads as broken-reads

@@ -4,7 +4,7 @@ use Rattle.bounded_host.proofs.fern_ring_make.Statement.{statement}
 use Rattle.bounded_host.proofs.fern_ring_make.Tie as tie
 use Rattle.bounded_host.proofs.fern_ring_make.Reads as reads
 use Rattle.bounded_host.proofs.fern_ring_make.Lts as lts
-use Rattle.bounded_parts.proofs.make.Reads as make-reads
+use Rattle.bounded_orders.proofs.make.Reads as make-reads
 use Rattle.bounded_slices.proofs.put_ring.Reads as put-ring-reads
 use Rattle.bounded_slices.proofs.put_slots.Reads as put-slots-reads
 use Rattle.bounded_slices.proofs.put_zeros.Reads as put-zeros-reads

@@ -6,8 +6,8 @@ use Rattle.bounded_host.proofs.fern_ring_run.Statement.{statement}
 use Rattle.bounded_host.proofs.fern_ring_run.Tie as tie
 use Rattle.bounded_host.proofs.fern_ring_run.Reads as reads
 use Rattle.bounded_host.proofs.fern_ring_run.Lts as lts
-use Rattle.bounded_parts.proofs.entries_of.Reads as entries-of-reads
-use Rattle.bounded_parts.proofs.judged.Reads as judged-reads
+use Rattle.bounded_orders.proofs.entries_of.Reads as entries-of-reads
+use Rattle.bounded_orders.proofs.judged.Reads as judged-reads
 use Rattle.bounded_rows.proofs.turn.Reads as turn-reads
 use Rattle.bounded_slices.proofs.broken.Reads as broken-reads
 

@@ -41,24 +41,24 @@ use denote.Exit.{yes}
 use base.Logic.{via}
 use Rattle.bounded_words.specs.Words.{Fair}
 use Rattle.bounded_places.specs.declared.Worker.{Worker}
-use Rattle.bounded_parts.specs.Parts.{ringFitsLent}
-use Rattle.bounded_parts.specs.declared.Metered.{Metered}
+use Rattle.bounded_orders.specs.Orders.{ringFitsLent}
+use Rattle.bounded_orders.specs.declared.Metered.{Metered}
 use Rattle.bounded_lent.specs.Lent.{eachFits, brokenLent}
 use Rattle.bounded_lent.proofs.Holes.{inside, known-in, part-look, part-is, look-by, knows, looks-part, shuts-part}
 use Rattle.bounded_lent.proofs.Calls.{calls-value, calls-with, asks}
 use Rattle.bounded_lent.proofs.Parts.{metered-known, fixed-known, ends-known, word-known, bool-known, fixed-hole, ends-hole, meter-hole}
 use Rattle.bounded_lent.proofs.Turning.{ring-fair, ring-broken, records-broken}
-use Rattle.bounded_parts.proofs.Metered as T
+use Rattle.bounded_orders.proofs.Metered as T
 use Rattle.bounded_machine.proofs.Ring as G
 use Rattle.bounded_words.proofs.Fixed as F
 use Rattle.bounded_words.proofs.Fixed.Laws as F′
 use Rattle.bounded_places.proofs.Ends as E
 use Rattle.bounded_places.proofs.Ends.Laws as E′
 use Rattle.bounded_places.proofs.Worker as R
-use Rattle.bounded_parts.proofs.ring_fits as ring-fits
-use Rattle.bounded_parts.proofs.ring_fits.Symbol as ring-fits-def
-use Rattle.bounded_parts.proofs.ring_fits.Symbol.{name as #ring-fits}
-use Rattle.bounded_parts.proofs.ring_fits.Met as ring-fits-thm
+use Rattle.bounded_orders.proofs.ring_fits as ring-fits
+use Rattle.bounded_orders.proofs.ring_fits.Symbol as ring-fits-def
+use Rattle.bounded_orders.proofs.ring_fits.Symbol.{name as #ring-fits}
+use Rattle.bounded_orders.proofs.ring_fits.Met as ring-fits-thm
 use Rattle.bounded_lent.proofs.records_fit as records-fit
 use Rattle.bounded_lent.proofs.records_fit.Symbol as records-fit-def
 use Rattle.bounded_lent.proofs.records_fit.Symbol.{name as #records-fit}
@@ -181,5 +181,5 @@ broken-spec 𝓤 H 𝓜 𝓖 𝓡 =
     entered 𝓤 H (tripleOf 𝓤 H (𝓖 .A) f.signature (f.spec 𝓤 H (𝓖 .A) (𝓜 .mem) (𝓡 .run)))
     (tables 𝓤 H 𝓜 𝓡 code.env .C) (tables 𝓤 H 𝓜 𝓡 code.env .Λ) #broken code.function (code.unfolded 𝓤 H 𝓜 𝓡)
     (meets 𝓤 H (𝓖 .A) (givenOf 𝓤 H 𝓜 𝓖) (𝓜 .mem) (𝓡 .run) (tablesOf 𝓤 H 𝓜 (tables 𝓤 H 𝓜 𝓡 code.env))
-    (cited 𝓤 H (tripleOf 𝓤 H (𝓖 .A) ring-fits.signature (ring-fits.spec 𝓤 H (𝓖 .A) (𝓜 .mem) (𝓡 .run))) 𝓜 𝓡 code.env #ring-fits ring-fits-def.routine code.calls-bounded-parts·ring-fits (ring-fits-thm.met 𝓤 H 𝓜 𝓖 𝓡))
+    (cited 𝓤 H (tripleOf 𝓤 H (𝓖 .A) ring-fits.signature (ring-fits.spec 𝓤 H (𝓖 .A) (𝓜 .mem) (𝓡 .run))) 𝓜 𝓡 code.env #ring-fits ring-fits-def.routine code.calls-bounded-orders·ring-fits (ring-fits-thm.met 𝓤 H 𝓜 𝓖 𝓡))
     (cited 𝓤 H (tripleOf 𝓤 H (𝓖 .A) records-fit.signature (records-fit.spec 𝓤 H (𝓖 .A) (𝓜 .mem) (𝓡 .run))) 𝓜 𝓡 code.env #records-fit records-fit-def.routine code.calls-bounded-lent·records-fit (records-fit-thm.met 𝓤 H 𝓜 𝓖 𝓡)))

@@ -38,23 +38,23 @@ use denote.Triple.Walked.{says, Stays, stay-none-ref, stay-none-slice, walkOf, g
 use denote.Exit.{yes}
 use Rattle.queue_entries.specs.declared.Told.{Told}
 use Rattle.bounded_places.specs.declared.Worker.{Worker}
-use Rattle.bounded_parts.specs.Parts.{capacityTold}
-use Rattle.bounded_parts.specs.declared.Metered.{Metered}
+use Rattle.bounded_orders.specs.Orders.{capacityTold}
+use Rattle.bounded_orders.specs.declared.Metered.{Metered}
 use Rattle.bounded_lent.specs.Lent.{brokenLent, capacityLent}
 use Rattle.bounded_lent.proofs.Holes.{Known, inside, known-in, part-look, part-is, look-by, knows, looks-part, shuts-part}
 use Rattle.bounded_lent.proofs.Calls.{calls-value, calls-with, asks}
 use Rattle.bounded_lent.proofs.Parts.{metered-known, fixed-known, bool-known, told-known, fixed-hole}
-use Rattle.bounded_parts.proofs.Metered as T
+use Rattle.bounded_orders.proofs.Metered as T
 use Rattle.bounded_machine.proofs.Ring as G
 use Rattle.bounded_words.proofs.Fixed as F
 use Rattle.bounded_words.proofs.Fixed.Laws as F′
 use Rattle.bounded_places.proofs.Worker as R
 use Rattle.queue_entries.proofs.Told as Z
 use Rattle.queue_entries.proofs.Told.Laws as Z′
-use Rattle.bounded_parts.proofs.capacity_told as capacity-told
-use Rattle.bounded_parts.proofs.capacity_told.Symbol as capacity-told-def
-use Rattle.bounded_parts.proofs.capacity_told.Symbol.{name as #capacity-told}
-use Rattle.bounded_parts.proofs.capacity_told.Met as capacity-told-thm
+use Rattle.bounded_orders.proofs.capacity_told as capacity-told
+use Rattle.bounded_orders.proofs.capacity_told.Symbol as capacity-told-def
+use Rattle.bounded_orders.proofs.capacity_told.Symbol.{name as #capacity-told}
+use Rattle.bounded_orders.proofs.capacity_told.Met as capacity-told-thm
 use Rattle.bounded_lent.proofs.broken as broken
 use Rattle.bounded_lent.proofs.broken.Symbol as broken-def
 use Rattle.bounded_lent.proofs.broken.Symbol.{name as #broken}
@@ -161,4 +161,4 @@ capacity-spec 𝓤 H 𝓜 𝓖 𝓡 =
     (tables 𝓤 H 𝓜 𝓡 code.env .C) (tables 𝓤 H 𝓜 𝓡 code.env .Λ) #capacity code.function (code.unfolded 𝓤 H 𝓜 𝓡)
     (meets 𝓤 H (𝓖 .A) (givenOf 𝓤 H 𝓜 𝓖) (𝓜 .mem) (𝓡 .run) (tablesOf 𝓤 H 𝓜 (tables 𝓤 H 𝓜 𝓡 code.env))
     (cited 𝓤 H (tripleOf 𝓤 H (𝓖 .A) broken.signature (broken.spec 𝓤 H (𝓖 .A) (𝓜 .mem) (𝓡 .run))) 𝓜 𝓡 code.env #broken broken-def.routine code.calls-bounded-lent·broken (broken-thm.met 𝓤 H 𝓜 𝓖 𝓡))
-    (cited 𝓤 H (tripleOf 𝓤 H (𝓖 .A) capacity-told.signature (capacity-told.spec 𝓤 H (𝓖 .A) (𝓜 .mem) (𝓡 .run))) 𝓜 𝓡 code.env #capacity-told capacity-told-def.routine code.calls-bounded-parts·capacity-told (capacity-told-thm.met 𝓤 H 𝓜 𝓖 𝓡)))
+    (cited 𝓤 H (tripleOf 𝓤 H (𝓖 .A) capacity-told.signature (capacity-told.spec 𝓤 H (𝓖 .A) (𝓜 .mem) (𝓡 .run))) 𝓜 𝓡 code.env #capacity-told capacity-told-def.routine code.calls-bounded-orders·capacity-told (capacity-told-thm.met 𝓤 H 𝓜 𝓖 𝓡)))

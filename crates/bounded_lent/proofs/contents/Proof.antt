@@ -46,8 +46,8 @@ use Rattle.queue_entries.specs.declared.Told.{Told}
 use Rattle.queue_entries.specs.declared.Told.the-variants.{Refused}
 use Rattle.bounded_words.specs.Words.{Fair}
 use Rattle.bounded_places.specs.declared.Worker.{Worker}
-use Rattle.bounded_parts.specs.declared.Metered.{Metered}
-use Rattle.bounded_parts.specs.Parts.{Filled, filled, contentsOn}
+use Rattle.bounded_orders.specs.declared.Metered.{Metered}
+use Rattle.bounded_orders.specs.Orders.{Filled, filled, contentsOn}
 use Rattle.bounded_lent.specs.Lent.{eachFits, brokenLent, contentsLent}
 use Rattle.bounded_lent.proofs.Holes.{Known, inside, known-in, part-look, part-is, look-by, knows, looks-part, shuts-part}
 use Rattle.bounded_lent.proofs.Calls.{calls-value, calls-with, asks}
@@ -55,7 +55,7 @@ use Rattle.bounded_lent.proofs.Lending.{calls-filled}
 use Rattle.bounded_lent.proofs.Parts.{metered-known, fixed-known, ring-known, word-known, bool-known, told-known, ring-of, fixed-hole, meter-hole}
 use Rattle.bounded_lent.proofs.Turning.{unbroken-lent, fair-lent}
 use Rattle.bounded_lent.proofs.Listing.{six-first, listed}
-use Rattle.bounded_parts.proofs.Metered as T
+use Rattle.bounded_orders.proofs.Metered as T
 use Rattle.bounded_machine.proofs.Ring as G
 use Rattle.bounded_machine.proofs.Ring.Laws as G′
 use Rattle.bounded_words.proofs.Fixed as F
@@ -63,14 +63,14 @@ use Rattle.bounded_words.proofs.Fixed.Laws as F′
 use Rattle.bounded_places.proofs.Worker as R
 use Rattle.queue_entries.proofs.Told as Z
 use Rattle.queue_entries.proofs.Told.Laws as Z′
-use Rattle.bounded_parts.proofs.refused as refused
-use Rattle.bounded_parts.proofs.refused.Symbol as refused-def
-use Rattle.bounded_parts.proofs.refused.Symbol.{name as #refused}
-use Rattle.bounded_parts.proofs.refused.Met as refused-thm
-use Rattle.bounded_parts.proofs.contents_on as contents-on
-use Rattle.bounded_parts.proofs.contents_on.Symbol as contents-on-def
-use Rattle.bounded_parts.proofs.contents_on.Symbol.{name as #contents-on}
-use Rattle.bounded_parts.proofs.contents_on.Met as contents-on-thm
+use Rattle.bounded_orders.proofs.refused as refused
+use Rattle.bounded_orders.proofs.refused.Symbol as refused-def
+use Rattle.bounded_orders.proofs.refused.Symbol.{name as #refused}
+use Rattle.bounded_orders.proofs.refused.Met as refused-thm
+use Rattle.bounded_orders.proofs.contents_on as contents-on
+use Rattle.bounded_orders.proofs.contents_on.Symbol as contents-on-def
+use Rattle.bounded_orders.proofs.contents_on.Symbol.{name as #contents-on}
+use Rattle.bounded_orders.proofs.contents_on.Met as contents-on-thm
 use Rattle.bounded_lent.proofs.broken as broken
 use Rattle.bounded_lent.proofs.broken.Symbol as broken-def
 use Rattle.bounded_lent.proofs.broken.Symbol.{name as #broken}
@@ -267,6 +267,6 @@ contents-spec 𝓤 H 𝓜 𝓖 𝓡 =
     (tables 𝓤 H 𝓜 𝓡 code.env .C) (tables 𝓤 H 𝓜 𝓡 code.env .Λ) #contents code.function (code.unfolded 𝓤 H 𝓜 𝓡)
     (meets 𝓤 H (𝓖 .A) (givenOf 𝓤 H 𝓜 𝓖) (𝓜 .mem) (𝓡 .run) (tablesOf 𝓤 H 𝓜 (tables 𝓤 H 𝓜 𝓡 code.env))
     (cited 𝓤 H (tripleOf 𝓤 H (𝓖 .A) broken.signature (broken.spec 𝓤 H (𝓖 .A) (𝓜 .mem) (𝓡 .run))) 𝓜 𝓡 code.env #broken broken-def.routine code.calls-bounded-lent·broken (broken-thm.met 𝓤 H 𝓜 𝓖 𝓡))
-    (cited 𝓤 H (tripleOf 𝓤 H (𝓖 .A) refused.signature (refused.spec 𝓤 H (𝓖 .A) (𝓜 .mem) (𝓡 .run))) 𝓜 𝓡 code.env #refused refused-def.routine code.calls-bounded-parts·refused (refused-thm.met 𝓤 H 𝓜 𝓖 𝓡))
+    (cited 𝓤 H (tripleOf 𝓤 H (𝓖 .A) refused.signature (refused.spec 𝓤 H (𝓖 .A) (𝓜 .mem) (𝓡 .run))) 𝓜 𝓡 code.env #refused refused-def.routine code.calls-bounded-orders·refused (refused-thm.met 𝓤 H 𝓜 𝓖 𝓡))
     (cited 𝓤 H (tripleOf 𝓤 H (𝓖 .A) records-fit.signature (records-fit.spec 𝓤 H (𝓖 .A) (𝓜 .mem) (𝓡 .run))) 𝓜 𝓡 code.env #records-fit records-fit-def.routine code.calls-bounded-lent·records-fit (records-fit-thm.met 𝓤 H 𝓜 𝓖 𝓡))
-    (cited 𝓤 H (tripleOf 𝓤 H (𝓖 .A) contents-on.signature (contents-on.spec 𝓤 H (𝓖 .A) (𝓜 .mem) (𝓡 .run))) 𝓜 𝓡 code.env #contents-on contents-on-def.routine code.calls-bounded-parts·contents-on (contents-on-thm.met 𝓤 H 𝓜 𝓖 𝓡)))
+    (cited 𝓤 H (tripleOf 𝓤 H (𝓖 .A) contents-on.signature (contents-on.spec 𝓤 H (𝓖 .A) (𝓜 .mem) (𝓡 .run))) 𝓜 𝓡 code.env #contents-on contents-on-def.routine code.calls-bounded-orders·contents-on (contents-on-thm.met 𝓤 H 𝓜 𝓖 𝓡)))

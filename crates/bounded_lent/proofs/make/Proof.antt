@@ -47,8 +47,8 @@ use denote.Exit.{yes}
 use Rattle.bounded_places.specs.declared.Worker.{Worker}
 use Rattle.bounded_machine.specs.Machine.{recordOf, idler}
 use Rattle.bounded_machine.proofs.Kept.{either}
-use Rattle.bounded_parts.specs.declared.Made.{Made}
-use Rattle.bounded_parts.specs.Parts.{madeOf, unlessRefused}
+use Rattle.bounded_orders.specs.declared.Made.{Made}
+use Rattle.bounded_orders.specs.Orders.{madeOf, unlessRefused}
 use Rattle.bounded_lent.specs.Lent.{lent, makeLent}
 use Rattle.bounded_lent.proofs.Holes.{Known, inside, part-put, elem-put, store-by}
 use Rattle.bounded_lent.proofs.Calls.{calls-value, asks}
@@ -56,20 +56,20 @@ use Rattle.bounded_lent.proofs.Parts.{declared, worker-known, word-know
 use Rattle.bounded_lent.proofs.Making.{idleFirst, none-idle, one-more, made-lent}
 use Rattle.bounded_places.proofs.Worker as R
 use Rattle.bounded_places.proofs.Worker.Laws as R′
-use Rattle.bounded_parts.proofs.Made as Y
-use Rattle.bounded_parts.proofs.Made.Laws as Y′
-use Rattle.bounded_parts.proofs.make as make-ring
-use Rattle.bounded_parts.proofs.make.Symbol as make-ring-def
-use Rattle.bounded_parts.proofs.make.Symbol.{name as #make-ring}
-use Rattle.bounded_parts.proofs.make.Met as make-ring-thm
-use Rattle.bounded_parts.proofs.unless_refused as unless-refused
-use Rattle.bounded_parts.proofs.unless_refused.Symbol as unless-refused-def
-use Rattle.bounded_parts.proofs.unless_refused.Symbol.{name as #unless-refused}
-use Rattle.bounded_parts.proofs.unless_refused.Met as unless-refused-thm
-use Rattle.bounded_parts.proofs.idle as idle
-use Rattle.bounded_parts.proofs.idle.Symbol as idle-def
-use Rattle.bounded_parts.proofs.idle.Symbol.{name as #idle}
-use Rattle.bounded_parts.proofs.idle.Met as idle-thm
+use Rattle.bounded_orders.proofs.Made as Y
+use Rattle.bounded_orders.proofs.Made.Laws as Y′
+use Rattle.bounded_orders.proofs.make as make-ring
+use Rattle.bounded_orders.proofs.make.Symbol as make-ring-def
+use Rattle.bounded_orders.proofs.make.Symbol.{name as #make-ring}
+use Rattle.bounded_orders.proofs.make.Met as make-ring-thm
+use Rattle.bounded_orders.proofs.unless_refused as unless-refused
+use Rattle.bounded_orders.proofs.unless_refused.Symbol as unless-refused-def
+use Rattle.bounded_orders.proofs.unless_refused.Symbol.{name as #unless-refused}
+use Rattle.bounded_orders.proofs.unless_refused.Met as unless-refused-thm
+use Rattle.bounded_orders.proofs.idle as idle
+use Rattle.bounded_orders.proofs.idle.Symbol as idle-def
+use Rattle.bounded_orders.proofs.idle.Symbol.{name as #idle}
+use Rattle.bounded_orders.proofs.idle.Met as idle-thm
 use Rattle.bounded_lent.proofs.make.Key.{name as #make}
 use Rattle.bounded_lent.proofs.make as f
 use Rattle.bounded_lent.proofs.make.Statement as stated
@@ -273,6 +273,6 @@ make-spec 𝓤 H 𝓜 𝓖 𝓡 =
     entered 𝓤 H (tripleOf 𝓤 H (𝓖 .A) f.signature (f.spec 𝓤 H (𝓖 .A) (𝓜 .mem) (𝓡 .run)))
     (tables 𝓤 H 𝓜 𝓡 code.env .C) (tables 𝓤 H 𝓜 𝓡 code.env .Λ) #make code.function (code.unfolded 𝓤 H 𝓜 𝓡)
     (meets 𝓤 H (𝓖 .A) (givenOf 𝓤 H 𝓜 𝓖) (𝓜 .mem) (𝓡 .run) (tablesOf 𝓤 H 𝓜 (tables 𝓤 H 𝓜 𝓡 code.env))
-    (cited 𝓤 H (tripleOf 𝓤 H (𝓖 .A) make-ring.signature (make-ring.spec 𝓤 H (𝓖 .A) (𝓜 .mem) (𝓡 .run))) 𝓜 𝓡 code.env #make-ring make-ring-def.routine code.calls-bounded-parts·make (make-ring-thm.met 𝓤 H 𝓜 𝓖 𝓡))
-    (cited 𝓤 H (tripleOf 𝓤 H (𝓖 .A) unless-refused.signature (unless-refused.spec 𝓤 H (𝓖 .A) (𝓜 .mem) (𝓡 .run))) 𝓜 𝓡 code.env #unless-refused unless-refused-def.routine code.calls-bounded-parts·unless-refused (unless-refused-thm.met 𝓤 H 𝓜 𝓖 𝓡))
-    (cited 𝓤 H (tripleOf 𝓤 H (𝓖 .A) idle.signature (idle.spec 𝓤 H (𝓖 .A) (𝓜 .mem) (𝓡 .run))) 𝓜 𝓡 code.env #idle idle-def.routine code.calls-bounded-parts·idle (idle-thm.met 𝓤 H 𝓜 𝓖 𝓡)))
+    (cited 𝓤 H (tripleOf 𝓤 H (𝓖 .A) make-ring.signature (make-ring.spec 𝓤 H (𝓖 .A) (𝓜 .mem) (𝓡 .run))) 𝓜 𝓡 code.env #make-ring make-ring-def.routine code.calls-bounded-orders·make (make-ring-thm.met 𝓤 H 𝓜 𝓖 𝓡))
+    (cited 𝓤 H (tripleOf 𝓤 H (𝓖 .A) unless-refused.signature (unless-refused.spec 𝓤 H (𝓖 .A) (𝓜 .mem) (𝓡 .run))) 𝓜 𝓡 code.env #unless-refused unless-refused-def.routine code.calls-bounded-orders·unless-refused (unless-refused-thm.met 𝓤 H 𝓜 𝓖 𝓡))
+    (cited 𝓤 H (tripleOf 𝓤 H (𝓖 .A) idle.signature (idle.spec 𝓤 H (𝓖 .A) (𝓜 .mem) (𝓡 .run))) 𝓜 𝓡 code.env #idle idle-def.routine code.calls-bounded-orders·idle (idle-thm.met 𝓤 H 𝓜 𝓖 𝓡)))

@@ -50,27 +50,27 @@ use denote.Triple.Table.{entered, cited}
 use denote.Triple.Walked.{says, Stays, stay-ref, stay-slice, stay-none-slice, walkOf, goes-ref, goes-slice, goes-none-slice, Walks, ends-at, walked, walk-meets}
 use denote.Exit.{yes}
 use Rattle.bounded_places.specs.declared.Worker.{Worker}
-use Rattle.bounded_parts.specs.declared.Metered.{Metered}
-use Rattle.bounded_parts.specs.declared.Report.{Report}
-use Rattle.bounded_parts.specs.Parts.{unlessRefused, report, judgedOf}
+use Rattle.bounded_orders.specs.declared.Metered.{Metered}
+use Rattle.bounded_orders.specs.declared.Report.{Report}
+use Rattle.bounded_orders.specs.Orders.{unlessRefused, report, judgedOf}
 use Rattle.bounded_lent.specs.Lent.{brokenLent, lent, turnLent, gone, runLent}
 use Rattle.bounded_lent.proofs.Holes.{Known, inside, part-look, elem-look, elem-is, look-by, knows}
 use Rattle.bounded_lent.proofs.Calls.{calls-value, calls-with, asks}
 use Rattle.bounded_lent.proofs.Lending.{calls-lent, calls-shown}
 use Rattle.bounded_lent.proofs.Parts.{declared, word-known}
 use Rattle.bounded_lent.proofs.Running.{Left, Going, begins, left-of, ends-whole, stops-here, goes-on}
-use Rattle.bounded_parts.proofs.Metered as T
+use Rattle.bounded_orders.proofs.Metered as T
 use Rattle.bounded_places.proofs.Worker as R
-use Rattle.bounded_parts.proofs.Report as Y
-use Rattle.bounded_parts.proofs.Report.Laws as Y′
-use Rattle.bounded_parts.proofs.judged as judged
-use Rattle.bounded_parts.proofs.judged.Symbol as judged-def
-use Rattle.bounded_parts.proofs.judged.Symbol.{name as #judged}
-use Rattle.bounded_parts.proofs.judged.Met as judged-thm
-use Rattle.bounded_parts.proofs.entries_of as entries-of
-use Rattle.bounded_parts.proofs.entries_of.Symbol as entries-of-def
-use Rattle.bounded_parts.proofs.entries_of.Symbol.{name as #entries-of}
-use Rattle.bounded_parts.proofs.entries_of.Met as entries-of-thm
+use Rattle.bounded_orders.proofs.Report as Y
+use Rattle.bounded_orders.proofs.Report.Laws as Y′
+use Rattle.bounded_orders.proofs.judged as judged
+use Rattle.bounded_orders.proofs.judged.Symbol as judged-def
+use Rattle.bounded_orders.proofs.judged.Symbol.{name as #judged}
+use Rattle.bounded_orders.proofs.judged.Met as judged-thm
+use Rattle.bounded_orders.proofs.entries_of as entries-of
+use Rattle.bounded_orders.proofs.entries_of.Symbol as entries-of-def
+use Rattle.bounded_orders.proofs.entries_of.Symbol.{name as #entries-of}
+use Rattle.bounded_orders.proofs.entries_of.Met as entries-of-thm
 use Rattle.bounded_lent.proofs.broken as broken
 use Rattle.bounded_lent.proofs.broken.Symbol as broken-def
 use Rattle.bounded_lent.proofs.broken.Symbol.{name as #broken}
@@ -382,6 +382,6 @@ run-spec 𝓤 H 𝓜 𝓖 𝓡 =
     (tables 𝓤 H 𝓜 𝓡 code.env .C) (tables 𝓤 H 𝓜 𝓡 code.env .Λ) #run code.function (code.unfolded 𝓤 H 𝓜 𝓡)
     (meets 𝓤 H (𝓖 .A) (givenOf 𝓤 H 𝓜 𝓖) (𝓜 .mem) (𝓡 .run) (tablesOf 𝓤 H 𝓜 (tables 𝓤 H 𝓜 𝓡 code.env))
     (cited 𝓤 H (tripleOf 𝓤 H (𝓖 .A) broken.signature (broken.spec 𝓤 H (𝓖 .A) (𝓜 .mem) (𝓡 .run))) 𝓜 𝓡 code.env #broken broken-def.routine code.calls-bounded-lent·broken (broken-thm.met 𝓤 H 𝓜 𝓖 𝓡))
-    (cited 𝓤 H (tripleOf 𝓤 H (𝓖 .A) judged.signature (judged.spec 𝓤 H (𝓖 .A) (𝓜 .mem) (𝓡 .run))) 𝓜 𝓡 code.env #judged judged-def.routine code.calls-bounded-parts·judged (judged-thm.met 𝓤 H 𝓜 𝓖 𝓡))
-    (cited 𝓤 H (tripleOf 𝓤 H (𝓖 .A) entries-of.signature (entries-of.spec 𝓤 H (𝓖 .A) (𝓜 .mem) (𝓡 .run))) 𝓜 𝓡 code.env #entries-of entries-of-def.routine code.calls-bounded-parts·entries-of (entries-of-thm.met 𝓤 H 𝓜 𝓖 𝓡))
+    (cited 𝓤 H (tripleOf 𝓤 H (𝓖 .A) judged.signature (judged.spec 𝓤 H (𝓖 .A) (𝓜 .mem) (𝓡 .run))) 𝓜 𝓡 code.env #judged judged-def.routine code.calls-bounded-orders·judged (judged-thm.met 𝓤 H 𝓜 𝓖 𝓡))
+    (cited 𝓤 H (tripleOf 𝓤 H (𝓖 .A) entries-of.signature (entries-of.spec 𝓤 H (𝓖 .A) (𝓜 .mem) (𝓡 .run))) 𝓜 𝓡 code.env #entries-of entries-of-def.routine code.calls-bounded-orders·entries-of (entries-of-thm.met 𝓤 H 𝓜 𝓖 𝓡))
     (cited 𝓤 H (tripleOf 𝓤 H (𝓖 .A) turn.signature (turn.spec 𝓤 H (𝓖 .A) (𝓜 .mem) (𝓡 .run))) 𝓜 𝓡 code.env #turn turn-def.routine code.calls-bounded-lent·turn (turn-thm.met 𝓤 H 𝓜 𝓖 𝓡)))

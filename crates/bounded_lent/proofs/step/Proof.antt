@@ -43,11 +43,11 @@ use denote.Triple.Table.{entered, cited}
 use denote.Triple.Walked.{says, Stays, stay-ref, stay-slice, stay-none, walkOf, goes-none, goes-ref, goes-slice, Walks, ends-at, walked, walk-meets}
 use denote.Exit.{yes}
 use Rattle.bounded_places.specs.declared.Worker.{Worker}
-use Rattle.bounded_parts.specs.declared.Metered.{Metered}
+use Rattle.bounded_orders.specs.declared.Metered.{Metered}
 use Rattle.bounded_lent.specs.Lent.{brokenLent, lent, turnLent, stepLent}
 use Rattle.bounded_lent.proofs.Lending.{calls-lent, calls-shown}
 use Rattle.bounded_lent.proofs.Turning.{step-refused, step-turned}
-use Rattle.bounded_parts.proofs.Metered as T
+use Rattle.bounded_orders.proofs.Metered as T
 use Rattle.bounded_places.proofs.Worker as R
 use Rattle.bounded_lent.proofs.broken as broken
 use Rattle.bounded_lent.proofs.broken.Symbol as broken-def

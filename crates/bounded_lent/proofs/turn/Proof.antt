@@ -1,4 +1,4 @@
--- `turn` meets its contract: a walk of its MIR, by hand. The ring and the records are opened, the record and the slot are read where they lie, the functions of crate bounded_entries are called on them by value, all is stored back, and both are closed.
+-- `turn` meets its contract: a walk of its MIR, by hand. The ring and the records are opened, the record and the slot are read where they lie, the functions of crate bounded_step_record are called on them by value, all is stored back, and both are closed.
 use mathlib.Core.Path.{_≡_, refl, sym, subst, ap}
 use Prim.Native.Nat.{ℕ, _<_, _^_, _*_, _+_}
 use mathlib.Core.Bool.{true, false}
@@ -51,17 +51,17 @@ use Rattle.bounded_places.specs.declared.Slot.{Slot}
 use Rattle.bounded_places.specs.declared.Worker.{Worker}
 use Rattle.bounded_machine.specs.Machine.{slot, recordOf}
 use Rattle.bounded_machine.specs.Broken.{recordFits}
-use Rattle.bounded_entries.specs.declared.Turned.{Turned}
-use Rattle.bounded_entries.specs.Entries.{workerOf, slotOf, turnedOf}
-use Rattle.bounded_parts.specs.declared.Metered.{Metered}
+use Rattle.bounded_step_record.specs.declared.Turned.{Turned}
+use Rattle.bounded_step_record.specs.Entries.{workerOf, slotOf, turnedOf}
+use Rattle.bounded_orders.specs.declared.Metered.{Metered}
 use Rattle.bounded_lent.specs.Lent.{brokenLent, held, lent, lentOf, turnLent}
 use Rattle.bounded_lent.proofs.Holes.{Known, inside, known-in, part-look, part-put, part-is, elem-look, elem-put, elem-is, look-by, store-by, knows}
 use Rattle.bounded_lent.proofs.Calls.{calls-value, asks, asks-for, and-also}
 use Rattle.bounded_lent.proofs.Parts.{declared, slot-known, ends-known, fixed-known, worker-known, width-known, word-known, fixed-hole, ends-hole, meter-hole, slot-look, slot-put, slots-length}
 use Rattle.bounded_lent.proofs.Turning.{unbroken-lent, some-record, fair-lent, record-fits, spot-below}
-use Rattle.bounded_entries.proofs.Resting.{worker-below}
-use Rattle.bounded_entries.proofs.Back.{put-back}
-use Rattle.bounded_parts.proofs.Metered as T
+use Rattle.bounded_step_record.proofs.Resting.{worker-below}
+use Rattle.bounded_step_record.proofs.Back.{put-back}
+use Rattle.bounded_orders.proofs.Metered as T
 use Rattle.bounded_machine.proofs.Ring as G
 use Rattle.bounded_words.proofs.Width as B
 use Rattle.bounded_words.proofs.Width.Laws as B′
@@ -73,20 +73,20 @@ use Rattle.bounded_places.proofs.Slot as S
 use Rattle.bounded_places.proofs.Slot.Laws as S′
 use Rattle.bounded_places.proofs.Worker as R
 use Rattle.bounded_places.proofs.Worker.Laws as R′
-use Rattle.bounded_entries.proofs.Turned as X
-use Rattle.bounded_entries.proofs.Turned.Laws as X′
-use Rattle.bounded_entries.proofs.worker_of as worker-of
-use Rattle.bounded_entries.proofs.worker_of.Symbol as worker-of-def
-use Rattle.bounded_entries.proofs.worker_of.Symbol.{name as #worker-of}
-use Rattle.bounded_entries.proofs.worker_of.Met as worker-of-thm
-use Rattle.bounded_entries.proofs.slot_of as slot-of
-use Rattle.bounded_entries.proofs.slot_of.Symbol as slot-of-def
-use Rattle.bounded_entries.proofs.slot_of.Symbol.{name as #slot-of}
-use Rattle.bounded_entries.proofs.slot_of.Met as slot-of-thm
-use Rattle.bounded_entries.proofs.turn_on as turn-on
-use Rattle.bounded_entries.proofs.turn_on.Symbol as turn-on-def
-use Rattle.bounded_entries.proofs.turn_on.Symbol.{name as #turn-on}
-use Rattle.bounded_entries.proofs.turn_on.Met as turn-on-thm
+use Rattle.bounded_step_record.proofs.Turned as X
+use Rattle.bounded_step_record.proofs.Turned.Laws as X′
+use Rattle.bounded_step_record.proofs.worker_of as worker-of
+use Rattle.bounded_step_record.proofs.worker_of.Symbol as worker-of-def
+use Rattle.bounded_step_record.proofs.worker_of.Symbol.{name as #worker-of}
+use Rattle.bounded_step_record.proofs.worker_of.Met as worker-of-thm
+use Rattle.bounded_step_record.proofs.slot_of as slot-of
+use Rattle.bounded_step_record.proofs.slot_of.Symbol as slot-of-def
+use Rattle.bounded_step_record.proofs.slot_of.Symbol.{name as #slot-of}
+use Rattle.bounded_step_record.proofs.slot_of.Met as slot-of-thm
+use Rattle.bounded_step_record.proofs.turn_on as turn-on
+use Rattle.bounded_step_record.proofs.turn_on.Symbol as turn-on-def
+use Rattle.bounded_step_record.proofs.turn_on.Symbol.{name as #turn-on}
+use Rattle.bounded_step_record.proofs.turn_on.Met as turn-on-thm
 use Rattle.bounded_lent.proofs.turn.Key.{name as #turn}
 use Rattle.bounded_lent.proofs.turn as f
 use Rattle.bounded_lent.proofs.turn.Statement as stated
@@ -252,6 +252,6 @@ turn-spec 𝓤 H 𝓜 𝓖 𝓡 =
     entered 𝓤 H (tripleOf 𝓤 H (𝓖 .A) f.signature (f.spec 𝓤 H (𝓖 .A) (𝓜 .mem) (𝓡 .run)))
     (tables 𝓤 H 𝓜 𝓡 code.env .C) (tables 𝓤 H 𝓜 𝓡 code.env .Λ) #turn code.function (code.unfolded 𝓤 H 𝓜 𝓡)
     (meets 𝓤 H (𝓖 .A) (givenOf 𝓤 H 𝓜 𝓖) (𝓜 .mem) (𝓡 .run) (tablesOf 𝓤 H 𝓜 (tables 𝓤 H 𝓜 𝓡 code.env))
-    (cited 𝓤 H (tripleOf 𝓤 H (𝓖 .A) worker-of.signature (worker-of.spec 𝓤 H (𝓖 .A) (𝓜 .mem) (𝓡 .run))) 𝓜 𝓡 code.env #worker-of worker-of-def.routine code.calls-bounded-entries·worker-of (worker-of-thm.met 𝓤 H 𝓜 𝓖 𝓡))
-    (cited 𝓤 H (tripleOf 𝓤 H (𝓖 .A) slot-of.signature (slot-of.spec 𝓤 H (𝓖 .A) (𝓜 .mem) (𝓡 .run))) 𝓜 𝓡 code.env #slot-of slot-of-def.routine code.calls-bounded-entries·slot-of (slot-of-thm.met 𝓤 H 𝓜 𝓖 𝓡))
-    (cited 𝓤 H (tripleOf 𝓤 H (𝓖 .A) turn-on.signature (turn-on.spec 𝓤 H (𝓖 .A) (𝓜 .mem) (𝓡 .run))) 𝓜 𝓡 code.env #turn-on turn-on-def.routine code.calls-bounded-entries·turn-on (turn-on-thm.met 𝓤 H 𝓜 𝓖 𝓡)))
+    (cited 𝓤 H (tripleOf 𝓤 H (𝓖 .A) worker-of.signature (worker-of.spec 𝓤 H (𝓖 .A) (𝓜 .mem) (𝓡 .run))) 𝓜 𝓡 code.env #worker-of worker-of-def.routine code.calls-bounded-step-record·worker-of (worker-of-thm.met 𝓤 H 𝓜 𝓖 𝓡))
+    (cited 𝓤 H (tripleOf 𝓤 H (𝓖 .A) slot-of.signature (slot-of.spec 𝓤 H (𝓖 .A) (𝓜 .mem) (𝓡 .run))) 𝓜 𝓡 code.env #slot-of slot-of-def.routine code.calls-bounded-step-record·slot-of (slot-of-thm.met 𝓤 H 𝓜 𝓖 𝓡))
+    (cited 𝓤 H (tripleOf 𝓤 H (𝓖 .A) turn-on.signature (turn-on.spec 𝓤 H (𝓖 .A) (𝓜 .mem) (𝓡 .run))) 𝓜 𝓡 code.env #turn-on turn-on-def.routine code.calls-bounded-step-record·turn-on (turn-on-thm.met 𝓤 H 𝓜 𝓖 𝓡)))

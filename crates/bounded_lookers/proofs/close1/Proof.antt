@@ -6,7 +6,7 @@ use Rattle.bounded_lookers.proofs.close1.Statement.{statement}
 use Rattle.bounded_lookers.proofs.close1.Tie as tie
 use Rattle.bounded_lookers.proofs.close1.Reads as reads
 use Rattle.bounded_lookers.proofs.close1.Lts as lts
-use Rattle.bounded_acts.proofs.stay.Reads as stay-reads
+use Rattle.bounded_acts.proofs.goes.Reads as goes-reads
 use Rattle.bounded_lookers.proofs.tail_to_marked.Reads as tail-to-marked-reads
 
 -- src/lib.rt:34:8
@@ -14,16 +14,16 @@ marked-requires : tie.Need-marked-requires
 marked-requires c κs = search needs
 
 -- src/lib.rt:35:9
-stay-requires : tie.Need-stay-requires
-stay-requires c κs = search needs
+goes-requires : tie.Need-goes-requires
+goes-requires c κs = search needs
 
 -- src/lib.rt:37:14
 tail-to-marked-requires : tie.Need-tail-to-marked-requires
 tail-to-marked-requires c κs = search needs
 
 -- src/lib.rt:37:9
-stay-requires-2 : tie.Need-stay-requires-2
-stay-requires-2 c κs = search needs
+goes-requires-2 : tie.Need-goes-requires-2
+goes-requires-2 c κs = search needs
 
 -- src/lib.rt:29:1
 returns : tie.Need-returns
@@ -38,8 +38,8 @@ close1-spec =
     tie.close
     (tie.spec
     marked-requires
-    stay-requires
+    goes-requires
     tail-to-marked-requires
-    stay-requires-2
+    goes-requires-2
     returns
     returns-2)

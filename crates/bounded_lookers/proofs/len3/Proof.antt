@@ -7,7 +7,7 @@ use Rattle.bounded_lookers.proofs.len3.Tie as tie
 use Rattle.bounded_lookers.proofs.len3.Reads as reads
 use Rattle.bounded_lookers.proofs.len3.Lts as lts
 use Rattle.bounded_acts.proofs.count.Reads as count-reads
-use Rattle.bounded_acts.proofs.stay.Reads as stay-reads
+use Rattle.bounded_acts.proofs.goes.Reads as goes-reads
 
 -- src/lib.rt:6:8
 same-word-requires : tie.Need-same-word-requires
@@ -18,12 +18,12 @@ count-requires : tie.Need-count-requires
 count-requires c κs = search needs
 
 -- src/lib.rt:7:9
-stay-requires : tie.Need-stay-requires
-stay-requires c κs = search needs
+goes-requires : tie.Need-goes-requires
+goes-requires c κs = search needs
 
 -- src/lib.rt:9:9
-stay-requires-2 : tie.Need-stay-requires-2
-stay-requires-2 c κs = search needs
+goes-requires-2 : tie.Need-goes-requires-2
+goes-requires-2 c κs = search needs
 
 -- src/lib.rt:1:1
 returns : tie.Need-returns
@@ -36,4 +36,4 @@ returns-2 c = search (needs, picks, len-is)
 pub len3-spec : {M : Type 1} → statement M
 len3-spec =
     tie.close
-    (tie.spec same-word-requires count-requires stay-requires stay-requires-2 returns returns-2)
+    (tie.spec same-word-requires count-requires goes-requires goes-requires-2 returns returns-2)

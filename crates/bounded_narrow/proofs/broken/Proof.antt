@@ -6,7 +6,7 @@ use Rattle.bounded_narrow.proofs.broken.Tie as tie
 use Rattle.bounded_narrow.proofs.broken.Reads as reads
 use Rattle.bounded_narrow.proofs.broken.Lts as lts
 use Rattle.bounded.proofs.broken.Reads as broken-reads
-use Rattle.bounded_widths.proofs.widen.Reads as widen-reads
+use Rattle.bounded_sixteen_bits.proofs.widen.Reads as widen-reads
 
 -- src/lib.rt:26:21
 widen-requires : tie.Need-widen-requires

@@ -6,7 +6,7 @@ use Rattle.bounded_narrow.proofs.capacity.Tie as tie
 use Rattle.bounded_narrow.proofs.capacity.Reads as reads
 use Rattle.bounded_narrow.proofs.capacity.Lts as lts
 use Rattle.bounded.proofs.capacity.Reads as capacity-reads
-use Rattle.bounded_widths.proofs.widen.Reads as widen-reads
+use Rattle.bounded_sixteen_bits.proofs.widen.Reads as widen-reads
 
 -- src/lib.rt:32:23
 widen-requires : tie.Need-widen-requires

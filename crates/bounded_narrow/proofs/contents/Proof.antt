@@ -5,7 +5,7 @@ use Rattle.bounded_narrow.proofs.contents.Tie as tie
 use Rattle.bounded_narrow.proofs.contents.Reads as reads
 use Rattle.bounded_narrow.proofs.contents.Lts as lts
 use Rattle.bounded.proofs.contents.Reads as contents-reads
-use Rattle.bounded_widths.proofs.widen.Reads as widen-reads
+use Rattle.bounded_sixteen_bits.proofs.widen.Reads as widen-reads
 
 -- src/lib.rt:40:23
 widen-requires : tie.Need-widen-requires

@@ -1,6 +1,6 @@
 use mathlib.Core.Path.{ap, _∙_}
 use borrow.Author.Needs.{needs}
-use Rattle.bounded_widths.specs.Widths.{narrowedDid}
+use Rattle.bounded_sixteen_bits.specs.SixteenBits.{narrowedDid}
 use Rattle.bounded_narrow.proofs.Shorts.{make-short}
 use Rattle.bounded_narrow.proofs.Faces.{did-fits}
 use Rattle.bounded_narrow.proofs.make.Statement.{statement}
@@ -8,7 +8,7 @@ use Rattle.bounded_narrow.proofs.make.Tie as tie
 use Rattle.bounded_narrow.proofs.make.Reads as reads
 use Rattle.bounded_narrow.proofs.make.Lts as lts
 use Rattle.bounded.proofs.make.Reads as make-reads
-use Rattle.bounded_widths.proofs.narrow_did.Reads as narrow-did-reads
+use Rattle.bounded_sixteen_bits.proofs.narrow_did.Reads as narrow-did-reads
 
 -- src/lib.rt:20:32
 make-requires : tie.Need-make-requires

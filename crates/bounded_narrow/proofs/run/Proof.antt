@@ -10,8 +10,8 @@ use Rattle.bounded_narrow.proofs.run.Tie as tie
 use Rattle.bounded_narrow.proofs.run.Reads as reads
 use Rattle.bounded_narrow.proofs.run.Lts as lts
 use Rattle.bounded_runs.proofs.run.Reads as run-reads
-use Rattle.bounded_widths.proofs.narrow_ran.Reads as narrow-ran-reads
-use Rattle.bounded_widths.proofs.widen.Reads as widen-reads
+use Rattle.bounded_sixteen_bits.proofs.narrow_ran.Reads as narrow-ran-reads
+use Rattle.bounded_sixteen_bits.proofs.widen.Reads as widen-reads
 
 -- src/lib.rt:47:66
 widen-requires : tie.Need-widen-requires

@@ -1,16 +1,16 @@
 use borrow.Author.Needs.{needs}
 use Rattle.bounded_words.specs.declared.Width.the-variants.{Sixteen}
 use Rattle.bounded_acts.specs.Acts.{actOf}
-use Rattle.bounded_steps.specs.Steps.{stepOfBy}
+use Rattle.bounded_step_machine.specs.Steps.{stepOfBy}
 use Rattle.bounded_narrow.proofs.Shorts.{step-short}
 use Rattle.bounded_narrow.proofs.Faces.{did-fits, did-is}
 use Rattle.bounded_narrow.proofs.step.Statement.{statement}
 use Rattle.bounded_narrow.proofs.step.Tie as tie
 use Rattle.bounded_narrow.proofs.step.Reads as reads
 use Rattle.bounded_narrow.proofs.step.Lts as lts
-use Rattle.bounded_steps.proofs.step.Reads as step-reads
-use Rattle.bounded_widths.proofs.narrow_did.Reads as narrow-did-reads
-use Rattle.bounded_widths.proofs.widen.Reads as widen-reads
+use Rattle.bounded_step_machine.proofs.step.Reads as step-reads
+use Rattle.bounded_sixteen_bits.proofs.narrow_did.Reads as narrow-did-reads
+use Rattle.bounded_sixteen_bits.proofs.widen.Reads as widen-reads
 
 -- src/lib.rt:54:68
 widen-requires : tie.Need-widen-requires

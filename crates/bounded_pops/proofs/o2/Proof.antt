@@ -7,15 +7,15 @@ use Rattle.bounded_pops.proofs.o2.Statement.{statement}
 use Rattle.bounded_pops.proofs.o2.Tie as tie
 use Rattle.bounded_pops.proofs.o2.Reads as reads
 use Rattle.bounded_pops.proofs.o2.Lts as lts
-use Rattle.bounded_acts.proofs.stay.Reads as stay-reads
+use Rattle.bounded_acts.proofs.goes.Reads as goes-reads
 
 -- src/lib.rt:-63:8
 one-past-requires : tie.Need-one-past-requires
 one-past-requires c κs = search needs
 
 -- src/lib.rt:-62:9
-stay-requires : tie.Need-stay-requires
-stay-requires c κs = search needs
+goes-requires : tie.Need-goes-requires
+goes-requires c κs = search needs
 
 -- src/lib.rt:-62:9
 returns : tie.Need-returns
@@ -26,12 +26,12 @@ same-word-requires : tie.Need-same-word-requires
 same-word-requires c κs = search needs
 
 -- src/lib.rt:-59:9
-stay-requires-2 : tie.Need-stay-requires-2
-stay-requires-2 c κs = search needs
+goes-requires-2 : tie.Need-goes-requires-2
+goes-requires-2 c κs = search needs
 
 -- src/lib.rt:-57:9
-stay-requires-3 : tie.Need-stay-requires-3
-stay-requires-3 c κs = search needs
+goes-requires-3 : tie.Need-goes-requires-3
+goes-requires-3 c κs = search needs
 
 -- src/lib.rt:-67:1
 returns-2 : tie.Need-returns-2
@@ -46,10 +46,10 @@ o2-spec =
     tie.close
     (tie.spec
     one-past-requires
-    stay-requires
+    goes-requires
     returns
     same-word-requires
-    stay-requires-2
-    stay-requires-3
+    goes-requires-2
+    goes-requires-3
     returns-2
     returns-3)

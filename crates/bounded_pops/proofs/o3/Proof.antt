@@ -7,7 +7,7 @@ use Rattle.bounded_pops.proofs.o3.Lts as lts
 use Rattle.bounded_acts.proofs.exchange.Reads as exchange-reads
 use Rattle.bounded_pops.proofs.head_to_next.Reads as head-to-next-reads
 use Rattle.bounded_acts.proofs.losing.Reads as losing-reads
-use Rattle.bounded_acts.proofs.stay.Reads as stay-reads
+use Rattle.bounded_acts.proofs.goes.Reads as goes-reads
 
 -- src/lib.rt:44:11
 exchange-requires : tie.Need-exchange-requires
@@ -22,8 +22,8 @@ head-to-next-requires : tie.Need-head-to-next-requires
 head-to-next-requires c κs = search needs
 
 -- src/lib.rt:45:26
-stay-requires : tie.Need-stay-requires
-stay-requires c κs = search needs
+goes-requires : tie.Need-goes-requires
+goes-requires c κs = search needs
 
 -- src/lib.rt:46:28
 enum-known-found : tie.Need-enum-known-found
@@ -60,7 +60,7 @@ o3-spec =
     exchange-requires
     enum-told
     head-to-next-requires
-    stay-requires
+    goes-requires
     enum-known-found
     losing-requires
     enum-told-2

@@ -7,7 +7,7 @@ use Rattle.bounded_pops.proofs.o6.Statement.{statement}
 use Rattle.bounded_pops.proofs.o6.Tie as tie
 use Rattle.bounded_pops.proofs.o6.Reads as reads
 use Rattle.bounded_pops.proofs.o6.Lts as lts
-use Rattle.bounded_acts.proofs.stay.Reads as stay-reads
+use Rattle.bounded_acts.proofs.goes.Reads as goes-reads
 
 -- src/lib.rt:8:8
 unmarked-is-requires : tie.Need-unmarked-is-requires
@@ -18,16 +18,16 @@ marked-requires : tie.Need-marked-requires
 marked-requires c κs = search needs
 
 -- src/lib.rt:10:13
-stay-requires : tie.Need-stay-requires
-stay-requires c κs = search needs
+goes-requires : tie.Need-goes-requires
+goes-requires c κs = search needs
 
 -- src/lib.rt:12:13
-stay-requires-2 : tie.Need-stay-requires-2
-stay-requires-2 c κs = search needs
+goes-requires-2 : tie.Need-goes-requires-2
+goes-requires-2 c κs = search needs
 
 -- src/lib.rt:15:9
-stay-requires-3 : tie.Need-stay-requires-3
-stay-requires-3 c κs = search needs
+goes-requires-3 : tie.Need-goes-requires-3
+goes-requires-3 c κs = search needs
 
 -- src/lib.rt:3:1
 returns : tie.Need-returns
@@ -47,9 +47,9 @@ o6-spec =
     (tie.spec
     unmarked-is-requires
     marked-requires
-    stay-requires
-    stay-requires-2
-    stay-requires-3
+    goes-requires
+    goes-requires-2
+    goes-requires-3
     returns
     returns-2
     returns-3)

@@ -8,15 +8,15 @@ use Rattle.bounded_pushes.proofs.p2.Tie as tie
 use Rattle.bounded_pushes.proofs.p2.Reads as reads
 use Rattle.bounded_pushes.proofs.p2.Lts as lts
 use Rattle.bounded_pushes.proofs.full_at.Reads as full-at-reads
-use Rattle.bounded_acts.proofs.stay.Reads as stay-reads
+use Rattle.bounded_acts.proofs.goes.Reads as goes-reads
 
 -- src/lib.rt:-44:8
 same-word-requires : tie.Need-same-word-requires
 same-word-requires c κs = search needs
 
 -- src/lib.rt:-43:9
-stay-requires : tie.Need-stay-requires
-stay-requires c κs = search needs
+goes-requires : tie.Need-goes-requires
+goes-requires c κs = search needs
 
 -- src/lib.rt:-43:9
 returns : tie.Need-returns
@@ -31,12 +31,12 @@ full-at-requires : tie.Need-full-at-requires
 full-at-requires c κs = search needs
 
 -- src/lib.rt:-40:9
-stay-requires-2 : tie.Need-stay-requires-2
-stay-requires-2 c κs = search needs
+goes-requires-2 : tie.Need-goes-requires-2
+goes-requires-2 c κs = search needs
 
 -- src/lib.rt:-38:9
-stay-requires-3 : tie.Need-stay-requires-3
-stay-requires-3 c κs = search needs
+goes-requires-3 : tie.Need-goes-requires-3
+goes-requires-3 c κs = search needs
 
 -- src/lib.rt:-48:1
 returns-2 : tie.Need-returns-2
@@ -51,11 +51,11 @@ p2-spec =
     tie.close
     (tie.spec
     same-word-requires
-    stay-requires
+    goes-requires
     returns
     lap-behind-one-past-requires
     full-at-requires
-    stay-requires-2
-    stay-requires-3
+    goes-requires-2
+    goes-requires-3
     returns-2
     returns-3)

@@ -7,7 +7,7 @@ use Rattle.bounded_pushes.proofs.p3.Lts as lts
 use Rattle.bounded_pushes.proofs.after_tail.Reads as after-tail-reads
 use Rattle.bounded_acts.proofs.exchange.Reads as exchange-reads
 use Rattle.bounded_acts.proofs.losing.Reads as losing-reads
-use Rattle.bounded_acts.proofs.stay.Reads as stay-reads
+use Rattle.bounded_acts.proofs.goes.Reads as goes-reads
 use Rattle.bounded_pushes.proofs.tail_to_next.Reads as tail-to-next-reads
 
 -- src/lib.rt:71:11
@@ -23,8 +23,8 @@ tail-to-next-requires : tie.Need-tail-to-next-requires
 tail-to-next-requires c κs = search needs
 
 -- src/lib.rt:72:26
-stay-requires : tie.Need-stay-requires
-stay-requires c κs = search needs
+goes-requires : tie.Need-goes-requires
+goes-requires c κs = search needs
 
 -- src/lib.rt:73:28
 enum-known-found : tie.Need-enum-known-found
@@ -65,7 +65,7 @@ p3-spec =
     exchange-requires
     enum-told
     tail-to-next-requires
-    stay-requires
+    goes-requires
     enum-known-found
     after-tail-requires
     losing-requires

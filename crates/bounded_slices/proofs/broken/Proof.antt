@@ -4,7 +4,7 @@ use Rattle.bounded_slices.proofs.broken.Statement.{statement}
 use Rattle.bounded_slices.proofs.broken.Tie as tie
 use Rattle.bounded_slices.proofs.broken.Reads as reads
 use Rattle.bounded_slices.proofs.broken.Lts as lts
-use Rattle.bounded_parts.proofs.ring_fits.Reads as ring-fits-reads
+use Rattle.bounded_orders.proofs.ring_fits.Reads as ring-fits-reads
 use Rattle.bounded_rows.proofs.ends_in.Reads as ends-in-reads
 use Rattle.bounded_rows.proofs.fixed_in.Reads as fixed-in-reads
 use Rattle.bounded_slices.proofs.records_fit.Reads as records-fit-reads

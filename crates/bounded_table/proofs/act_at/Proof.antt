@@ -23,7 +23,7 @@ use Rattle.bounded_pushes.proofs.p2.Reads as p2-reads
 use Rattle.bounded_pushes.proofs.p3.Reads as p3-reads
 use Rattle.bounded_pushes.proofs.p5.Reads as p5-reads
 use Rattle.bounded_pushes.proofs.p6.Reads as p6-reads
-use Rattle.bounded_acts.proofs.stay.Reads as stay-reads
+use Rattle.bounded_acts.proofs.goes.Reads as goes-reads
 use Rattle.bounded_acts.proofs.value_to.Reads as value-to-reads
 
 -- src/lib.rt:19:21
@@ -31,8 +31,8 @@ enum-known-p : tie.Need-enum-known-p
 enum-known-p c = search needs
 
 -- src/lib.rt:19:27
-stay-requires : tie.Need-stay-requires
-stay-requires c κs = search needs
+goes-requires : tie.Need-goes-requires
+goes-requires c κs = search needs
 
 -- src/lib.rt:20:19
 enum-known-p-2 : tie.Need-enum-known-p-2
@@ -67,8 +67,8 @@ value-to-requires : tie.Need-value-to-requires
 value-to-requires c κs = search needs
 
 -- src/lib.rt:23:31
-stay-requires-2 : tie.Need-stay-requires-2
-stay-requires-2 c κs = search needs
+goes-requires-2 : tie.Need-goes-requires-2
+goes-requires-2 c κs = search needs
 
 -- src/lib.rt:24:19
 enum-known-p-6 : tie.Need-enum-known-p-6
@@ -123,8 +123,8 @@ enum-told : tie.Need-enum-told
 enum-told c = search needs
 
 -- src/lib.rt:30:22
-stay-requires-3 : tie.Need-stay-requires-3
-stay-requires-3 c κs = search needs
+goes-requires-3 : tie.Need-goes-requires-3
+goes-requires-3 c κs = search needs
 
 -- src/lib.rt:31:19
 enum-known-p-12 : tie.Need-enum-known-p-12
@@ -147,8 +147,8 @@ enum-known-p-14 : tie.Need-enum-known-p-14
 enum-known-p-14 c = search needs
 
 -- src/lib.rt:33:25
-stay-requires-4 : tie.Need-stay-requires-4
-stay-requires-4 c κs = search needs
+goes-requires-4 : tie.Need-goes-requires-4
+goes-requires-4 c κs = search needs
 
 -- src/lib.rt:34:19
 enum-known-p-15 : tie.Need-enum-known-p-15
@@ -171,16 +171,16 @@ enum-told-2 : tie.Need-enum-told-2
 enum-told-2 c = search needs
 
 -- src/lib.rt:36:24
-stay-requires-5 : tie.Need-stay-requires-5
-stay-requires-5 c κs = search needs
+goes-requires-5 : tie.Need-goes-requires-5
+goes-requires-5 c κs = search needs
 
 -- src/lib.rt:37:21
 enum-known-p-17 : tie.Need-enum-known-p-17
 enum-known-p-17 c = search needs
 
 -- src/lib.rt:37:27
-stay-requires-6 : tie.Need-stay-requires-6
-stay-requires-6 c κs = search needs
+goes-requires-6 : tie.Need-goes-requires-6
+goes-requires-6 c κs = search needs
 
 -- src/lib.rt:38:21
 enum-known-p-18 : tie.Need-enum-known-p-18
@@ -195,8 +195,8 @@ enum-told-3 : tie.Need-enum-told-3
 enum-told-3 c = search needs
 
 -- src/lib.rt:39:26
-stay-requires-7 : tie.Need-stay-requires-7
-stay-requires-7 c κs = search needs
+goes-requires-7 : tie.Need-goes-requires-7
+goes-requires-7 c κs = search needs
 
 -- src/lib.rt:40:23
 enum-known-p-19 : tie.Need-enum-known-p-19
@@ -211,8 +211,8 @@ enum-told-4 : tie.Need-enum-told-4
 enum-told-4 c = search needs
 
 -- src/lib.rt:41:25
-stay-requires-8 : tie.Need-stay-requires-8
-stay-requires-8 c κs = search needs
+goes-requires-8 : tie.Need-goes-requires-8
+goes-requires-8 c κs = search needs
 
 -- src/lib.rt:42:22
 enum-known-p-20 : tie.Need-enum-known-p-20
@@ -347,7 +347,7 @@ act-at-spec =
     tie.close
     (tie.spec
     enum-known-p
-    stay-requires
+    goes-requires
     enum-known-p-2
     p1-requires
     enum-known-p-3
@@ -356,7 +356,7 @@ act-at-spec =
     p3-requires
     enum-known-p-5
     value-to-requires
-    stay-requires-2
+    goes-requires-2
     enum-known-p-6
     p5-requires
     enum-known-p-7
@@ -370,29 +370,29 @@ act-at-spec =
     enum-known-p-11
     f9-requires
     enum-told
-    stay-requires-3
+    goes-requires-3
     enum-known-p-12
     o2-requires
     enum-known-p-13
     o3-requires
     enum-known-p-14
-    stay-requires-4
+    goes-requires-4
     enum-known-p-15
     o5-requires
     enum-known-p-16
     o6-requires
     enum-told-2
-    stay-requires-5
+    goes-requires-5
     enum-known-p-17
-    stay-requires-6
+    goes-requires-6
     enum-known-p-18
     len3-requires
     enum-told-3
-    stay-requires-7
+    goes-requires-7
     enum-known-p-19
     empty2-requires
     enum-told-4
-    stay-requires-8
+    goes-requires-8
     enum-known-p-20
     full2-requires
     enum-told-5

@@ -10,7 +10,7 @@ use Rattle.bounded_walks.proofs.walk_into.Statement.{statement}
 use Rattle.bounded_walks.proofs.walk_into.Tie as tie
 use Rattle.bounded_walks.proofs.walk_into.Reads as reads
 use Rattle.bounded_walks.proofs.walk_into.Lts as lts
-use Rattle.bounded_walkers.proofs.walk_state.Reads as walk-state-reads
+use Rattle.bounded_sequences.proofs.walk_state.Reads as walk-state-reads
 use Rattle.bounded_walks.proofs.first_records.Reads as first-records-reads
 use Rattle.bounded_walks.proofs.row_of.Reads as row-of-reads
 

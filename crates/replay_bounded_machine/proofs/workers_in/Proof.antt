@@ -7,7 +7,7 @@ use Rattle.replay_bounded_machine.proofs.workers_in.Statement.{statemen
 use Rattle.replay_bounded_machine.proofs.workers_in.Tie as tie
 use Rattle.replay_bounded_machine.proofs.workers_in.Reads as reads
 use Rattle.replay_bounded_machine.proofs.workers_in.Lts as lts
-use Rattle.bounded_parts.proofs.idle.Reads as idle-reads
+use Rattle.bounded_orders.proofs.idle.Reads as idle-reads
 use Rattle.bounded_rows.proofs.record_at.Reads as record-at-reads
 
 abbrev Inv-loop : tie.InvT-loop

@@ -6,7 +6,7 @@ use Rattle.single_acts.proofs.a1.Tie as tie
 use Rattle.single_acts.proofs.a1.Reads as reads
 use Rattle.single_acts.proofs.a1.Lts as lts
 use Rattle.single_acts.proofs.exchange.Reads as exchange-reads
-use Rattle.single_acts.proofs.stay.Reads as stay-reads
+use Rattle.single_acts.proofs.goes.Reads as goes-reads
 use Rattle.single_words.proofs.closed.Reads as closed-reads
 use Rattle.single_words.proofs.same.Reads as same-reads
 
@@ -19,8 +19,8 @@ same-requires : tie.Need-same-requires
 same-requires c κs = search needs
 
 -- src/lib.rt:70:9
-stay-requires : tie.Need-stay-requires
-stay-requires c κs = search needs
+goes-requires : tie.Need-goes-requires
+goes-requires c κs = search needs
 
 -- src/lib.rt:70:9
 returns : tie.Need-returns
@@ -31,12 +31,12 @@ closed-requires : tie.Need-closed-requires
 closed-requires c κs = search needs
 
 -- src/lib.rt:73:9
-stay-requires-2 : tie.Need-stay-requires-2
-stay-requires-2 c κs = search needs
+goes-requires-2 : tie.Need-goes-requires-2
+goes-requires-2 c κs = search needs
 
 -- src/lib.rt:75:9
-stay-requires-3 : tie.Need-stay-requires-3
-stay-requires-3 c κs = search needs
+goes-requires-3 : tie.Need-goes-requires-3
+goes-requires-3 c κs = search needs
 
 -- src/lib.rt:64:1
 returns-2 : tie.Need-returns-2
@@ -52,10 +52,10 @@ a1-spec =
     (tie.spec
     exchange-requires
     same-requires
-    stay-requires
+    goes-requires
     returns
     closed-requires
-    stay-requires-2
-    stay-requires-3
+    goes-requires-2
+    goes-requires-3
     returns-2
     returns-3)

@@ -6,7 +6,7 @@ use Rattle.single_acts.proofs.b1.Tie as tie
 use Rattle.single_acts.proofs.b1.Reads as reads
 use Rattle.single_acts.proofs.b1.Lts as lts
 use Rattle.single_acts.proofs.exchange.Reads as exchange-reads
-use Rattle.single_acts.proofs.stay.Reads as stay-reads
+use Rattle.single_acts.proofs.goes.Reads as goes-reads
 use Rattle.single_words.proofs.closed.Reads as closed-reads
 use Rattle.single_words.proofs.pushed.Reads as pushed-reads
 use Rattle.single_words.proofs.same.Reads as same-reads
@@ -21,8 +21,8 @@ closed-requires : tie.Need-closed-requires
 closed-requires c κs = search needs
 
 -- src/lib.rt:99:9
-stay-requires : tie.Need-stay-requires
-stay-requires c κs = search needs
+goes-requires : tie.Need-goes-requires
+goes-requires c κs = search needs
 
 -- src/lib.rt:99:9
 returns : tie.Need-returns
@@ -37,20 +37,20 @@ pushed-requires : tie.Need-pushed-requires
 pushed-requires c κs = search needs
 
 -- src/lib.rt:103:13
-stay-requires-2 : tie.Need-stay-requires-2
-stay-requires-2 c κs = search needs
+goes-requires-2 : tie.Need-goes-requires-2
+goes-requires-2 c κs = search needs
 
 -- src/lib.rt:105:13
-stay-requires-3 : tie.Need-stay-requires-3
-stay-requires-3 c κs = search needs
+goes-requires-3 : tie.Need-goes-requires-3
+goes-requires-3 c κs = search needs
 
 -- src/lib.rt:108:31
 unlocked-requires : tie.Need-unlocked-requires
 unlocked-requires c κs = search needs
 
 -- src/lib.rt:108:9
-stay-requires-4 : tie.Need-stay-requires-4
-stay-requires-4 c κs = search needs
+goes-requires-4 : tie.Need-goes-requires-4
+goes-requires-4 c κs = search needs
 
 -- src/lib.rt:93:1
 returns-2 : tie.Need-returns-2
@@ -70,14 +70,14 @@ b1-spec =
     (tie.spec
     exchange-requires
     closed-requires
-    stay-requires
+    goes-requires
     returns
     same-requires
     pushed-requires
-    stay-requires-2
-    stay-requires-3
+    goes-requires-2
+    goes-requires-3
     unlocked-requires
-    stay-requires-4
+    goes-requires-4
     returns-2
     returns-3
     returns-4)

@@ -5,7 +5,7 @@ use Rattle.single_acts.proofs.c1.Statement.{statement}
 use Rattle.single_acts.proofs.c1.Tie as tie
 use Rattle.single_acts.proofs.c1.Reads as reads
 use Rattle.single_acts.proofs.c1.Lts as lts
-use Rattle.single_acts.proofs.stay.Reads as stay-reads
+use Rattle.single_acts.proofs.goes.Reads as goes-reads
 use Rattle.single_acts.proofs.take.Reads as take-reads
 use Rattle.single_words.proofs.closed.Reads as closed-reads
 use Rattle.single_words.proofs.pushed.Reads as pushed-reads
@@ -21,8 +21,8 @@ same-requires : tie.Need-same-requires
 same-requires c κs = search needs
 
 -- src/lib.rt:158:9
-stay-requires : tie.Need-stay-requires
-stay-requires c κs = search needs
+goes-requires : tie.Need-goes-requires
+goes-requires c κs = search needs
 
 -- src/lib.rt:158:9
 returns : tie.Need-returns
@@ -37,8 +37,8 @@ unlocked-requires : tie.Need-unlocked-requires
 unlocked-requires c κs = search needs
 
 -- src/lib.rt:161:9
-stay-requires-2 : tie.Need-stay-requires-2
-stay-requires-2 c κs = search needs
+goes-requires-2 : tie.Need-goes-requires-2
+goes-requires-2 c κs = search needs
 
 -- src/lib.rt:161:9
 returns-2 : tie.Need-returns-2
@@ -49,12 +49,12 @@ closed-requires : tie.Need-closed-requires
 closed-requires c κs = search needs
 
 -- src/lib.rt:164:9
-stay-requires-3 : tie.Need-stay-requires-3
-stay-requires-3 c κs = search needs
+goes-requires-3 : tie.Need-goes-requires-3
+goes-requires-3 c κs = search needs
 
 -- src/lib.rt:166:9
-stay-requires-4 : tie.Need-stay-requires-4
-stay-requires-4 c κs = search needs
+goes-requires-4 : tie.Need-goes-requires-4
+goes-requires-4 c κs = search needs
 
 -- src/lib.rt:152:1
 returns-3 : tie.Need-returns-3
@@ -70,14 +70,14 @@ c1-spec =
     (tie.spec
     take-requires
     same-requires
-    stay-requires
+    goes-requires
     returns
     pushed-requires
     unlocked-requires
-    stay-requires-2
+    goes-requires-2
     returns-2
     closed-requires
-    stay-requires-3
-    stay-requires-4
+    goes-requires-3
+    goes-requires-4
     returns-3
     returns-4)

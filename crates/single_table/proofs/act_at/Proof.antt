@@ -20,15 +20,15 @@ use Rattle.single_acts.proofs.empty1.Reads as empty1-reads
 use Rattle.single_acts.proofs.full1.Reads as full1-reads
 use Rattle.single_acts.proofs.is_closed1.Reads as is-closed1-reads
 use Rattle.single_acts.proofs.len1.Reads as len1-reads
-use Rattle.single_acts.proofs.stay.Reads as stay-reads
+use Rattle.single_acts.proofs.goes.Reads as goes-reads
 
 -- src/lib.rt:-8:21
 enum-known-p : tie.Need-enum-known-p
 enum-known-p c = search needs
 
 -- src/lib.rt:-8:27
-stay-requires : tie.Need-stay-requires
-stay-requires c κs = search needs
+goes-requires : tie.Need-goes-requires
+goes-requires c κs = search needs
 
 -- src/lib.rt:-7:19
 enum-known-p-2 : tie.Need-enum-known-p-2
@@ -231,7 +231,7 @@ act-at-spec =
     tie.close
     (tie.spec
     enum-known-p
-    stay-requires
+    goes-requires
     enum-known-p-2
     a1-requires
     enum-known-p-3
