@@ -3,7 +3,7 @@
 
 pub mod words;
 
-use plain::{Machine, Queue};
+use plain::{stray, Machine, Queue};
 use std::process::exit;
 
 extern "C" {
@@ -44,6 +44,30 @@ pub fn plain_judged(list: &[u64]) -> Told {
     }
     let (refusal, place) = m.run(&list[2..]);
     (refusal, [place, m.head, m.tail, m.meter])
+}
+
+/// Nothing is known of the machine from one step to the next, as of words that a host lends.
+#[inline(never)]
+fn step(m: &mut Machine, entry: &[u64]) -> u64 {
+    if m.broken() {
+        return 6;
+    }
+    if stray(entry[0], entry[1]) {
+        return 9;
+    }
+    m.step(entry[0], entry[1])
+}
+
+/// Entry by entry, each time with the test whether the machine is broken, over all records.
+pub fn plain_steps(list: &[u64]) -> Told {
+    let mut m = Machine::of_at_most(64, list[0], list[1], 1).expect("a machine");
+    for (place, entry) in list[2..].chunks_exact(2).enumerate() {
+        let refusal = step(&mut m, entry);
+        if refusal != 0 {
+            return (refusal, [place as u64, m.head, m.tail, m.meter]);
+        }
+    }
+    (0, [list.len() as u64 / 2 - 1, m.head, m.tail, m.meter])
 }
 
 /// The processor time of this process so far, in seconds: what other programs take does not count.

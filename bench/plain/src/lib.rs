@@ -4,6 +4,7 @@
 pub mod single;
 pub mod unbounded;
 pub mod walk;
+pub mod words;
 
 use std::fmt::{self, Display, Formatter};
 use std::io::{self, Write};

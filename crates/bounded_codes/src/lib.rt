@@ -1,7 +1,7 @@
 // A worker's place as three words, its code and the two words that it holds, and back (specs/Codes.antt has the table).
 ghost use mathlib.Core.Path.{_≡_};
 ghost use Rattle.bounded_places.specs.Places.{viewOf};
-ghost use Rattle.bounded_codes.specs.Codes.{triple, answerCode, kindCode, codeOf, answerIn, heldIn, placeIn, within, mayBe, standsFor};
+ghost use Rattle.bounded_codes.specs.Codes.{triple, answerCode, kindCode, codeOf, answerIn, heldIn, placeIn, within, mayBe};
 use bounded_places::Answer;
 use bounded_places::Held;
 use bounded_places::Kind;
@@ -148,29 +148,16 @@ pub fn place_in(code: u64, a: u64, b: u64) -> Place
 }
 
 // Which words a place holds is a matter of ranges, so that a row of records is judged without a jump for each.
-fn within(code: u64, from: u64, to: u64) -> bool
+pub fn within(code: u64, from: u64, to: u64) -> bool
     ensures { λ r. ⌜ r ≡ within code from to ⌝ }
 {
     if from <= code { code < to } else { false }
 }
 
-fn may_be(word: u64, held: bool) -> bool
+pub fn may_be(word: u64, held: bool) -> bool
     ensures { λ r. ⌜ r ≡ mayBe word held ⌝ }
 {
     if held { true } else { word == 0 }
-}
-
-// Whether the words are those of a place: a code that one has, and 0 in what it does not hold.
-pub fn stands(code: u64, first: u64, second: u64) -> bool
-    ensures { λ r. ⌜ r ≡ standsFor code first second ⌝ }
-{
-    if code < 39 {} else {
-        return false;
-    }
-    if may_be(first, within(code, 6, 33)) {} else {
-        return false;
-    }
-    may_be(second, within(code, 21, 33))
 }
 
 // What is asked of the place that the words stand for, by the code alone, so that an entry goes by its place once: when it acts.

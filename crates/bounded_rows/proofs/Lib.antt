@@ -3,3 +3,4 @@ mod Words
 pub mod Standing
 mod Acting
 mod Turning
+mod Asking

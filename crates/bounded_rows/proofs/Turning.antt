@@ -12,7 +12,7 @@ use Rattle.queue_entries.specs.declared.Entry.{Entry}
 use Rattle.queue_entries.specs.declared.Entry.the-variants.{Unreadable, Asks}
 use Rattle.queue_entries.specs.declared.Verdict.{Verdict}
 use Rattle.queue_entries.specs.declared.Verdict.the-variants.{Refuse, Start, Move}
-use Rattle.queue_entries.specs.Entries.{entryOf, verdictFor}
+use Rattle.queue_entries.specs.Entries.{entryOf}
 use Rattle.queue_entries.proofs.Pick.{on, below, above}
 use Rattle.bounded_words.specs.declared.Width.{Width}
 use Rattle.bounded_words.specs.Limits.{slotsMost}
@@ -108,11 +108,10 @@ module _ (h ss rs : List ℕ) (sound : brokenLent (meteredIn (words h ss rs)) (r
           pub record-room : n * 5 + 4 < length rs
           record-room = room rs n low
 
-          module _ (busy : Bool) (eb : busy ≡ viewOf (placeIn (getD rs (n * 5) 0) (getD rs (n * 5 + 1) 0) (getD rs (n * 5 + 2) 0)) .busy) (weak : Bool) (ew : weak ≡ viewOf (placeIn (getD
-              rs (n * 5) 0) (getD rs (n * 5 + 1) 0) (getD rs (n * 5 + 2) 0)) .weak) (v : Verdict) (ev : v ≡ verdictFor (getD h 6 0) busy weak o) where
+          module _ (v : Verdict) (ev : v ≡ verdictOf (getD h 6 0) (placeIn (getD rs (n * 5) 0) (getD rs (n * 5 + 1) 0) (getD rs (n * 5 + 2) 0)) o) where
             of-words : v ≡ verdictOf (getD h 6 0) (recordAt rs n .place) o
             unfolding recordAt
-            of-words = ev ∙ (λ i. verdictFor (getD h 6 0) (eb i) (ew i) o)
+            of-words = ev
 
             of-record : v ≡ verdictOf (getD h 6 0) (placeOf (recordsIn rs) n) o
             of-record = of-words ∙ ap (λ (r : Worker). verdictOf (getD h 6 0) (r .place) o) (sym (get rs n low))

@@ -4,9 +4,10 @@ ghost use mathlib.Core.Bool.{true, false};
 ghost use Prim.Native.Nat.{_+_, _*_, _<_};
 ghost use lib.ListN.{length};
 ghost use Rattle.bounded_places.specs.Places.{beginOf};
-ghost use Rattle.bounded_machine.specs.Turn.{beginner};
+ghost use Rattle.bounded_codes.specs.Codes.{placeIn};
+ghost use Rattle.bounded_machine.specs.Turn.{verdictOf, beginner};
 ghost use Rattle.bounded_lent.specs.Lent.{brokenLent};
-ghost use Rattle.bounded_rows.specs.Rows.{words, fixedIn, endsIn, withHead, recordAt, placedAt, withRecord, slotAt, withSlot, recordsIn, meteredIn, stand, Moving, actedIn, after, afterOf, turnWith};
+ghost use Rattle.bounded_rows.specs.Rows.{words, fixedIn, endsIn, withHead, recordAt, withRecord, slotAt, withSlot, recordsIn, meteredIn, stand, Moving, actedIn, after, afterOf, turnWith};
 use bounded_places::Ends;
 use bounded_places::Slot;
 use bounded_places::Worker;
@@ -15,6 +16,7 @@ use bounded_words::Stamp;
 use bounded_words::Width;
 use queue_entries::Call;
 use queue_entries::Entry;
+use queue_entries::Order;
 use queue_entries::Verdict;
 
 pub fn fixed_in(head: &[u64]) -> Fixed
@@ -61,15 +63,6 @@ pub fn record_at(records: &[u64], i: usize) -> Worker
         differed: records[at + 3],
         failed: records[at + 4],
     }
-}
-
-// Whether the i-th record's words are those of a place.
-pub fn placed_at(records: &[u64], i: usize) -> bool
-    requires { ⌜ i * 5 + 4 < length (now records) ⌝ }
-    ensures { λ r. ⌜ r ≡ placedAt (now (records .entry)) i ⌝ }
-{
-    let at = i * 5;
-    bounded_codes::stands(records[at], records[at + 1], records[at + 2])
 }
 
 pub fn put_record(records: &mut [u64], i: usize, r: Worker)
@@ -144,6 +137,29 @@ fn act(bits: Width, head: &mut [u64], slots: &mut [u64], records: &mut [u64], i:
     put_record(records, i, after);
 }
 
+// What becomes of a worker of these words. Whether it stands at a weak exchange is asked last and where one is to fail alone, since
+// the processor cannot foretell it.
+fn verdict_in(meter: u64, code: u64, first: u64, second: u64, o: Order) -> Verdict
+    ensures { λ r. ⌜ r ≡ verdictOf meter (placeIn code first second) o ⌝ }
+{
+    let busy = bounded_codes::busy_in(code, first, second);
+    let verdict = queue_entries::verdict_for(meter, busy, true, o);
+    match verdict {
+        Verdict::Refuse(number) => Verdict::Refuse(number),
+        Verdict::Start(call) => Verdict::Start(call),
+        Verdict::Move(lose) => {
+            if lose {} else {
+                return Verdict::Move(false);
+            }
+            if bounded_codes::weak_in(code, first, second) {
+                Verdict::Move(true)
+            } else {
+                Verdict::Refuse(8)
+            }
+        }
+    }
+}
+
 // One entry, on words that stand for a ring and records that are not broken; nor are they after it.
 pub fn turn(
     bits: Width,
@@ -168,9 +184,13 @@ pub fn turn(
     }
     let i = worker as usize;
     let at = i * 5;
-    let busy = bounded_codes::busy_in(records[at], records[at + 1], records[at + 2]);
-    let weak = bounded_codes::weak_in(records[at], records[at + 1], records[at + 2]);
-    let verdict = queue_entries::verdict_for(head[6], busy, weak, order);
+    let verdict = verdict_in(
+        head[6],
+        records[at],
+        records[at + 1],
+        records[at + 2],
+        order,
+    );
     match verdict {
         Verdict::Refuse(number) => number,
         Verdict::Start(call) => {

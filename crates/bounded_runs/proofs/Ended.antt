@@ -1,19 +1,18 @@
--- A run that was not refused has read every entry: the search for refusal 9, which the definition puts first, then finds nothing.
-use Prim.Native.Nat.{ℕ, _+_, _%_}
+-- What is refused of a whole schedule, what is left of it where nothing is, and that a run that was not refused needs no search.
+use Prim.Native.Nat.{ℕ, _%_}
 use mathlib.Core.Path.{_≡_, refl, sym, ap, _∙_}
-use mathlib.Core.Bool.{Bool, true, false, cond}
-use mathlib.Core.List.{List, [], _∷_}
-use native.Mathlib.Omega.{arith}
-use lib.Dec.{eqb}
+use mathlib.Core.Bool.{Bool, true, false}
+use mathlib.Core.List.{List}
 use lib.ListN.{length, drop}
-use borrow.Author.Tests.{eqb-true, eqb-false, eq-eqb, ne-eqb}
+use borrow.Author.Tests.{eq-eqb, ne-eqb}
 use Rattle.queue_entries.specs.declared.Entry.{Entry}
-use Rattle.queue_entries.specs.declared.Entry.the-variants.{Unreadable, Asks}
+use Rattle.queue_entries.specs.declared.Entry.the-variants.{Unreadable}
 use Rattle.queue_entries.specs.declared.Finding.{Finding}
 use Rattle.queue_entries.specs.declared.Finding.the-variants.{AllRead, UnreadableAt}
 use Rattle.queue_entries.specs.Entries.{entryOf}
-use Rattle.queue_entries.specs.Schedules.{stopsAt, searchBy, runBy, scheduleBy}
+use Rattle.queue_entries.specs.Schedules.{searchBy, scheduleBy}
 use Rattle.queue_entries.proofs.Pick.{yes, no}
+use Rattle.queue_schedules.proofs.Ended as ended
 use Rattle.bounded_words.specs.declared.Width.{Width}
 use Rattle.bounded_acts.specs.Acts.{actOf}
 use Rattle.bounded_machine.specs.declared.Machine.{Machine}
@@ -24,7 +23,6 @@ use Rattle.bounded_machine.specs.Broken.{brokenOf}
 use Rattle.bounded_machine.specs.Turn.{turn, turnAt, turnOfBy}
 use Rattle.bounded_machine.specs.Run.{ran, runAt, runOfBy}
 
--- ---- what is refused of a whole schedule, and what is left of it where nothing is
 module _ (bits : Width) (m : Machine) (s : List ℕ) (b : Bool) (e : b ≡ brokenOf m) where
   pub broken-run : b ≡ true → ran 6 0 m ≡ runOfBy (actOf bits) m s
   unfolding scheduleBy
@@ -44,25 +42,6 @@ module _ (bits : Width) (m : Machine) (s : List ℕ) (b : Bool) (e : b ≡ broke
       unfolding scheduleBy
       read-run z = no _ b _ _ _ e h (sym (simp (ne-eqb _ _ k, sym g ∙ z)))
 
--- Over any queue's machine.
-module _ {M D R : Type 0} (refusal : D → ℕ) (machine : D → M) (turned : M → ℕ → ℕ → D) (told : ℕ → ℕ → M → R) (refusalIn : R → ℕ)
-    (refusal-is : (k i : ℕ) (m : M) → refusalIn (told k i m) ≡ k)
-    (reading : ℕ → ℕ → Entry) (nine : (m : M) (a b : ℕ) → reading a b ≡ Unreadable → refusal (turned m a b) ≡ 9) where
-  pub ended-read : (s : List ℕ) (m : M) (i : ℕ) → refusalIn (runBy refusal machine turned told m i s) ≡ 0 → searchBy reading i s ≡ AllRead
-  unfolding searchBy runBy
-  ended-read [] m i z = refl
-  ended-read (a ∷ []) m i z = refl
-  ended-read (a ∷ b ∷ s) m i z =
-      go (ended-read s (machine (turned m a b)) (i + 1)) (eqb (refusal (turned m a b)) 0) refl z (reading a b) refl
-    where
-      go : (refusalIn (runBy refusal machine turned told (machine (turned m a b)) (i + 1) s) ≡ 0 → searchBy reading (i + 1) s ≡ AllRead)
-          → (c : Bool) → eqb (refusal (turned m a b)) 0 ≡ c
-          → refusalIn (cond c (runBy refusal machine turned told (machine (turned m a b)) (i + 1) s) (told (refusal (turned m a b)) i m)) ≡ 0
-          → (x : Entry) → reading a b ≡ x → stopsAt i x (searchBy reading (i + 1) s) ≡ AllRead
-      go more false t z x e = absurd (eqb-false _ 0 t (sym (refusal-is (refusal (turned m a b)) i m) ∙ z))
-      go more true t z Unreadable e = absurd (omega (arith, eqb-true (refusal (turned m a b)) 0 t, nine m a b e))
-      go more true t z (Asks w o) e = more z
-
 module _ (bits : Width) where
   refusal-is : (k i : ℕ) (m : Machine) → ran k i m .refusal ≡ k
   unfolding ran
@@ -74,7 +53,5 @@ module _ (bits : Width) where
 
   pub not-refused : (m : Machine) (s : List ℕ) → brokenOf m ≡ false → (length s % 2 ≡ 1 → ⊥)
       → (r : Ran) → r ≡ runAt bits m 0 s → r .refusal ≡ 0 → r ≡ runOfBy (actOf bits) m s
-  not-refused m s whole even r e z =
-      e ∙ read-run bits m s false (sym whole) refl even (searchBy entryOf 0 s) refl
-      (ended-read (λ (d : Did). d .refusal) (λ (d : Did). d .machine) (turnAt bits) ran (λ (q : Ran). q .refusal) refusal-is entryOf nine s m 0
-      (sym (ap (λ (q : Ran). q .refusal) e) ∙ z))
+  not-refused =
+      ended.not-refused (λ (d : Did). d .refusal) (λ (d : Did). d .machine) (turnAt bits) ran (λ (q : Ran). q .refusal) refusal-is entryOf nine brokenOf

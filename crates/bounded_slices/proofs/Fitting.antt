@@ -6,7 +6,7 @@ use mathlib.Core.List.{List, [], _∷_}
 use native.Mathlib.Omega.{arith}
 use lib.Dec.{ltb, eqb}
 use lib.ListN.{length, getD}
-use borrow.Author.Tests.{eq-eqb, ne-eqb, lt-ltb, le-ltb}
+use borrow.Author.Tests.{eq-eqb, ne-eqb, lt-ltb, le-ltb, ltb-true}
 use Rattle.queue_entries.specs.Limits.{all}
 use Rattle.queue_entries.proofs.Limits.{all-more, all-failed, all-passed}
 use Rattle.queue_entries.proofs.Pick.{equal, other}
@@ -16,10 +16,9 @@ use Rattle.bounded_words.specs.Words.{Fair}
 use Rattle.bounded_places.specs.declared.Ends.{Ends}
 use Rattle.bounded_places.specs.declared.Worker.{Worker}
 use Rattle.bounded_machine.specs.Machine.{recordOf}
-use Rattle.bounded_places.specs.declared.Held.{Held}
 use Rattle.bounded_places.specs.Places.{viewOf, fitsOf}
 use Rattle.bounded_machine.specs.Broken.{placeFits, recordFits}
-use Rattle.bounded_codes.specs.Codes.{placeIn, standsFor}
+use Rattle.bounded_codes.specs.Codes.{placeIn, standsFor, within}
 use Rattle.bounded_codes.proofs.Ranges.{busy-is}
 use Rattle.bounded_orders.specs.Orders.{ringFitsLent}
 use Rattle.bounded_lent.specs.Lent.{eachFits, brokenLent}
@@ -27,35 +26,80 @@ use Rattle.bounded_lent.proofs.Turning.{ring-broken, records-broken, ring-fair}
 use Rattle.bounded_rows.specs.Rows.{words, layout, fixedIn, endsIn, recordAt, placedAt, recordsIn, meteredIn, shaped, placed, stand}
 use Rattle.bounded_rows.proofs.Lists.{many, room, get, beyond}
 use Rattle.bounded_rows.proofs.Standing.{shaped-all}
-use Rattle.bounded_slices.specs.Slices.{brokenWords}
+use Rattle.bounded_slices.specs.Slices.{fitting, brokenWords}
+use Rattle.bounded_slices.proofs.Judging.{between, nothing-held}
 
 -- ---- one record
+never-both : (p b : Bool) → false ≡ b → false ≡ cond p b false
+never-both true b e = e
+never-both false b e = refl
+
+itself : (b : Bool) → cond b true false ≡ b
+itself true = refl
+itself false = refl
+
 module _ (rs : List ℕ) (i : ℕ) (f : Fixed) (meter : ℕ) (counted : Bool) where
-  pub many-differed : meter < getD rs (i * 5 + 3) 0 → false ≡ recordFits f meter (recordAt rs i) counted
+  abbrev judged : Bool
+  judged = cond (placedAt rs i) (recordFits f meter (recordAt rs i) counted) false
+
+  pub many-differed : meter < getD rs (i * 5 + 3) 0 → false ≡ judged
   unfolding recordFits recordAt
-  many-differed l = sym (rw (lt-ltb meter (getD rs (i * 5 + 3) 0) l) refl)
+  many-differed l = never-both (placedAt rs i) (recordFits f meter (recordAt rs i) counted) (sym (rw (lt-ltb meter (getD rs (i * 5 + 3) 0) l) refl))
 
   module _ (d : getD rs (i * 5 + 3) 0 ≤ meter) where
-    pub many-failed : meter < getD rs (i * 5 + 4) 0 → false ≡ recordFits f meter (recordAt rs i) counted
+    pub many-failed : meter < getD rs (i * 5 + 4) 0 → false ≡ judged
     unfolding recordFits recordAt
-    many-failed l = sym (rw (le-ltb meter (getD rs (i * 5 + 3) 0) d, lt-ltb meter (getD rs (i * 5 + 4) 0) l) refl)
+    many-failed l = never-both (placedAt rs i) (recordFits f meter (recordAt rs i) counted) (sym (rw (le-ltb meter (getD rs (i * 5 + 3) 0) d, lt-ltb meter (getD rs (i * 5 + 4) 0) l) refl))
 
     module _ (e : getD rs (i * 5 + 4) 0 ≤ meter) where
-      by-place : recordFits f meter (recordAt rs i) counted ≡ cond (not (ltb (getD rs (i * 5) 0) 11)) (cond counted (fitsOf f (viewOf (placeIn (getD rs (i * 5) 0) (getD rs (i * 5 + 1) 0) (getD rs (i * 5 + 2) 0)) .held)) false) true
+      abbrev code : ℕ
+      code = getD rs (i * 5) 0
+
+      abbrev first : ℕ
+      first = getD rs (i * 5 + 1) 0
+
+      abbrev second : ℕ
+      second = getD rs (i * 5 + 2) 0
+
+      abbrev held-fits : Bool
+      held-fits = fitsOf f (viewOf (placeIn code first second) .held)
+
+      by-place : recordFits f meter (recordAt rs i) counted ≡ cond (not (ltb code 11)) (cond counted held-fits false) true
       unfolding recordFits placeFits recordAt
       by-place =
           rw (le-ltb meter (getD rs (i * 5 + 3) 0) d, le-ltb meter (getD rs (i * 5 + 4) 0) e)
-          (ap (λ (t : Bool). cond t (cond counted (fitsOf f (viewOf (placeIn (getD rs (i * 5) 0) (getD rs (i * 5 + 1) 0) (getD rs (i * 5 + 2) 0)) .held)) false) true) (busy-is (getD rs (i * 5) 0) (getD rs (i * 5 + 1) 0) (getD rs (i * 5 + 2) 0)))
+          (ap (λ (t : Bool). cond t (cond counted held-fits false) true) (busy-is code first second))
 
-      pub idle-fits : getD rs (i * 5) 0 < 11 → true ≡ recordFits f meter (recordAt rs i) counted
-      idle-fits l = sym (by-place ∙ rw (lt-ltb (getD rs (i * 5) 0) 11 l) refl)
+      module _ (b : Bool) (eb : b ≡ cond (ltb code 11) true counted) where
+        pub past-count : b ≡ false → false ≡ judged
+        past-count h = never-both (placedAt rs i) (recordFits f meter (recordAt rs i) counted) (sym (by-place ∙ go (ltb code 11) (sym eb ∙ h)))
+          where
+            go : (t : Bool) → cond t true counted ≡ false → cond (not t) (cond counted held-fits false) true ≡ false
+            go false z = ap (λ (x : Bool). cond x held-fits false) z
+            go true z = z
 
-      module _ (g : 11 ≤ getD rs (i * 5) 0) where
-        pub past-count : counted ≡ false → false ≡ recordFits f meter (recordAt rs i) counted
-        past-count c = sym (by-place ∙ rw (le-ltb (getD rs (i * 5) 0) 11 g, c) refl)
+        module _ (hb : b ≡ true) where
+          -- one that may be busy fits as the words that it holds do
+          as-held : (ltb code 11 ≡ true → held-fits ≡ true) → recordFits f meter (recordAt rs i) counted ≡ held-fits
+          as-held low = by-place ∙ go (ltb code 11) low (sym eb ∙ hb)
+            where
+              go : (t : Bool) → (t ≡ true → held-fits ≡ true) → cond t true counted ≡ true → cond (not t) (cond counted held-fits false) true ≡ held-fits
+              go false h z = ap (λ (x : Bool). cond x held-fits false) z
+              go true h z = sym (h refl)
 
-        pub by-held : counted ≡ true → (h : Held) → h ≡ viewOf (placeIn (getD rs (i * 5) 0) (getD rs (i * 5 + 1) 0) (getD rs (i * 5 + 2) 0)) .held → (r : Bool) → r ≡ fitsOf f h → r ≡ recordFits f meter (recordAt rs i) counted
-        by-held c h eh r er = er ∙ ap (fitsOf f) eh ∙ sym (by-place ∙ rw (le-ltb (getD rs (i * 5) 0) 11 g, c) refl)
+          pub by-end : (w : Bool) → w ≡ within code 15 33 → w ≡ true → (r : Bool) → r ≡ fitting f code first second → r ≡ judged
+          unfolding fitting placedAt
+          by-end w ew hw r er = er ∙ ap (λ (x : Bool). cond (standsFor code first second) x false) (sym (as-held idle))
+            where
+              idle : ltb code 11 ≡ true → held-fits ≡ true
+              idle l = absurd (omega (arith, ltb-true code 11 l, between code 15 33 (sym ew ∙ hw) .low))
+
+          pub by-other : (w : Bool) → w ≡ within code 15 33 → w ≡ false → (r : Bool) → r ≡ standsFor code first second → r ≡ judged
+          unfolding placedAt
+          by-other w ew hw r er =
+              let none = nothing-held code first second (sym ew ∙ hw) f in
+              er ∙ sym (itself (standsFor code first second))
+              ∙ ap (λ (x : Bool). cond (standsFor code first second) x false) (sym (as-held (λ l. none) ∙ none))
 
 -- ---- every record: both tests of each are one test of all
 all-both : (n i : ℕ) (p q : ℕ → Bool) → all n i (λ (k : ℕ). cond (p k) (q k) false) ≡ cond (all n i p) (all n i q) false
@@ -122,21 +166,15 @@ module _ (rs : List ℕ) (f : Fixed) (meter : ℕ) (counted : Bool) where
     pub none-left : n ≤ i → true ≡ Told
     none-left h = all-passed test n i Told (g .back) h
 
-    module _ (l : i < n) (p : Bool) (ep : p ≡ placedAt rs i) where
-      pub no-place : p ≡ false → false ≡ Told
-      no-place h = all-failed test n i Told (g .back) false l (sym (ap (λ (b : Bool). cond b (recordFits f meter (recordOf (recordsIn rs) i) counted) false) (sym ep ∙ h))) refl
+    module _ (l : i < n) (b : Bool) (eb : b ≡ cond (placedAt rs i) (recordFits f meter (recordAt rs i) counted) false) where
+      told : b ≡ test i
+      told = eb ∙ ap (λ (x : Worker). cond (placedAt rs i) (recordFits f meter x counted) false) (sym (get rs i (omega (arith, l, g .many-are))))
 
-      module _ (hp : p ≡ true) (b : Bool) (eb : b ≡ recordFits f meter (recordAt rs i) counted) where
-        told : b ≡ test i
-        told =
-            eb ∙ ap (λ (x : Worker). recordFits f meter x counted) (sym (get rs i (omega (arith, l, g .many-are))))
-            ∙ sym (ap (λ (t : Bool). cond t (recordFits f meter (recordOf (recordsIn rs) i) counted) false) (sym ep ∙ hp))
+      pub no-fit : b ≡ false → false ≡ Told
+      no-fit h = all-failed test n i Told (g .back) b l told h
 
-        pub no-fit : b ≡ false → false ≡ Told
-        no-fit h = all-failed test n i Told (g .back) b l told h
-
-        pub goes-on : b ≡ true → Going n (i + 1)
-        goes-on h = record { many-are = g .many-are; low = omega (arith, l); back = all-more test n i Told (g .back) b l told h }
+      pub goes-on : b ≡ true → Going n (i + 1)
+      goes-on h = record { many-are = g .many-are; low = omega (arith, l); back = all-more test n i Told (g .back) b l told h }
 
 -- ---- shapes
 module _ (h ss rs : List ℕ) where

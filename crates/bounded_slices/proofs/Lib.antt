@@ -1,2 +1,3 @@
+mod Judging
 mod Filling
 mod Fitting

@@ -1,14 +1,16 @@
 // The three slices that a host lends, each as a whole: how long they are, whether they stand for a ring and records that are not broken, and a ring stored there.
 ghost use mathlib.Core.Path.{_≡_};
-ghost use mathlib.Core.Bool.{false, cond};
+ghost use mathlib.Core.Bool.{true, false, cond};
 ghost use Prim.Native.Nat.{_+_, _*_, _%_, _<_};
+ghost use lib.Dec.{ltb};
 ghost use lib.ListN.{length, replicate};
 ghost use Rattle.bounded_words.specs.Limits.{slotsMost};
 ghost use Rattle.bounded_words.specs.Words.{Fair};
+ghost use Rattle.bounded_codes.specs.Codes.{within, standsFor};
 ghost use Rattle.bounded_machine.specs.Broken.{recordFits};
 ghost use Rattle.bounded_lent.specs.Lent.{eachFits};
-ghost use Rattle.bounded_rows.specs.Rows.{words, headOf, slotsOf, slotsIn, recordAt, recordsIn, shaped, placed};
-ghost use Rattle.bounded_slices.specs.Slices.{withFixed, brokenWords};
+ghost use Rattle.bounded_rows.specs.Rows.{words, headOf, slotsOf, slotsIn, recordAt, placedAt, recordsIn, shaped, placed};
+ghost use Rattle.bounded_slices.specs.Slices.{fitting, withFixed, brokenWords};
 use bounded_orders::Metered;
 use bounded_places::Slot;
 use bounded_words::Fixed;
@@ -36,27 +38,70 @@ pub fn shaped(head: &[u64], slots: &[u64], records: &[u64]) -> bool
     records.len() % RECORD == 0
 }
 
-// Whether the i-th record fits the ring, by its words; as `bounded_machine::record_fits` of the record that they stand for.
+// Of a code from 15 to 32, which all hold a loaded word first. A second word that is not 0 is a loaded one in Len3 (21) and any number
+// from 22 on; the first may be marked in Len2 (20) and Len3.
+fn end_fits(f: Fixed, code: u64, first: u64, second: u64) -> bool
+    requires { ⌜ Fair f ⌝ }
+    requires { ⌜ within code 15 33 ≡ true ⌝ }
+    ensures { λ r. ⌜ r ≡ fitting f code first second ⌝ }
+{
+    if bounded_places::inside_of(f, Stamp(first)) {} else {
+        return false;
+    }
+    if bounded_codes::may_be(second, 22 <= code) {} else {
+        if code == 21 {} else {
+            return false;
+        }
+        return bounded_places::inside_of(f, Stamp(second));
+    }
+    if bounded_words::marked(f, Stamp(first)) {} else {
+        return true;
+    }
+    bounded_codes::within(code, 20, 22)
+}
+
+// Of any other code: no second word, and no loaded word.
+fn other_stands(code: u64, first: u64, second: u64) -> bool
+    requires { ⌜ within code 15 33 ≡ false ⌝ }
+    ensures { λ r. ⌜ r ≡ standsFor code first second ⌝ }
+{
+    if second == 0 {} else {
+        return false;
+    }
+    if bounded_codes::may_be(first, bounded_codes::within(code, 6, 15)) {} else {
+        return false;
+    }
+    code < 39
+}
+
+fn allowed(code: u64, counted: bool) -> bool
+    ensures { λ r. ⌜ r ≡ cond (ltb code 11) true counted ⌝ }
+{
+    if code < 11 { true } else { counted }
+}
+
+// Whether the i-th record stands for a place and fits the ring, by its words; as `bounded_machine::record_fits` of the record that they
+// stand for. Few tests of a record are such as the next record answers otherwise, so that the processor foretells them.
 fn fits_at(records: &[u64], i: usize, f: Fixed, meter: u64, counted: bool) -> bool
     requires { ⌜ Fair f ⌝ }
     requires { ⌜ i * 5 + 4 < length (now records) ⌝ }
-    ensures { λ r. ⌜ r ≡ recordFits f meter (recordAt (now (records .entry)) i) counted ⌝ }
+    ensures { λ r. ⌜ r ≡ cond (placedAt (now (records .entry)) i) (recordFits f meter (recordAt (now (records .entry)) i) counted) false ⌝ }
 {
     let at = i * RECORD;
+    let code = records[at];
     if meter < records[at + 3] {
         return false;
     }
     if meter < records[at + 4] {
         return false;
     }
-    if records[at] < 11 {
-        return true;
-    }
-    if counted {} else {
+    if allowed(code, counted) {} else {
         return false;
     }
-    let held = bounded_codes::words_held(records[at], records[at + 1], records[at + 2]);
-    bounded_places::fits(f, held)
+    if bounded_codes::within(code, 15, 33) {
+        return end_fits(f, code, records[at + 1], records[at + 2]);
+    }
+    other_stands(code, records[at + 1], records[at + 2])
 }
 
 // Whether every record stands for a place and fits the ring, as one within the count does or as one past it, which has to be idle.
@@ -68,9 +113,6 @@ pub fn records_fit(records: &[u64], f: Fixed, meter: u64, counted: bool) -> bool
     let n = records.len() / RECORD;
     let mut i = 0;
     while i < n {
-        if bounded_rows::placed_at(records, i) {} else {
-            return false;
-        }
         if fits_at(records, i, f, meter, counted) {} else {
             return false;
         }

@@ -3,6 +3,7 @@ pub mod Schedules
 pub mod Records
 pub mod Verdicts
 pub mod Loops
+pub mod Ended
 pub mod Histories
 pub mod Alone
 pub mod Splits

@@ -17,6 +17,7 @@ use Rattle.queue_entries.specs.declared.Finding.{Finding}
 use Rattle.queue_entries.specs.declared.Finding.the-variants.{AllRead, UnreadableAt}
 use Rattle.queue_entries.specs.Schedules.{searchBy}
 use Rattle.queue_schedules.proofs.Schedules.{schedule-broken, schedule-odd, schedule-found, schedule-none}
+use Rattle.queue_schedules.proofs.Ended.{not-refused}
 use Rattle.queue_schedules.proofs.Loops.{loop-ended, loop-stops, loop-goes}
 use Rattle.queue_schedules.proofs.Verdicts as verdicts
 use Rattle.single_places.specs.declared.Place.{Place}
@@ -31,7 +32,7 @@ use Rattle.single_machine.specs.Broken.{brokenOf}
 use Rattle.single_machine.specs.Turn.{verdictOf, begun, stored, actedBy, carried, turnOf}
 use Rattle.single_machine.specs.Run.{ran, runFrom, runOf}
 use Rattle.single_machine.proofs.Kept.{Unbroken, unbroken-of, few-workers, begun-unbroken, acted-unbroken}
-use Rattle.single_machine.proofs.Turns.{single-queue, unread, far, near}
+use Rattle.single_machine.proofs.Turns.{single-queue, turn-of-unread, ran-refusal, unread, far, near}
 
 -- At entry i of n, with the machine m: what is left of the run is the whole of it.
 pub record Stand (s : List ℕ) (n i : ℕ) (m : Machine) (whole : Ran) : Type 0 where
@@ -40,7 +41,7 @@ pub record Stand (s : List ℕ) (n i : ℕ) (m : Machine) (whole : Ran) : Type 0
   pub unbroken : Unbroken m
   pub left : runFrom m i (drop (2 * i) s) ≡ whole
 
--- ---- before and after the loop
+-- ---- what is refused of a whole schedule, and what is left of it where nothing is
 module _ (m : Machine) (s : List ℕ) (b : Bool) (e : b ≡ brokenOf m) where
   pub broken-run : b ≡ true → ran 6 0 m ≡ runOf m s
   broken-run h = sym (schedule-broken single-queue brokenOf m s (sym e ∙ h))
@@ -49,17 +50,20 @@ module _ (m : Machine) (s : List ℕ) (b : Bool) (e : b ≡ brokenOf m) where
     pub odd-run : length s % 2 ≡ 1 → ran 11 0 m ≡ runOf m s
     odd-run k = sym (schedule-odd single-queue brokenOf m s (sym e ∙ h) k)
 
-    pub unread-run : (length s % 2 ≡ 1 → ⊥) → (f : Finding) → f ≡ searchBy entryOf 0 s → (i : ℕ) → f ≡ UnreadableAt i → ran 9 i m ≡ runOf m s
-    unread-run o f g i z = sym (schedule-found single-queue brokenOf m s (sym e ∙ h) o i (sym g ∙ z))
+    module _ (o : length s % 2 ≡ 1 → ⊥) (f : Finding) (g : f ≡ searchBy entryOf 0 s) where
+      pub unread-run : (i : ℕ) → f ≡ UnreadableAt i → ran 9 i m ≡ runOf m s
+      unread-run i z = sym (schedule-found single-queue brokenOf m s (sym e ∙ h) o i (sym g ∙ z))
 
-    pub first-stand : (length s % 2 ≡ 1 → ⊥) → (n : ℕ) → length s ≡ 2 * n → (f : Finding) → f ≡ searchBy entryOf 0 s → f ≡ AllRead → Stand s n 0 m (runOf m s)
-    first-stand o n k f g z =
-        record {
-          within = omega arith;
-          pairs = k;
-          unbroken = unbroken-of m (sym e ∙ h);
-          left = sym (schedule-none single-queue brokenOf m s (sym e ∙ h) o (sym g ∙ z));
-        }
+      pub read-run : f ≡ AllRead → runFrom m 0 s ≡ runOf m s
+      read-run z = sym (schedule-none single-queue brokenOf m s (sym e ∙ h) o (sym g ∙ z))
+
+module _ (m : Machine) (s : List ℕ) (whole : brokenOf m ≡ false) where
+  pub unrefused-run : (length s % 2 ≡ 1 → ⊥) → (r : Ran) → r ≡ runFrom m 0 s → r .refusal ≡ 0 → r ≡ runOf m s
+  unrefused-run =
+      not-refused (λ (d : Did). d .refusal) (λ (d : Did). d .machine) turnOf ran (λ (q : Ran). q .refusal) ran-refusal entryOf turn-of-unread brokenOf m s whole
+
+  pub first-stand : (n : ℕ) → length s ≡ 2 * n → Stand s n 0 m (runFrom m 0 s)
+  first-stand n k = record { within = omega arith; pairs = k; unbroken = unbroken-of m whole; left = refl }
 
 module _ (s : List ℕ) (n i : ℕ) (m : Machine) (whole : Ran) (at : Stand s n i m whole) where
   pub ended : n ≤ i → ran 0 i m ≡ whole

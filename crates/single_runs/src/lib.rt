@@ -1,7 +1,11 @@
 // A schedule, entry by entry, on any machine: the one loop that all entries go through.
 ghost use mathlib.Core.Path.{_≡_};
+ghost use Prim.Native.Nat.{_%_};
+ghost use mathlib.Core.Bool.{false};
+ghost use lib.ListN.{length};
+ghost use Rattle.single_machine.specs.Broken.{brokenOf};
 ghost use Rattle.single_machine.specs.Machine.{machineOf};
-ghost use Rattle.single_machine.specs.Run.{ran, runOf};
+ghost use Rattle.single_machine.specs.Run.{ran, runFrom, runOf};
 use queue_entries::Entry;
 use queue_entries::Finding;
 use queue_entries::Verdict;
@@ -32,26 +36,16 @@ fn ran(
     }
 }
 
-// A schedule, entry by entry, to its end or to the first refusal.
-pub fn run(m: Machine, schedule: &[u64]) -> Ran
-    ensures { λ r. ⌜ r ≡ runOf m (now (schedule .entry)) ⌝ }
+// An even number of words, entry by entry, to its end or to the first refusal, which may be 9.
+fn entries(m: Machine, schedule: &[u64]) -> Ran
+    requires { ⌜ brokenOf m ≡ false ⌝ }
+    requires { ⌜ length (now schedule) % 2 ≡ 0 ⌝ }
+    ensures { λ r. ⌜ r ≡ runFrom m 0 (now (schedule .entry)) ⌝ }
 {
     let mut single = m.single;
     let mut workers = m.workers;
     let count = m.count;
     let mut meter = m.meter;
-    if single_machine::broken(m) {
-        return ran(6, 0, single, workers, count, meter);
-    }
-    if schedule.len() % 2 == 1 {
-        return ran(11, 0, single, workers, count, meter);
-    }
-    match queue_entries::search(schedule) {
-        Finding::UnreadableAt(place) => {
-            return ran(9, place, single, workers, count, meter);
-        }
-        Finding::AllRead => {}
-    }
     let n = schedule.len() / 2;
     let mut i = 0;
     while i < n {
@@ -89,4 +83,34 @@ pub fn run(m: Machine, schedule: &[u64]) -> Ran
         }
     }
     ran(0, i, single, workers, count, meter)
+}
+
+fn unchanged(refusal: u64, place: usize, m: Machine) -> Ran
+    ensures { λ r. ⌜ r ≡ ran refusal place m ⌝ }
+{
+    Ran {
+        refusal: refusal,
+        place: place as u64,
+        machine: m,
+    }
+}
+
+// As in `bounded_runs::run`, the search for refusal 9 is made only where an entry was refused.
+pub fn run(m: Machine, schedule: &[u64]) -> Ran
+    ensures { λ r. ⌜ r ≡ runOf m (now (schedule .entry)) ⌝ }
+{
+    if single_machine::broken(m) {
+        return unchanged(6, 0, m);
+    }
+    if schedule.len() % 2 == 1 {
+        return unchanged(11, 0, m);
+    }
+    let done = entries(m, schedule);
+    if done.refusal == 0 {
+        return done;
+    }
+    match queue_entries::search(schedule) {
+        Finding::UnreadableAt(place) => unchanged(9, place, m),
+        Finding::AllRead => done,
+    }
 }

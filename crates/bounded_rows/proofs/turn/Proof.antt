@@ -9,38 +9,27 @@ use Rattle.bounded_rows.proofs.turn.Statement.{statement}
 use Rattle.bounded_rows.proofs.turn.Tie as tie
 use Rattle.bounded_rows.proofs.turn.Reads as reads
 use Rattle.bounded_rows.proofs.turn.Lts as lts
-use Rattle.bounded_codes.proofs.busy_in.Reads as busy-in-reads
-use Rattle.bounded_codes.proofs.weak_in.Reads as weak-in-reads
 use Rattle.bounded_rows.proofs.act.Reads as act-reads
 use Rattle.bounded_rows.proofs.begin.Reads as begin-reads
 use Rattle.queue_entries.proofs.entry_of.Reads as entry-of-reads
-use Rattle.queue_entries.proofs.verdict_for.Reads as verdict-for-reads
+use Rattle.bounded_rows.proofs.verdict_in.Reads as verdict-in-reads
 
 asks-at : (c : tie.After-known-told) → c .before .before .before .entry-of .result ≡ Asks (c .before .worker .given .0 .0) (c .before .worker .given .0 .1 .0)
 asks-at c = search needs
 
-starts-at : (c : tie.After-known-told3) → c .before .before .before .verdict-for .result ≡ Start (c .before .verdict2 .given .0 .0)
+starts-at : (c : tie.After-known-told3) → c .before .before .before .verdict-in .result ≡ Start (c .before .verdict2 .given .0 .0)
 starts-at c = search needs
 
-moves-at : (c : tie.After-known-told4) → c .before .before .before .verdict-for .result ≡ Move (c .before .verdict3 .given .0 .0)
+moves-at : (c : tie.After-known-told4) → c .before .before .before .verdict-in .result ≡ Move (c .before .verdict3 .given .0 .0)
 moves-at c = search needs
 
-moving-at : (c : tie.After-known-told4) → Moving (words (c .before .before .before .before .before .before .before .before .before .before .before .before .before .before .before .before
-    .before .before .before .before .before .args .head .now) (c .before .before .before .before .before .before .before .before .before .before .before .before .before .before
-    .before .before .before .before .before .before .before .args .slots .now) (c .before .before .before .before .before .before .before .before .before .before .before .before
-    .before .before .before .before .before .before .before .before .before .args .records .now)) (c .before .before .before .before .before .before .before .before .before .before
-    .before .before .before .before .before .worker .given .0 .0)
+moving-at : (c : tie.After-known-told4) → Moving (words (c .before .before .before .before .before .before .before .before .before .before .before .before .before .before .before .before .args .head .now) (c .before .before .before .before .before .before .before .before .before .before .before .before .before .before .before .before .args .slots .now) (c .before .before .before .before .before .before .before .before .before .before .before .before .before .before .before .before .args .records .now)) (c .before .before .before .before .before .before .before .before .before .before .worker .given .0 .0)
 moving-at c =
-    let a = c .before .before .before .before .before .before .before .before .before .before .before .before .before .before .before .before .before .before .before .before .before .args
-    in let p = c .before .before .before .before .before .before .before .before .before .before .before .before .before .before .before .before .before .before .before .before
-    .before .pre in let e = c .before .before .before .before .before .before .before .before .before .before .before .before .before .before .before .before .before .entry-of in
-    let w = c .before .before .before .before .before .before .before .before .before .before .before .before .before .before .before .worker .given .0 in
-    let b = c .before .before .before .before .before .before .before .before .before .busy-in in let k = c .before .before .before .before .before .weak-in in let v = c .before .before
-    .before .verdict-for in
-    moving (a .head .now) (a .slots .now) (a .records .now) (p .0) (p .1) (a .bits) (a .first) (a .second) (e .result) (e .ensures) (w .0) (w .1 .0) (asks-at (c .before .before .before
-    .before .before .before .before .before .before .before .before .before .before .before)) (c .before .before .before .before .before .before .before .before .before .before
-    .before .before .before .if1 .left)
-    (b .result) (b .ensures) (k .result) (k .ensures) (v .result) (v .ensures) (c .before .verdict3 .given .0 .0) (moves-at c)
+    let a = c .before .before .before .before .before .before .before .before .before .before .before .before .before .before .before .before .args
+    in let p = c .before .before .before .before .before .before .before .before .before .before .before .before .before .before .before .before .pre in let e = c .before .before .before .before .before .before .before .before .before .before .before .before .entry-of in
+    let w = c .before .before .before .before .before .before .before .before .before .before .worker .given .0 in let v = c .before .before .before .verdict-in in
+    moving (a .head .now) (a .slots .now) (a .records .now) (p .0) (p .1) (a .bits) (a .first) (a .second) (e .result) (e .ensures) (w .0) (w .1 .0) (asks-at (c .before .before .before .before .before .before .before .before .before)) (c .before .before .before .before .before .before .before .before .if1 .left)
+    (v .result) (v .ensures) (c .before .verdict3 .given .0 .0) (moves-at c)
 
 -- src/lib.rt:162:38
 entry-of-requires : tie.Need-entry-of-requires
@@ -64,8 +53,7 @@ returns c =
 -- src/lib.rt:167:9
 returns-2 : tie.Need-returns-2
 returns-2 c =
-    let a = c .before .before .before .before .before .before .before .before .args in let p = c .before .before .before .before .before .before .before .before .pre in let e = c .before
-    .before .before .before .entry-of in
+    let a = c .before .before .before .before .before .before .before .before .args in let p = c .before .before .before .before .before .before .before .before .pre in let e = c .before .before .before .before .entry-of in
     let w = c .before .before .worker .given .0 in
     let z = three (a .head .now) (a .slots .now) (a .records .now) (p .0) (p .1) (a .bits) (a .first) (a .second) (e .result) (e .ensures) (w .0) (w .1 .0) (asks-at (c .before)) (c .if1
     .taken) in
@@ -75,91 +63,50 @@ returns-2 c =
 mul-at : tie.Need-mul-at
 mul-at c = search needs
 
--- src/lib.rt:171:39
-mul-busy-in : tie.Need-mul-busy-in
-mul-busy-in c = search needs
-
--- src/lib.rt:171:39
-slice-read-busy-in : tie.Need-slice-read-busy-in
-slice-read-busy-in c = search needs
-
--- src/lib.rt:171:60
-add-busy-in : tie.Need-add-busy-in
-add-busy-in c = search needs
-
--- src/lib.rt:171:52
-mul-busy-in-2 : tie.Need-mul-busy-in-2
-mul-busy-in-2 c = search needs
-
--- src/lib.rt:171:52
-slice-read-busy-in-2 : tie.Need-slice-read-busy-in-2
-slice-read-busy-in-2 c = search needs
-
--- src/lib.rt:171:77
-add-busy-in-2 : tie.Need-add-busy-in-2
-add-busy-in-2 c = search needs
-
--- src/lib.rt:171:69
-mul-busy-in-3 : tie.Need-mul-busy-in-3
-mul-busy-in-3 c = search needs
-
--- src/lib.rt:171:69
-slice-read-busy-in-3 : tie.Need-slice-read-busy-in-3
-slice-read-busy-in-3 c = search needs
-
--- src/lib.rt:171:9
-busy-in-requires : tie.Need-busy-in-requires
-busy-in-requires c κs = search needs
-
--- src/lib.rt:172:39
-mul-weak-in : tie.Need-mul-weak-in
-mul-weak-in c = search needs
-
--- src/lib.rt:172:39
-slice-read-weak-in : tie.Need-slice-read-weak-in
-slice-read-weak-in c = search needs
-
--- src/lib.rt:172:60
-add-weak-in : tie.Need-add-weak-in
-add-weak-in c = search needs
-
--- src/lib.rt:172:52
-mul-weak-in-2 : tie.Need-mul-weak-in-2
-mul-weak-in-2 c = search needs
-
--- src/lib.rt:172:52
-slice-read-weak-in-2 : tie.Need-slice-read-weak-in-2
-slice-read-weak-in-2 c = search needs
-
--- src/lib.rt:172:77
-add-weak-in-2 : tie.Need-add-weak-in-2
-add-weak-in-2 c = search needs
-
--- src/lib.rt:172:69
-mul-weak-in-3 : tie.Need-mul-weak-in-3
-mul-weak-in-3 c = search needs
-
--- src/lib.rt:172:69
-slice-read-weak-in-3 : tie.Need-slice-read-weak-in-3
-slice-read-weak-in-3 c = search needs
-
--- src/lib.rt:172:9
-weak-in-requires : tie.Need-weak-in-requires
-weak-in-requires c κs = search needs
-
 -- src/lib.rt:173:46
-slice-read-verdict-for : tie.Need-slice-read-verdict-for
-slice-read-verdict-for c =
-    let a = c .before .before .before .before .before .before .before .before .before .before .before .before .before .before .before .before .before .args in let p = c .before .before
-    .before .before .before .before .before .before .before .before .before .before .before .before .before .before .before .pre in omega (
+slice-read-verdict-in : tie.Need-slice-read-verdict-in
+slice-read-verdict-in c =
+    let a = c .before .before .before .before .before .before .before .before .before .args in let p = c .before .before .before .before .before .before .before .before .before .pre in omega (
       arith,
       eight-words (a .head .now) (a
           .slots .now) (a .records .now) (p .0) (p .1),
     )
 
 -- src/lib.rt:173:9
-verdict-for-requires : tie.Need-verdict-for-requires
-verdict-for-requires c κs = search needs
+mul-verdict-in : tie.Need-mul-verdict-in
+mul-verdict-in c = search needs
+
+-- src/lib.rt:173:9
+slice-read-verdict-in-2 : tie.Need-slice-read-verdict-in-2
+slice-read-verdict-in-2 c = search needs
+
+-- src/lib.rt:173:9
+add-verdict-in : tie.Need-add-verdict-in
+add-verdict-in c = search needs
+
+-- src/lib.rt:173:9
+mul-verdict-in-2 : tie.Need-mul-verdict-in-2
+mul-verdict-in-2 c = search needs
+
+-- src/lib.rt:173:9
+slice-read-verdict-in-3 : tie.Need-slice-read-verdict-in-3
+slice-read-verdict-in-3 c = search needs
+
+-- src/lib.rt:173:9
+add-verdict-in-2 : tie.Need-add-verdict-in-2
+add-verdict-in-2 c = search needs
+
+-- src/lib.rt:173:9
+mul-verdict-in-3 : tie.Need-mul-verdict-in-3
+mul-verdict-in-3 c = search needs
+
+-- src/lib.rt:173:9
+slice-read-verdict-in-4 : tie.Need-slice-read-verdict-in-4
+slice-read-verdict-in-4 c = search needs
+
+-- src/lib.rt:173:9
+verdict-in-requires : tie.Need-verdict-in-requires
+verdict-in-requires c κs = search needs
 
 -- src/lib.rt:175:25
 enum-known-verdict : tie.Need-enum-known-verdict
@@ -185,16 +132,11 @@ act-requires c κs =
 -- src/lib.rt:148:1
 returns-3 : tie.Need-returns-3
 returns-3 c =
-    let a = c .before .before .before .before .before .before .before .before .before .before .before .before .before .before .before .before .before .before .before .before .before .args
-    in let p = c .before .before .before .before .before .before .before .before .before .before .before .before .before .before .before .before .before .before .before .before
-    .before .pre in let e = c .before .before .before .before .before .before .before .before .before .before .before .before .before .before .before .before .before .entry-of in
-    let w = c .before .before .before .before .before .before .before .before .before .before .before .before .before .before .before .worker .given .0 in
-    let b = c .before .before .before .before .before .before .before .before .before .busy-in in let k = c .before .before .before .before .before .weak-in in let v = c .before .before
-    .before .verdict-for in
-    let z = stop (a .head .now) (a .slots .now) (a .records .now) (p .0) (p .1) (a .bits) (a .first) (a .second) (e .result) (e .ensures) (w .0) (w .1 .0) (asks-at (c .before .before
-    .before .before .before .before .before .before .before .before .before .before .before .before)) (c .before .before .before .before .before .before .before .before .before
-    .before .before .before .before .if1 .left)
-    (b .result) (b .ensures) (k .result) (k .ensures) (v .result) (v .ensures) (c .before .verdict .given .0 .0) (search needs) in
+    let a = c .before .before .before .before .before .before .before .before .before .before .before .before .before .before .before .before .args
+    in let p = c .before .before .before .before .before .before .before .before .before .before .before .before .before .before .before .before .pre in let e = c .before .before .before .before .before .before .before .before .before .before .before .before .entry-of in
+    let w = c .before .before .before .before .before .before .before .before .before .before .worker .given .0 in let v = c .before .before .before .verdict-in in
+    let z = stop (a .head .now) (a .slots .now) (a .records .now) (p .0) (p .1) (a .bits) (a .first) (a .second) (e .result) (e .ensures) (w .0) (w .1 .0) (asks-at (c .before .before .before .before .before .before .before .before .before)) (c .before .before .before .before .before .before .before .before .if1 .left)
+    (v .result) (v .ensures) (c .before .verdict .given .0 .0) (search needs) in
     (z .0, (z .1, z .2))
 
 -- src/lib.rt:148:1
@@ -204,18 +146,10 @@ same-length c = search needs
 -- src/lib.rt:148:1
 returns-4 : tie.Need-returns-4
 returns-4 c =
-    let a = c .before .before .before .before .before .before .before .before .before .before .before .before .before .before .before .before .before .before .before .before .before
-    .before .before .before .before .args in let p = c .before .before .before .before .before .before .before .before .before .before .before .before .before .before .before
-    .before .before .before .before .before .before .before .before .before .before .pre in let e = c .before .before .before .before .before .before .before .before .before
-    .before .before .before .before .before .before .before .before .before .before .before .before .entry-of in
-    let w = c .before .before .before .before .before .before .before .before .before .before .before .before .before .before .before .before .before .before .before .worker .given .0 in
-    let b = c .before .before .before .before .before .before .before .before .before .before .before .before .before .busy-in in let k = c .before .before .before .before .before .before
-    .before .before .before .weak-in in let v = c .before .before .before .before .before .before .before .verdict-for in
-    let z = start (a .head .now) (a .slots .now) (a .records .now) (p .0) (p .1) (a .bits) (a .first) (a .second) (e .result) (e .ensures) (w .0) (w .1 .0) (asks-at (c .before .before
-    .before .before .before .before .before .before .before .before .before .before .before .before .before .before .before .before)) (c .before .before .before .before .before
-    .before .before .before .before .before .before .before .before .before .before .before .before .if1 .left)
-    (b .result) (b .ensures) (k .result) (k .ensures) (v .result) (v .ensures) (c .before .before .before .before .before .verdict2 .given .0 .0) (starts-at (c .before .before .before
-    .before)) _ (c .before .before .begin .ensures) in
+    let a = c .before .before .before .before .before .before .before .before .before .before .before .before .before .before .before .before .before .before .before .before .args in let p = c .before .before .before .before .before .before .before .before .before .before .before .before .before .before .before .before .before .before .before .before .pre in let e = c .before .before .before .before .before .before .before .before .before .before .before .before .before .before .before .before .entry-of in
+    let w = c .before .before .before .before .before .before .before .before .before .before .before .before .before .before .worker .given .0 in let v = c .before .before .before .before .before .before .before .verdict-in in
+    let z = start (a .head .now) (a .slots .now) (a .records .now) (p .0) (p .1) (a .bits) (a .first) (a .second) (e .result) (e .ensures) (w .0) (w .1 .0) (asks-at (c .before .before .before .before .before .before .before .before .before .before .before .before .before)) (c .before .before .before .before .before .before .before .before .before .before .before .before .if1 .left)
+    (v .result) (v .ensures) (c .before .before .before .before .before .verdict2 .given .0 .0) (starts-at (c .before .before .before .before)) _ (c .before .before .begin .ensures) in
     (z .0, (z .1, z .2))
 
 -- src/lib.rt:148:1
@@ -233,21 +167,10 @@ same-length-4 c = search needs
 -- src/lib.rt:148:1
 returns-5 : tie.Need-returns-5
 returns-5 c =
-    let a = c .before .before .before .before .before .before .before .before .before .before .before .before .before .before .before .before .before .before .before .before .before
-    .before .before .before .before .before .before .before .before .before .before .args in let p = c .before .before .before .before .before .before .before .before .before
-    .before .before .before .before .before .before .before .before .before .before .before .before .before .before .before .before .before .before .before .before .before .before
-    .pre in let e = c .before .before .before .before .before .before .before .before .before .before .before .before .before .before .before .before .before .before .before
-    .before .before .before .before .before .before .before .before .entry-of in
-    let w = c .before .before .before .before .before .before .before .before .before .before .before .before .before .before .before .before .before .before .before .before .before
-    .before .before .before .before .worker .given .0 in
-    let b = c .before .before .before .before .before .before .before .before .before .before .before .before .before .before .before .before .before .before .before .busy-in in let k = c
-    .before .before .before .before .before .before .before .before .before .before .before .before .before .before .before .weak-in in let v = c .before .before .before .before
-    .before .before .before .before .before .before .before .before .before .verdict-for in
-    let z = move (a .head .now) (a .slots .now) (a .records .now) (p .0) (p .1) (a .bits) (a .first) (a .second) (e .result) (e .ensures) (w .0) (w .1 .0) (asks-at (c .before .before
-    .before .before .before .before .before .before .before .before .before .before .before .before .before .before .before .before .before .before .before .before .before
-    .before)) (c .before .before .before .before .before .before .before .before .before .before .before .before .before .before .before .before .before .before .before .before
-    .before .before .before .if1 .left)
-    (b .result) (b .ensures) (k .result) (k .ensures) (v .result) (v .ensures) (c .before .before .before .before .before .before .before .before .before .before .before .verdict3 .given
+    let a = c .before .before .before .before .before .before .before .before .before .before .before .before .before .before .before .before .before .before .before .before .before .before .before .before .before .before .args in let p = c .before .before .before .before .before .before .before .before .before .before .before .before .before .before .before .before .before .before .before .before .before .before .before .before .before .before .pre in let e = c .before .before .before .before .before .before .before .before .before .before .before .before .before .before .before .before .before .before .before .before .before .before .entry-of in
+    let w = c .before .before .before .before .before .before .before .before .before .before .before .before .before .before .before .before .before .before .before .before .worker .given .0 in let v = c .before .before .before .before .before .before .before .before .before .before .before .before .before .verdict-in in
+    let z = move (a .head .now) (a .slots .now) (a .records .now) (p .0) (p .1) (a .bits) (a .first) (a .second) (e .result) (e .ensures) (w .0) (w .1 .0) (asks-at (c .before .before .before .before .before .before .before .before .before .before .before .before .before .before .before .before .before .before .before)) (c .before .before .before .before .before .before .before .before .before .before .before .before .before .before .before .before .before .before .if1 .left)
+    (v .result) (v .ensures) (c .before .before .before .before .before .before .before .before .before .before .before .verdict3 .given
     .0 .0) (moves-at (c .before .before .before .before .before .before .before .before .before .before)) _ _ _ (c .before .before .before .before .before .before .act .ensures) in
     (z .0, (z .1, z .2))
 
@@ -261,26 +184,16 @@ turn-spec =
     returns
     returns-2
     mul-at
-    mul-busy-in
-    slice-read-busy-in
-    add-busy-in
-    mul-busy-in-2
-    slice-read-busy-in-2
-    add-busy-in-2
-    mul-busy-in-3
-    slice-read-busy-in-3
-    busy-in-requires
-    mul-weak-in
-    slice-read-weak-in
-    add-weak-in
-    mul-weak-in-2
-    slice-read-weak-in-2
-    add-weak-in-2
-    mul-weak-in-3
-    slice-read-weak-in-3
-    weak-in-requires
-    slice-read-verdict-for
-    verdict-for-requires
+    slice-read-verdict-in
+    mul-verdict-in
+    slice-read-verdict-in-2
+    add-verdict-in
+    mul-verdict-in-2
+    slice-read-verdict-in-3
+    add-verdict-in-2
+    mul-verdict-in-3
+    slice-read-verdict-in-4
+    verdict-in-requires
     enum-known-verdict
     enum-known-verdict-2
     begin-requires
