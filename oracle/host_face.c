@@ -1,23 +1,24 @@
 /* The functions of hosts/c/fernmoldew.h over those of a module that was compiled without its proof (oracle/planted): as `rt staticlib` makes them, a slice goes in by the address of where
- * it is and how long, and a reply comes out where the first address says. BOUNDED, SINGLE or TAPES says of which library. */
+ * it is and how long, and a reply comes out where the first address says. BOUNDED, BOUNDED_STEP, SINGLE or TAPES says of which library. */
 #include "fernmoldew.h"
 
 struct words { const void *at; size_t count; };
 
-#ifdef BOUNDED
+#if defined BOUNDED || defined BOUNDED_STEP
 #define LENT struct words head = {h, hn}, slots = {s, sn}, records = {r, rn}
 #define RING uint64_t *h, size_t hn, uint64_t *s, size_t sn, uint64_t *r, size_t rn
 #define LOOKED const uint64_t *h, size_t hn, const uint64_t *s, size_t sn, const uint64_t *r, size_t rn
 typedef struct words *slice;
+#endif
+
+#ifdef BOUNDED
 uint64_t inner_fern_ring_make(slice, slice, slice, uint64_t, uint64_t);
-uint64_t inner_fern_ring_step(slice, slice, slice, uint64_t, uint64_t);
 uint64_t inner_fern_ring_broken(slice, slice, slice);
 void inner_fern_ring_run(struct fern_reply *, slice, slice, slice, slice);
 void inner_fern_ring_contents(struct fern_reply *, slice, slice, slice, slice);
 void inner_fern_ring_capacity(struct fern_reply *, slice, slice, slice);
 
 uint64_t fern_ring_make(RING, uint64_t capacity, uint64_t edition) { LENT; return inner_fern_ring_make(&head, &slots, &records, capacity, edition); }
-uint64_t fern_ring_step(RING, uint64_t first, uint64_t second) { LENT; return inner_fern_ring_step(&head, &slots, &records, first, second); }
 uint64_t fern_ring_broken(LOOKED) { LENT; return inner_fern_ring_broken(&head, &slots, &records); }
 struct fern_reply fern_ring_run(RING, const uint64_t *schedule, size_t count) {
     LENT;
@@ -39,6 +40,12 @@ struct fern_reply fern_ring_capacity(LOOKED) {
     inner_fern_ring_capacity(&reply, &head, &slots, &records);
     return reply;
 }
+#endif
+
+#ifdef BOUNDED_STEP
+uint64_t inner_fern_ring_step(slice, slice, slice, uint64_t, uint64_t);
+
+uint64_t fern_ring_step(RING, uint64_t first, uint64_t second) { LENT; return inner_fern_ring_step(&head, &slots, &records, first, second); }
 #endif
 
 #ifdef SINGLE

@@ -21,7 +21,7 @@ fn main() {
         }
     };
     println!("cargo:rustc-link-search=native={}", folder.display());
-    for library in ["bounded_host", "single_host", "tapes_host"] {
+    for library in ["bounded_host", "bounded_host_step", "single_host", "tapes_host"] {
         println!("cargo:rerun-if-changed={}", folder.join(format!("lib{library}.a")).display());
         println!("cargo:rustc-link-lib=static={library}");
     }

@@ -22,25 +22,22 @@ use Rattle.bounded_machine.specs.Run.{ran}
 use Rattle.bounded_orders.specs.declared.Metered.{Metered}
 use Rattle.bounded_orders.specs.declared.Made.{Made}
 use Rattle.bounded_orders.specs.Orders.{makeRefusal, meteredOf, madeFrom, madeOf, capacityTold, Filled, filled, contentsOn}
-use Rattle.bounded_lent.specs.Lent.{eachFits, brokenLent, Lent, lent, lentOf, turnLent, stepLent, runLent, makeLent, contentsLent}
-use Rattle.bounded_lent.proofs.Turning.{unbroken-lent, fair-lent, step-refused, step-turned}
+use Rattle.bounded_lent.specs.Lent.{eachFits, brokenLent, Lent, lent, lentOf, runLent, makeLent, contentsLent}
+use Rattle.bounded_lent.proofs.Turning.{unbroken-lent, fair-lent}
 use Rattle.bounded_lent.proofs.Listing as lent-listing
 use Rattle.bounded_codes.specs.Codes.{triple}
 use Rattle.bounded_rows.specs.Rows.{Words, words, headOf, slotsOf, recordsOf, wordsOf, fixedIn, endsIn, slotsIn, recordsIn, meteredIn, shaped, placed, stand, After, after, afterOf}
 use Rattle.bounded_rows.proofs.Lists.{many}
 use Rattle.bounded_rows.proofs.Standing.{Standing, standing, same-words, as-words, shaped-all}
 use Rattle.bounded_slices.specs.Slices.{brokenWords}
+use Rattle.bounded_slices.proofs.Judged as judged
 use Rattle.bounded_host.specs.declared.Reply.{Reply}
 use Rattle.bounded_host.proofs.Running.{judged-six}
 use Rattle.bounded_host.specs.Host as host
-use Rattle.bounded_host.specs.Host.{reply, brokenRefusal, makeWords, stepWords, ended, runWords, replyOf, capacityWords, Listed, listed, listedOf, contentsWords}
+use Rattle.bounded_host.specs.Host.{reply, brokenRefusal, makeWords, ended, runWords, replyOf, capacityWords, Listed, listed, listedOf, contentsWords}
 
 pub along-told : (t u : Told) (r : Reply) → t ≡ u → r ≡ replyOf u → r ≡ replyOf t
 along-told t u r h e = e ∙ ap replyOf (sym h)
-
-then-so : (t b : Bool) → cond t b true ≡ false → (t ≡ true) × (b ≡ false)
-then-so true b h = (refl, h)
-then-so false b h = absurd (true≢false h)
 
 -- ---- words that were judged
 module _ (h ss rs : List ℕ) (b : Bool) (eb : b ≡ brokenWords (words h ss rs)) where
@@ -63,12 +60,10 @@ module _ (h ss rs : List ℕ) (b : Bool) (eb : b ≡ brokenWords (words h ss rs)
 
   -- not broken
   pub stands-so : b ≡ false → stand (words h ss rs) ≡ true
-  unfolding brokenWords
-  stands-so f = then-so (stand w) (brokenLent l ys) (sym eb ∙ f) .0
+  stands-so = judged.stands-so h ss rs b eb
 
   pub sound : b ≡ false → brokenLent (meteredIn (words h ss rs)) (recordsIn rs) ≡ false
-  unfolding brokenWords
-  sound f = then-so (stand w) (brokenLent l ys) (sym eb ∙ f) .1
+  sound = judged.sound h ss rs b eb
 
   pub eight : b ≡ false → length h ≡ 8
   eight f = standing w (stands-so f) .eight
@@ -88,23 +83,8 @@ module _ (h ss rs : List ℕ) (b : Bool) (eb : b ≡ brokenWords (words h ss rs)
   pub fair-so : b ≡ false → (f : Fixed) → f ≡ fixedIn h → Fair f
   fair-so whole f ef = subst Fair (sym ef) (fair-lent l ys (unbroken-lent l ys (sound whole)))
 
-  -- broken: what stands for no ring and records is refused, and what stands for broken ones
   broken-by : b ≡ true → {A : Type 0} (x y : A) → (stand w ≡ true → brokenLent l ys ≡ true → y ≡ x) → y ≡ cond (stand w) x y
-  unfolding brokenWords
-  broken-by t x y f = go (stand w) refl
-    where
-      go : (s : Bool) → stand w ≡ s → y ≡ cond s x y
-      go false e = refl
-      go true e = f e (ap (λ (s : Bool). cond s (brokenLent l ys) true) (sym e) ∙ sym eb ∙ t)
-
-  module _ (first second : ℕ) where
-    pub step-six : b ≡ true → after 6 (words h ss rs) ≡ stepWords (words h ss rs) first second
-    unfolding stepWords
-    step-six t = broken-by t (afterOf (stepLent l ys first second)) (after 6 w) (λ s k. as-words 6 w (standing w s) _ (step-refused l ys first second k))
-
-    pub stepped : b ≡ false → (r : ℕ) (h′ ss′ rs′ : List ℕ) → after r (words h′ ss′ rs′) ≡ afterOf (turnLent (meteredIn (words h ss rs)) (recordsIn rs) first second) → after r (words h′ ss′ rs′) ≡ stepWords (words h ss rs) first second
-    unfolding stepWords
-    stepped f r h′ ss′ rs′ e = e ∙ ap afterOf (step-turned l ys first second (sound f)) ∙ ap (λ (s : Bool). cond s (afterOf (stepLent l ys first second)) (after 6 w)) (sym (stands-so f))
+  broken-by = judged.broken-by h ss rs b eb
 
   pub run-six : (s : List ℕ) → b ≡ true → ended (reply 6 0) (words h ss rs) ≡ runWords (words h ss rs) s
   unfolding runWords

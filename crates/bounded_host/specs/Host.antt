@@ -1,5 +1,5 @@
 -- What each function of the host's face answers, and the words as they are then: the words are read as a ring and records, document 02's item 11 says what comes of these, and that is written as words.
--- Words that stand for no ring and records are refusal 6; a refused call changes no word.
+-- Words that stand for no ring and records are refusal 6; a refused call changes no word. One entry by itself: crate bounded_host_step.
 use Prim.Native.Nat.{ℕ}
 use mathlib.Core.Bool.{cond}
 use mathlib.Core.List.{List}
@@ -7,7 +7,7 @@ use lib.Dec.{eqb}
 use Rattle.queue_entries.specs.declared.Told.{Told}
 use Rattle.queue_entries.specs.declared.Told.the-variants.{Number, Refused}
 use Rattle.bounded_orders.specs.Orders.{Filled}
-use Rattle.bounded_lent.specs.Lent.{Lent, stepLent, Gone, runLent, makeLent, capacityLent, contentsLent}
+use Rattle.bounded_lent.specs.Lent.{Lent, Gone, runLent, makeLent, capacityLent, contentsLent}
 use Rattle.bounded_rows.specs.Rows.{Words, recordsIn, meteredIn, wordsOf, shaped, stand, After, after, afterOf}
 use Rattle.bounded_slices.specs.Slices.{brokenWords}
 use Rattle.bounded_host.specs.declared.Reply.{Reply}
@@ -25,9 +25,6 @@ madeFrom w x = cond (eqb (x .answer) 0) (afterOf x) (after (x .answer) w)
 
 unfoldable pub makeWords : Words → ℕ → ℕ → After
 makeWords w capacity edition = cond (shaped w) (madeFrom w (makeLent (recordsIn (w .records)) capacity edition)) (after 6 w)
-
-unfoldable pub stepWords : Words → ℕ → ℕ → After
-stepWords w first second = cond (stand w) (afterOf (stepLent (meteredIn w) (recordsIn (w .records)) first second)) (after 6 w)
 
 -- a schedule's refusal and the entry's place, or 0 and the count of its entries
 pub record Ended : Type 0 where

@@ -1,8 +1,9 @@
 // The face that a host in C or Rust links (hosts/): ring and records are words in its memory, lent for each call as three slices. `specs/Host.antt` says what each function answers;
-// a refused call changes no word.
+// a refused call changes no word. One entry by itself is crate bounded_host_step: the compiler puts an entry into the one place that asks for it, and there is one in
+// each of the two archives.
 ghost use mathlib.Core.Path.{_≡_};
 ghost use Rattle.bounded_rows.specs.Rows.{words, after};
-ghost use Rattle.bounded_host.specs.Host.{replyOf, brokenRefusal, makeWords, stepWords, ended, runWords, capacityWords, listed, contentsWords};
+ghost use Rattle.bounded_host.specs.Host.{replyOf, brokenRefusal, makeWords, ended, runWords, capacityWords, listed, contentsWords};
 use bounded_machine::Ring;
 use bounded_words::Width;
 use queue_entries::Told;
@@ -42,23 +43,6 @@ pub extern "C" fn fern_ring_make(
 }
 
 // ---- entries
-
-// The entry of two words: the number of its refusal, 0 where it was not refused.
-#[no_mangle]
-pub extern "C" fn fern_ring_step(
-    head: &mut [u64],
-    slots: &mut [u64],
-    records: &mut [u64],
-    first: u64,
-    second: u64,
-) -> u64
-    ensures { λ r. ⌜ after r (words (now (head .exit)) (now (slots .exit)) (now (records .exit))) ≡ stepWords (words (now (head .entry)) (now (slots .entry)) (now (records .entry))) first second ⌝ }
-{
-    if bounded_slices::broken(head, slots, records) {
-        return 6;
-    }
-    bounded_rows::turn(Width::SixtyFour, head, slots, records, first, second)
-}
 
 // A schedule, entry by entry, to its end or to the first refusal; 6 is judged once, since no entry breaks what is not broken.
 #[no_mangle]

@@ -35,7 +35,8 @@ use Rattle.bounded_rows.proofs.Standing.{Standing, standing, same-words, same-r
 use Rattle.bounded_rows.proofs.Lists.{many-slots}
 use Rattle.bounded_slices.specs.Slices.{brokenWords}
 use Rattle.bounded_host.specs.declared.Reply.{Reply}
-use Rattle.bounded_host.specs.Host.{reply, madeFrom, makeWords, stepWords, Ended, ended, endedOf, runWords, capacityWords, listed, contentsWords}
+use Rattle.bounded_host.specs.Host.{reply, madeFrom, makeWords, Ended, ended, endedOf, runWords, capacityWords, listed, contentsWords}
+use Rattle.bounded_host_step.specs.Step.{stepWords}
 use Rattle.bounded_host.proofs.Running.{judged-six}
 use Rattle.bounded_demands.specs.Notions.{withRecords, ranOf}
 use Rattle.bounded_demands.specs.Lending.{item11, steps, heldIn, actsLent, holding, holds-did, holds-ran, Doing, stepping, running}

@@ -25,7 +25,8 @@ use Rattle.bounded_lent.specs.Lent.{brokenLent, stepLent, runLent, makeLent}
 use Rattle.bounded_codes.specs.Codes.{triple, placeIn, standsFor}
 use Rattle.bounded_rows.specs.Rows.{Words, words, headOf, slotsOf, recordsOf, wordsOf, fixedIn, endsIn, slotsIn, recordsIn, shaped, placed, stand, After}
 use Rattle.bounded_slices.specs.Slices.{brokenWords}
-use Rattle.bounded_host.specs.Host.{makeWords, stepWords, runWords}
+use Rattle.bounded_host.specs.Host.{makeWords, runWords}
+use Rattle.bounded_host_step.specs.Step.{stepWords}
 use Rattle.bounded_demands.specs.Lending.{stepping, running}
 use Rattle.bounded_proof_host.specs.Hosted.{Malformed, RefusedWords, OnlyTheActingWords, AsHeldWords, HostedThroughout, HostedMixed, leftBy, entriesBy, actsWords, allTakenWords}
 use Rattle.bounded_proof_host.specs.Slips.{Faithful, Stands, Refuted}

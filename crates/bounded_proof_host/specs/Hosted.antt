@@ -24,7 +24,8 @@ use Rattle.bounded_lent.specs.Lent.{held, lent, gone}
 use Rattle.bounded_rows.specs.Rows.{Words, wordsOf, meteredIn, recordsIn, stand, After, after}
 use Rattle.bounded_slices.specs.Slices.{brokenWords}
 use Rattle.bounded_host.specs.declared.Reply.{Reply}
-use Rattle.bounded_host.specs.Host.{reply, makeWords, stepWords, Ended, ended, runWords, capacityWords, Listed, listed, contentsWords}
+use Rattle.bounded_host.specs.Host.{reply, makeWords, Ended, ended, runWords, capacityWords, Listed, listed, contentsWords}
+use Rattle.bounded_host_step.specs.Step.{stepWords}
 use Rattle.bounded_demands.specs.Notions.{withRecords, ranOf, entryUnless}
 use Rattle.bounded_demands.specs.Lending.{holding, holds-did, holds-ran, Doing, stepping, running}
 use Rattle.bounded_demands.specs.Demands.{Demand2, Demand3, AsOneSchedule, Throughout}

@@ -7,7 +7,8 @@ use lib.Dec.{eqb}
 use lib.ListN.{set, getD}
 use Rattle.bounded_rows.specs.Rows.{Words, words, stand, After, after}
 use Rattle.bounded_slices.specs.Slices.{brokenWords}
-use Rattle.bounded_host.specs.Host.{makeWords, stepWords, runWords, Ended, ended, capacityWords, contentsWords}
+use Rattle.bounded_host.specs.Host.{makeWords, runWords, Ended, ended, capacityWords, contentsWords}
+use Rattle.bounded_host_step.specs.Step.{stepWords}
 use Rattle.bounded_proof_host.specs.Hosted.{Hosting, face, OneToOne, Malformed, RefusedWords, OnlyTheActingWords, AsHeldWords, HostedThroughout, HostedMixed}
 
 abbrev pub none : ℕ

@@ -1,3 +1,4 @@
 mod Judging
 mod Filling
 mod Fitting
+pub mod Judged

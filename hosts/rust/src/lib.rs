@@ -22,7 +22,7 @@
 //!
 //! A [`OneSlot`] is the torque station's one-slot queue, in the same way. A [`Tape`] is a schedule as bytes, for an archive.
 //!
-//! The library behind it is compiled from proved Rattle (crates/bounded_host, crates/single_host, crates/tapes_host); its promises are of the words that a [`Ring`] and its [`Workers`], or a [`OneSlot`], hold, and of a tape's bytes and words.
+//! The library behind it is compiled from proved Rattle (crates/bounded_host, crates/bounded_host_step, crates/single_host, crates/tapes_host); its promises are of the words that a [`Ring`] and its [`Workers`], or a [`OneSlot`], hold, and of a tape's bytes and words.
 //! They hold if a ring is lent the same workers throughout, as this crate's borrows leave to you: lend another ring's and refusal 6 alone judges them.
 
 use std::error::Error;

@@ -1,9 +1,10 @@
-use Rattle.bounded_host.proofs.Answering.{step-six, sound, stands-so, stepped}
+use Rattle.bounded_host_step.proofs.Stepping.{step-six, stepped}
+use Rattle.bounded_slices.proofs.Judged.{sound, stands-so}
 use borrow.Author.Needs.{needs}
-use Rattle.bounded_host.proofs.fern_ring_step.Statement.{statement}
-use Rattle.bounded_host.proofs.fern_ring_step.Tie as tie
-use Rattle.bounded_host.proofs.fern_ring_step.Reads as reads
-use Rattle.bounded_host.proofs.fern_ring_step.Lts as lts
+use Rattle.bounded_host_step.proofs.fern_ring_step.Statement.{statement}
+use Rattle.bounded_host_step.proofs.fern_ring_step.Tie as tie
+use Rattle.bounded_host_step.proofs.fern_ring_step.Reads as reads
+use Rattle.bounded_host_step.proofs.fern_ring_step.Lts as lts
 use Rattle.bounded_rows.proofs.turn.Reads as turn-reads
 use Rattle.bounded_slices.proofs.broken.Reads as broken-reads
 
