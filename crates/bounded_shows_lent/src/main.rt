@@ -53,10 +53,14 @@ fn say_ring(l: Metered) {
     let e = ring.ends;
     let head = e.head;
     let tail = e.tail;
-    text_output::say(b" h=# t=# m=#\n", &[head.0, tail.0, l.meter]);
+    let slots = ring.slots;
+    let slot = slots[0];
+    let stamp = slot.stamp;
+    let numbers = [head.0, tail.0, l.meter, stamp.0, slot.value];
+    text_output::say(b" h=# t=# m=# slot 0=(#,#)\n", &numbers);
 }
 
-// The line of one step: how many records are lent, the entry, the refusal, the first record that changed, and the ring.
+// The line of one step: how many records are lent, the entry, the refusal, the first record that changed, the ring and its first slot.
 fn shown(
     l: Metered,
     records: [Worker; bounded_orders::RECORDS],
@@ -146,13 +150,26 @@ fn strange(s: Stepped) {
     );
 }
 
+fn acted(s: Stepped) -> Stepped {
+    let records = s.records;
+    shown(s.ring, records, 4, 24, 0)
+}
+
+// Record 1 goes on to the end of its push.
+fn pushed(s: Stepped) {
+    let found = acted(s);
+    let claimed = acted(found);
+    let written = acted(claimed);
+    acted(written);
+}
+
 fn main() {
     let made = bounded_orders::make(4, 2, 1);
     let idle = bounded_orders::idle();
     let records = [idle; bounded_orders::RECORDS];
     let begun = shown(made.ring, records, 4, 16, 5);
-    let busy = begun.records;
-    let acted = shown(begun.ring, busy, 4, 24, 0);
-    others(acted);
-    strange(acted);
+    let loaded = acted(begun);
+    others(loaded);
+    strange(loaded);
+    pushed(loaded);
 }

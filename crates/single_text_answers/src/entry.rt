@@ -62,6 +62,16 @@ pub fn one(label: &[u8], which: u64, n: [u64; NUMBERS], first: u64, second: u64)
     text_output::end(&mut out, q);
 }
 
+// LABEL: PLACE REFUSAL, and what stands there for worker 0
+pub fn run(label: &[u8], n: [u64; NUMBERS], schedule: &[u64]) {
+    let mut out = [0u8; 512];
+    let r = single::run(crate::build::machine(n), schedule);
+    let p = text_output::text(&mut out, 0, label);
+    let q = text_output::form(&mut out, p, b": # # ", &[r.place, r.refusal]);
+    let s = standing(&mut out, q, 0, r.machine);
+    text_output::end(&mut out, s);
+}
+
 // Every code with the item 0, then with 1.
 pub fn codes(which: u64, n: [u64; NUMBERS]) {
     let mut code = 0;

@@ -4,6 +4,7 @@
 //     = N ..         the numbers in hand (build)
 //     e K            every code, with the item 0 and with 1, handed to begin, act or step: 0, 1 or 2
 //     b, a, s F S    an entry handed to begin, act or step
+//     r F S ..       a schedule run
 //     m W            a making
 //     c N            contents, in a buffer of N words, at most 2
 //     j              every function
@@ -50,6 +51,7 @@ fn tell(letter: u8, h: [u64; NUMBERS], n: &[u64], label: &[u8]) {
         b'b' => entry::one(label, entry::BEGIN, h, nth(n, 0), nth(n, 1)),
         b'a' => entry::one(label, entry::ACT, h, nth(n, 0), nth(n, 1)),
         b's' => entry::one(label, entry::STEP, h, nth(n, 0), nth(n, 1)),
+        b'r' => entry::run(label, h, n),
         b'm' => making::make(nth(n, 0)),
         b'c' => making::contents(label, h, nth(n, 0)),
         b'j' => judge::machine(label, h),
