@@ -1,7 +1,11 @@
 """Must-fail edits as rt reads them (crates/CRATE/must-fail/LABEL.edit), taken apart into their slips.
 
-An edit of one slip has the slip's name, and says in its first line what the slip is. An edit that gathers slips of different functions has a line
-`slip: NAME, in FUNCTION: what it is` before the lines of each; rt passes over such a line."""
+An edit of one slip has the slip's name, and says in its first line what the slip is. An edit that gathers slips has a line before the lines of each, which rt
+passes over:
+
+    slip: NAME, in FUNCTION: what it is                    the one slip of a function's body
+    slip: NAME, in FUNCTION at NEED, NEED: what it is      one of several: the needs of the function's proof that it makes false
+    slip: NAME, of DEFINITION at THEOREM: what it is       of a definition in specs/ or of a constant: where it is refused, a theorem or a function"""
 
 import re
 from pathlib import Path
@@ -18,7 +22,9 @@ class Replacement(NamedTuple):
 
 class Slip(NamedTuple):
     name: str
-    function: str | None  # None in an edit of one slip
+    function: str | None  # whose body it changes
+    definition: str | None  # or the definition that it changes; in an edit of one slip neither is said
+    refused_at: list[str]
     replacements: list[Replacement]
 
 
@@ -29,7 +35,7 @@ class Edit(NamedTuple):
 
     @property
     def gathers(self):
-        return self.slips[0].function is not None
+        return bool(self.slips[0].function or self.slips[0].definition)
 
 
 class Malformed(Exception):
@@ -41,12 +47,12 @@ def read(path):
     file = old = None
     for line in path.read_text().splitlines():
         if line.startswith('slip:'):
-            said = re.fullmatch(r'slip: (\w+), in (\w+): .+', line)
-            if not said:
-                raise Malformed(f'not "slip: NAME, in FUNCTION: what it is": {line}')
+            said = re.fullmatch(r'slip: (\w+), (?:in (\w+)|of (\w+))(?: at ([^:]+))?: .+', line)
+            if not said or said[3] and not said[4]:
+                raise Malformed(f'not "slip: NAME, in FUNCTION [at NEED, ..]: what it is", nor "slip: NAME, of DEFINITION at THEOREM: what it is": {line}')
             if edit.slips and not edit.gathers:
                 raise Malformed('a replacement stands before the first slip')
-            edit.slips.append(Slip(said[1], said[2], []))
+            edit.slips.append(Slip(said[1], said[2], said[3], said[4].split(', ') if said[4] else [], []))
             file = None
         elif line.startswith('file: '):
             file = line.removeprefix('file: ')
@@ -54,7 +60,7 @@ def read(path):
             old = line.removeprefix('old: ')
         elif line.startswith('new:'):
             if not edit.slips:
-                edit.slips.append(Slip(edit.label, None, []))
+                edit.slips.append(Slip(edit.label, None, None, [], []))
             if file is None or old is None:
                 raise Malformed(f'no "file:" or no "old:" of its own before: {line}')
             edit.slips[-1].replacements.append(Replacement(file, old, line.removeprefix('new:').removeprefix(' ')))

@@ -1,6 +1,6 @@
 // A ring, made by the first pair of numbers and run entry by entry.
 ghost use Prim.Native.Nat.{_≤_};
-use replay_bounded_entries::Going;
+use crate::entries::Going;
 use replay_input::source::Reading;
 use replay_options::Options;
 use replay_survey::Played;
@@ -57,7 +57,7 @@ fn all(
     while turns > 0 && replay_survey::pieces::goes_on(p, g.run) {
         turns -= 1;
         p = replay_survey::pieces::next(fd, o.many, p, g.run, bytes, list);
-        g = replay_bounded_entries::run(
+        g = crate::entries::run(
             g,
             o,
             head,
@@ -73,14 +73,14 @@ fn all(
 // The report of the whole, where there was none for each entry.
 fn tell_whole(r: Run, quiet: bool, head: &[u64], out: &mut [u8]) -> usize {
     if replay_survey::pieces::is_reported(r, quiet) {
-        let ring = replay_bounded_entries::ring_in(head);
+        let ring = crate::entries::ring_in(head);
         return replay_bounded_lines::report(out, r.at, r.place, r.refusal, ring);
     }
     r.at
 }
 
 fn tell_slots(out: &mut [u8], at: usize, head: &[u64], slots: &[u64]) -> usize {
-    let ring = replay_bounded_entries::ring_in(head);
+    let ring = crate::entries::ring_in(head);
     bounded_text_codes::slots(out, at, slots, ring[2])
 }
 

@@ -1,6 +1,6 @@
 // A ring, made by the first pair of numbers, run entry by entry and told in plain words.
 ghost use Prim.Native.Nat.{_≤_};
-use replay_bounded_explain_entries::Going;
+use crate::entries::Going;
 use replay_bounded_explain_lines::lines;
 use replay_bounded_explain_lines::lines::Asked;
 use replay_bounded_explain_lines::notes;
@@ -56,7 +56,7 @@ fn all(
     while turns > 0 && pieces::goes_on(p, g.run) {
         turns -= 1;
         p = pieces::next(fd, o.many, p, g.run, bytes, list);
-        g = replay_bounded_explain_entries::run(
+        g = crate::entries::run(
             g,
             o,
             head,

@@ -1,4 +1,5 @@
 // Runs a schedule, from a file or from standard input, and tries every sequence of acts from where it ends.
+mod load;
 mod many;
 
 use walk_options::Options;

@@ -42,7 +42,7 @@ fn asked(o: Options, fd: i32) -> Asked {
 }
 
 fn play(o: Options, fd: i32, begun: Reading, whole: Whole, out: &mut [u8], at: usize) -> Played {
-    let l = walk_load::load(o.edition, fd, o.many, begun, whole);
+    let l = crate::load::load(o.edition, fd, o.many, begun, whole);
     if l.refusal != 0 {
         return Played {
             at: walk_play::refused::tell(out, at, o.many, l.refusal, &[l.place]),
