@@ -1,16 +1,21 @@
 """What a function or a theorem of a crate rests on, read off the texts: the definitions of the crate's specs/ and proofs/ that it names, those that these
 name, and so on. Of a function that is called only the contract counts: its body is no part of the caller's proof. Where a name is not found in the file that a
-`use` line names, all of that file counts, so what is not found here is not rested on."""
+`use` line names, all of that file counts, and a line that is not understood ends it, so what is not found here is not rested on."""
 
 import re
 from pathlib import Path
 from typing import NamedTuple
 
-HEAD = re.compile(r'^(?:(?:pub|abbrev|unfoldable) )*(?:(data|record|module)\b|(\S+) :(?: |$))', re.M)
-INNER = re.compile(r'^ +(?:(?:pub|abbrev|unfoldable) )*(\S+) :(?: |$)', re.M)
+KEPT = r'(?:(?:pub|abbrev|unfoldable) )*'
+HEAD = re.compile(rf'^{KEPT}(?:(data|record|module)\b|ruleset (\S+) =|(\S+)(?: \{{[^}}]*\}})* :(?: |$))', re.M)
+INNER = re.compile(rf'^ +{KEPT}(\S+)(?: \{{[^}}]*\}})* :(?: |$)', re.M)
 USE = re.compile(r'^ *(?:ghost |pub )*use (\S+?)(?:\.\{([^}]*)\}| as (\S+?));?$', re.M)
 APART = re.compile(r'[\s(){}\[\].,;`"⌜⌝]+')
 OF_THE_BODY = ('Tie', 'Lts', 'Code')
+
+
+class NotUnderstood(Exception):
+    pass
 
 
 class Part(NamedTuple):
@@ -60,8 +65,19 @@ class Crate:
                     stop = later.start() if later else end
                     self.add(Part(file, one.start(), stop, over + text[one.start() : stop]), {one[1]})
             else:
-                first = head[2] or text[head.end() : end].split()[0]
+                first = head[2] or head[3] or text[head.end() : end].split()[0]
                 self.add(Part(file, head.start(), end, text[head.start() : end]), {first, *(one[1] for one in inner)})
+
+        for line in text.split('\n'):
+            self.understood(file, line)
+
+    def understood(self, file, line):
+        """Each line that is not further in begins a definition, goes on with one, or brings names."""
+        head = HEAD.match(line)
+        if head:
+            self.last = head[3] or head[2]
+        elif re.match(r'[^\s)}]', line) and not line.startswith(('--', 'use ', 'mod ', 'pub mod ', 'unfolding ', 'infixl ')) and re.match(rf'{KEPT}(\S+)', line)[1] != self.last:
+            raise NotUnderstood(f'{self.folder.name}/{file}: {line}')
 
     def add(self, part, names):
         key = part.file, f'{min(names)}, {part.begin}'
@@ -74,6 +90,8 @@ class Crate:
         scope = {}
         if not file.startswith('src/'):
             scope |= {name: keys for (of, name), keys in self.names.items() if of == file}
+        if len(USE.findall(text)) != len(re.findall(r'^ *(?:pub )?use |^ghost use ', text, re.M)) and not file.startswith('src/'):
+            raise NotUnderstood(f'{self.folder.name}/{file}: a `use` line')
         for module, listed, name in USE.findall(text):
             if name:
                 scope[name] = self.all_of(module)
