@@ -55,6 +55,7 @@ class Crate:
             self.names[file, item[1]] = {(file, item[1])}
 
     def read_definitions(self, file, text):
+        self.last = None
         heads = [*HEAD.finditer(text)]
         for head, following in zip(heads, [*heads[1:], None]):
             end = following.start() if following else len(text)

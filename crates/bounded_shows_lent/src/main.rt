@@ -1,4 +1,4 @@
-// A ring that is lent other records than it last saw: fewer, more, none, busy ones with words that do not fit, counts above the meter. The file `stdout` is written from documents 01 and 02.
+// A ring that is lent other records than it last saw: fewer, more, none, busy ones with words that do not fit, counts above the meter; and a push to its end, with the slot that it writes. The file `stdout` is written from documents 01 and 02.
 use bounded_lent_by_value::Stepped;
 use bounded_orders::Metered;
 use bounded_places::Answer;
