@@ -31,13 +31,19 @@ fn ran(
 ) -> Ran
     ensures { λ r. ⌜ r ≡ ran refusal place (machineOf f e slots workers count meter) ⌝ }
 {
+    let head = e.head;
+    let tail = e.tail;
     Ran {
         refusal: refusal,
         place: place as u64,
         machine: Machine {
             ring: Ring {
-                fixed: f,
-                ends: e,
+                head: head,
+                tail: tail,
+                mark: f.mark,
+                lap: f.lap,
+                capacity: f.capacity,
+                edition: f.edition,
                 slots: slots,
             },
             workers: workers,
@@ -54,8 +60,18 @@ fn entries(bits: Width, m: Machine, schedule: &[u64]) -> Ran
     ensures { λ r. ⌜ r ≡ runAt bits m 0 (now (schedule .entry)) ⌝ }
 {
     let ring = m.ring;
-    let f = ring.fixed;
-    let mut ends = ring.ends;
+    let f = Fixed {
+        mark: ring.mark,
+        lap: ring.lap,
+        capacity: ring.capacity,
+        edition: ring.edition,
+    };
+    let head = ring.head;
+    let tail = ring.tail;
+    let mut ends = Ends {
+        head: head,
+        tail: tail,
+    };
     let mut slots = ring.slots;
     let mut workers = m.workers;
     let count = m.count;
