@@ -5,9 +5,8 @@ use bounded_places::Worker;
 // place, head, tail, meter
 fn tell(told: &mut [u64; 4], place: u64, l: Metered) {
     let ring = l.ring;
-    let ends = ring.ends;
-    let head = ends.head;
-    let tail = ends.tail;
+    let head = ring.head;
+    let tail = ring.tail;
     told[0] = place;
     told[1] = head.0;
     told[2] = tail.0;

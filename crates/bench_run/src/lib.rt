@@ -6,9 +6,8 @@ use bounded_machine::Ran;
 fn tell(told: &mut [u64; 4], r: Ran) {
     let m = r.machine;
     let ring = m.ring;
-    let ends = ring.ends;
-    let head = ends.head;
-    let tail = ends.tail;
+    let head = ring.head;
+    let tail = ring.tail;
     told[0] = r.place;
     told[1] = head.0;
     told[2] = tail.0;

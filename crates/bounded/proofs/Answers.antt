@@ -9,7 +9,7 @@ use Rattle.queue_entries.specs.declared.Told.{Told}
 use Rattle.queue_entries.specs.Told.{told}
 use Rattle.bounded_machine.specs.declared.Machine.{Machine}
 use Rattle.bounded_machine.specs.declared.Did.{Did}
-use Rattle.bounded_machine.specs.Machine.{freshOf, blank, refused, accepted}
+use Rattle.bounded_machine.specs.Machine.{freshOf, blank, refused, accepted, fixedOn, endsOn}
 use Rattle.bounded_machine.specs.Broken.{ringFits, brokenOf, allIdle}
 use Rattle.bounded_machine.specs.Contents.{capacityRefusal, countIn, contentsRefusal, written, capacityOf}
 use Rattle.bounded_machine.proofs.Kept.{unbroken-of, ring-in}
@@ -30,12 +30,12 @@ module _ (capacity workers edition number : ℕ) (e : number ≡ makeRefusalWith
       h ∙ ap (refused number) q ∙ refused-by (λ (n : ℕ). refused n blank) (accepted (freshOf capacity workers edition)) workersMost capacity workers edition number e z
 
 -- ---- capacity
-pub capacity-is : (m : Machine) (b : Bool) (r : Told) → b ≡ brokenOf m → r ≡ capacityTold b (m .ring .fixed) → r ≡ capacityOf m
+pub capacity-is : (m : Machine) (b : Bool) (r : Told) → b ≡ brokenOf m → r ≡ capacityTold b (m .ring .capacity) → r ≡ capacityOf m
 unfolding capacityRefusal capacityOf capacityTold
-capacity-is m b r e h = h ∙ ap (λ (x : Bool). capacityTold x (m .ring .fixed)) e
+capacity-is m b r e h = h ∙ ap (λ (x : Bool). capacityTold x (m .ring .capacity)) e
 
 -- ---- contents
-pub ring-sound : (m : Machine) (b : Bool) → b ≡ brokenOf m → b ≡ false → ringFits (m .ring .fixed) (m .ring .ends) ≡ true
+pub ring-sound : (m : Machine) (b : Bool) → b ≡ brokenOf m → b ≡ false → ringFits (fixedOn (m .ring)) (endsOn (m .ring)) ≡ true
 ring-sound m b e h = ring-in m (unbroken-of m (sym e ∙ h))
 
 module _ (m : Machine) (before after : List ℕ) (r : Told) (b idle : Bool) (eb : b ≡ brokenOf m) (ei : idle ≡ allIdle (m .workers))

@@ -39,8 +39,7 @@ pub fn capacity(m: Machine) -> Told
     ensures { λ r. ⌜ r ≡ capacityOf m ⌝ }
 {
     let ring = m.ring;
-    let f = ring.fixed;
-    bounded_orders::capacity_told(bounded_machine::broken(m), f)
+    bounded_orders::capacity_told(bounded_machine::broken(m), ring.capacity)
 }
 
 // The items as `Drop` would meet them, written at the buffer's start. Nothing is removed.

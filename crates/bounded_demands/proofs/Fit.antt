@@ -10,7 +10,7 @@ use Rattle.bounded_words.specs.Words.{stamp}
 use Rattle.bounded_places.specs.declared.Slot.{Slot}
 use Rattle.bounded_places.specs.declared.Ends.{Ends}
 use Rattle.bounded_machine.specs.declared.Machine.{Machine}
-use Rattle.bounded_machine.specs.Machine.{machineOf, freshOf}
+use Rattle.bounded_machine.specs.Machine.{machineOf, freshOf, fixedOn}
 use Rattle.bounded_sixteen_bits.specs.SixteenBits.{widened, narrowed, ShortSlots, Short}
 use Rattle.bounded_sixteen_bits.proofs.Back.{again}
 use Rattle.bounded_narrow.proofs.Shorts.{entry-short, from-short, fresh-short}
@@ -32,12 +32,12 @@ slots-uncut (s ∷ l) o =
 machine-uncut : (m : Machine) → Short m → cutTo narrow m ≡ m
 unfolding cutTo
 machine-uncut m o =
-    ap (λ (h : Stamp). with-all h (cutWord narrow (m .ring .ends .tail)) (map cutSlot (m .ring .slots))) (word-uncut (m .ring .ends .head) (o .head))
-    ∙ ap (λ (t : Stamp). with-all (m .ring .ends .head) t (map cutSlot (m .ring .slots))) (word-uncut (m .ring .ends .tail) (o .tail))
-    ∙ ap (with-all (m .ring .ends .head) (m .ring .ends .tail)) (slots-uncut (m .ring .slots) (o .slots))
+    ap (λ (h : Stamp). with-all h (cutWord narrow (m .ring .tail)) (map cutSlot (m .ring .slots))) (word-uncut (m .ring .head) (o .head))
+    ∙ ap (λ (t : Stamp). with-all (m .ring .head) t (map cutSlot (m .ring .slots))) (word-uncut (m .ring .tail) (o .tail))
+    ∙ ap (with-all (m .ring .head) (m .ring .tail)) (slots-uncut (m .ring .slots) (o .slots))
   where
     with-all : Stamp → Stamp → List Slot → Machine
-    with-all h t l = machineOf (m .ring .fixed) (record { head = h; tail = t }) l (m .workers) (m .count) (m .meter)
+    with-all h t l = machineOf (fixedOn (m .ring)) (record { head = h; tail = t }) l (m .workers) (m .count) (m .meter)
 
 pub numbers-fit : NumbersFit (ofWidth Sixteen) (cutTo narrow)
 numbers-fit =

@@ -41,7 +41,7 @@ use Rattle.bounded_acts.specs.Acts as tables
 use Rattle.bounded_machine.specs.declared.Machine.{Machine}
 use Rattle.bounded_machine.specs.declared.Event.{Event}
 use Rattle.bounded_machine.specs.declared.Tally.{Tally}
-use Rattle.bounded_machine.specs.Machine.{freshOf, recordOf, placeOf, blank, freshWith, idler}
+use Rattle.bounded_machine.specs.Machine.{freshOf, recordOf, placeOf, blank, freshWith, idler, fixedOn, endsOn}
 use Rattle.bounded_machine.specs.Broken.{brokenOf, allIdle, brokenWith}
 use Rattle.bounded_machine.specs.Contents.{countIn, contentsOf, contentsRefusal, written, capacityRefusal, capacityOf}
 use Rattle.bounded_machine.specs.Turn.{byWords, bySchedule}
@@ -351,7 +351,7 @@ OnceOut h =
 abbrev pub OneHand : Machine → Type 0
 OneHand m =
     (v w : ℕ) (t u : Stamp) → InHand (placeOf (m .workers) v) t → InHand (placeOf (m .workers) w) u
-    → indexOf (m .ring .fixed) t ≡ indexOf (m .ring .fixed) u → v ≡ w
+    → indexOf (fixedOn (m .ring)) t ≡ indexOf (fixedOn (m .ring)) u → v ≡ w
 
 -- O4 and F8 read only a value that was written for that claim.
 abbrev pub ReadsWritten : Machine → List Event → Type 0
@@ -363,7 +363,7 @@ ReadsWritten m h =
 abbrev pub AnswersTrue : Definition → Machine → Type 0
 AnswersTrue d m =
     (w : ℕ) (next : Machine) (a : Answer) → Acts d m w next → placeOf (next .workers) w ≡ Idle a
-    → Truth (d .width) (m .ring .fixed) (m .ring .ends) a
+    → Truth (d .width) (fixedOn (m .ring)) (endsOn (m .ring)) a
 
 -- The claims not yet taken are `len`'s count of the words at every moment. With all workers idle the contents are, in order, their items.
 abbrev pub UntakenCounts : Machine → List Event → Type 0
@@ -379,16 +379,16 @@ PlainQueue h = Fifo h (waiting h)
 abbrev pub EmptyTrue : Definition → Machine → Type 0
 EmptyTrue d m =
     (w : ℕ) (next : Machine) (t : Stamp) → placeOf (m .workers) w ≡ Empty2 t → Acts d m w next → placeOf (next .workers) w ≡ Idle Yes
-    → unmarkedOf (m .ring .fixed) (m .ring .ends .tail) ≡ m .ring .ends .head
+    → unmarkedOf (fixedOn (m .ring)) (m .ring .tail) ≡ m .ring .head
 
 abbrev pub FullTrue : Definition → Machine → Type 0
 FullTrue d m =
     (w : ℕ) (next : Machine) (t : Stamp) → placeOf (m .workers) w ≡ Full2 t → Acts d m w next → placeOf (next .workers) w ≡ Idle Yes
-    → lapBehind (d .width) (m .ring .fixed) (m .ring .ends .head) (unmarkedOf (m .ring .fixed) (m .ring .ends .tail)) ≡ true
+    → lapBehind (d .width) (fixedOn (m .ring)) (m .ring .head) (unmarkedOf (fixedOn (m .ring)) (m .ring .tail)) ≡ true
 
 pub record Demand2 (d : Definition) (capacity workers edition : ℕ) (m : Machine) (h : List Event) : Type 0 where
   -- It is the machine that was made, and its meter counts the acts.
-  pub made : m .ring .fixed ≡ fixedOf capacity edition
+  pub made : fixedOn (m .ring) ≡ fixedOf capacity edition
   pub team : m .count ≡ workers
   pub records : length (m .workers) ≡ d .records
   pub meter : m .meter ≡ length h
@@ -457,12 +457,12 @@ pub record EndsAlone (d : Definition) (m : Machine) (h : List Event) (w most : �
   pub answer : Answer
   pub ends : placeOf (d .run m 0 (acts w (suc before)) .machine .workers) w ≡ Idle answer
   pub foretold-answer : answer ≡ foretold (d .width) m w
-  pub true-then : Truth (d .width) (m .ring .fixed) (d .run m 0 (acts w before) .machine .ring .ends) answer
+  pub true-then : Truth (d .width) (fixedOn (m .ring)) (endsOn (d .run m 0 (acts w before) .machine .ring)) answer
   -- a value handed out is the item of the tail claim that has the number of the call's head claim
   pub claim-rule : (v : ℕ) → HandsOut (Idle answer) v
       → (k : ℕ) × CallClaim (h ++ d .history m (acts w before)) w k × ItemIn (h ++ d .history m (acts w before)) k v
   pub queue : (c : Call) → placeOf (m .workers) w ≡ places.beginOf c
-      → answer ≡ queueAnswer c (markedOf (m .ring .fixed) (m .ring .ends .tail)) (m .ring .fixed .capacity) (waiting h)
+      → answer ≡ queueAnswer c (markedOf (fixedOn (m .ring)) (m .ring .tail)) (m .ring .capacity) (waiting h)
 
 -- Nothing but the meter refuses an act of a call under way.
 abbrev pub NeverRefused : Definition → Machine → Type 0
@@ -599,11 +599,11 @@ StockAttained d count =
 
 -- Lost because the words differed, also where the schedule makes it fail; lost by the schedule; won; or no exchange.
 pub record EndTold (bits : Width) (tell : Machine → ℕ → Bool → Loss) (m : Machine) (w : ℕ) : Type 0 where
-  pub differed : (found expected : Stamp) (lose : Bool) → Exchanges bits (m .ring .fixed) (m .ring .ends) (placeOf (m .workers) w) found expected
+  pub differed : (found expected : Stamp) (lose : Bool) → Exchanges bits (fixedOn (m .ring)) (endsOn (m .ring)) (placeOf (m .workers) w) found expected
       → (found ≡ expected → ⊥) → tell m w lose ≡ ByWords
-  pub failed : (found expected : Stamp) → Exchanges bits (m .ring .fixed) (m .ring .ends) (placeOf (m .workers) w) found expected
+  pub failed : (found expected : Stamp) → Exchanges bits (fixedOn (m .ring)) (endsOn (m .ring)) (placeOf (m .workers) w) found expected
       → found ≡ expected → tell m w true ≡ BySchedule
-  pub won : (found expected : Stamp) → Exchanges bits (m .ring .fixed) (m .ring .ends) (placeOf (m .workers) w) found expected
+  pub won : (found expected : Stamp) → Exchanges bits (fixedOn (m .ring)) (endsOn (m .ring)) (placeOf (m .workers) w) found expected
       → found ≡ expected → tell m w false ≡ loss.Nothing
   pub none : (lose : Bool) → places.viewOf (placeOf (m .workers) w) .weak ≡ false → tell m w lose ≡ loss.Nothing
 
@@ -632,8 +632,8 @@ CountsAside d =
 -- Edition 2: once closed, always closed.
 abbrev pub OnceClosed : Definition → Machine → Type 0
 OnceClosed d m =
-    markedOf (m .ring .fixed) (m .ring .ends .tail) ≡ true → (entries : List ℕ)
-    → markedOf (m .ring .fixed) (d .run m 0 entries .machine .ring .ends .tail) ≡ true
+    markedOf (fixedOn (m .ring)) (m .ring .tail) ≡ true → (entries : List ℕ)
+    → markedOf (fixedOn (m .ring)) (d .run m 0 entries .machine .ring .tail) ≡ true
 
 -- Edition 2: from the first on, a close answers yes at most once.
 abbrev pub YesOnce : List Event → Type 0
@@ -651,7 +651,7 @@ CloseHolds d =
 
 -- Edition 2, of any machine that is not broken, reached or not: once closed, always closed. It asks for no window.
 abbrev pub OnceClosedAnywhere : Definition → Type 0
-OnceClosedAnywhere d = (m : Machine) → brokenWith (d .records) m ≡ false → m .ring .fixed .edition ≡ 2 → OnceClosed d m
+OnceClosedAnywhere d = (m : Machine) → brokenWith (d .records) m ≡ false → m .ring .edition ≡ 2 → OnceClosed d m
 
 abbrev pub ClosedIsLast : Definition → Type 0
 ClosedIsLast d = (capacity workers edition : ℕ) → AllowedWith (d .records) capacity workers edition → (s : List ℕ) → NoneAfterClosed (actsOf d capacity workers edition s)

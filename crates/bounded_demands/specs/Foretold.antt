@@ -18,7 +18,7 @@ use Rattle.bounded_places.specs.declared.Place.the-variants.{Idle, P1, P2, P3, 
 use Rattle.bounded_places.specs.Places.{viewOf}
 use Rattle.bounded_acts.specs.Acts.{countOf, yesNo, actOf}
 use Rattle.bounded_machine.specs.declared.Machine.{Machine}
-use Rattle.bounded_machine.specs.Machine.{slot, freshOf, placeOf}
+use Rattle.bounded_machine.specs.Machine.{slot, freshOf, placeOf, fixedOn, endsOn}
 use Rattle.bounded_machine.specs.Turn.{Table, spotOf}
 use Rattle.bounded_machine.specs.Run.{runOfBy}
 use Rattle.bounded_demands.specs.Notions.{acts, valueAt}
@@ -67,12 +67,12 @@ module _ (bits : Width) (f : Fixed) (e : Ends) (v : ℕ) where
 
 -- the value in the slot of the worker's own word
 abbrev pub ownValue : Machine → Place → ℕ
-ownValue m p = getD (m .ring .slots) (spotOf (m .ring .fixed) (viewOf p .held)) (slot 0 0) .value
+ownValue m p = getD (m .ring .slots) (spotOf (fixedOn (m .ring)) (viewOf p .held)) (slot 0 0) .value
 
 -- Of worker w's call on this machine.
 abbrev pub foretold : Width → Machine → ℕ → Answer
 foretold bits m w =
-    foretoldOf bits (m .ring .fixed) (m .ring .ends) (valueAt m (m .ring .ends .head)) (ownValue m (placeOf (m .workers) w)) (placeOf (m .workers) w)
+    foretoldOf bits (fixedOn (m .ring)) (endsOn (m .ring)) (valueAt m (m .ring .head)) (ownValue m (placeOf (m .workers) w)) (placeOf (m .workers) w)
 
 -- ---- a table: capacity, a schedule from a fresh machine with two workers, and the answer of worker 0's call there
 pub record Telling : Type 0 where

@@ -17,7 +17,7 @@ use Rattle.bounded_machine.specs.declared.Machine.{Machine}
 use Rattle.bounded_machine.specs.declared.Did.{Did}
 use Rattle.bounded_machine.specs.declared.Ran.{Ran}
 use Rattle.bounded_machine.specs.declared.Event.{Event}
-use Rattle.bounded_machine.specs.Machine.{machineOf, idler, idlers}
+use Rattle.bounded_machine.specs.Machine.{machineOf, idler, idlers, fixedOn, endsOn}
 use Rattle.bounded_machine.specs.History.{eventsOf}
 use Rattle.bounded_orders.specs.declared.Metered.{Metered}
 use Rattle.bounded_orders.specs.Orders.{Filled, report}
@@ -58,7 +58,7 @@ promised d = record {
 
 -- The machine that holds its records: these, and idle ones beside them.
 abbrev pub holding : Metered → List Worker → Machine
-holding l ys = machineOf (l .ring .fixed) (l .ring .ends) (l .ring .slots) (ys ++ idlers (workersMost - length ys)) (length ys) (l .meter)
+holding l ys = machineOf (fixedOn (l .ring)) (endsOn (l .ring)) (l .ring .slots) (ys ++ idlers (workersMost - length ys)) (length ys) (l .meter)
 
 -- an answer, with the machine that holds what is lent then
 abbrev pub holds-did : Lent → Did

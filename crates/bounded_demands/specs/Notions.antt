@@ -46,7 +46,7 @@ use Rattle.bounded_machine.specs.declared.Did.{Did}
 use Rattle.bounded_machine.specs.declared.Ran.{Ran}
 use Rattle.bounded_machine.specs.declared.Event.{Event}
 use Rattle.bounded_machine.specs.declared.Tally.{Tally}
-use Rattle.bounded_machine.specs.Machine.{slot, machineOf, freshOf, blank, placeOf, accepted, freshWith}
+use Rattle.bounded_machine.specs.Machine.{slot, machineOf, freshOf, blank, placeOf, accepted, freshWith, fixedOn, endsOn}
 use Rattle.bounded_machine.specs.Broken.{allIdle, brokenOf}
 use Rattle.bounded_machine.specs.Contents.{countIn, contentsRefusal, written, capacityOf}
 use Rattle.bounded_machine.specs.Turn.{Table, beginner, turnOfBy, turnOf}
@@ -270,7 +270,7 @@ module _ {M D R : Type 0} (f : Face M D R) where
 
 -- The same machine at the meter's end.
 abbrev pub atTheEnd : Machine → Machine
-atTheEnd m = machineOf (m .ring .fixed) (m .ring .ends) (m .ring .slots) (m .workers) (m .count) meterMost
+atTheEnd m = machineOf (fixedOn (m .ring)) (endsOn (m .ring)) (m .ring .slots) (m .workers) (m .count) meterMost
 
 -- ---- hands and places
 
@@ -481,7 +481,7 @@ lostIn kind m w h = cond (viewOf (placeOf (m .workers) w) .busy) (lostBy kind w 
 -- The machine with all counts of losses struck out.
 unfoldable pub struck : Machine → Machine
 struck m =
-    machineOf (m .ring .fixed) (m .ring .ends) (m .ring .slots) (map (λ (r : Worker). beginner (r .place)) (m .workers)) (m .count) (m .meter)
+    machineOf (fixedOn (m .ring)) (endsOn (m .ring)) (m .ring .slots) (map (λ (r : Worker). beginner (r .place)) (m .workers)) (m .count) (m .meter)
 
 -- ---- a plain queue
 
@@ -503,20 +503,20 @@ claimWord bits f k = plainWord f k % widthOf bits
 
 -- Head, tail and every stamp are words of claims; a slot's claim is no more than a capacity from the ends.
 pub record Words (bits : Width) (m : Machine) (h : List Event) : Type 0 where
-  pub head : m .ring .ends .head .0 ≡ claimWord bits (m .ring .fixed) (tally h .head .0)
-  pub tail : unmarkedOf (m .ring .fixed) (m .ring .ends .tail) .0 ≡ claimWord bits (m .ring .fixed) (tally h .tail .0)
-  pub stamps : (i : ℕ) → i < m .ring .fixed .capacity
-      → (k : ℕ) × (full : Bool) × (getD (m .ring .slots) i (slot 0 0) .stamp .0 ≡ claimWord bits (m .ring .fixed) k + cond full 1 0)
-      × (k % m .ring .fixed .capacity ≡ i) × (k ≤ tally h .tail .0 + m .ring .fixed .capacity) × (tally h .head .0 ≤ k + m .ring .fixed .capacity)
+  pub head : m .ring .head .0 ≡ claimWord bits (fixedOn (m .ring)) (tally h .head .0)
+  pub tail : unmarkedOf (fixedOn (m .ring)) (m .ring .tail) .0 ≡ claimWord bits (fixedOn (m .ring)) (tally h .tail .0)
+  pub stamps : (i : ℕ) → i < m .ring .capacity
+      → (k : ℕ) × (full : Bool) × (getD (m .ring .slots) i (slot 0 0) .stamp .0 ≡ claimWord bits (fixedOn (m .ring)) k + cond full 1 0)
+      × (k % m .ring .capacity ≡ i) × (k ≤ tally h .tail .0 + m .ring .capacity) × (tally h .head .0 ≤ k + m .ring .capacity)
 
 -- They are the words where nothing wraps, and two laps more would still not wrap.
 pub record Plain (m : Machine) (h : List Event) : Type 0 where
-  pub head : m .ring .ends .head .0 ≡ plainWord (m .ring .fixed) (tally h .head .0)
-  pub tail : unmarkedOf (m .ring .fixed) (m .ring .ends .tail) .0 ≡ plainWord (m .ring .fixed) (tally h .tail .0)
-  pub stamps : (i : ℕ) → i < m .ring .fixed .capacity
-      → (k : ℕ) × (full : Bool) × (getD (m .ring .slots) i (slot 0 0) .stamp .0 ≡ plainWord (m .ring .fixed) k + cond full 1 0)
-      × (k % m .ring .fixed .capacity ≡ i) × (k ≤ tally h .tail .0 + m .ring .fixed .capacity)
-  pub room : plainWord (m .ring .fixed) (tally h .tail .0 + m .ring .fixed .capacity) + 2 * m .ring .fixed .lap < wide
+  pub head : m .ring .head .0 ≡ plainWord (fixedOn (m .ring)) (tally h .head .0)
+  pub tail : unmarkedOf (fixedOn (m .ring)) (m .ring .tail) .0 ≡ plainWord (fixedOn (m .ring)) (tally h .tail .0)
+  pub stamps : (i : ℕ) → i < m .ring .capacity
+      → (k : ℕ) × (full : Bool) × (getD (m .ring .slots) i (slot 0 0) .stamp .0 ≡ plainWord (fixedOn (m .ring)) k + cond full 1 0)
+      × (k % m .ring .capacity ≡ i) × (k ≤ tally h .tail .0 + m .ring .capacity)
+  pub room : plainWord (fixedOn (m .ring)) (tally h .tail .0 + m .ring .capacity) + 2 * m .ring .lap < wide
 
 -- ---- the window (document 02, item 14)
 
@@ -567,7 +567,7 @@ widestLength bits f = turnLength bits f - f .capacity
 abbrev pub InWindowOf : (Width → Fixed → ℕ) → Width → Machine → List Event → Type 0
 InWindowOf many bits m h =
     (w : ℕ) → holds (holdingAt (placeOf (m .workers) w)) ≡ true
-    → (tally (since w h) .tail .0 < many bits (m .ring .fixed)) × (tally (since w h) .head .0 < many bits (m .ring .fixed))
+    → (tally (since w h) .tail .0 < many bits (fixedOn (m .ring))) × (tally (since w h) .head .0 < many bits (fixedOn (m .ring)))
 
 -- Each beginning of these entries leaves a machine in the window; h are the acts before them.
 abbrev pub KeepsWindowOf : (Width → Fixed → ℕ) → Definition → Machine → List Event → List ℕ → Type 0
@@ -589,7 +589,7 @@ KeepsWidestWindow = KeepsWindowOf widestLength
 
 -- What a host can see to: each word is dropped before so many acts, its own and others', were done since the act that gave it; so that a worker which holds one got it fewer acts ago.
 abbrev pub Prompt : (Width → Fixed → ℕ) → Width → Machine → List Event → Type 0
-Prompt many bits m h = (w : ℕ) → holds (holdingAt (placeOf (m .workers) w)) ≡ true → length (since w h) < many bits (m .ring .fixed)
+Prompt many bits m h = (w : ℕ) → holds (holdingAt (placeOf (m .workers) w)) ≡ true → length (since w h) < many bits (fixedOn (m .ring))
 
 abbrev pub KeepsPrompt : (Width → Fixed → ℕ) → Definition → Machine → List Event → List ℕ → Type 0
 KeepsPrompt many d m h entries =
@@ -614,12 +614,12 @@ cutWord many w = stamp (w .0 % many)
 
 unfoldable pub cutTo : ℕ → Machine → Machine
 cutTo many m =
-    machineOf (m .ring .fixed) (record { head = cutWord many (m .ring .ends .head); tail = cutWord many (m .ring .ends .tail) })
+    machineOf (fixedOn (m .ring)) (record { head = cutWord many (m .ring .head); tail = cutWord many (m .ring .tail) })
     (map (λ (s : Slot). record { stamp = cutWord many (s .stamp); value = s .value }) (m .ring .slots)) (m .workers) (m .count) (m .meter)
 
 -- the value of the slot at the index of a word
 abbrev pub valueAt : Machine → Stamp → ℕ
-valueAt m t = getD (m .ring .slots) (indexOf (m .ring .fixed) t) (slot 0 0) .value
+valueAt m t = getD (m .ring .slots) (indexOf (fixedOn (m .ring)) t) (slot 0 0) .value
 
 -- ---- calls and their answers
 

@@ -17,7 +17,7 @@ use Rattle.bounded_words.specs.Words.{Fair}
 use Rattle.bounded_places.specs.declared.Ends.{Ends}
 use Rattle.bounded_places.specs.declared.Slot.{Slot}
 use Rattle.bounded_places.specs.declared.Worker.{Worker}
-use Rattle.bounded_machine.specs.Machine.{idler, idlers, freshWith, freshOf, blank, accepted}
+use Rattle.bounded_machine.specs.Machine.{idler, idlers, freshWith, freshOf, blank, accepted, ringOf}
 use Rattle.bounded_machine.specs.Run.{ran}
 use Rattle.bounded_orders.specs.declared.Metered.{Metered}
 use Rattle.bounded_orders.specs.declared.Made.{Made}
@@ -104,11 +104,11 @@ module _ (h ss rs : List ℕ) (b : Bool) (eb : b ≡ brokenWords (words h ss rs)
     contents-six t = broken-by t (listedOf (contentsLent l ys buffer)) (listed (reply 6 0) buffer) (λ st k. ap listedOf (lent-listing.six-first l ys buffer k))
 
     module _ (whole : b ≡ false) (f : Fixed) (ef : f ≡ fixedIn h) (e : Ends) (ee : e ≡ endsIn h) (idle : Bool) (ei : idle ≡ cond (placed rs) (eachFits f (getD h 6 0) false (recordsIn rs)) false) (all : List Slot) (ea : all ≡ slotsIn ss) where
-      pub contents-listed : (t : Told) (buffer′ : List ℕ) → filled t buffer′ ≡ contentsOn idle (record { fixed = f; ends = e; slots = all }) buffer → (r : Reply) → r ≡ replyOf t → listed r buffer′ ≡ contentsWords (words h ss rs) buffer
+      pub contents-listed : (t : Told) (buffer′ : List ℕ) → filled t buffer′ ≡ contentsOn idle (ringOf f e all) buffer → (r : Reply) → r ≡ replyOf t → listed r buffer′ ≡ contentsWords (words h ss rs) buffer
       unfolding contentsWords
       contents-listed t buffer′ et r er =
           ap (λ (x : Reply). listed x buffer′) er ∙ ap listedOf et
-          ∙ (λ i. listedOf (contentsOn (idle-is i) (record { fixed = ef i; ends = ee i; slots = ea i }) buffer))
+          ∙ (λ i. listedOf (contentsOn (idle-is i) (ringOf (ef i) (ee i) (ea i)) buffer))
           ∙ ap listedOf (lent-listing.listed l ys (sound whole) buffer)
           ∙ ap (λ (s : Bool). cond s (listedOf (contentsLent l ys buffer)) (listed (reply 6 0) buffer)) (sym (stands-so whole))
         where

@@ -151,9 +151,15 @@ pub extern "C" fn fern_ring_contents(
     let e = bounded_rows::ends_in(head);
     let idle = bounded_slices::records_fit(records, f, head[6], false);
     let all = bounded_slices::slots_in(slots);
+    let first = e.head;
+    let last = e.tail;
     let ring = Ring {
-        fixed: f,
-        ends: e,
+        head: first,
+        tail: last,
+        mark: f.mark,
+        lap: f.lap,
+        capacity: f.capacity,
+        edition: f.edition,
         slots: all,
     };
     reply_of(bounded_orders::contents_on(idle, ring, buffer))

@@ -12,7 +12,7 @@ use Rattle.queue_entries.specs.Told.{told}
 use Rattle.bounded_words.specs.declared.Fixed.{Fixed}
 use Rattle.bounded_places.specs.declared.Worker.{Worker}
 use Rattle.bounded_places.specs.Places.{viewOf, fitsOf}
-use Rattle.bounded_machine.specs.Machine.{recordOf, idler}
+use Rattle.bounded_machine.specs.Machine.{recordOf, idler, fixedOn}
 use Rattle.bounded_machine.specs.Broken.{placeFits, recordFits, allIdle}
 use Rattle.bounded_machine.proofs.Kept.{UnbrokenWith, ring-in, few-differed, few-failed}
 use Rattle.bounded_orders.specs.declared.Metered.{Metered}
@@ -43,10 +43,10 @@ module _ (l : Metered) (ys : List Worker) where
     abbrev u : UnbrokenWith (length ys) (held l ys)
     u = unbroken-lent l ys sound
 
-    idle-is : eachFits (l .ring .fixed) (l .meter) false ys ≡ allIdle ys
+    idle-is : eachFits (fixedOn (l .ring)) (l .meter) false ys ≡ allIdle ys
     unfolding eachFits allIdle
-    idle-is = all-same (length ys) 0 _ _ (λ k low g. past-count (l .ring .fixed) (l .meter) (recordOf ys k) (record-fits l ys u k (omega arith)))
+    idle-is = all-same (length ys) 0 _ _ (λ k low g. past-count (fixedOn (l .ring)) (l .meter) (recordOf ys k) (record-fits l ys u k (omega arith)))
 
-    pub listed : (ws : List ℕ) → contentsOn (eachFits (l .ring .fixed) (l .meter) false ys) (l .ring) ws ≡ contentsLent l ys ws
+    pub listed : (ws : List ℕ) → contentsOn (eachFits (fixedOn (l .ring)) (l .meter) false ys) (l .ring) ws ≡ contentsLent l ys ws
     unfolding contentsOn contentsLent
     listed ws = (λ i. contentsBy (not (ring-in (held l ys) u i)) (idle-is i) (l .ring) ws) ∙ ap (λ (b : Bool). contentsBy b (allIdle ys) (l .ring) ws) (sym sound)

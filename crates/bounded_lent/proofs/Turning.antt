@@ -15,7 +15,7 @@ use Rattle.bounded_words.specs.Limits.{slotsMost}
 use Rattle.bounded_words.specs.Words.{Fair}
 use Rattle.bounded_places.specs.declared.Ends.{Ends}
 use Rattle.bounded_places.specs.declared.Worker.{Worker}
-use Rattle.bounded_machine.specs.Machine.{recordOf}
+use Rattle.bounded_machine.specs.Machine.{recordOf, fixedOn, endsOn}
 use Rattle.bounded_machine.specs.Broken.{ringFits, recordFits, recordsFit, brokenWith}
 use Rattle.bounded_machine.proofs.Laws as machine
 use Rattle.bounded_machine.proofs.Kept.{UnbrokenWith, unbroken-of, of-unbroken, ruled-in, fair-in}
@@ -47,22 +47,22 @@ each-counted f meter ys = all-same (length ys) 0 _ _ (λ k l g. ap (recordFits f
 
 module _ (l : Metered) (ys : List Worker) where
   abbrev Fit : Bool
-  Fit = recordsFit (length ys) (l .ring .fixed) (length ys) (l .meter) ys
+  Fit = recordsFit (length ys) (fixedOn (l .ring)) (length ys) (l .meter) ys
 
   abbrev Ring : Bool
-  Ring = ringFits (l .ring .fixed) (l .ring .ends)
+  Ring = ringFits (fixedOn (l .ring)) (endsOn (l .ring))
 
-  broken-is : brokenLent l ys ≡ not (cond (ringFitsLent (l .ring .fixed) (l .ring .ends) (length ys)) Fit false)
+  broken-is : brokenLent l ys ≡ not (cond (ringFitsLent (fixedOn (l .ring)) (endsOn (l .ring)) (length ys)) Fit false)
   unfolding brokenLent brokenWith ringFitsLent inLimits
   broken-is =
       ap (λ (k : Bool). cond (leb (length ys) recordsMost) (cond Ring (cond (cond (eqb (length ys) 0) false k) (not Fit) true) true) true) (le-leb (length ys) (length ys) (omega arith))
       ∙ shape (leb (length ys) recordsMost) (eqb (length ys) 0) Ring Fit
 
-  pub ring-broken : ringFitsLent (l .ring .fixed) (l .ring .ends) (length ys) ≡ false → true ≡ brokenLent l ys
+  pub ring-broken : ringFitsLent (fixedOn (l .ring)) (endsOn (l .ring)) (length ys) ≡ false → true ≡ brokenLent l ys
   ring-broken h = ap (λ (b : Bool). not (cond b Fit false)) (sym h) ∙ sym broken-is
 
-  pub records-broken : ringFitsLent (l .ring .fixed) (l .ring .ends) (length ys) ≡ true → (r : Bool) → r ≡ eachFits (l .ring .fixed) (l .meter) true ys → not r ≡ brokenLent l ys
-  records-broken h r e = ap not (e ∙ each-counted (l .ring .fixed) (l .meter) ys) ∙ ap (λ (b : Bool). not (cond b Fit false)) (sym h) ∙ sym broken-is
+  pub records-broken : ringFitsLent (fixedOn (l .ring)) (endsOn (l .ring)) (length ys) ≡ true → (r : Bool) → r ≡ eachFits (fixedOn (l .ring)) (l .meter) true ys → not r ≡ brokenLent l ys
+  records-broken h r e = ap not (e ∙ each-counted (fixedOn (l .ring)) (l .meter) ys) ∙ ap (λ (b : Bool). not (cond b Fit false)) (sym h) ∙ sym broken-is
 
 pub ring-fair : (f : Fixed) (e : Ends) (n : ℕ) → ringFitsLent f e n ≡ true → Fair f
 unfolding ringFitsLent
@@ -90,14 +90,14 @@ module _ (l : Metered) (ys : List Worker) (u : UnbrokenWith (length ys) (held l 
   pub some-record : 0 < length ys
   some-record = limit-some (length ys) (length ys) true (sym (u .count)) refl
 
-  pub fair-lent : Fair (l .ring .fixed)
+  pub fair-lent : Fair (fixedOn (l .ring))
   fair-lent = fair-in (held l ys) u
 
-  pub record-fits : (i : ℕ) → i < length ys → recordFits (l .ring .fixed) (l .meter) (recordOf ys i) true ≡ true
-  record-fits i g = ap (recordFits (l .ring .fixed) (l .meter) (recordOf ys i)) (sym (lt-ltb i (length ys) g)) ∙ u .fits i g
+  pub record-fits : (i : ℕ) → i < length ys → recordFits (fixedOn (l .ring)) (l .meter) (recordOf ys i) true ≡ true
+  record-fits i g = ap (recordFits (fixedOn (l .ring)) (l .meter) (recordOf ys i)) (sym (lt-ltb i (length ys) g)) ∙ u .fits i g
 
-  pub spot-below : (i : ℕ) → i < length ys → slotOf (l .ring .fixed) (recordOf ys i) < slotsMost
-  spot-below i g = slot-below (l .ring .fixed) (ruled-in (held l ys) u) (l .meter) (recordOf ys i) (record-fits i g)
+  pub spot-below : (i : ℕ) → i < length ys → slotOf (fixedOn (l .ring)) (recordOf ys i) < slotsMost
+  spot-below i g = slot-below (fixedOn (l .ring)) (ruled-in (held l ys) u) (l .meter) (recordOf ys i) (record-fits i g)
 
 -- ---- 6 first
 module _ (l : Metered) (ys : List Worker) (first second : ℕ) where

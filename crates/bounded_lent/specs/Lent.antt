@@ -12,7 +12,7 @@ use Rattle.bounded_places.specs.declared.Worker.{Worker}
 use Rattle.bounded_machine.specs.declared.Machine.{Machine}
 use Rattle.bounded_machine.specs.declared.Did.{Did}
 use Rattle.bounded_machine.specs.declared.Ran.{Ran}
-use Rattle.bounded_machine.specs.Machine.{machineOf, recordOf, freshWith, blank, accepted}
+use Rattle.bounded_machine.specs.Machine.{machineOf, recordOf, freshWith, blank, accepted, fixedOn, endsOn}
 use Rattle.bounded_machine.specs.Broken.{recordFits, brokenWith, allIdle}
 use Rattle.bounded_machine.specs.Turn.{turnOf}
 use Rattle.bounded_machine.specs.Run.{ran}
@@ -23,7 +23,7 @@ use Rattle.bounded_orders.specs.declared.Report.{Report}
 
 -- the machine that has these records and no others
 abbrev pub held : Metered → List Worker → Machine
-held l ys = machineOf (l .ring .fixed) (l .ring .ends) (l .ring .slots) ys (length ys) (l .meter)
+held l ys = machineOf (fixedOn (l .ring)) (endsOn (l .ring)) (l .ring .slots) ys (length ys) (l .meter)
 
 -- "Up to 64 workers; the count is the number lent"; else broken as that machine is
 unfoldable pub brokenLent : Metered → List Worker → Bool
@@ -73,7 +73,7 @@ makeLent ys capacity edition =
 
 -- `capacity`: 6, else the ring's capacity at any time
 abbrev pub capacityLent : Metered → List Worker → Told
-capacityLent l ys = capacityTold (brokenLent l ys) (l .ring .fixed)
+capacityLent l ys = capacityTold (brokenLent l ys) (l .ring .capacity)
 
 -- every lent record fits the ring, as one within the count or as one past it, which has to be idle
 unfoldable pub eachFits : Fixed → ℕ → Bool → List Worker → Bool

@@ -8,6 +8,7 @@ ghost use Rattle.bounded_lent.specs.Lent.{eachFits, brokenLent, lent, tu
 use bounded_orders::Made;
 use bounded_orders::Metered;
 use bounded_orders::Report;
+use bounded_places::Ends;
 use bounded_places::Worker;
 use bounded_words::Fixed;
 use bounded_words::Width;
@@ -32,8 +33,17 @@ fn records_fit(records: &[Worker], f: Fixed, meter: u64, counted: bool) -> bool
 pub fn broken(ring: &Metered, records: &[Worker]) -> bool
     ensures { λ r. ⌜ r ≡ brokenLent (now (ring .entry)) (now (records .entry)) ⌝ }
 {
-    let f = ring.ring.fixed;
-    if bounded_orders::ring_fits(f, ring.ring.ends, records.len()) {} else {
+    let f = Fixed {
+        mark: ring.ring.mark,
+        lap: ring.ring.lap,
+        capacity: ring.ring.capacity,
+        edition: ring.ring.edition,
+    };
+    let e = Ends {
+        head: ring.ring.head,
+        tail: ring.ring.tail,
+    };
+    if bounded_orders::ring_fits(f, e, records.len()) {} else {
         return true;
     }
     !records_fit(records, f, ring.meter, true)
@@ -47,12 +57,21 @@ fn turn(ring: &mut Metered, records: &mut [Worker], first: u64, second: u64) -> 
     let count = records.len();
     let w = bounded_step_record::worker_of(first, count);
     let worker = records[w];
-    let f = ring.ring.fixed;
+    let f = Fixed {
+        mark: ring.ring.mark,
+        lap: ring.ring.lap,
+        capacity: ring.ring.capacity,
+        edition: ring.ring.edition,
+    };
     let k = bounded_step_record::slot_of(f, worker);
+    let e = Ends {
+        head: ring.ring.head,
+        tail: ring.ring.tail,
+    };
     let t = bounded_step_record::turn_on(
         Width::SixtyFour,
         f,
-        ring.ring.ends,
+        e,
         ring.ring.slots[k],
         worker,
         ring.meter,
@@ -60,7 +79,8 @@ fn turn(ring: &mut Metered, records: &mut [Worker], first: u64, second: u64) -> 
         first,
         second,
     );
-    ring.ring.ends = t.ends;
+    ring.ring.head = t.ends.head;
+    ring.ring.tail = t.ends.tail;
     ring.ring.slots[k] = t.slot;
     ring.meter = t.meter;
     records[w] = t.worker;
@@ -114,7 +134,7 @@ pub fn make(records: &mut [Worker], capacity: u64, edition: u64) -> Made
 pub fn capacity(ring: &Metered, records: &[Worker]) -> Told
     ensures { λ r. ⌜ r ≡ capacityLent (now (ring .entry)) (now (records .entry)) ⌝ }
 {
-    bounded_orders::capacity_told(broken(ring, records), ring.ring.fixed)
+    bounded_orders::capacity_told(broken(ring, records), ring.ring.capacity)
 }
 
 // The items as `Drop` would meet them, written at the buffer's start. Nothing is removed.
@@ -124,6 +144,12 @@ pub fn contents(ring: &Metered, records: &[Worker], buffer: &mut [u64]) -> Told
     if broken(ring, records) {
         return bounded_orders::refused(6);
     }
-    let idle = records_fit(records, ring.ring.fixed, ring.meter, false);
+    let f = Fixed {
+        mark: ring.ring.mark,
+        lap: ring.ring.lap,
+        capacity: ring.ring.capacity,
+        edition: ring.ring.edition,
+    };
+    let idle = records_fit(records, f, ring.meter, false);
     bounded_orders::contents_on(idle, ring.ring, buffer)
 }

@@ -37,7 +37,7 @@ use Rattle.bounded_places.specs.Places.{viewOf, inside, fitsOf, beginOf}
 use Rattle.bounded_acts.specs.declared.Acted.{Acted}
 use Rattle.bounded_acts.specs.Acts.{goes, losing, exchangeOf, afterTail, endP3, endF6, endO3, tailTo, headTo, stampTo, valueTo, forcedTail, actOf, fullAt, yesNo, countOf}
 use Rattle.bounded_machine.specs.declared.Machine.{Machine}
-use Rattle.bounded_machine.specs.Machine.{recordOf, placeOf, idler}
+use Rattle.bounded_machine.specs.Machine.{recordOf, placeOf, idler, fixedOn, endsOn}
 use Rattle.bounded_machine.specs.Broken.{byRule, endsFit, ringFits, placeFits, recordFits, recordsFit, brokenWith}
 use Rattle.bounded_machine.specs.Turn.{beginner, byWords, bySchedule, recordAfter, begun, stored, acted, actedBy}
 use Rattle.bounded_machine.proofs.Laws.{ruled-of, fitting}
@@ -97,12 +97,12 @@ placed (y ∷ ys) (suc w) (suc i) x d P p q = placed ys w i x d P (λ e. p (ap s
 
 -- ---- an unbroken machine, with so many records
 pub record UnbrokenWith (records : ℕ) (m : Machine) : Type 0 where
-  pub capacity : inLimits (m .ring .fixed .capacity) slotsMost ≡ true
+  pub capacity : inLimits (m .ring .capacity) slotsMost ≡ true
   pub count : inLimits (m .count) records ≡ true
-  pub edition : inLimits (m .ring .fixed .edition) editionsMost ≡ true
-  pub rule : byRule (m .ring .fixed) ≡ true
-  pub ends : endsFit (m .ring .fixed) (m .ring .ends) ≡ true
-  pub fits : (i : ℕ) → i < records → recordFits (m .ring .fixed) (m .meter) (recordOf (m .workers) i) (ltb i (m .count)) ≡ true
+  pub edition : inLimits (m .ring .edition) editionsMost ≡ true
+  pub rule : byRule (fixedOn (m .ring)) ≡ true
+  pub ends : endsFit (fixedOn (m .ring)) (endsOn (m .ring)) ≡ true
+  pub fits : (i : ℕ) → i < records → recordFits (fixedOn (m .ring)) (m .meter) (recordOf (m .workers) i) (ltb i (m .count)) ≡ true
 
 -- document 01's
 abbrev pub Unbroken : Machine → Type 0
@@ -119,20 +119,20 @@ pass a b p q = either (λ (x : Bool). x ≡ false) a b true (λ h. q) (λ h. abs
 pub unbroken-of : {records : ℕ} (m : Machine) → brokenWith records m ≡ false → UnbrokenWith records m
 unfolding brokenWith recordsFit
 unbroken-of {records} m h =
-    let x = passes (ringFits (m .ring .fixed) (m .ring .ends)) _ h in
+    let x = passes (ringFits (fixedOn (m .ring)) (endsOn (m .ring))) _ h in
     let b = passes (inLimits (m .count) records) _ (x .1) in
-    let ring = fitting (m .ring .fixed) (m .ring .ends) (x .0) in
+    let ring = fitting (fixedOn (m .ring)) (endsOn (m .ring)) (x .0) in
     record {
       capacity = ring .capacity;
       count = b .0;
       edition = ring .edition;
       rule = ring .rule;
       ends = ring .ends;
-      fits = (λ i l. every records 0 (λ (k : ℕ). recordFits (m .ring .fixed) (m .meter) (recordOf (m .workers) k) (ltb k (m .count))) (not-false _ (b .1)) i (omega arith) (omega arith));
+      fits = (λ i l. every records 0 (λ (k : ℕ). recordFits (fixedOn (m .ring)) (m .meter) (recordOf (m .workers) k) (ltb k (m .count))) (not-false _ (b .1)) i (omega arith) (omega arith));
     }
 
 -- its ring fits
-pub ring-in : {records : ℕ} (m : Machine) → UnbrokenWith records m → ringFits (m .ring .fixed) (m .ring .ends) ≡ true
+pub ring-in : {records : ℕ} (m : Machine) → UnbrokenWith records m → ringFits (fixedOn (m .ring)) (endsOn (m .ring)) ≡ true
 unfolding ringFits
 ring-in m u = both _ _ (u .edition) (both _ _ (u .capacity) (both _ _ (u .rule) (u .ends)))
 
@@ -140,14 +140,14 @@ pub of-unbroken : {records : ℕ} (m : Machine) → UnbrokenWith records m → b
 unfolding brokenWith recordsFit
 of-unbroken {records} m u =
     pass _ _ (ring-in m u) (pass _ _ (u .count)
-    (ap not (all-of records 0 (λ (k : ℕ). recordFits (m .ring .fixed) (m .meter) (recordOf (m .workers) k) (ltb k (m .count))) (λ k l g. u .fits k (omega arith)))))
+    (ap not (all-of records 0 (λ (k : ℕ). recordFits (fixedOn (m .ring)) (m .meter) (recordOf (m .workers) k) (ltb k (m .count))) (λ k l g. u .fits k (omega arith)))))
 
 module _ {records : ℕ} (m : Machine) (u : UnbrokenWith records m) where
-  pub ruled-in : Ruled (m .ring .fixed)
-  ruled-in = ruled-of (m .ring .fixed) (u .capacity) (u .rule)
+  pub ruled-in : Ruled (fixedOn (m .ring))
+  ruled-in = ruled-of (fixedOn (m .ring)) (u .capacity) (u .rule)
 
-  pub fair-in : Fair (m .ring .fixed)
-  fair-in = fair (m .ring .fixed) ruled-in
+  pub fair-in : Fair (fixedOn (m .ring))
+  fair-in = fair (fixedOn (m .ring)) ruled-in
 
   pub few-workers : m .count ≤ records
   few-workers = limit-most (m .count) records true (sym (u .count)) refl
@@ -343,19 +343,19 @@ one-lost loss.ByWords = (omega arith, omega arith)
 one-lost loss.BySchedule = (omega arith, omega arith)
 
 module _ {records : ℕ} (m : Machine) (u : UnbrokenWith records m) (w : ℕ) (l : w < m .count) where
-  own-fits : recordFits (m .ring .fixed) (m .meter) (recordOf (m .workers) w) (ltb w (m .count)) ≡ true
+  own-fits : recordFits (fixedOn (m .ring)) (m .meter) (recordOf (m .workers) w) (ltb w (m .count)) ≡ true
   own-fits = u .fits w (omega (arith, few-workers m u))
 
   -- the counts of losses are no more than the acts
   pub few-lost : (recordOf (m .workers) w .differed ≤ m .meter) × (recordOf (m .workers) w .failed ≤ m .meter)
   few-lost = (few-differed _ _ _ _ own-fits, few-failed _ _ _ _ own-fits)
 
-  records-with : (n : ℕ) (r : Worker) → ((i : ℕ) → i < records → recordFits (m .ring .fixed) n (recordOf (m .workers) i) (ltb i (m .count)) ≡ true)
-      → r .differed ≤ n → r .failed ≤ n → fitsOf (m .ring .fixed) (viewOf (r .place) .held) ≡ true → (i : ℕ) → i < records
-      → recordFits (m .ring .fixed) n (recordOf (set (m .workers) w r) i) (ltb i (m .count)) ≡ true
+  records-with : (n : ℕ) (r : Worker) → ((i : ℕ) → i < records → recordFits (fixedOn (m .ring)) n (recordOf (m .workers) i) (ltb i (m .count)) ≡ true)
+      → r .differed ≤ n → r .failed ≤ n → fitsOf (fixedOn (m .ring)) (viewOf (r .place) .held) ≡ true → (i : ℕ) → i < records
+      → recordFits (fixedOn (m .ring)) n (recordOf (set (m .workers) w r) i) (ltb i (m .count)) ≡ true
   records-with n r others d s k i g =
-      placed (m .workers) w i r idler (λ (x : Worker). recordFits (m .ring .fixed) n x (ltb i (m .count)) ≡ true)
-      (λ e. record-of (m .ring .fixed) n r (ltb i (m .count)) (lt-ltb i (m .count) (omega arith)) d s k) (others i g)
+      placed (m .workers) w i r idler (λ (x : Worker). recordFits (fixedOn (m .ring)) n x (ltb i (m .count)) ≡ true)
+      (λ e. record-of (fixedOn (m .ring)) n r (ltb i (m .count)) (lt-ltb i (m .count) (omega arith)) d s k) (others i g)
 
   pub begun-unbroken : (c : Call) → UnbrokenWith records (begun m w (beginOf c))
   unfolding begun
@@ -366,13 +366,13 @@ module _ {records : ℕ} (m : Machine) (u : UnbrokenWith records m) (w : ℕ) (l
         edition = u .edition;
         rule = u .rule;
         ends = u .ends;
-        fits = records-with (m .meter) (beginner (beginOf c)) (u .fits) (omega arith) (omega arith) (ap (fitsOf (m .ring .fixed)) (begin-holds c));
+        fits = records-with (m .meter) (beginner (beginOf c)) (u .fits) (omega arith) (omega arith) (ap (fitsOf (fixedOn (m .ring))) (begin-holds c));
       }
 
-  pub word-fits-in : viewOf (placeOf (m .workers) w) .busy ≡ true → fitsOf (m .ring .fixed) (viewOf (placeOf (m .workers) w) .held) ≡ true
-  word-fits-in h = of-record (m .ring .fixed) (m .meter) (recordOf (m .workers) w) (ltb w (m .count)) own-fits h
+  pub word-fits-in : viewOf (placeOf (m .workers) w) .busy ≡ true → fitsOf (fixedOn (m .ring)) (viewOf (placeOf (m .workers) w) .held) ≡ true
+  word-fits-in h = of-record (fixedOn (m .ring)) (m .meter) (recordOf (m .workers) w) (ltb w (m .count)) own-fits h
 
-  pub stored-unbroken : (i : ℕ) (a : Acted) → Ok (m .ring .fixed) (ruled-in m u) a → UnbrokenWith records (stored m w i a)
+  pub stored-unbroken : (i : ℕ) (a : Acted) → Ok (fixedOn (m .ring)) (ruled-in m u) a → UnbrokenWith records (stored m w i a)
   unfolding stored recordAfter
   stored-unbroken i a k =
       record {
@@ -388,4 +388,4 @@ module _ {records : ℕ} (m : Machine) (u : UnbrokenWith records m) (w : ℕ) (l
   pub acted-unbroken : (bits : Width) (lose : Bool) → viewOf (placeOf (m .workers) w) .busy ≡ true → UnbrokenWith records (acted bits m w (placeOf (m .workers) w) lose)
   unfolding actedBy
   acted-unbroken bits lose h =
-      stored-unbroken _ _ (keeps (m .ring .fixed) (ruled-in m u) bits (m .ring .ends) _ (u .ends) (placeOf (m .workers) w) lose (word-fits-in h))
+      stored-unbroken _ _ (keeps (fixedOn (m .ring)) (ruled-in m u) bits (endsOn (m .ring)) _ (u .ends) (placeOf (m .workers) w) lose (word-fits-in h))

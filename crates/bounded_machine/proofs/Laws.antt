@@ -26,7 +26,7 @@ use Rattle.bounded_places.specs.declared.Slot.{Slot}
 use Rattle.bounded_machine.specs.declared.Machine.{Machine}
 use Rattle.bounded_machine.specs.Broken.{byRule, endsFit, ringFits, placeFits, recordsFit, brokenWith, brokenOf}
 use Rattle.bounded_machine.specs.Turn.{spotOf, byWords, bySchedule, recordAfter}
-use Rattle.bounded_machine.specs.Machine.{machineOf, starts, freshSlots, freshWith, freshOf, idler, idlers}
+use Rattle.bounded_machine.specs.Machine.{machineOf, starts, freshSlots, freshWith, freshOf, idler, idlers, fixedOn, endsOn}
 
 -- mark and lap by rule
 module _ (f : Fixed) (m : ℕ) (e : m ≡ markOf (f .capacity)) where
@@ -125,7 +125,7 @@ pub fair-by : (f : Fixed) (e : Ends) (b : Bool) → b ≡ ringFits f e → b ≡
 fair-by f e b k h = ring-fair f e (sym k ∙ h)
 
 -- broken, by the first test that fails, or unbroken
-module _ (m : Machine) (x : Bool) (ex : x ≡ ringFits (m .ring .fixed) (m .ring .ends)) where
+module _ (m : Machine) (x : Bool) (ex : x ≡ ringFits (fixedOn (m .ring)) (endsOn (m .ring))) where
   pub broken-ring : x ≡ false → true ≡ brokenOf m
   unfolding brokenWith
   broken-ring h = no _ x _ _ _ ex h refl
@@ -135,14 +135,14 @@ module _ (m : Machine) (x : Bool) (ex : x ≡ ringFits (m .ring .fixed) (m .ring
     unfolding brokenWith
     broken-count h = yes _ x _ _ _ ex hx (no _ b _ _ _ eb h refl)
 
-    broken-records : (k : Bool) → b ≡ true → k ≡ recordsFit workersMost (m .ring .fixed) (m .count) (m .meter) (m .workers) → not k ≡ brokenOf m
+    broken-records : (k : Bool) → b ≡ true → k ≡ recordsFit workersMost (fixedOn (m .ring)) (m .count) (m .meter) (m .workers) → not k ≡ brokenOf m
     unfolding brokenWith
     broken-records k h e = yes _ x _ _ _ ex hx (yes _ b _ _ _ eb h (ap not e))
 
-    pub broken-record : (k : Bool) → b ≡ true → k ≡ recordsFit workersMost (m .ring .fixed) (m .count) (m .meter) (m .workers) → k ≡ false → true ≡ brokenOf m
+    pub broken-record : (k : Bool) → b ≡ true → k ≡ recordsFit workersMost (fixedOn (m .ring)) (m .count) (m .meter) (m .workers) → k ≡ false → true ≡ brokenOf m
     broken-record k h e l = sym (ap not l) ∙ broken-records k h e
 
-    pub unbroken : (k : Bool) → b ≡ true → k ≡ recordsFit workersMost (m .ring .fixed) (m .count) (m .meter) (m .workers) → k ≡ true → false ≡ brokenOf m
+    pub unbroken : (k : Bool) → b ≡ true → k ≡ recordsFit workersMost (fixedOn (m .ring)) (m .count) (m .meter) (m .workers) → k ≡ true → false ≡ brokenOf m
     unbroken k h e l = sym (ap not l) ∙ broken-records k h e
 
 -- a fresh machine, from its mark and its slots

@@ -32,7 +32,7 @@ use Rattle.bounded_acts.specs.Acts.{actOf, Fits}
 use Rattle.bounded_machine.specs.declared.Machine.{Machine}
 use Rattle.bounded_machine.specs.declared.Did.{Did}
 use Rattle.bounded_machine.specs.declared.Ran.{Ran}
-use Rattle.bounded_machine.specs.Machine.{slot, machineOf, recordOf, placeOf, refused, accepted}
+use Rattle.bounded_machine.specs.Machine.{slot, machineOf, recordOf, placeOf, refused, accepted, fixedOn, endsOn}
 use Rattle.bounded_machine.specs.Turn.{verdictOf, spotOf, recordAfter, begun, stored, actedBy, carried, turn, turnAt, turnOfBy}
 use Rattle.bounded_machine.specs.Run.{ran, runAt}
 use Rattle.bounded_machine.proofs.Kept.{UnbrokenWith, fair-in, ruled-in, few-workers, few-lost, begun-unbroken, stored-unbroken, acted-unbroken, Ok, keeps, word-fits-in, fits-plain, either}
@@ -66,7 +66,7 @@ module _ (meter : ℕ) (p : Place) (o : Order) (v : Verdict) (e : v ≡ verdictO
 
 -- ---- what an act leaves, with the worker's record as the code made it
 abbrev pub kept : Machine → ℕ → ℕ → Acted → Worker → Machine
-kept m w i a r = machineOf (m .ring .fixed) (a .ends) (set (m .ring .slots) i (a .slot)) (set (m .workers) w r) (m .count) (m .meter + 1)
+kept m w i a r = machineOf (fixedOn (m .ring)) (a .ends) (set (m .ring .slots) i (a .slot)) (set (m .workers) w r) (m .count) (m .meter + 1)
 
 as-stored : (m : Machine) (w i : ℕ) (a : Acted) (r : Worker) → r ≡ recordAfter (recordOf (m .workers) w) (a .place) (a .loss) → stored m w i a ≡ kept m w i a r
 unfolding stored
@@ -115,8 +115,8 @@ module _ (bits : Width) (s : List ℕ) (n i : ℕ) (m : Machine) (whole : Ran) (
         pub start : (c : Call) (q : Place) → v ≡ Start c → q ≡ beginOf c → runAt bits (begun m w q) (i + 1) (drop (2 * (i + 1)) s) ≡ whole
         start c q k l = went (begun m w q) (near bits m _ _ x ex w o h v g e ∙ ap (carried bits m w (placeOf (m .workers) w)) k ∙ ap (λ (z : Place). accepted (begun m w z)) (sym l))
 
-        pub move : (lose : Bool) (sp : ℕ) (a : Acted) → v ≡ Move lose → sp ≡ spotOf (m .ring .fixed) (viewOf (placeOf (m .workers) w) .held)
-            → a ≡ actOf bits (m .ring .fixed) (m .ring .ends) (getD (m .ring .slots) sp (slot 0 0)) (placeOf (m .workers) w) lose
+        pub move : (lose : Bool) (sp : ℕ) (a : Acted) → v ≡ Move lose → sp ≡ spotOf (fixedOn (m .ring)) (viewOf (placeOf (m .workers) w) .held)
+            → a ≡ actOf bits (fixedOn (m .ring)) (endsOn (m .ring)) (getD (m .ring .slots) sp (slot 0 0)) (placeOf (m .workers) w) lose
             → (r : Worker) → r ≡ recordAfter (recordOf (m .workers) w) (a .place) (a .loss) → runAt bits (kept m w sp a r) (i + 1) (drop (2 * (i + 1)) s) ≡ whole
         unfolding actedBy
         move lose sp a k es ea r er =
@@ -134,15 +134,15 @@ module _ {records : ℕ} (m : Machine) (u : UnbrokenWith records m) where
   worker-below w l = omega (arith, few-workers m u)
 
   module _ (w : ℕ) (l : w < m .count) (h : viewOf (placeOf (m .workers) w) .busy ≡ true) where
-    pub fits-in : Fits (m .ring .fixed) (placeOf (m .workers) w)
+    pub fits-in : Fits (fixedOn (m .ring)) (placeOf (m .workers) w)
     fits-in = record { fair = fair-in m u; held = word-fits-in m u w l h }
 
-    pub spot-below : (sp : ℕ) → sp ≡ spotOf (m .ring .fixed) (viewOf (placeOf (m .workers) w) .held) → sp < slotsMost
+    pub spot-below : (sp : ℕ) → sp ≡ spotOf (fixedOn (m .ring)) (viewOf (placeOf (m .workers) w) .held) → sp < slotsMost
     spot-below sp e = subst (λ (k : ℕ). k < slotsMost) (sym e) (spot-fits (viewOf (placeOf (m .workers) w) .held) (word-fits-in m u w l h))
       where
-        spot-fits : (d : Held) → fitsOf (m .ring .fixed) d ≡ true → spotOf (m .ring .fixed) d < slotsMost
+        spot-fits : (d : Held) → fitsOf (fixedOn (m .ring)) d ≡ true → spotOf (fixedOn (m .ring)) d < slotsMost
         spot-fits held.Nothing k = omega arith
-        spot-fits (held.End t) k = omega (arith, fits-plain (m .ring .fixed) t k .low, ruled-in m u .most)
+        spot-fits (held.End t) k = omega (arith, fits-plain (fixedOn (m .ring)) t k .low, ruled-in m u .most)
         spot-fits (held.Tail t) k = omega arith
         spot-fits (held.Both t d) k = omega arith
 
@@ -155,13 +155,13 @@ module _ {records : ℕ} (m : Machine) (u : UnbrokenWith records m) where
     pub started-unbroken : (c : Call) (q : Place) → q ≡ beginOf c → UnbrokenWith records (begun m w q)
     started-unbroken c q e = subst (λ (x : Place). UnbrokenWith records (begun m w x)) (sym e) (begun-unbroken m u w l c)
 
-    pub moved-unbroken : (bits : Width) (sp : ℕ) (a : Acted) (s : Slot) (lose : Bool) → viewOf (placeOf (m .workers) w) .busy ≡ true → a ≡ actOf bits (m .ring .fixed) (m .ring .ends) s (placeOf (m .workers) w) lose
+    pub moved-unbroken : (bits : Width) (sp : ℕ) (a : Acted) (s : Slot) (lose : Bool) → viewOf (placeOf (m .workers) w) .busy ≡ true → a ≡ actOf bits (fixedOn (m .ring)) (endsOn (m .ring)) s (placeOf (m .workers) w) lose
         → (r : Worker) → r ≡ recordAfter (recordOf (m .workers) w) (a .place) (a .loss) → UnbrokenWith records (kept m w sp a r)
     moved-unbroken bits sp a s lose h e r er =
         subst (UnbrokenWith records) (as-stored m w sp a r er)
         (stored-unbroken m u w l sp a
-        (subst (Ok (m .ring .fixed) (ruled-in m u)) (sym e)
-        (keeps (m .ring .fixed) (ruled-in m u) bits (m .ring .ends) s (u .ends) (placeOf (m .workers) w) lose (word-fits-in m u w l h))))
+        (subst (Ok (fixedOn (m .ring)) (ruled-in m u)) (sym e)
+        (keeps (fixedOn (m .ring)) (ruled-in m u) bits (endsOn (m .ring)) s (u .ends) (placeOf (m .workers) w) lose (word-fits-in m u w l h))))
 
 -- ---- no entry breaks an unbroken machine
 module _ {records : ℕ} (bits : Width) (m : Machine) (u : UnbrokenWith records m) where

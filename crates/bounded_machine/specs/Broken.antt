@@ -13,7 +13,7 @@ use Rattle.bounded_places.specs.declared.Place.{Place}
 use Rattle.bounded_places.specs.declared.Worker.{Worker}
 use Rattle.bounded_places.specs.Places.{viewOf, inside, fitsOf}
 use Rattle.bounded_machine.specs.declared.Machine.{Machine}
-use Rattle.bounded_machine.specs.Machine.{recordOf, placeOf}
+use Rattle.bounded_machine.specs.Machine.{recordOf, placeOf, fixedOn, endsOn}
 
 -- mark or lap not by rule
 unfoldable pub byRule : Fixed → Bool
@@ -43,9 +43,9 @@ ringFits f e =
 -- the ring and the rest, of a machine with so many records; there are no more workers than records
 unfoldable pub brokenWith : ℕ → Machine → Bool
 brokenWith records m =
-    cond (ringFits (m .ring .fixed) (m .ring .ends))
+    cond (ringFits (fixedOn (m .ring)) (endsOn (m .ring)))
     (cond (inLimits (m .count) records)
-    (not (recordsFit records (m .ring .fixed) (m .count) (m .meter) (m .workers)))
+    (not (recordsFit records (fixedOn (m .ring)) (m .count) (m .meter) (m .workers)))
     true) true
 
 -- document 01's machine has 16 of them

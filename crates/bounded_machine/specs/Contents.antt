@@ -11,12 +11,12 @@ use Rattle.bounded_words.specs.Words.{indexOf}
 use Rattle.bounded_acts.specs.Acts.{countOf}
 use Rattle.bounded_machine.specs.declared.Ring.{Ring}
 use Rattle.bounded_machine.specs.declared.Machine.{Machine}
-use Rattle.bounded_machine.specs.Machine.{slot}
+use Rattle.bounded_machine.specs.Machine.{slot, fixedOn}
 use Rattle.bounded_machine.specs.Broken.{brokenOf, allIdle}
 
 -- `len`'s count of items: the ring's, and so the machine's
 unfoldable pub countOn : Ring → ℕ
-countOn r = countOf (r .fixed) (r .ends .tail) (r .ends .head)
+countOn r = countOf (fixedOn r) (r .tail) (r .head)
 
 abbrev pub countIn : Machine → ℕ
 countIn m = countOn (m .ring)
@@ -27,7 +27,7 @@ wrapped capacity i = cond (ltb i capacity) i (i - capacity)
 
 -- the k-th item from index(head)
 unfoldable pub itemOn : Ring → ℕ → ℕ
-itemOn r k = getD (r .slots) (wrapped (r .fixed .capacity) (indexOf (r .fixed) (r .ends .head) + k)) (slot 0 0) .value
+itemOn r k = getD (r .slots) (wrapped (r .capacity) (indexOf (fixedOn r) (r .head) + k)) (slot 0 0) .value
 
 abbrev pub itemAt : Machine → ℕ → ℕ
 itemAt m = itemOn (m .ring)
@@ -66,9 +66,9 @@ unfoldable pub capacityRefusal : Machine → ℕ
 capacityRefusal m = cond (brokenOf m) 6 0
 
 unfoldable pub capacityOf : Machine → Told
-capacityOf m = told (capacityRefusal m) (m .ring .fixed .capacity)
+capacityOf m = told (capacityRefusal m) (m .ring .capacity)
 
 -- the count of an unbroken ring, and its bound
 pub record Counted (r : Ring) (n : ℕ) : Type 0 where
   pub is : n ≡ countOn r
-  pub most : n ≤ r .fixed .capacity
+  pub most : n ≤ r .capacity

@@ -12,6 +12,7 @@ use Rattle.bounded_places.specs.declared.Place.{Place}
 use Rattle.bounded_places.specs.declared.Place.the-variants.{Idle}
 use Rattle.bounded_places.specs.declared.Answer.the-variants.{Nothing}
 use Rattle.bounded_places.specs.declared.Worker.{Worker}
+use Rattle.bounded_machine.specs.declared.Ring.{Ring}
 use Rattle.bounded_machine.specs.declared.Machine.{Machine}
 use Rattle.bounded_machine.specs.declared.Did.{Did}
 
@@ -37,8 +38,18 @@ idler = record { place = Idle Nothing; differed = 0; failed = 0 }
 unfoldable pub idlers : ℕ → List Worker
 idlers records = replicate records idler
 
+-- A ring's constants and its two ends, as an act is handed them; and the ring of these.
+abbrev pub fixedOn : Ring → Fixed
+fixedOn r = record { mark = r .mark; lap = r .lap; capacity = r .capacity; edition = r .edition }
+
+abbrev pub endsOn : Ring → Ends
+endsOn r = record { head = r .head; tail = r .tail }
+
+abbrev pub ringOf : Fixed → Ends → List Slot → Ring
+ringOf f e s = record { head = e .head; tail = e .tail; mark = f .mark; lap = f .lap; capacity = f .capacity; edition = f .edition; slots = s }
+
 abbrev pub machineOf : Fixed → Ends → List Slot → List Worker → ℕ → ℕ → Machine
-machineOf f e s w n k = record { ring = record { fixed = f; ends = e; slots = s }; workers = w; count = n; meter = k }
+machineOf f e s w n k = record { ring = ringOf f e s; workers = w; count = n; meter = k }
 
 -- Head, tail and meter are 0, workers idle.
 abbrev pub starts : Ends

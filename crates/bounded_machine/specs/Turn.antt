@@ -26,7 +26,7 @@ use Rattle.bounded_acts.specs.declared.Acted.{Acted}
 use Rattle.bounded_acts.specs.Acts.{actOf}
 use Rattle.bounded_machine.specs.declared.Machine.{Machine}
 use Rattle.bounded_machine.specs.declared.Did.{Did}
-use Rattle.bounded_machine.specs.Machine.{slot, machineOf, recordOf, placeOf, refused, accepted}
+use Rattle.bounded_machine.specs.Machine.{slot, machineOf, recordOf, placeOf, refused, accepted, fixedOn, endsOn}
 
 -- What becomes of a worker at this place.
 abbrev pub verdictOf : ℕ → Place → Order → Verdict
@@ -60,22 +60,22 @@ recordAfter r p l = record { place = p; differed = r .differed + byWords l; fail
 -- Worker w begins at the place q: no act.
 unfoldable pub begun : Machine → ℕ → Place → Machine
 begun m w q =
-    machineOf (m .ring .fixed) (m .ring .ends) (m .ring .slots) (set (m .workers) w (beginner q)) (m .count) (m .meter)
+    machineOf (fixedOn (m .ring)) (endsOn (m .ring)) (m .ring .slots) (set (m .workers) w (beginner q)) (m .count) (m .meter)
 
 -- What an act at slot i leaves is stored back. The meter rises by one with each accepted act.
 unfoldable pub stored : Machine → ℕ → ℕ → Acted → Machine
 stored m w i a =
-    machineOf (m .ring .fixed) (a .ends) (set (m .ring .slots) i (a .slot)) (set (m .workers) w (recordAfter (recordOf (m .workers) w) (a .place) (a .loss))) (m .count) (m .meter + 1)
+    machineOf (fixedOn (m .ring)) (a .ends) (set (m .ring .slots) i (a .slot)) (set (m .workers) w (recordAfter (recordOf (m .workers) w) (a .place) (a .loss))) (m .count) (m .meter + 1)
 
 -- What an act does at each place. Document 01's is `actOf SixtyFour`, that of sixteen bits `actOf Sixteen`; crate bounded_slips has some with a slip.
 abbrev pub Table : Type 0
 Table = Fixed → Ends → Slot → Place → Bool → Acted
 
 abbrev pub actAt : Table → Machine → Place → Bool → Acted
-actAt table m p lose = table (m .ring .fixed) (m .ring .ends) (getD (m .ring .slots) (spotOf (m .ring .fixed) (viewOf p .held)) (slot 0 0)) p lose
+actAt table m p lose = table (fixedOn (m .ring)) (endsOn (m .ring)) (getD (m .ring .slots) (spotOf (fixedOn (m .ring)) (viewOf p .held)) (slot 0 0)) p lose
 
 unfoldable pub actedBy : Table → Machine → ℕ → Place → Bool → Machine
-actedBy table m w p lose = stored m w (spotOf (m .ring .fixed) (viewOf p .held)) (actAt table m p lose)
+actedBy table m w p lose = stored m w (spotOf (fixedOn (m .ring)) (viewOf p .held)) (actAt table m p lose)
 
 abbrev pub carriedBy : Table → Machine → ℕ → Place → Verdict → Did
 carriedBy table m w p (Refuse number) = refused number m

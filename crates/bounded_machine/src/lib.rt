@@ -5,7 +5,7 @@ ghost use Rattle.queue_entries.specs.Limits.{workersMost, meterMost};
 ghost use Rattle.bounded_words.specs.Limits.{slotsMost};
 ghost use Rattle.bounded_words.specs.Words.{Fair};
 ghost use Rattle.bounded_places.specs.Places.{viewOf};
-ghost use Rattle.bounded_machine.specs.Machine.{freshSlots, freshOf, blank, refused, accepted};
+ghost use Rattle.bounded_machine.specs.Machine.{freshSlots, freshOf, blank, refused, accepted, fixedOn, endsOn};
 ghost use Rattle.queue_entries.specs.Limits.{inLimits};
 ghost use Rattle.bounded_machine.specs.Broken.{byRule, endsFit, ringFits, placeFits, recordFits, recordsFit, allIdle, brokenOf};
 ghost use mathlib.Core.Bool.{true};
@@ -25,10 +25,14 @@ use bounded_words::Stamp;
 use queue_entries::Order;
 use queue_entries::Verdict;
 
-// A ring by value: its constants, its two ends and its slots.
+// A ring by value: its two ends, its constants and its slots.
 pub struct Ring {
-    pub fixed: Fixed,
-    pub ends: Ends,
+    pub head: Stamp,
+    pub tail: Stamp,
+    pub mark: u64,
+    pub lap: u64,
+    pub capacity: u64,
+    pub edition: u64,
     pub slots: [Slot; bounded_words::SLOTS],
 }
 
@@ -113,18 +117,15 @@ pub fn fresh(capacity: u64, workers: u64, edition: u64) -> Machine
 {
     let mark = bounded_words::mark_of(capacity);
     let slots = fresh_slots(capacity);
+    let lap = 2 * mark;
     Machine {
         ring: Ring {
-            fixed: Fixed {
-                mark: mark,
-                lap: 2 * mark,
-                capacity: capacity,
-                edition: edition,
-            },
-            ends: Ends {
-                head: Stamp(0),
-                tail: Stamp(0),
-            },
+            head: Stamp(0),
+            tail: Stamp(0),
+            mark: mark,
+            lap: lap,
+            capacity: capacity,
+            edition: edition,
             slots: slots,
         },
         workers: [Worker {
@@ -143,16 +144,12 @@ pub fn blank() -> Machine
 {
     Machine {
         ring: Ring {
-            fixed: Fixed {
-                mark: 0,
-                lap: 0,
-                capacity: 0,
-                edition: 0,
-            },
-            ends: Ends {
-                head: Stamp(0),
-                tail: Stamp(0),
-            },
+            head: Stamp(0),
+            tail: Stamp(0),
+            mark: 0,
+            lap: 0,
+            capacity: 0,
+            edition: 0,
             slots: [Slot {
                 stamp: Stamp(0),
                 value: 0,
@@ -264,8 +261,18 @@ pub fn broken(m: Machine) -> bool
     ensures { λ r. ⌜ r ≡ brokenOf m ⌝ }
 {
     let ring = m.ring;
-    let f = ring.fixed;
-    let e = ring.ends;
+    let f = Fixed {
+        mark: ring.mark,
+        lap: ring.lap,
+        capacity: ring.capacity,
+        edition: ring.edition,
+    };
+    let head = ring.head;
+    let tail = ring.tail;
+    let e = Ends {
+        head: head,
+        tail: tail,
+    };
     let workers = m.workers;
     if ring_fits(f, e) {} else {
         return true;
@@ -298,12 +305,16 @@ pub fn all_idle(workers: [Worker; queue_entries::WORKERS]) -> bool
 
 // The items between the ends.
 pub fn count_in(ring: Ring) -> u64
-    requires { ⌜ ringFits (ring .fixed) (ring .ends) ≡ true ⌝ }
+    requires { ⌜ ringFits (fixedOn ring) (endsOn ring) ≡ true ⌝ }
     ensures { λ r. ⌜ Counted ring r ⌝ }
 {
-    let f = ring.fixed;
-    let e = ring.ends;
-    bounded_acts::count(f, e.tail, e.head)
+    let f = Fixed {
+        mark: ring.mark,
+        lap: ring.lap,
+        capacity: ring.capacity,
+        edition: ring.edition,
+    };
+    bounded_acts::count(f, ring.tail, ring.head)
 }
 
 // "wrapping at capacity"
@@ -315,14 +326,18 @@ fn wrap(capacity: u64, i: u64) -> u64
 
 // The k-th item from index(head).
 pub fn item_at(ring: Ring, k: u64) -> u64
-    requires { ⌜ ringFits (ring .fixed) (ring .ends) ≡ true ⌝ }
+    requires { ⌜ ringFits (fixedOn ring) (endsOn ring) ≡ true ⌝ }
     requires { ⌜ k < slotsMost ⌝ }
     ensures { λ r. ⌜ r ≡ itemOn ring k ⌝ }
 {
-    let f = ring.fixed;
-    let e = ring.ends;
+    let f = Fixed {
+        mark: ring.mark,
+        lap: ring.lap,
+        capacity: ring.capacity,
+        edition: ring.edition,
+    };
     let slots = ring.slots;
-    let at = bounded_words::index(f, e.head) + k;
+    let at = bounded_words::index(f, ring.head) + k;
     let s = slots[wrap(f.capacity, at) as usize];
     s.value
 }

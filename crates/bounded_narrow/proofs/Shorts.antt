@@ -35,7 +35,7 @@ use Rattle.bounded_acts.specs.Acts.{goes, losing, endP3, endF6, endO3, tailTo, 
 use Rattle.bounded_machine.specs.declared.Machine.{Machine}
 use Rattle.bounded_machine.specs.declared.Did.{Did}
 use Rattle.bounded_machine.specs.declared.Ran.{Ran}
-use Rattle.bounded_machine.specs.Machine.{slot, emptySlots, stamped, freshSlots, freshWith, freshOf, blank, placeOf, refused, accepted}
+use Rattle.bounded_machine.specs.Machine.{slot, emptySlots, stamped, freshSlots, freshWith, freshOf, blank, placeOf, refused, accepted, fixedOn, endsOn}
 use Rattle.bounded_machine.specs.Broken.{brokenOf}
 use Rattle.bounded_machine.specs.Turn.{verdictOf, spotOf, begun, acted, actedBy, stored, carried, turn, turnAt, turnOfBy}
 use Rattle.bounded_machine.specs.Run.{ran, runAt, runOfBy}
@@ -123,12 +123,12 @@ module _ (m : Machine) (o : Short m) where
   acted-short : (w : ℕ) (p : Place) (lose : Bool) → Short (acted Sixteen m w p lose)
   unfolding actedBy stored
   acted-short w p lose =
-      let i : ℕ = spotOf (m .ring .fixed) (viewOf p .held) in
-      let l = leaves (m .ring .fixed) (m .ring .ends) (getD (m .ring .slots) (spotOf (m .ring .fixed) (viewOf p .held)) (slot 0 0)) (o .head, o .tail, o .slots i) p lose in
+      let i : ℕ = spotOf (fixedOn (m .ring)) (viewOf p .held) in
+      let l = leaves (fixedOn (m .ring)) (endsOn (m .ring)) (getD (m .ring .slots) (spotOf (fixedOn (m .ring)) (viewOf p .held)) (slot 0 0)) (o .head, o .tail, o .slots i) p lose in
       record {
         head = l .0;
         tail = l .1;
-        slots = λ k. placed (m .ring .slots) (spotOf (m .ring .fixed) (viewOf p .held)) k _ (slot 0 0) (λ (z : Slot). z .stamp .0 < narrow) (λ e. l .2) (o .slots k);
+        slots = λ k. placed (m .ring .slots) (spotOf (fixedOn (m .ring)) (viewOf p .held)) k _ (slot 0 0) (λ (z : Slot). z .stamp .0 < narrow) (λ e. l .2) (o .slots k);
       }
 
   carried-short : (w : ℕ) (p : Place) (v : Verdict) → Short (carried Sixteen m w p v .machine)

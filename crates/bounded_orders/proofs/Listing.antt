@@ -14,6 +14,7 @@ use Rattle.queue_entries.specs.declared.Told.the-variants.{Number, Refused}
 use Rattle.queue_entries.specs.Told.{told}
 use Rattle.bounded_words.specs.declared.Fixed.{Fixed}
 use Rattle.bounded_places.specs.declared.Ends.{Ends}
+use Rattle.bounded_machine.specs.Machine.{fixedOn, endsOn}
 use Rattle.bounded_machine.specs.declared.Ring.{Ring}
 use Rattle.bounded_machine.specs.Broken.{ringFits}
 use Rattle.bounded_machine.specs.Contents.{countOn, itemOn, itemsOn, listOn, contentsRefusalBy, Counted}
@@ -75,14 +76,14 @@ filled-more r b after k v h e q =
     ∙ ap (λ (i : ℕ). itemsOn r i 0 ++ drop i b) (sym (add-one k))
 
 -- ---- a ring that is not broken fits
-pub sound-by : (broken : Bool) (r : Ring) → (broken ≡ false → ringFits (r .fixed) (r .ends) ≡ true) → broken ≡ false → ringFits (r .fixed) (r .ends) ≡ true
+pub sound-by : (broken : Bool) (r : Ring) → (broken ≡ false → ringFits (fixedOn r) (endsOn r) ≡ true) → broken ≡ false → ringFits (fixedOn r) (endsOn r) ≡ true
 sound-by broken r f h = f h
 
 -- ---- of a ring by itself
 pub sound-of : (f : Fixed) (e : Ends) (fits : Bool) → fits ≡ ringFits f e → not fits ≡ false → ringFits f e ≡ true
 sound-of f e fits k h = sym k ∙ not-false fits h
 
-pub judged-here : (idle : Bool) (r : Ring) (before after : List ℕ) (t : Told) (fits : Bool) → fits ≡ ringFits (r .fixed) (r .ends)
+pub judged-here : (idle : Bool) (r : Ring) (before after : List ℕ) (t : Told) (fits : Bool) → fits ≡ ringFits (fixedOn r) (endsOn r)
     → filled t after ≡ contentsBy (not fits) idle r before → filled t after ≡ contentsOn idle r before
 unfolding contentsOn
 judged-here idle r before after t fits e h = h ∙ ap (λ (b : Bool). contentsBy (not b) idle r before) e

@@ -121,11 +121,11 @@ module _ (broken : Bool) (s : List ℕ) where
       pub judged-read : f ≡ AllRead → report 0 (length s / 2) ≡ judgedOf broken s
       judged-read z = reads-through s ∙ ap (readThrough s) (sym z) ∙ found
 
-module _ (broken : Bool) (f : Fixed) where
-  pub told-6 : broken ≡ true → Refused 6 ≡ capacityTold broken f
+module _ (broken : Bool) (capacity : ℕ) where
+  pub told-6 : broken ≡ true → Refused 6 ≡ capacityTold broken capacity
   unfolding capacityTold told
   told-6 h = rw h refl
 
-  pub told-capacity : broken ≡ false → Number (f .capacity) ≡ capacityTold broken f
+  pub told-capacity : broken ≡ false → Number capacity ≡ capacityTold broken capacity
   unfolding capacityTold told
   told-capacity h = rw h refl

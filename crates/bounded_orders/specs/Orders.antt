@@ -15,7 +15,7 @@ use Rattle.bounded_words.specs.Limits.{slotsMost, editionsMost}
 use Rattle.bounded_places.specs.declared.Ends.{Ends}
 use Rattle.bounded_machine.specs.declared.Machine.{Machine}
 use Rattle.bounded_machine.specs.declared.Ring.{Ring}
-use Rattle.bounded_machine.specs.Machine.{freshOf, blank}
+use Rattle.bounded_machine.specs.Machine.{freshOf, blank, fixedOn, endsOn}
 use Rattle.bounded_machine.specs.Contents.{countOn, contentsRefusalBy, writtenBy}
 use Rattle.bounded_machine.specs.Broken.{ringFits}
 use Rattle.bounded_orders.specs.declared.Metered.{Metered}
@@ -75,8 +75,8 @@ unfoldable pub judgedOf : Bool → List ℕ → Report
 judgedOf broken = scheduleBy (λ (none : Unit {0}). 0) (λ none. none) (λ none first second. none) (λ number place none. report number place) (λ none. broken) entryOf tt
 
 -- ---- capacity
-unfoldable pub capacityTold : Bool → Fixed → Told
-capacityTold broken f = told (cond broken 6 0) (f .capacity)
+unfoldable pub capacityTold : Bool → ℕ → Told
+capacityTold broken capacity = told (cond broken 6 0) capacity
 
 -- ---- contents
 -- what is answered, and the buffer after it
@@ -94,4 +94,4 @@ contentsBy broken idle r buffer =
 
 -- of a ring by itself
 unfoldable pub contentsOn : Bool → Ring → List ℕ → Filled
-contentsOn idle r = contentsBy (not (ringFits (r .fixed) (r .ends))) idle r
+contentsOn idle r = contentsBy (not (ringFits (fixedOn r) (endsOn r))) idle r

@@ -3,7 +3,7 @@ ghost use mathlib.Core.Path.{_≡_};
 ghost use mathlib.Core.Bool.{true, false};
 ghost use Rattle.bounded_orders.specs.Orders.{ringFitsLent, makeRefusalWith, madeFrom, madeOf, unlessRefused, judgedOf, capacityTold, filled, contentsBy, contentsOn};
 ghost use Rattle.queue_entries.specs.declared.Told.the-variants.{Refused};
-ghost use Rattle.bounded_machine.specs.Machine.{idler};
+ghost use Rattle.bounded_machine.specs.Machine.{idler, fixedOn, endsOn};
 ghost use Rattle.bounded_machine.specs.Broken.{ringFits};
 use bounded_machine::Machine;
 use bounded_machine::Ring;
@@ -137,13 +137,13 @@ pub fn entries_of(r: Report) -> usize
     unless_refused(r.refusal, r.place as usize)
 }
 
-pub fn capacity_told(broken: bool, f: Fixed) -> Told
-    ensures { λ r. ⌜ r ≡ capacityTold broken f ⌝ }
+pub fn capacity_told(broken: bool, capacity: u64) -> Told
+    ensures { λ r. ⌜ r ≡ capacityTold broken capacity ⌝ }
 {
     if broken {
         return Told::Refused(6);
     }
-    Told::Number(f.capacity)
+    Told::Number(capacity)
 }
 
 pub fn refused(number: u64) -> Told
@@ -154,7 +154,7 @@ pub fn refused(number: u64) -> Told
 
 // The items between the ends, written at the buffer's start, of a ring that is broken or not, whose workers are all idle or not.
 pub fn contents_by(broken: bool, idle: bool, ring: Ring, buffer: &mut [u64]) -> Told
-    requires { ⌜ (broken ≡ false → ringFits (ring .fixed) (ring .ends) ≡ true) ⌝ }
+    requires { ⌜ (broken ≡ false → ringFits (fixedOn ring) (endsOn ring) ≡ true) ⌝ }
     ensures { λ r. ⌜ filled r (now (buffer .exit)) ≡ contentsBy broken idle ring (now (buffer .entry)) ⌝ }
 {
     if broken {
@@ -179,8 +179,18 @@ pub fn contents_by(broken: bool, idle: bool, ring: Ring, buffer: &mut [u64]) -> 
 pub fn contents_on(idle: bool, ring: Ring, buffer: &mut [u64]) -> Told
     ensures { λ r. ⌜ filled r (now (buffer .exit)) ≡ contentsOn idle ring (now (buffer .entry)) ⌝ }
 {
-    let f = ring.fixed;
-    let e = ring.ends;
+    let f = Fixed {
+        mark: ring.mark,
+        lap: ring.lap,
+        capacity: ring.capacity,
+        edition: ring.edition,
+    };
+    let head = ring.head;
+    let tail = ring.tail;
+    let e = Ends {
+        head: head,
+        tail: tail,
+    };
     let fits = bounded_machine::ring_fits(f, e);
     contents_by(!fits, idle, ring, buffer)
 }

@@ -26,7 +26,7 @@ use Rattle.bounded_places.specs.Places.{viewOf, beginOf}
 use Rattle.bounded_acts.specs.declared.Acted.{Acted}
 use Rattle.bounded_machine.specs.declared.Machine.{Machine}
 use Rattle.bounded_machine.specs.declared.Event.{Event}
-use Rattle.bounded_machine.specs.Machine.{slot, idler, freshWith}
+use Rattle.bounded_machine.specs.Machine.{slot, idler, freshWith, fixedOn, endsOn}
 use Rattle.bounded_machine.specs.Turn.{spotOf, beginner, recordAfter, begun, stored, acted, actedBy}
 use Rattle.bounded_machine.specs.History.{movedOf, lossAt}
 use Rattle.bounded_machine.proofs.Kept.{few-workers}
@@ -82,7 +82,7 @@ module _ (bits : Width) (c n workers : ℕ) (base : Base bits c n workers) (team
     pub behind : Reached c n workers m h
     pub long : length (kept h) ≡ watchedMost
     pub hands : (v : ℕ) → v < watchedMost → watchOf (kept h) v .hand ≡ standOf (stood m v) .hand
-    pub knows : (v : ℕ) → v < watchedMost → Knows bits (m .ring .fixed) (m .ring .ends) (watchOf (kept h) v) (stood m v)
+    pub knows : (v : ℕ) → v < watchedMost → Knows bits (fixedOn (m .ring)) (endsOn (m .ring)) (watchOf (kept h) v) (stood m v)
     pub ways : WaysBack h
     pub caused : RetriesCaused causesIn h
     pub lens : LenByOwnEnd causesIn h
@@ -108,11 +108,11 @@ module _ (bits : Width) (c n workers : ℕ) (base : Base bits c n workers) (team
           placed-else (m .workers) w (beginner (beginOf q)) idler (λ (v : ℕ) (z : Worker). v < watchedMost → watchOf (kept h) v .hand ≡ standOf (z .place) .hand) seat
           (λ b. o .hands w b ∙ idle-hand (stood m w) idle ∙ sym (begin-hand q)) (λ v ne. o .hands v)
 
-      begun-knows : (v : ℕ) → v < watchedMost → Knows bits (m .ring .fixed) (m .ring .ends) (watchOf (kept h) v) (stood (begun m w (beginOf q)) v)
+      begun-knows : (v : ℕ) → v < watchedMost → Knows bits (fixedOn (m .ring)) (endsOn (m .ring)) (watchOf (kept h) v) (stood (begun m w (beginOf q)) v)
       unfolding begun
       begun-knows =
-          placed-else (m .workers) w (beginner (beginOf q)) idler (λ (v : ℕ) (z : Worker). v < watchedMost → Knows bits (m .ring .fixed) (m .ring .ends) (watchOf (kept h) v) (z .place)) seat
-          (λ b. begin-knows bits (m .ring .fixed) (m .ring .ends) (watchOf (kept h) w) q) (λ v ne. o .knows v)
+          placed-else (m .workers) w (beginner (beginOf q)) idler (λ (v : ℕ) (z : Worker). v < watchedMost → Knows bits (fixedOn (m .ring)) (endsOn (m .ring)) (watchOf (kept h) v) (z .place)) seat
+          (λ b. begin-knows bits (fixedOn (m .ring)) (endsOn (m .ring)) (watchOf (kept h) w) q) (λ v ne. o .knows v)
 
       begun-causing : (en : Entry) → Reached c n workers (begun m w (beginOf q)) (h ++ []) → Causing (begun m w (beginOf q)) (h ++ [])
       unfolding begun
@@ -151,7 +151,7 @@ module _ (bits : Width) (c n workers : ℕ) (base : Base bits c n workers) (team
       others = othersHold (kept h) w
 
       abbrev pub now : Watch
-      now = rows.after bits (m .ring .fixed) (m .ring .ends) here x others (stood m w) (does .place)
+      now = rows.after bits (fixedOn (m .ring)) (endsOn (m .ring)) here x others (stood m w) (does .place)
 
       small : at < c
       small = spot-small bits c n workers base ring m pic w l lose busy
@@ -172,36 +172,36 @@ module _ (bits : Width) (c n workers : ℕ) (base : Base bits c n workers) (team
               true≢false (sym (hand-stands c (markOf c) at (stood m v) hand) ∙ sym (o .hands v low) ∙ others-free (kept h) w none v low ne)
 
       -- the slot of the act is that of the word's claim
-      at-word : (p : Place) (t : Stamp) (k : ℕ) → stood m w ≡ p → spotOf (m .ring .fixed) (viewOf p .held) ≡ t .0 % m .ring .fixed .mark → t .0 % markOf c ≡ k % c → k % c ≡ at
+      at-word : (p : Place) (t : Stamp) (k : ℕ) → stood m w ≡ p → spotOf (fixedOn (m .ring)) (viewOf p .held) ≡ t .0 % m .ring .mark → t .0 % markOf c ≡ k % c → k % c ≡ at
       at-word p t k e i j =
-          sym j ∙ ap (λ (f : Fixed). t .0 % f .mark) (sym (pic .rule)) ∙ sym i ∙ ap (λ (z : Place). spotOf (m .ring .fixed) (viewOf z .held)) (sym e)
+          sym j ∙ ap (λ (f : Fixed). t .0 % f .mark) (sym (pic .rule)) ∙ sym i ∙ ap (λ (z : Place). spotOf (fixedOn (m .ring)) (viewOf z .held)) (sym e)
 
-      tails : (k : Kind) (t : Stamp) (y : ℕ) → stood m w ≡ P2 k t y → others ≡ false → SeesTail bits (m .ring .fixed) (m .ring .ends) here t
+      tails : (k : Kind) (t : Stamp) (y : ℕ) → stood m w ≡ P2 k t y → others ≡ false → SeesTail bits (fixedOn (m .ring)) (endsOn (m .ring)) here t
       tails k t y e none =
           let z : Stands c (markOf c) n ring w (pic .ages w) (look c (P2 k t y)) = subst (λ (p : Place). Stands c (markOf c) n ring w (pic .ages w) (look c p)) e (pic .stands w) in
           let i : z .0 % c ≡ at = at-word (P2 k t y) t (z .0) e refl (word-slot bits c (markOf c) n (base .ground) t (z .0) (z .1)) in
           let late : ring .tail + c < z .0 + n * c = omega (arith, subst (λ (p : Place). Recent c (markOf c) n ring (pic .ages w) (look c p)) e young refl .0, z .3) in
           let free = loose (λ a. true≢false (sym (subst (λ (p : Place). HandAt (markOf c) (look c p) at) e a .0))) none in
-          let seen = sees-tail bits c (markOf c) n (m .ring .fixed .edition) (base .ground) ring (pic .inv) at (z .0) (ring .val at) (pic .shut) i (z .2) late (ring .cell at) (pic .inv .cells at small) free in
-          subst (λ (f : Fixed). SeesTail bits f (m .ring .ends) here t) (sym (pic .rule))
-          (subst (λ (u : Ends). SeesTail bits (fixed c (markOf c) (m .ring .fixed .edition)) u here t) (sym (pic .ends))
-          (subst (λ (s : Slot). SeesTail bits (fixed c (markOf c) (m .ring .fixed .edition)) (endsOf c (markOf c) n ring (pic .shut)) s t) (sym (pic .slots at small))
-          (subst (SeesTail bits (fixed c (markOf c) (m .ring .fixed .edition)) (endsOf c (markOf c) n ring (pic .shut)) (slotOf c (markOf c) n (ring .cell at) (ring .val at))) (sym (z .1)) seen)))
+          let seen = sees-tail bits c (markOf c) n (m .ring .edition) (base .ground) ring (pic .inv) at (z .0) (ring .val at) (pic .shut) i (z .2) late (ring .cell at) (pic .inv .cells at small) free in
+          subst (λ (f : Fixed). SeesTail bits f (endsOn (m .ring)) here t) (sym (pic .rule))
+          (subst (λ (u : Ends). SeesTail bits (fixed c (markOf c) (m .ring .edition)) u here t) (sym (pic .ends))
+          (subst (λ (s : Slot). SeesTail bits (fixed c (markOf c) (m .ring .edition)) (endsOf c (markOf c) n ring (pic .shut)) s t) (sym (pic .slots at small))
+          (subst (SeesTail bits (fixed c (markOf c) (m .ring .edition)) (endsOf c (markOf c) n ring (pic .shut)) (slotOf c (markOf c) n (ring .cell at) (ring .val at))) (sym (z .1)) seen)))
 
-      heads : (t : Stamp) → stood m w ≡ O2 t → others ≡ false → SeesHead bits (m .ring .fixed) (m .ring .ends) here t
+      heads : (t : Stamp) → stood m w ≡ O2 t → others ≡ false → SeesHead bits (fixedOn (m .ring)) (endsOn (m .ring)) here t
       heads t e none =
           let z : Stands c (markOf c) n ring w (pic .ages w) (look c (O2 t)) = subst (λ (p : Place). Stands c (markOf c) n ring w (pic .ages w) (look c p)) e (pic .stands w) in
           let i : z .0 % c ≡ at = at-word (O2 t) t (z .0) e refl (word-slot bits c (markOf c) n (base .ground) t (z .0) (z .1)) in
           let late : ring .head + c < z .0 + n * c = omega (arith, subst (λ (p : Place). Recent c (markOf c) n ring (pic .ages w) (look c p)) e young refl .1, z .3) in
           let free = loose (λ a. true≢false (sym (subst (λ (p : Place). HandAt (markOf c) (look c p) at) e a .0))) none in
-          let seen = sees-head bits c (markOf c) n (m .ring .fixed .edition) (base .ground) ring (pic .inv) at (z .0) (ring .val at) (pic .shut) i (z .2) late (ring .cell at) (pic .inv .cells at small) free in
-          subst (λ (f : Fixed). SeesHead bits f (m .ring .ends) here t) (sym (pic .rule))
-          (subst (λ (u : Ends). SeesHead bits (fixed c (markOf c) (m .ring .fixed .edition)) u here t) (sym (pic .ends))
-          (subst (λ (s : Slot). SeesHead bits (fixed c (markOf c) (m .ring .fixed .edition)) (endsOf c (markOf c) n ring (pic .shut)) s t) (sym (pic .slots at small))
-          (subst (SeesHead bits (fixed c (markOf c) (m .ring .fixed .edition)) (endsOf c (markOf c) n ring (pic .shut)) (slotOf c (markOf c) n (ring .cell at) (ring .val at))) (sym (z .1)) seen)))
+          let seen = sees-head bits c (markOf c) n (m .ring .edition) (base .ground) ring (pic .inv) at (z .0) (ring .val at) (pic .shut) i (z .2) late (ring .cell at) (pic .inv .cells at small) free in
+          subst (λ (f : Fixed). SeesHead bits f (endsOn (m .ring)) here t) (sym (pic .rule))
+          (subst (λ (u : Ends). SeesHead bits (fixed c (markOf c) (m .ring .edition)) u here t) (sym (pic .ends))
+          (subst (λ (s : Slot). SeesHead bits (fixed c (markOf c) (m .ring .edition)) (endsOf c (markOf c) n ring (pic .shut)) s t) (sym (pic .slots at small))
+          (subst (SeesHead bits (fixed c (markOf c) (m .ring .edition)) (endsOf c (markOf c) n ring (pic .shut)) (slotOf c (markOf c) n (ring .cell at) (ring .val at))) (sym (z .1)) seen)))
 
-      pub its-row : Row bits (m .ring .fixed) (m .ring .ends) here x others (stood m w) does
-      its-row = row bits (m .ring .fixed) (m .ring .ends) here x others (stood m w) lose (o .knows w few) tails heads
+      pub its-row : Row bits (fixedOn (m .ring)) (endsOn (m .ring)) here x others (stood m w) does
+      its-row = row bits (fixedOn (m .ring)) (endsOn (m .ring)) here x others (stood m w) lose (o .knows w few) tails heads
 
       -- what is kept afterwards
       abbrev pub deed : Deed
@@ -220,19 +220,19 @@ module _ (bits : Width) (c n workers : ℕ) (base : Base bits c n workers) (team
       else-next v low ne = ap (λ (xs : List Watch). watchOf xs v) kept-next ∙ watched-else w deed (kept h) (o .long) v low ne
 
       -- the unmarked tail stays where tail is not claimed
-      bare : claimsTail (movedOf (does .place)) ≡ false → unmarkedOf (m .ring .fixed) (does .ends .tail) ≡ unmarkedOf (m .ring .fixed) (m .ring .ends .tail)
+      bare : claimsTail (movedOf (does .place)) ≡ false → unmarkedOf (fixedOn (m .ring)) (does .ends .tail) ≡ unmarkedOf (fixedOn (m .ring)) (m .ring .tail)
       bare none =
           let st = stepped bits c n workers base ring m pic w l lose busy young in
-          let f = fixed c (markOf c) (m .ring .fixed .edition) in
+          let f = fixed c (markOf c) (m .ring .edition) in
           let told-so : movedOf (does .place) ≡ movedBy (told (st .effect)) = shows c (does .place) .1 ∙ ap movedBy (st .tells) in
           let still : after c w at (st .effect) ring .tail ≡ ring .tail = tail-stays c ring w at (st .effect) (ap claimsTail (sym told-so) ∙ none) in
           ap (λ (f : Fixed). unmarkedOf f (does .ends .tail)) (pic .rule)
           ∙ ap (λ (u : Ends). unmarkedOf f (u .tail)) (st .ends)
-          ∙ unmarked-tail bits c (markOf c) n (base .ground) (m .ring .fixed .edition) (after c w at (st .effect) ring .tail) (st .shut)
-          ∙ sym (unmarked-tail bits c (markOf c) n (base .ground) (m .ring .fixed .edition) (after c w at (st .effect) ring .tail) (pic .shut))
+          ∙ unmarked-tail bits c (markOf c) n (base .ground) (m .ring .edition) (after c w at (st .effect) ring .tail) (st .shut)
+          ∙ sym (unmarked-tail bits c (markOf c) n (base .ground) (m .ring .edition) (after c w at (st .effect) ring .tail) (pic .shut))
           ∙ ap (λ (k : ℕ). unmarkedOf f (tailWord c (markOf c) n k (pic .shut))) still
           ∙ ap (λ (u : Ends). unmarkedOf f (u .tail)) (sym (pic .ends))
-          ∙ ap (λ (f : Fixed). unmarkedOf f (m .ring .ends .tail)) (sym (pic .rule))
+          ∙ ap (λ (f : Fixed). unmarkedOf f (m .ring .tail)) (sym (pic .rule))
 
       hands-next : (v : ℕ) → v < watchedMost → watchOf (kept (h ++ new ∷ [])) v .hand ≡ standOf (stood next v) .hand
       unfolding actedBy stored recordAfter deedOf ownAct otherAct
@@ -241,14 +241,14 @@ module _ (bits : Width) (c n workers : ℕ) (base : Base bits c n workers) (team
           (λ (v : ℕ) (z : Worker). v < watchedMost → watchOf (kept (h ++ new ∷ [])) v .hand ≡ standOf (z .place) .hand) seat
           (λ b. ap (λ (y : Watch). y .hand) own-next) (λ v ne b. ap (λ (y : Watch). y .hand) (else-next v b ne) ∙ o .hands v b)
 
-      knows-next : (v : ℕ) → v < watchedMost → Knows bits (next .ring .fixed) (next .ring .ends) (watchOf (kept (h ++ new ∷ [])) v) (stood next v)
+      knows-next : (v : ℕ) → v < watchedMost → Knows bits (fixedOn (next .ring)) (endsOn (next .ring)) (watchOf (kept (h ++ new ∷ [])) v) (stood next v)
       unfolding actedBy stored recordAfter deedOf
       knows-next =
           placed-else (m .workers) w (new-record bits c n workers base ring m pic w l lose busy) idler
-          (λ (v : ℕ) (z : Worker). v < watchedMost → Knows bits (m .ring .fixed) (does .ends) (watchOf (kept (h ++ new ∷ [])) v) (z .place)) seat
-          (λ b. subst (λ (y : Watch). Knows bits (m .ring .fixed) (does .ends) y (does .place)) (sym own-next) (its-row .knows))
-          (λ v ne b. subst (λ (y : Watch). Knows bits (m .ring .fixed) (does .ends) y (stood m v)) (sym (else-next v b ne))
-          (knows-else bits (m .ring .fixed) (m .ring .ends) (does .ends) deed (watchOf (kept h) v) (its-row .tail) (its-row .head) bare (stood m v) (o .knows v b)))
+          (λ (v : ℕ) (z : Worker). v < watchedMost → Knows bits (fixedOn (m .ring)) (does .ends) (watchOf (kept (h ++ new ∷ [])) v) (z .place)) seat
+          (λ b. subst (λ (y : Watch). Knows bits (fixedOn (m .ring)) (does .ends) y (does .place)) (sym own-next) (its-row .knows))
+          (λ v ne b. subst (λ (y : Watch). Knows bits (fixedOn (m .ring)) (does .ends) y (stood m v)) (sym (else-next v b ne))
+          (knows-else bits (fixedOn (m .ring)) (endsOn (m .ring)) (does .ends) deed (watchOf (kept h) v) (its-row .tail) (its-row .head) bare (stood m v) (o .knows v b)))
 
       -- the causes of the act
       causes-are : causesIn h new ≡ causesOf (standOf (stood m w)) x now (lossAt bits m w lose)
@@ -323,7 +323,7 @@ fresh-causing bits records capacity workers edition a team =
       hands = λ v b. ap (λ (y : Watch). y .hand) (same-at watchedMost v unwatched) ∙ sym (ap (λ (z : Worker). standOf (z .place) .hand) (fresh-record records capacity workers edition v));
       knows =
           λ v b.
-          subst (λ (z : Worker). Knows bits (m .ring .fixed) (m .ring .ends) (watchOf (kept []) v) (z .place)) (sym (fresh-record records capacity workers edition v)) tt;
+          subst (λ (z : Worker). Knows bits (fixedOn (m .ring)) (endsOn (m .ring)) (watchOf (kept []) v) (z .place)) (sym (fresh-record records capacity workers edition v)) tt;
       ways = λ earlier later act e. absurd (nil-split earlier act later e);
       caused = λ earlier later act e. absurd (nil-split earlier act later e);
       lens = λ earlier later act t u e. absurd (nil-split earlier act later e);

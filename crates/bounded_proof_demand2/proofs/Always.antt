@@ -13,7 +13,7 @@ use Rattle.bounded_words.specs.declared.Width.the-variants.{SixtyFour}
 use Rattle.bounded_words.specs.Words.{markOf}
 use Rattle.bounded_machine.specs.declared.Machine.{Machine}
 use Rattle.bounded_machine.specs.declared.Event.{Event}
-use Rattle.bounded_machine.specs.Machine.{freshWith}
+use Rattle.bounded_machine.specs.Machine.{freshWith, fixedOn}
 use Rattle.bounded_machine.specs.Turn.{begun, actedBy, stored}
 use Rattle.bounded_demands.specs.Notions.{Definition, document01, withRecords, AllowedWith, machineAfter, actsOf, tally, since, turnLength, InWindow, KeepsWindow, KeepsWidestWindow}
 use Rattle.bounded_proof_each_act.proofs.Stamps.{fixed}
@@ -30,7 +30,7 @@ widens d m h s keeps before after e w held = let k = keeps before after e w held
 pub record Metered (c : ℕ) (m : Machine) (h : List Event) : Type 0 where
   pub meter : m .meter ≡ length h
   pub few : m .meter ≤ meterMost
-  pub rule : m .ring .fixed ≡ fixed c (markOf c) (m .ring .fixed .edition)
+  pub rule : fixedOn (m .ring) ≡ fixed c (markOf c) (m .ring .edition)
 
 pub metered-kept : (bits : Width) (c : ℕ) (m : Machine) (h : List Event) (en : Entry) (next : Machine) (acts : List Event) → Metered c m h → Turned bits m en next acts
     → Metered c next (h ++ acts)
@@ -61,7 +61,7 @@ module _ (records c workers edition : ℕ) (a : AllowedWith records c workers ed
       let some : 1 ≤ c = a .slot-some in
       let wide : meterMost + 2 * c < lapsOf SixtyFour c * c = omega (arith, mul-le-mul-right (lapsOf SixtyFour c) some, long records c workers edition a, a .slot-most) in
       let q = since-claims w h in
-      let turn = turn-is SixtyFour c (markOf c) (lapsOf SixtyFour c) (m .ring .fixed .edition) (base .ground) in
+      let turn = turn-is SixtyFour c (markOf c) (lapsOf SixtyFour c) (m .ring .edition) (base .ground) in
       subst (λ (f : Fixed). (tally (since w h) .tail .0 < turnLength SixtyFour f - 2 * f .capacity) × (tally (since w h) .head .0 < turnLength SixtyFour f - 2 * f .capacity)) (sym (o .rule))
       (omega (arith, q .0, o .meter, o .few, turn), omega (arith, q .1, o .meter, o .few, turn))
 

@@ -16,7 +16,7 @@ use Rattle.bounded_places.specs.declared.Place.{Place}
 use Rattle.bounded_places.specs.declared.Worker.{Worker}
 use Rattle.bounded_machine.specs.declared.Machine.{Machine}
 use Rattle.bounded_machine.specs.declared.Did.{Did}
-use Rattle.bounded_machine.specs.Machine.{machineOf, placeOf, refused, accepted}
+use Rattle.bounded_machine.specs.Machine.{machineOf, placeOf, refused, accepted, fixedOn, endsOn}
 use Rattle.bounded_machine.specs.Turn.{verdictOf, beginner, recordAfter, begun, stored, acted, actedBy, carried, turn, turnOfBy}
 use Rattle.bounded_demands.specs.Notions.{ofWidth, struck}
 use Rattle.bounded_demands.specs.Demands.{CountsAside}
@@ -53,7 +53,7 @@ Alike d k = (d .refusal ≡ k .refusal) × (struck (d .machine) ≡ struck (k .m
 
 -- the machine with these records
 abbrev withRecords : Machine → List Worker → Machine
-withRecords m l = machineOf (m .ring .fixed) (m .ring .ends) (m .ring .slots) l (m .count) (m .meter)
+withRecords m l = machineOf (fixedOn (m .ring)) (endsOn (m .ring)) (m .ring .slots) l (m .count) (m .meter)
 
 module _ (bits : Width) (m : Machine) where
   again : struck m ≡ struck (struck m)

@@ -24,7 +24,7 @@ use Rattle.bounded_acts.specs.declared.Acted.{Acted}
 use Rattle.bounded_acts.specs.Acts.{goes, tailTo, actOf}
 use Rattle.bounded_machine.specs.declared.Machine.{Machine}
 use Rattle.bounded_machine.specs.declared.Event.{Event}
-use Rattle.bounded_machine.specs.Machine.{slot, freshWith}
+use Rattle.bounded_machine.specs.Machine.{slot, freshWith, fixedOn, endsOn}
 use Rattle.bounded_machine.specs.Turn.{acted}
 use Rattle.bounded_machine.specs.History.{movedOf}
 use Rattle.bounded_machine.proofs.Kept.{unbroken-of}
@@ -138,7 +138,7 @@ module _ (bits : Width) (c n workers : ℕ) (base : Base bits c n workers) where
     pic = r .pictured
 
     abbrev ed : ℕ
-    ed = m .ring .fixed .edition
+    ed = m .ring .edition
 
     abbrev st : Step bits c (markOf c) n ed (r .ring) w (spot bits c n workers base (r .ring) m pic w l lose busy) (pic .ages w) (pic .shut) (stood m w) (result bits c n workers base (r .ring) m pic w l lose busy)
     st = stepped bits c n workers base (r .ring) m pic w l lose busy young
@@ -190,15 +190,15 @@ module _ (bits : Width) (c n workers : ℕ) (base : Base bits c n workers) where
     here = getD (m .ring .slots) (spot bits c n workers base (r .ring) m pic w l lose busy) (slot 0 0)
 
     module _ (y : ClosesYes new) where
-      closes : result bits c n workers base (r .ring) m pic w l lose busy ≡ actOf bits (m .ring .fixed) (m .ring .ends) here Close1 lose
-      closes = ap (λ (p : Place). actOf bits (m .ring .fixed) (m .ring .ends) here p lose) (y .0)
+      closes : result bits c n workers base (r .ring) m pic w l lose busy ≡ actOf bits (fixedOn (m .ring)) (endsOn (m .ring)) here Close1 lose
+      closes = ap (λ (p : Place). actOf bits (fixedOn (m .ring)) (endsOn (m .ring)) here p lose) (y .0)
 
-      unmarked : markedOf (m .ring .fixed) (m .ring .ends .tail) ≡ false
+      unmarked : markedOf (fixedOn (m .ring)) (m .ring .tail) ≡ false
       unfolding goes
-      unmarked = go (markedOf (m .ring .fixed) (m .ring .ends .tail)) refl (sym (ap (λ (a : Acted). a .place) closes) ∙ sym went ∙ y .1)
+      unmarked = go (markedOf (fixedOn (m .ring)) (m .ring .tail)) refl (sym (ap (λ (a : Acted). a .place) closes) ∙ sym went ∙ y .1)
         where
-          go : (b : Bool) → markedOf (m .ring .fixed) (m .ring .ends .tail) ≡ b
-              → cond (markedOf (m .ring .fixed) (m .ring .ends .tail)) (goes (m .ring .ends) here (Idle No)) (goes (tailTo (m .ring .ends) (withMark bits (m .ring .fixed) (m .ring .ends .tail))) here (Idle Yes)) .place ≡ Idle Yes
+          go : (b : Bool) → markedOf (fixedOn (m .ring)) (m .ring .tail) ≡ b
+              → cond (markedOf (fixedOn (m .ring)) (m .ring .tail)) (goes (endsOn (m .ring)) here (Idle No)) (goes (tailTo (endsOn (m .ring)) (withMark bits (fixedOn (m .ring)) (m .ring .tail))) here (Idle Yes)) .place ≡ Idle Yes
               → b ≡ false
           go true e said = let q : Idle No ≡ Idle Yes = rw e at said in absurd (let z : _≡_ {A = ℕ} 0 1 = cc in omega arith)
           go false e said = refl
@@ -207,7 +207,7 @@ module _ (bits : Width) (c n workers : ℕ) (base : Base bits c n workers) where
       was-open =
           sym (marked-tail bits c (markOf c) n (base .ground) ed (r .ring .tail) (pic .shut))
           ∙ sym (ap (λ (e : Ends). markedOf (fixed c (markOf c) ed) (e .tail)) (pic .ends))
-          ∙ sym (ap (λ (f : Fixed). markedOf f (m .ring .ends .tail)) (pic .rule)) ∙ unmarked
+          ∙ sym (ap (λ (f : Fixed). markedOf f (m .ring .tail)) (pic .rule)) ∙ unmarked
 
       now-shut : st .shut ≡ true
       unfolding goes tailTo
@@ -215,7 +215,7 @@ module _ (bits : Width) (c n workers : ℕ) (base : Base bits c n workers) where
           let u = after c w (spot bits c n workers base (r .ring) m pic w l lose busy) (st .effect) (r .ring) in
           let marked : result bits c n workers base (r .ring) m pic w l lose busy .ends .tail ≡ tailWord c (markOf c) n (r .ring .tail) true =
           ap (λ (a : Acted). a .ends .tail) closes ∙ rw unmarked
-          (ap (λ (f : Fixed). withMark bits f (m .ring .ends .tail)) (pic .rule)
+          (ap (λ (f : Fixed). withMark bits f (m .ring .tail)) (pic .rule)
           ∙ ap (λ (e : Ends). withMark bits (fixed c (markOf c) ed) (e .tail)) (pic .ends)
           ∙ ap (λ (b : Bool). withMark bits (fixed c (markOf c) ed) (tailWord c (markOf c) n (r .ring .tail) b)) was-open
           ∙ with-mark bits c (markOf c) n (base .ground) ed (r .ring .tail)) in
@@ -243,7 +243,7 @@ module _ (bits : Width) (c n workers : ℕ) (base : Base bits c n workers) where
   -- Edition 2.
   record Shutting (m : Machine) (h : List Event) : Type 0 where
     pub behind : Reached c n workers m h
-    pub second : m .ring .fixed .edition ≡ 2
+    pub second : m .ring .edition ≡ 2
     pub once : YesOnce h
     pub shut : Said ClosesYes h → behind .pictured .shut ≡ true
 
@@ -293,7 +293,7 @@ module _ (bits : Width) (records capacity workers edition : ℕ) (a : AllowedWit
       })
       .none
 
-  edition-of : freshWith records capacity workers edition .ring .fixed .edition ≡ edition
+  edition-of : freshWith records capacity workers edition .ring .edition ≡ edition
   unfolding freshWith
   edition-of = refl
 

@@ -19,7 +19,7 @@ use Rattle.bounded_places.specs.Places.{viewOf}
 use Rattle.bounded_acts.specs.Acts.{countOf}
 use Rattle.bounded_machine.specs.declared.Machine.{Machine}
 use Rattle.bounded_machine.specs.declared.Event.{Event}
-use Rattle.bounded_machine.specs.Machine.{slot, placeOf, idler}
+use Rattle.bounded_machine.specs.Machine.{slot, placeOf, idler, fixedOn}
 use Rattle.bounded_machine.specs.Broken.{allIdle}
 use Rattle.bounded_machine.specs.Contents.{countIn, countOn, wrapped, itemAt, itemOn, itemsFrom, itemsOn, contentsOf, listOn}
 use Rattle.bounded_machine.specs.History.{untakenOf}
@@ -49,9 +49,9 @@ module _ (bits : Width) (c n workers : ℕ) (base : Base bits c n workers) (m : 
   unfolding countOn
   count-in =
       let pic = r .pictured in
-      ap (λ (f : Fixed). countOf f (m .ring .ends .tail) (m .ring .ends .head)) (pic .rule)
-      ∙ ap (λ (e : Ends). countOf (fixed c (markOf c) (m .ring .fixed .edition)) (e .tail) (e .head)) (pic .ends)
-      ∙ count-is bits c (markOf c) n (m .ring .fixed .edition) (base .ground) (r .ring .head) (r .ring .tail) (pic .shut) (pic .inv .low) (pic .inv .high)
+      ap (λ (f : Fixed). countOf f (m .ring .tail) (m .ring .head)) (pic .rule)
+      ∙ ap (λ (e : Ends). countOf (fixed c (markOf c) (m .ring .edition)) (e .tail) (e .head)) (pic .ends)
+      ∙ count-is bits c (markOf c) n (m .ring .edition) (base .ground) (r .ring .head) (r .ring .tail) (pic .shut) (pic .inv .low) (pic .inv .high)
 
   pub untaken-is : untakenOf (tally h) ≡ r .ring .tail - r .ring .head
   unfolding untakenOf
@@ -95,13 +95,13 @@ module _ (bits : Width) (c n workers : ℕ) (base : Base bits c n workers) (m : 
     item-at d l =
         let pic = r .pictured in
         let some = base .ground .laws .some in
-        let cap : m .ring .fixed .capacity ≡ c = ap (λ (f : Fixed). f .capacity) (pic .rule) in
-        let head-index : indexOf (m .ring .fixed) (m .ring .ends .head) ≡ r .ring .head % c =
-        ap (λ (f : Fixed). indexOf f (m .ring .ends .head)) (pic .rule) ∙ ap (λ (e : Ends). indexOf (fixed c (markOf c) (m .ring .fixed .edition)) (e .head)) (pic .ends)
+        let cap : m .ring .capacity ≡ c = ap (λ (f : Fixed). f .capacity) (pic .rule) in
+        let head-index : indexOf (fixedOn (m .ring)) (m .ring .head) ≡ r .ring .head % c =
+        ap (λ (f : Fixed). indexOf f (m .ring .head)) (pic .rule) ∙ ap (λ (e : Ends). indexOf (fixed c (markOf c) (m .ring .edition)) (e .head)) (pic .ends)
         ∙ index-word c (markOf c) n (base .ground .laws) (r .ring .head) in
         let few : d < c = omega (arith, pic .inv .high) in
-        let there : wrapped (m .ring .fixed .capacity) (indexOf (m .ring .fixed) (m .ring .ends .head) + d) ≡ (r .ring .head + d) % c =
-        ap (λ (z : ℕ). wrapped z (indexOf (m .ring .fixed) (m .ring .ends .head) + d)) cap ∙ ap (λ (z : ℕ). wrapped c (z + d)) head-index
+        let there : wrapped (m .ring .capacity) (indexOf (fixedOn (m .ring)) (m .ring .head) + d) ≡ (r .ring .head + d) % c =
+        ap (λ (z : ℕ). wrapped z (indexOf (fixedOn (m .ring)) (m .ring .head) + d)) cap ∙ ap (λ (z : ℕ). wrapped c (z + d)) head-index
         ∙ wrapped-is c (r .ring .head) d some few in
         let k : ℕ = r .ring .head + d in
         let low : r .ring .head ≤ r .ring .head + d = omega arith in

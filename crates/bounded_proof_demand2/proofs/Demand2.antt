@@ -17,7 +17,7 @@ use Rattle.bounded_words.specs.declared.Width.the-variants.{SixtyFour}
 use Rattle.bounded_machine.specs.declared.Machine.{Machine}
 use Rattle.bounded_machine.specs.declared.Ran.{Ran}
 use Rattle.bounded_machine.specs.declared.Event.{Event}
-use Rattle.bounded_machine.specs.Machine.{freshWith, freshOf}
+use Rattle.bounded_machine.specs.Machine.{freshWith, freshOf, fixedOn}
 use Rattle.bounded_machine.specs.Broken.{brokenWith, brokenOf}
 use Rattle.bounded_machine.specs.Turn.{turnAt}
 use Rattle.bounded_machine.specs.Run.{ran, runAt}
@@ -59,9 +59,9 @@ reached bits records capacity workers edition a s keeps =
     (fresh-reached bits records capacity workers edition a)
 
 -- the constants are those of its making
-pub same-fixed : (bits : Width) (m : Machine) (s : List ℕ) → runAt bits m 0 s .machine .ring .fixed ≡ m .ring .fixed
+pub same-fixed : (bits : Width) (m : Machine) (s : List ℕ) → fixedOn (runAt bits m 0 s .machine .ring) ≡ fixedOn (m .ring)
 same-fixed bits m s =
-    along-any bits (λ (z : Machine) (h : List Event). z .ring .fixed ≡ m .ring .fixed) (λ z h en next acts e t. turned-fixed bits z en next acts t ∙ e) s m [] 0 refl
+    along-any bits (λ (z : Machine) (h : List Event). fixedOn (z .ring) ≡ fixedOn (m .ring)) (λ z h en next acts e t. turned-fixed bits z en next acts t ∙ e) s m [] 0 refl
 
 -- and so is the number of records
 same-records : (bits : Width) (m : Machine) (s : List ℕ) → length (runAt bits m 0 s .machine .workers) ≡ length (m .workers)
@@ -70,7 +70,7 @@ same-records bits m s =
 
 -- what a reached machine in the window has behind it is the demand
 module _ (bits : Width) (c n workers : ℕ) (base : Base bits c n workers) (m : Machine) (h : List Event) (r : Reached c n workers m h) (window : InWidestWindow bits m h) where
-  demanded : (records edition : ℕ) → length (m .workers) ≡ records → m .ring .fixed ≡ fixedOf c edition → Demand2 (withRecords records bits) c workers edition m h
+  demanded : (records edition : ℕ) → length (m .workers) ≡ records → fixedOn (m .ring) ≡ fixedOf c edition → Demand2 (withRecords records bits) c workers edition m h
   demanded records edition seats made =
       record {
         made = made;
@@ -93,7 +93,7 @@ module _ (bits : Width) (c n workers : ℕ) (base : Base bits c n workers) (m : 
         full = true-full bits c n workers base m h r window;
       }
 
-made-of : (records capacity workers edition : ℕ) → freshWith records capacity workers edition .ring .fixed ≡ fixedOf capacity edition
+made-of : (records capacity workers edition : ℕ) → fixedOn (freshWith records capacity workers edition .ring) ≡ fixedOf capacity edition
 unfolding freshWith
 made-of records capacity workers edition = refl
 

@@ -13,7 +13,7 @@ use Rattle.bounded_places.specs.declared.Slot.{Slot}
 use Rattle.bounded_places.specs.declared.Place.{Place}
 use Rattle.bounded_machine.specs.declared.Machine.{Machine}
 use Rattle.bounded_machine.specs.declared.Event.{Event}
-use Rattle.bounded_machine.specs.Machine.{slot}
+use Rattle.bounded_machine.specs.Machine.{slot, fixedOn}
 use Rattle.bounded_demands.specs.Notions.{InHand, handP4, handP5, handF7, handF8, handF9, handO4, handO5, Reads, readO4, readF8, valueAt, takersOf, LatestIn, ItemIn, WrittenIn}
 use Rattle.bounded_proof_invariant.proofs.Ring.{Stage, Fill, Filled, Take, Grab, Swap, Swapped, Cell, Hand, Mine, mine-one, Shared, Latest, Valued, Inv, CellOk}
 use Rattle.bounded_proof_each_act.proofs.Stamps.{Ground, fixed, word-slot, lap-slot}
@@ -64,10 +64,10 @@ module _ (bits : Width) (c n : ℕ) (g : Ground bits c (markOf c) n) where
       }
 
 module _ (bits : Width) (c n workers : ℕ) (base : Base bits c n workers) (m : Machine) (h : List Event) (r : Reached c n workers m h) where
-  index-at : (t : Stamp) → indexOf (m .ring .fixed) t ≡ t .0 % markOf c
+  index-at : (t : Stamp) → indexOf (fixedOn (m .ring)) t ≡ t .0 % markOf c
   index-at t = ap (λ (f : Fixed). indexOf f t) (r .pictured .rule)
 
-  pub one-hand : (v w : ℕ) (t u : Stamp) → InHand (stood m v) t → InHand (stood m w) u → indexOf (m .ring .fixed) t ≡ indexOf (m .ring .fixed) u → v ≡ w
+  pub one-hand : (v w : ℕ) (t u : Stamp) → InHand (stood m v) t → InHand (stood m w) u → indexOf (fixedOn (m .ring)) t ≡ indexOf (fixedOn (m .ring)) u → v ≡ w
   one-hand v w t u a b e =
       let s = r .ring in
       let q : t .0 % markOf c ≡ u .0 % markOf c = sym (index-at t) ∙ e ∙ index-at u in
@@ -82,7 +82,7 @@ module _ (bits : Width) (c n workers : ℕ) (base : Base bits c n workers) (m : 
       let d = readable bits c n (base .ground) s w (r .pictured .ages w) (stood m w) t (r .pictured .inv) a (r .pictured .stands w) in
       let k = d .claim in
       let l = r .logged in
-      let i : indexOf (m .ring .fixed) t ≡ k % c = index-at t ∙ d .here in
+      let i : indexOf (fixedOn (m .ring)) t ≡ k % c = index-at t ∙ d .here in
       let v : valueAt m t ≡ s .item k =
       ap (λ (z : ℕ). getD (m .ring .slots) z (slot 0 0) .value) i
       ∙ ap (λ (z : Slot). z .value) (r .pictured .slots (k % c) (mod-lt k (base .ground .laws .some)))

@@ -130,13 +130,13 @@ module _ (bits : Width) (c n workers : ℕ) (base : Base bits c n workers) (m : 
         let E = endsOf c mark n (r₂ .ring) (r₂ .pictured .shut) in
         let l = leads bits c n workers base m₂ h₂ r₂ w answered (Len3 t (W c mark n (r .ring .head))) act stays in
         let q =
-        len-said (same (E .tail) t) E (l .0) (countOf (fixed c mark (m₂ .ring .fixed .edition)) t (W c mark n (r .ring .head))) k (sym (l .2) ∙ is) in
+        len-said (same (E .tail) t) E (l .0) (countOf (fixed c mark (m₂ .ring .edition)) t (W c mark n (r .ring .head))) k (sym (l .2) ∙ is) in
         let near : Near (n * c) (r₂ .ring .tail) (tail-seen .0) = omega (arith, late, tail-seen .3, tail-seen .4, turn-long c mark n (base .ground .laws)) in
         let y : same (E .tail) (tailWord c mark n (tail-seen .0) (tail-seen .1)) ≡ true = ap (same (E .tail)) (sym (tail-seen .2)) ∙ q .0 in
         let one : r₂ .ring .tail ≡ tail-seen .0 = tails-one bits c mark n (base .ground) (r₂ .ring .tail) (tail-seen .0) (r₂ .pictured .shut) (tail-seen .1) near y in
         let now : r .ring .tail ≡ tail-seen .0 = omega (arith, tail-seen .3) in
-        q .1 ∙ ap (λ (z : Stamp). countOf (fixed c mark (m₂ .ring .fixed .edition)) z (W c mark n (r .ring .head))) (tail-seen .2)
-        ∙ count-is bits c mark n (m₂ .ring .fixed .edition) (base .ground) (r .ring .head) (tail-seen .0) (tail-seen .1) (omega (arith, r .pictured .inv .low)) (omega (arith, r .pictured .inv .high))
+        q .1 ∙ ap (λ (z : Stamp). countOf (fixed c mark (m₂ .ring .edition)) z (W c mark n (r .ring .head))) (tail-seen .2)
+        ∙ count-is bits c mark n (m₂ .ring .edition) (base .ground) (r .ring .head) (tail-seen .0) (tail-seen .1) (omega (arith, r .pictured .inv .low)) (omega (arith, r .pictured .inv .high))
         ∙ ap (λ (z : ℕ). z - r .ring .head) (sym now)
 
 -- acts of others leave a worker's word as old as it was

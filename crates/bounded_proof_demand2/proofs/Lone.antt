@@ -33,7 +33,7 @@ use Rattle.bounded_acts.specs.declared.Acted.{Acted}
 use Rattle.bounded_acts.specs.Acts.{goes, losing, afterTail, endP3, endF6, endO3, tailTo, fullAt, countOf, actOf}
 use Rattle.bounded_machine.specs.declared.Machine.{Machine}
 use Rattle.bounded_machine.specs.declared.Event.{Event}
-use Rattle.bounded_machine.specs.Machine.{idler, freshWith, freshOf}
+use Rattle.bounded_machine.specs.Machine.{idler, freshWith, freshOf, fixedOn, endsOn}
 use Rattle.bounded_machine.specs.Turn.{beginner, recordAfter, begun, acted, actedBy, stored, actAt}
 use Rattle.bounded_machine.specs.History.{movedOf, tallyOf}
 use Rattle.bounded_machine.proofs.Kept.{either, exchanged}
@@ -196,7 +196,7 @@ made-more p q l e is lead made OldWord z held =
 record Lone (c : ℕ) (m : Machine) (h : List Event) : Type 0 where
   pub one : m .count ≡ 1
   pub seat : 0 < length (m .workers)
-  pub rule : m .ring .fixed ≡ fixed c (markOf c) (m .ring .fixed .edition)
+  pub rule : fixedOn (m .ring) ≡ fixed c (markOf c) (m .ring .edition)
   pub others : (w : ℕ) → w ≢ 0 → viewOf (stood m w) .busy ≡ false
   pub own : holds (holdingAt (stood m 0)) ≡ true → Made (stood m 0) (since 0 h)
 
@@ -248,7 +248,7 @@ module _ (bits : Width) (c : ℕ) (m : Machine) (h : List Event) (o : Lone c m h
         let at : stood next 0 ≡ q = ap (stood next) (sym zero-is) ∙ went in
         let was : holds (holdingAt (stood m w)) ≡ true → Made (stood m w) (since 0 h) = subst (λ (k : ℕ). holds (holdingAt (stood m k)) ≡ true → Made (stood m k) (since 0 h)) (sym zero-is) (o .own) in
         let k : Made q (cond (isNew (holdingAt q)) [] (since 0 h ++ new ∷ [])) =
-        made-more (stood m w) q (since 0 h) new went (leads-on bits (m .ring .fixed) (m .ring .ends) _ (stood m w) lose busy) was (holdingAt q) refl (ap (λ (p : Place). holds (holdingAt p)) (sym at) ∙ held) in
+        made-more (stood m w) q (since 0 h) new went (leads-on bits (fixedOn (m .ring)) (endsOn (m .ring)) _ (stood m w) lose busy) was (holdingAt q) refl (ap (λ (p : Place). holds (holdingAt p)) (sym at) ∙ held) in
         let own : givesTo 0 new ≡ isNew (holdingAt q) = ap (λ (b : Bool). cond b (isNew (holdingAt (new .after))) false) (eq-eqb w 0 zero-is) ∙ ap (λ (p : Place). isNew (holdingAt p)) went in
         let z : since 0 (h ++ new ∷ []) ≡ cond (isNew (holdingAt q)) [] (since 0 h ++ new ∷ []) = since-end 0 [] h new ∙ ap (λ (b : Bool). cond b [] (since 0 h ++ new ∷ [])) own in
         subst (λ (p : Place). Made p (since 0 (h ++ new ∷ []))) (sym at) (subst (Made q) (sym z) k)
@@ -297,13 +297,13 @@ alone-keeps bits capacity edition a s before after e w held = go (ℕ-discrete w
     Small : Fixed → Type 0
     Small f = (tally (since w h) .tail .0 < turnLength bits f - 2 * f .capacity) × (tally (since w h) .head .0 < turnLength bits f - 2 * f .capacity)
 
-    go : Dec (w ≡ 0) → Small (m .ring .fixed)
+    go : Dec (w ≡ 0) → Small (fixedOn (m .ring))
     go (yes z) =
         let made : Made (stood m w) (since w h) = subst (λ (k : ℕ). holds (holdingAt (stood m k)) ≡ true → Made (stood m k) (since k h)) (sym z) (o .own) held in
         let few = few-at (stood m w) in
         let some : 1 ≤ capacity = a .slot-some in
         let laps : 4 ≤ lapsOf bits capacity = many bits workersMost capacity 1 edition a 3 (omega (arith, narrow-least bits)) in
-        let turn = turn-is bits capacity (markOf capacity) (lapsOf bits capacity) (m .ring .fixed .edition) (base-of bits workersMost capacity 1 edition a .ground) in
+        let turn = turn-is bits capacity (markOf capacity) (lapsOf bits capacity) (m .ring .edition) (base-of bits workersMost capacity 1 edition a .ground) in
         subst Small (sym (o .rule))
         (omega (arith, made .0, few .0, turn, some, mul-le-mul-right capacity laps), omega (arith, made .1, few .1, turn, some, mul-le-mul-right capacity laps))
     go (no ne) =

@@ -33,7 +33,7 @@ use Rattle.bounded_acts.specs.declared.Acted.{Acted}
 use Rattle.bounded_acts.specs.Acts.{goes, losing, exchangeOf, endP3, endF6, endO3, tailTo, fullAt, countOf, actOf}
 use Rattle.bounded_machine.specs.declared.Machine.{Machine}
 use Rattle.bounded_machine.specs.declared.Event.{Event}
-use Rattle.bounded_machine.specs.Machine.{idler, recordOf, freshWith}
+use Rattle.bounded_machine.specs.Machine.{idler, recordOf, freshWith, fixedOn, endsOn}
 use Rattle.bounded_machine.specs.Turn.{beginner, byWords, bySchedule, recordAfter, begun, stored, acted, actedBy, actAt}
 use Rattle.bounded_machine.specs.History.{lossAt}
 use Rattle.bounded_machine.proofs.Kept.{either, exchanged}
@@ -117,10 +117,10 @@ module _ (found expected : Stamp) where
 pub ends-told : (bits : Width) → EndsTold bits (lossAt bits)
 ends-told bits m w =
     record {
-      differed = λ found expected lose x ne. ended bits (m .ring .fixed) (m .ring .ends) _ (stood m w) lose found expected x ∙ apart found expected lose ne;
-      failed = λ found expected x e. ended bits (m .ring .fixed) (m .ring .ends) _ (stood m w) true found expected x ∙ alike found expected true e;
-      won = λ found expected x e. ended bits (m .ring .fixed) (m .ring .ends) _ (stood m w) false found expected x ∙ alike found expected false e;
-      none = λ lose h. none-lost bits (m .ring .fixed) (m .ring .ends) _ (stood m w) lose h;
+      differed = λ found expected lose x ne. ended bits (fixedOn (m .ring)) (endsOn (m .ring)) _ (stood m w) lose found expected x ∙ apart found expected lose ne;
+      failed = λ found expected x e. ended bits (fixedOn (m .ring)) (endsOn (m .ring)) _ (stood m w) true found expected x ∙ alike found expected true e;
+      won = λ found expected x e. ended bits (fixedOn (m .ring)) (endsOn (m .ring)) _ (stood m w) false found expected x ∙ alike found expected false e;
+      none = λ lose h. none-lost bits (fixedOn (m .ring)) (endsOn (m .ring)) _ (stood m w) lose h;
     }
 
 -- ---- along a history

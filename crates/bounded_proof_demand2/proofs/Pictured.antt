@@ -30,7 +30,7 @@ use Rattle.bounded_places.specs.Places.{viewOf, fitsOf, beginOf}
 use Rattle.bounded_acts.specs.declared.Acted.{Acted}
 use Rattle.bounded_acts.specs.Acts.{actOf}
 use Rattle.bounded_machine.specs.declared.Machine.{Machine}
-use Rattle.bounded_machine.specs.Machine.{slot, recordOf, placeOf, idler}
+use Rattle.bounded_machine.specs.Machine.{slot, recordOf, placeOf, idler, fixedOn, endsOn}
 use Rattle.bounded_machine.specs.Broken.{placeFits}
 use Rattle.bounded_machine.specs.Turn.{spotOf, beginner, recordAfter, begun, stored, acted, actedBy}
 use Rattle.bounded_machine.proofs.Kept.{UnbrokenWith, place-of, few-workers, begun-unbroken, acted-unbroken, word-fits-in, fits-plain}
@@ -52,10 +52,10 @@ pub record Pictured (c n workers : ℕ) (s : Shared) (m : Machine) : Type 0 wher
   pub inv : Inv c s
   pub records : ℕ
   pub unbroken : UnbrokenWith records m
-  pub rule : m .ring .fixed ≡ fixed c (markOf c) (m .ring .fixed .edition)
+  pub rule : fixedOn (m .ring) ≡ fixed c (markOf c) (m .ring .edition)
   pub count : m .count ≡ workers
   pub shut : Bool
-  pub ends : m .ring .ends ≡ endsOf c (markOf c) n s shut
+  pub ends : endsOn (m .ring) ≡ endsOf c (markOf c) n s shut
   pub slots-long : length (m .ring .slots) ≡ slotsMost
   pub slots : (i : ℕ) → i < c → getD (m .ring .slots) i (slot 0 0) ≡ slotOf c (markOf c) n (s .cell i) (s .val i)
   pub workers-long : length (m .workers) ≡ records
@@ -77,7 +77,7 @@ pub busy-counted : (c n workers : ℕ) (s : Shared) (m : Machine) → Pictured c
 busy-counted c n workers s m pic w busy = go (decLt w (pic .records))
   where
     go : Dec (w < pic .records) → w < m .count
-    go (yes l) = ltb-true w (m .count) (fits-counted (m .ring .fixed) (stood m w) (ltb w (m .count)) busy (place-of (m .ring .fixed) (m .meter) (recordOf (m .workers) w) (ltb w (m .count)) (pic .unbroken .fits w l)))
+    go (yes l) = ltb-true w (m .count) (fits-counted (fixedOn (m .ring)) (stood m w) (ltb w (m .count)) busy (place-of (fixedOn (m .ring)) (m .meter) (recordOf (m .workers) w) (ltb w (m .count)) (pic .unbroken .fits w l)))
     go (no z) =
         let over : length (m .workers) ≤ w = omega (arith, pic .workers-long) in
         absurd (true≢false (sym (rw (ap (λ (y : Worker). y .place) (List·getD-eq-default (m .workers) idler over)) at busy)))
@@ -193,7 +193,7 @@ module _ (bits : Width) (c n workers : ℕ) (base : Base bits c n workers) (s : 
   mark = markOf c
 
   abbrev ed : ℕ
-  ed = m .ring .fixed .edition
+  ed = m .ring .edition
 
   seat : w < length (m .workers)
   seat = omega (arith, pic .workers-long, few-workers m (pic .unbroken))
@@ -235,10 +235,10 @@ module _ (bits : Width) (c n workers : ℕ) (base : Base bits c n workers) (s : 
 
   module _ (lose : Bool) (busy : viewOf (stood m w) .busy ≡ true) where
     abbrev pub spot : ℕ
-    spot = spotOf (m .ring .fixed) (viewOf (stood m w) .held)
+    spot = spotOf (fixedOn (m .ring)) (viewOf (stood m w) .held)
 
     abbrev pub result : Acted
-    result = actOf bits (m .ring .fixed) (m .ring .ends) (getD (m .ring .slots) spot (slot 0 0)) (stood m w) lose
+    result = actOf bits (fixedOn (m .ring)) (endsOn (m .ring)) (getD (m .ring .slots) spot (slot 0 0)) (stood m w) lose
 
     -- its worker's record afterwards
     abbrev pub new-record : Worker
@@ -246,8 +246,8 @@ module _ (bits : Width) (c n workers : ℕ) (base : Base bits c n workers) (s : 
 
     pub spot-small : spot < c
     spot-small =
-        let b : spot < m .ring .fixed .capacity =
-        spot-below (m .ring .fixed) (viewOf (stood m w) .held) (rw (pic .rule) (base .ground .laws .some)) (word-fits-in m (pic .unbroken) w team busy) in
+        let b : spot < m .ring .capacity =
+        spot-below (fixedOn (m .ring)) (viewOf (stood m w) .held) (rw (pic .rule) (base .ground .laws .some)) (word-fits-in m (pic .unbroken) w team busy) in
         subst (λ (z : ℕ). spot < z) (ap (λ (f : Fixed). f .capacity) (pic .rule)) b
 
     -- where the acting worker stands afterwards
@@ -279,7 +279,7 @@ module _ (bits : Width) (c n workers : ℕ) (base : Base bits c n workers) (s : 
           let o : Stands c mark n s w (pic .ages w) (look c p) = pic .stands w in
           let at : spot ≡ spotOf (fixed c mark ed) (viewOf p .held) = ap (λ (f : Fixed). spotOf f (viewOf p .held)) (pic .rule) in
           let same : result ≡ actOf bits (fixed c mark ed) (endsOf c mark n s (pic .shut)) (slotOf c mark n (s .cell spot) (s .val spot)) p lose =
-          ap (λ (f : Fixed). actOf bits f (m .ring .ends) (getD (m .ring .slots) spot (slot 0 0)) p lose) (pic .rule)
+          ap (λ (f : Fixed). actOf bits f (endsOn (m .ring)) (getD (m .ring .slots) spot (slot 0 0)) p lose) (pic .rule)
           ∙ ap (λ (e : Ends). actOf bits (fixed c mark ed) e (getD (m .ring .slots) spot (slot 0 0)) p lose) (pic .ends)
           ∙ ap (λ (z : Slot). actOf bits (fixed c mark ed) (endsOf c mark n s (pic .shut)) z p lose) (pic .slots spot spot-small) in
           subst (Step bits c mark n ed s w spot (pic .ages w) (pic .shut) p) (sym same)

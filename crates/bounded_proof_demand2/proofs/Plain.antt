@@ -15,6 +15,7 @@ use Rattle.bounded_words.specs.Words.{markOf, fixedOf, unmarkedOf}
 use Rattle.bounded_words.proofs.Marks.{Ruled, ruled}
 use Rattle.bounded_places.specs.declared.Slot.{Slot}
 use Rattle.bounded_places.specs.declared.Ends.{Ends}
+use Rattle.bounded_machine.specs.Machine.{fixedOn}
 use Rattle.bounded_machine.specs.declared.Machine.{Machine}
 use Rattle.bounded_machine.specs.declared.Event.{Event}
 use Rattle.bounded_demands.specs.Notions.{AllowedWith, Words, Plain, claimWord, plainWord, tally}
@@ -36,7 +37,7 @@ module _ (bits : Width) (c n workers : ℕ) (base : Base bits c n workers) (m : 
   heads = tally-head h ∙ r .logged .lists .takers-are .long
 
   -- the words are said of the machine's own constants
-  word-of : (k : ℕ) → word c (markOf c) n k ≡ claimWord bits (m .ring .fixed) k
+  word-of : (k : ℕ) → word c (markOf c) n k ≡ claimWord bits (fixedOn (m .ring)) k
   word-of k =
       word-is c (markOf c) n (base .ground .laws) k ∙ ap (λ (z : ℕ). (k / c * (2 * markOf c) + k % c) % z) (base .ground .whole)
       ∙ ap (λ (f : Fixed). claimWord bits f k) (sym (r .pictured .rule))
@@ -45,18 +46,18 @@ module _ (bits : Width) (c n workers : ℕ) (base : Base bits c n workers) (m : 
   one-more true x = refl
   one-more false x = omega arith
 
-  cap : m .ring .fixed .capacity ≡ c
+  cap : m .ring .capacity ≡ c
   cap = ap (λ (f : Fixed). f .capacity) (r .pictured .rule)
 
   pub worded : Words bits m h
   worded =
       record {
-        head = ap (λ (e : Ends). e .head .0) (r .pictured .ends) ∙ word-of (r .ring .head) ∙ ap (claimWord bits (m .ring .fixed)) (sym heads);
+        head = ap (λ (e : Ends). e .head .0) (r .pictured .ends) ∙ word-of (r .ring .head) ∙ ap (claimWord bits (fixedOn (m .ring))) (sym heads);
         tail =
-            ap (λ (f : Fixed). unmarkedOf f (m .ring .ends .tail) .0) (r .pictured .rule)
-            ∙ ap (λ (e : Ends). unmarkedOf (fixed c (markOf c) (m .ring .fixed .edition)) (e .tail) .0) (r .pictured .ends)
-            ∙ ap (λ (w : Stamp). w .0) (unmarked-tail bits c (markOf c) n (base .ground) (m .ring .fixed .edition) (r .ring .tail) (r .pictured .shut))
-            ∙ word-of (r .ring .tail) ∙ ap (claimWord bits (m .ring .fixed)) (sym tails);
+            ap (λ (f : Fixed). unmarkedOf f (m .ring .tail) .0) (r .pictured .rule)
+            ∙ ap (λ (e : Ends). unmarkedOf (fixed c (markOf c) (m .ring .edition)) (e .tail) .0) (r .pictured .ends)
+            ∙ ap (λ (w : Stamp). w .0) (unmarked-tail bits c (markOf c) n (base .ground) (m .ring .edition) (r .ring .tail) (r .pictured .shut))
+            ∙ word-of (r .ring .tail) ∙ ap (claimWord bits (fixedOn (m .ring))) (sym tails);
         stamps =
             λ i below.
             let s = r .ring in
@@ -86,19 +87,19 @@ module _ (records c workers edition : ℕ) (a : AllowedWith records c workers ed
   few-heads = omega (arith, tally-head h, claims-few h .1, o .meter, o .few)
 
   -- a claim of two laps more has a word below the width
-  room : (j : ℕ) → j ≤ meterMost + slotsMost → plainWord (fixed c (markOf c) (m .ring .fixed .edition)) j + 2 * (2 * markOf c) < wide
+  room : (j : ℕ) → j ≤ meterMost + slotsMost → plainWord (fixed c (markOf c) (m .ring .edition)) j + 2 * (2 * markOf c) < wide
   room j most =
       let small : 2 * markOf c ≤ 4 * (slotsMost + 1) = omega (arith, r .small) in
       omega (arith, mul-le-mul-left (j / c) small, div-le-self j c, mod-lt j (a .slot-some))
 
-  room-in : (j : ℕ) → j ≤ meterMost + slotsMost → plainWord (m .ring .fixed) j + 2 * m .ring .fixed .lap < wide
+  room-in : (j : ℕ) → j ≤ meterMost + slotsMost → plainWord (fixedOn (m .ring)) j + 2 * m .ring .lap < wide
   room-in j most = subst (λ (f : Fixed). plainWord f j + 2 * f .lap < wide) (sym (o .rule)) (room j most)
 
   -- and so is that word
-  plain-is : (j : ℕ) → j ≤ meterMost + slotsMost → claimWord SixtyFour (m .ring .fixed) j ≡ plainWord (m .ring .fixed) j
-  plain-is j most = let l : plainWord (m .ring .fixed) j < wide = omega (arith, room-in j most) in mod-eq-of-lt l
+  plain-is : (j : ℕ) → j ≤ meterMost + slotsMost → claimWord SixtyFour (fixedOn (m .ring)) j ≡ plainWord (fixedOn (m .ring)) j
+  plain-is j most = let l : plainWord (fixedOn (m .ring)) j < wide = omega (arith, room-in j most) in mod-eq-of-lt l
 
-  cap-few : m .ring .fixed .capacity ≤ slotsMost
+  cap-few : m .ring .capacity ≤ slotsMost
   cap-few = subst (λ (f : Fixed). f .capacity ≤ slotsMost) (sym (o .rule)) (a .slot-most)
 
   pub plainly : Plain m h
@@ -111,5 +112,5 @@ module _ (records c workers edition : ℕ) (a : AllowedWith records c workers ed
             let x = k .stamps i below in
             let few-x : x .0 ≤ meterMost + slotsMost = omega (arith, x .4, few, cap-few) in
             (x .0, x .1, x .2 ∙ ap (λ (z : ℕ). z + cond (x .1) 1 0) (plain-is (x .0) few-x), x .3, x .4);
-        room = room-in (tally h .tail .0 + m .ring .fixed .capacity) (omega (arith, few, cap-few));
+        room = room-in (tally h .tail .0 + m .ring .capacity) (omega (arith, few, cap-few));
       }

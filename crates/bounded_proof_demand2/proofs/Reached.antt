@@ -322,12 +322,12 @@ module _ (bits : Width) (c n workers : ℕ) (base : Base bits c n workers) where
   module _ (m : Machine) (h : List Event) (r : Reached c n workers m h) (window : InWidestWindow bits m h) (w : ℕ) where
     pub young-in : holds (holdingAt (stood m w)) ≡ true → Young c (markOf c) n (r .ring) (r .pictured .ages w)
     young-in held =
-        let f = fixed c (markOf c) (m .ring .fixed .edition) in
-        window-young bits c (markOf c) n (m .ring .fixed .edition) (base .ground) (r .ring) (r .pictured .ages w) (since w h) (r .dated w)
+        let f = fixed c (markOf c) (m .ring .edition) in
+        window-young bits c (markOf c) n (m .ring .edition) (base .ground) (r .ring) (r .pictured .ages w) (since w h) (r .dated w)
         (subst (λ (z : Fixed). (tally (since w h) .tail .0 < turnLength bits z - z .capacity) × (tally (since w h) .head .0 < turnLength bits z - z .capacity)) (r .pictured .rule) (window w held))
 
     pub recent-in : Recent c (markOf c) n (r .ring) (r .pictured .ages w) (look c (stood m w))
-    recent-in = recent-of bits c (markOf c) n (m .ring .fixed .edition) (base .ground) (r .ring) (r .pictured .ages w) (stood m w) young-in
+    recent-in = recent-of bits c (markOf c) n (m .ring .edition) (base .ground) (r .ring) (r .pictured .ages w) (stood m w) young-in
 
   -- the word of the worker that an entry asks to act is not too old
   abbrev pub Fit : {m : Machine} {h : List Event} → Reached c n workers m h → Entry → Type 0

@@ -21,6 +21,7 @@ use Rattle.bounded_places.specs.declared.Place.the-variants.{Idle, P1, P2, P3, 
 use Rattle.bounded_places.specs.Places.{viewOf, fitsOf}
 use Rattle.bounded_acts.specs.declared.Acted.{Acted}
 use Rattle.bounded_acts.specs.Acts.{goes, losing, endP3, endF6, endO3, tailTo, headTo, forcedTail, fullAt, countOf, actOf}
+use Rattle.bounded_machine.specs.Machine.{fixedOn, endsOn}
 use Rattle.bounded_machine.specs.declared.Machine.{Machine}
 use Rattle.bounded_machine.specs.declared.Event.{Event}
 use Rattle.bounded_machine.specs.Turn.{begun, actedBy, stored}
@@ -87,8 +88,8 @@ module _ (bits : Width) (f : Fixed) (r : Ruled f) (two : f .edition ≡ 2) (e : 
 pub record Shut (m : Machine) (h : List Event) : Type 0 where
   pub records : ℕ
   pub unbroken : UnbrokenWith records m
-  pub second : m .ring .fixed .edition ≡ 2
-  pub marked : markedOf (m .ring .fixed) (m .ring .ends .tail) ≡ true
+  pub second : m .ring .edition ≡ 2
+  pub marked : markedOf (fixedOn (m .ring)) (m .ring .tail) ≡ true
 
 shut-kept : (bits : Width) (m : Machine) (h : List Event) (en : Entry) (next : Machine) (acts : List Event) → Shut m h → Turned bits m en next acts → Shut next (h ++ acts)
 unfolding begun actedBy stored
@@ -99,13 +100,13 @@ shut-kept bits m h en next acts o (did w lose l busy early) =
       unbroken = acted-unbroken m (o .unbroken) w l bits lose busy;
       second = o .second;
       marked =
-          still-marked bits (m .ring .fixed) (ruled-in m (o .unbroken)) (o .second) (m .ring .ends) _ (o .marked) (stood m w) lose (word-fits-in m (o .unbroken) w l busy);
+          still-marked bits (fixedOn (m .ring)) (ruled-in m (o .unbroken)) (o .second) (endsOn (m .ring)) _ (o .marked) (stood m w) lose (word-fits-in m (o .unbroken) w l busy);
     }
 
-pub stays-shut : (bits : Width) (m : Machine) (h : List Event) → Shut m h → (s : List ℕ) → markedOf (m .ring .fixed) (runAt bits m 0 s .machine .ring .ends .tail) ≡ true
+pub stays-shut : (bits : Width) (m : Machine) (h : List Event) → Shut m h → (s : List ℕ) → markedOf (fixedOn (m .ring)) (runAt bits m 0 s .machine .ring .tail) ≡ true
 stays-shut bits m h o s =
-    ap (λ (f : Fixed). markedOf f (runAt bits m 0 s .machine .ring .ends .tail)) (sym fixed-same) ∙ along-any bits Shut (shut-kept bits) s m h 0 o .marked
+    ap (λ (f : Fixed). markedOf f (runAt bits m 0 s .machine .ring .tail)) (sym fixed-same) ∙ along-any bits Shut (shut-kept bits) s m h 0 o .marked
   where
-    fixed-same : runAt bits m 0 s .machine .ring .fixed ≡ m .ring .fixed
+    fixed-same : fixedOn (runAt bits m 0 s .machine .ring) ≡ fixedOn (m .ring)
     fixed-same =
-        along-any bits (λ (z : Machine) (k : List Event). z .ring .fixed ≡ m .ring .fixed) (λ z k en next acts e t. turned-fixed bits z en next acts t ∙ e) s m [] 0 refl
+        along-any bits (λ (z : Machine) (k : List Event). fixedOn (z .ring) ≡ fixedOn (m .ring)) (λ z k en next acts e t. turned-fixed bits z en next acts t ∙ e) s m [] 0 refl

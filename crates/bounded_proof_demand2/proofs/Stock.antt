@@ -33,7 +33,7 @@ use Rattle.bounded_acts.specs.Acts.{goes, losing, afterTail, endP3, endF6, endO
 use Rattle.bounded_machine.specs.declared.Machine.{Machine}
 use Rattle.bounded_machine.specs.declared.Event.{Event}
 use Rattle.bounded_machine.specs.declared.Tally.{Tally}
-use Rattle.bounded_machine.specs.Machine.{placeOf, idler, idlers, freshWith}
+use Rattle.bounded_machine.specs.Machine.{placeOf, idler, idlers, freshWith, fixedOn, endsOn}
 use Rattle.bounded_machine.specs.Broken.{allIdle}
 use Rattle.bounded_machine.specs.Turn.{beginner, recordAfter, begun, stored, acted, actedBy}
 use Rattle.bounded_machine.specs.History.{movedOf, readsAt, untallied, tallyOf, stockOf, untakenOf}
@@ -295,7 +295,7 @@ module _ (bits : Width) (c n workers : ℕ) (base : Base bits c n workers) where
     went = acted-stood bits c n workers base (o .behind .ring) m pic w l lose busy
 
     kept : Kept (stood m w) (stood next w)
-    kept = subst (Kept (stood m w)) (sym went) (act-kept bits (m .ring .fixed) (m .ring .ends) _ (stood m w) lose)
+    kept = subst (Kept (stood m w)) (sym went) (act-kept bits (fixedOn (m .ring)) (endsOn (m .ring)) _ (stood m w) lose)
 
     set-there : unreadBy (next .workers) + one (unread (stood m w)) ≡ unreadBy (m .workers) + one (unread (result bits c n workers base (o .behind .ring) m pic w l lose busy .place))
     unfolding actedBy stored recordAfter

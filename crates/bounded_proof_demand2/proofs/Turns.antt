@@ -20,7 +20,7 @@ use Rattle.bounded_places.specs.Places.{viewOf, beginOf}
 use Rattle.bounded_machine.specs.declared.Machine.{Machine}
 use Rattle.bounded_machine.specs.declared.Did.{Did}
 use Rattle.bounded_machine.specs.declared.Event.{Event}
-use Rattle.bounded_machine.specs.Machine.{placeOf, refused, accepted}
+use Rattle.bounded_machine.specs.Machine.{placeOf, refused, accepted, fixedOn}
 use Rattle.bounded_machine.specs.Turn.{verdictOf, carried, turn, begun, stored, acted, actedBy}
 use Rattle.bounded_machine.proofs.Kept.{either}
 use Rattle.bounded_machine.specs.History.{event, lossAt, eventsOf}
@@ -79,7 +79,7 @@ turned bits m (Asks w (Act lose)) =
     R v = Result bits m (Asks w (Act lose)) (carried bits m w (stood m w) v)
 
 -- the constants stay
-pub turned-fixed : (bits : Width) (m : Machine) (en : Entry) (next : Machine) (h : List Event) → Turned bits m en next h → next .ring .fixed ≡ m .ring .fixed
+pub turned-fixed : (bits : Width) (m : Machine) (en : Entry) (next : Machine) (h : List Event) → Turned bits m en next h → fixedOn (next .ring) ≡ fixedOn (m .ring)
 unfolding begun actedBy stored
 turned-fixed bits m en next h (began w call l idle) = refl
 turned-fixed bits m en next h (did w lose l busy early) = refl

@@ -11,7 +11,7 @@ use Rattle.bounded_places.specs.Places.{viewOf}
 use Rattle.bounded_machine.specs.declared.Machine.{Machine}
 use Rattle.bounded_machine.specs.declared.Did.{Did}
 use Rattle.bounded_machine.specs.declared.Event.{Event}
-use Rattle.bounded_machine.specs.Machine.{freshWith, placeOf, accepted}
+use Rattle.bounded_machine.specs.Machine.{freshWith, placeOf, accepted, fixedOn, endsOn}
 use Rattle.bounded_machine.specs.Run.{runAt}
 use Rattle.bounded_demands.specs.Notions.{withRecords, AllowedWith, acts, machineAfter, actsOf, InWidestWindow, KeepsWidestWindow, mostOf, OtherHand}
 use Rattle.bounded_demands.specs.Foretold.{foretold}
@@ -35,7 +35,7 @@ module _ (bits : Width) (c n workers : ℕ) (base : Base bits c n workers) (m : 
   ended : (w : ℕ) → viewOf (stood m w) .busy ≡ true → m .meter + 7 ≤ meterMost → (OtherHand m w → ⊥) → Ended bits m h 0 w (mostOf (stood m w)) (foretold bits m w)
   ended w busy left free =
       ends-by bits c n workers base w (mostOf (stood m w)) m h 0 r busy (omega (arith, seven (stood m w))) free (recent-in bits c n workers base m h r window w)
-      (most bits (m .ring .fixed) (m .ring .ends) (stood m w))
+      (most bits (fixedOn (m .ring)) (endsOn (m .ring)) (stood m w))
 
   -- a call still under way was under way, and if no other hand were on a slot it would have ended
   way : (w : ℕ) → m .meter + 7 ≤ meterMost → viewOf (placeOf (runAt bits m 0 (acts w (mostOf (stood m w))) .machine .workers) w) .busy ≡ true → OtherHand m w

@@ -27,7 +27,7 @@ use Rattle.bounded_places.specs.Places.{viewOf}
 use Rattle.bounded_acts.specs.Acts.{goes, actOf}
 use Rattle.bounded_machine.specs.declared.Machine.{Machine}
 use Rattle.bounded_machine.specs.declared.Event.{Event}
-use Rattle.bounded_machine.specs.Machine.{idler}
+use Rattle.bounded_machine.specs.Machine.{idler, fixedOn, endsOn}
 use Rattle.bounded_machine.specs.Turn.{turnAt, turnOfBy, recordAfter, begun, acted, actedBy, stored, actAt}
 use Rattle.bounded_machine.specs.Run.{ran, runAt}
 use Rattle.bounded_machine.proofs.Kept.{UnbrokenWith, few-workers}
@@ -125,7 +125,7 @@ module _ (bits : Width) (w : ℕ) where
         go (yes e) =
             let seat : w < length (m .workers) = omega (arith, o .seats, few-workers m (o .unbroken)) in
             rw (eq-eqb v w e, e)
-            (own (subst (After (stood m w)) (sym (acted-own bits m w (stood m w) lose seat)) (hand-act bits (m .ring .fixed) (m .ring .ends) _ (stood m w) t lose hand)) refl)
+            (own (subst (After (stood m w)) (sym (acted-own bits m w (stood m w) lose seat)) (hand-act bits (fixedOn (m .ring)) (endsOn (m .ring)) _ (stood m w) t lose hand)) refl)
         go (no ne) = rw (ne-eqb v w ne) (other (acted-else bits m v w (stood m v) lose (λ z. ne (sym z))) refl)
 
     one-turn : (first second : ℕ) → Turn m first second

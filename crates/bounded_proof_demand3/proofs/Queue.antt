@@ -23,7 +23,7 @@ use Rattle.bounded_places.specs.Places.{viewOf, beginOf}
 use Rattle.bounded_acts.specs.Acts.{countOf, yesNo}
 use Rattle.bounded_machine.specs.declared.Machine.{Machine}
 use Rattle.bounded_machine.specs.declared.Event.{Event}
-use Rattle.bounded_machine.specs.Machine.{slot}
+use Rattle.bounded_machine.specs.Machine.{slot, fixedOn, endsOn}
 use Rattle.bounded_machine.specs.Contents.{countOn}
 use Rattle.bounded_demands.specs.Notions.{itemsOf, tally, waiting, OtherHand, valueAt, queueAnswer}
 use Rattle.bounded_demands.specs.Foretold.{foretoldOf, ownValue, foretold}
@@ -92,26 +92,26 @@ module _ (bits : Width) (c n workers : ℕ) (base : Base bits c n workers) (m : 
   long = length-drop (tally h .head .0) (itemsOf h) ∙ omega (arith, heads, r .logged .lists .items-are .long)
 
   -- the words' tests
-  full-is : lapBehind bits (m .ring .fixed) (m .ring .ends .head) (unmarkedOf (m .ring .fixed) (m .ring .ends .tail)) ≡ eqb (length (waiting h)) (m .ring .fixed .capacity)
+  full-is : lapBehind bits (fixedOn (m .ring)) (m .ring .head) (unmarkedOf (fixedOn (m .ring)) (m .ring .tail)) ≡ eqb (length (waiting h)) (m .ring .capacity)
   full-is =
       let pic = r .pictured in
       let inv = pic .inv in
       let turn = turn-long c mark n (base .ground .laws) in
-      ap (λ (f : Fixed). lapBehind bits f (m .ring .ends .head) (unmarkedOf f (m .ring .ends .tail))) (pic .rule)
-      ∙ ap (λ (e : Ends). lapBehind bits (fixed c mark (m .ring .fixed .edition)) (e .head) (unmarkedOf (fixed c mark (m .ring .fixed .edition)) (e .tail))) (pic .ends)
-      ∙ ap (λ (z : Stamp). lapBehind bits (fixed c mark (m .ring .fixed .edition)) (W c mark n (s .head)) z) (unmarked-tail bits c mark n (base .ground) (m .ring .fixed .edition) (s .tail) (pic .shut))
-      ∙ behind-is bits c mark n (m .ring .fixed .edition) (base .ground) s inv (s .tail) (omega arith) (omega (arith, turn, inv .low, some))
+      ap (λ (f : Fixed). lapBehind bits f (m .ring .head) (unmarkedOf f (m .ring .tail))) (pic .rule)
+      ∙ ap (λ (e : Ends). lapBehind bits (fixed c mark (m .ring .edition)) (e .head) (unmarkedOf (fixed c mark (m .ring .edition)) (e .tail))) (pic .ends)
+      ∙ ap (λ (z : Stamp). lapBehind bits (fixed c mark (m .ring .edition)) (W c mark n (s .head)) z) (unmarked-tail bits c mark n (base .ground) (m .ring .edition) (s .tail) (pic .shut))
+      ∙ behind-is bits c mark n (m .ring .edition) (base .ground) s inv (s .tail) (omega arith) (omega (arith, turn, inv .low, some))
       ∙ as-one (s .head + c) (s .tail) (length (waiting h)) c (λ z. omega (arith, long)) (λ z. omega (arith, long, inv .low))
       ∙ ap (λ (f : Fixed). eqb (length (waiting h)) (f .capacity)) (sym (pic .rule))
 
-  empty-is : same (unmarkedOf (m .ring .fixed) (m .ring .ends .tail)) (m .ring .ends .head) ≡ eqb (length (waiting h)) 0
+  empty-is : same (unmarkedOf (fixedOn (m .ring)) (m .ring .tail)) (m .ring .head) ≡ eqb (length (waiting h)) 0
   empty-is =
       let pic = r .pictured in
       let inv = pic .inv in
       let turn = turn-long c mark n (base .ground .laws) in
-      ap (λ (f : Fixed). same (unmarkedOf f (m .ring .ends .tail)) (m .ring .ends .head)) (pic .rule)
-      ∙ ap (λ (e : Ends). same (unmarkedOf (fixed c mark (m .ring .fixed .edition)) (e .tail)) (e .head)) (pic .ends)
-      ∙ tail-is bits c mark n (m .ring .fixed .edition) (base .ground) s inv (pic .shut) (s .head) (inv .low) (omega (arith, turn, inv .high, some))
+      ap (λ (f : Fixed). same (unmarkedOf f (m .ring .tail)) (m .ring .head)) (pic .rule)
+      ∙ ap (λ (e : Ends). same (unmarkedOf (fixed c mark (m .ring .edition)) (e .tail)) (e .head)) (pic .ends)
+      ∙ tail-is bits c mark n (m .ring .edition) (base .ground) s inv (pic .shut) (s .head) (inv .low) (omega (arith, turn, inv .high, some))
       ∙ as-one (s .tail) (s .head) (length (waiting h)) 0 (λ z. omega (arith, long)) (λ z. omega (arith, long, inv .low))
 
   -- the first item is in the slot at head
@@ -121,13 +121,13 @@ module _ (bits : Width) (c n workers : ℕ) (base : Base bits c n workers) (m : 
       let q : k ≡ s .head = near-one c (s .head) k some (o .1) (omega (arith, o .2, r .pictured .inv .high)) (o .0) in
       o .3 .0 ∙ ap (s .item) q
 
-  front-is : Loose (s .cell (s .head % c)) → 0 < length (waiting h) → valueAt m (m .ring .ends .head) ≡ getD (waiting h) 0 0
+  front-is : Loose (s .cell (s .head % c)) → 0 < length (waiting h) → valueAt m (m .ring .head) ≡ getD (waiting h) 0 0
   front-is l some-wait =
       let pic = r .pictured in
       let more : s .head < s .tail = omega (arith, long) in
-      let at : indexOf (m .ring .fixed) (m .ring .ends .head) ≡ s .head % c =
-      ap (λ (f : Fixed). indexOf f (m .ring .ends .head)) (pic .rule)
-      ∙ word-slot bits c mark n (base .ground) (m .ring .ends .head) (s .head) (ap (λ (e : Ends). e .head) (pic .ends)) in
+      let at : indexOf (fixedOn (m .ring)) (m .ring .head) ≡ s .head % c =
+      ap (λ (f : Fixed). indexOf f (m .ring .head)) (pic .rule)
+      ∙ word-slot bits c mark n (base .ground) (m .ring .head) (s .head) (ap (λ (e : Ends). e .head) (pic .ends)) in
       let first : tally h .head .0 + 0 ≡ s .head = omega (arith, heads) in
       ap (λ (j : ℕ). getD (m .ring .slots) j (slot 0 0) .value) at
       ∙ ap (λ (z : Slot). z .value) (pic .slots (s .head % c) (mod-lt (s .head) some))
@@ -135,14 +135,14 @@ module _ (bits : Width) (c n workers : ℕ) (base : Base bits c n workers) (m : 
       ∙ sym (getD-drop (tally h .head .0) (itemsOf h) 0 0 ∙ ap (λ (j : ℕ). getD (itemsOf h) j 0) first ∙ r .logged .lists .items-are .at (s .head) more)
 
   pub queue-is : (k : Call) → stood m w ≡ beginOf k → viewOf (stood m w) .busy ≡ true → (OtherHand m w → ⊥)
-      → foretold bits m w ≡ queueAnswer k (markedOf (m .ring .fixed) (m .ring .ends .tail)) (m .ring .fixed .capacity) (waiting h)
+      → foretold bits m w ≡ queueAnswer k (markedOf (fixedOn (m .ring)) (m .ring .tail)) (m .ring .capacity) (waiting h)
   unfolding countOn
   queue-is k e busy free =
       let pic = r .pictured in
-      let f = m .ring .fixed in
-      let cap : 0 < m .ring .fixed .capacity = rw (pic .rule) some in
+      let f = fixedOn (m .ring) in
+      let cap : 0 < m .ring .capacity = subst (λ (f : Fixed). 0 < f .capacity) (sym (pic .rule)) some in
       let l : Loose (s .cell (s .head % c)) =
       loose bits c n workers base s m pic w busy free (s .head % c) (mod-lt (s .head) some)
       (λ z. begun-empty c mark (s .head % c) k (subst (λ (q : Place). HandAt mark (look c q) (s .head % c)) e z)) in
-      ap (λ (q : Place). foretoldOf bits f (m .ring .ends) (valueAt m (m .ring .ends .head)) (ownValue m q) q) e
-      ∙ answer-is bits f (m .ring .ends) (valueAt m (m .ring .ends .head)) (ownValue m (beginOf k)) cap k (waiting h) full-is empty-is (count-in bits c n workers base m h r ∙ sym long) (front-is l)
+      ap (λ (q : Place). foretoldOf bits f (endsOn (m .ring)) (valueAt m (m .ring .head)) (ownValue m q) q) e
+      ∙ answer-is bits f (endsOn (m .ring)) (valueAt m (m .ring .head)) (ownValue m (beginOf k)) cap k (waiting h) full-is empty-is (count-in bits c n workers base m h r ∙ sym long) (front-is l)

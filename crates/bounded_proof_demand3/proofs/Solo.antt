@@ -30,7 +30,7 @@ use Rattle.bounded_acts.specs.Acts.{actOf}
 use Rattle.bounded_machine.specs.declared.Machine.{Machine}
 use Rattle.bounded_machine.specs.declared.Event.{Event}
 use Rattle.bounded_machine.specs.declared.Ran.{Ran}
-use Rattle.bounded_machine.specs.Machine.{slot, placeOf, idler, refused, accepted}
+use Rattle.bounded_machine.specs.Machine.{slot, placeOf, idler, refused, accepted, fixedOn, endsOn}
 use Rattle.bounded_machine.specs.Turn.{verdictOf, carried, turnAt, turnOfBy, spotOf, stored, acted, actedBy}
 use Rattle.bounded_machine.specs.Run.{ran, runAt}
 use Rattle.bounded_machine.specs.History.{historyAt}
@@ -60,10 +60,10 @@ act-entry w =
     rw (low, top)
 
 abbrev pub ownSlot : Machine → Place → Slot
-ownSlot m p = getD (m .ring .slots) (spotOf (m .ring .fixed) (viewOf p .held)) (slot 0 0)
+ownSlot m p = getD (m .ring .slots) (spotOf (fixedOn (m .ring)) (viewOf p .held)) (slot 0 0)
 
 abbrev pub rank : Width → Machine → ℕ → ℕ
-rank bits m w = rankOf bits (m .ring .fixed) (m .ring .ends) (stood m w)
+rank bits m w = rankOf bits (fixedOn (m .ring)) (endsOn (m .ring)) (stood m w)
 
 -- another worker stands where it stood
 pub acted-else : (bits : Width) (m : Machine) (w v : ℕ) (p : Place) (lose : Bool) → v ≢ w → stood (acted bits m w p lose) v ≡ stood m v
@@ -74,7 +74,7 @@ pub acted-meter : (bits : Width) (m : Machine) (w : ℕ) (p : Place) (lose : Boo
 unfolding actedBy stored
 acted-meter bits m w p lose = refl
 
-pub acted-fixed : (bits : Width) (m : Machine) (w : ℕ) (p : Place) (lose : Bool) → acted bits m w p lose .ring .fixed ≡ m .ring .fixed
+pub acted-fixed : (bits : Width) (m : Machine) (w : ℕ) (p : Place) (lose : Bool) → fixedOn (acted bits m w p lose .ring) ≡ fixedOn (m .ring)
 unfolding actedBy stored
 acted-fixed bits m w p lose = refl
 
@@ -90,10 +90,10 @@ module _ (bits : Width) (c n workers : ℕ) (base : Base bits c n workers) (s : 
   p = stood m w
 
   abbrev i : ℕ
-  i = spotOf (m .ring .fixed) (viewOf p .held)
+  i = spotOf (fixedOn (m .ring)) (viewOf p .held)
 
   abbrev result : Acted
-  result = actOf bits (m .ring .fixed) (m .ring .ends) (ownSlot m p) p false
+  result = actOf bits (fixedOn (m .ring)) (endsOn (m .ring)) (ownSlot m p) p false
 
   small : i < c
   small = spot-small bits c n workers base s m pic w team false busy
@@ -118,19 +118,19 @@ module _ (bits : Width) (c n workers : ℕ) (base : Base bits c n workers) (s : 
 
     -- whose word is not too old
     module _ (young : Recent c (markOf c) n s (pic .ages w) (look c p)) where
-      found : Finds bits (m .ring .fixed) (m .ring .ends) (ownSlot m p) p
+      found : Finds bits (fixedOn (m .ring)) (endsOn (m .ring)) (ownSlot m p) p
       found =
-          let at : i ≡ spotOf (fixed c (markOf c) (m .ring .fixed .edition)) (viewOf p .held) = ap (λ (f : Fixed). spotOf f (viewOf p .held)) (pic .rule) in
-          let d : Finds bits (fixed c (markOf c) (m .ring .fixed .edition)) (endsOf c (markOf c) n s (pic .shut)) (slotOf c (markOf c) n (s .cell i) (s .val i)) p =
-          finds bits c (markOf c) n (m .ring .fixed .edition) (base .ground) s (pic .inv) w i (pic .ages w) (pic .shut) p small at (pic .stands w) young (loose i small) in
-          subst (λ (f : Fixed). Finds bits f (m .ring .ends) (ownSlot m p) p) (sym (pic .rule))
-          (subst (λ (e : Ends). Finds bits (fixed c (markOf c) (m .ring .fixed .edition)) e (ownSlot m p) p) (sym (pic .ends))
-          (subst (λ (z : Slot). Finds bits (fixed c (markOf c) (m .ring .fixed .edition)) (endsOf c (markOf c) n s (pic .shut)) z p) (sym (pic .slots i small)) d))
+          let at : i ≡ spotOf (fixed c (markOf c) (m .ring .edition)) (viewOf p .held) = ap (λ (f : Fixed). spotOf f (viewOf p .held)) (pic .rule) in
+          let d : Finds bits (fixed c (markOf c) (m .ring .edition)) (endsOf c (markOf c) n s (pic .shut)) (slotOf c (markOf c) n (s .cell i) (s .val i)) p =
+          finds bits c (markOf c) n (m .ring .edition) (base .ground) s (pic .inv) w i (pic .ages w) (pic .shut) p small at (pic .stands w) young (loose i small) in
+          subst (λ (f : Fixed). Finds bits f (endsOn (m .ring)) (ownSlot m p) p) (sym (pic .rule))
+          (subst (λ (e : Ends). Finds bits (fixed c (markOf c) (m .ring .edition)) e (ownSlot m p) p) (sym (pic .ends))
+          (subst (λ (z : Slot). Finds bits (fixed c (markOf c) (m .ring .edition)) (endsOf c (markOf c) n s (pic .shut)) z p) (sym (pic .slots i small)) d))
 
       pub rank-falls : rank bits next w < rank bits m w
       unfolding actedBy stored
       rank-falls =
-          subst (λ (q : Place). rankOf bits (m .ring .fixed) (result .ends) q < rank bits m w) (sym next-stood) (falls bits (m .ring .fixed) (m .ring .ends) (ownSlot m p) p busy found)
+          subst (λ (q : Place). rankOf bits (fixedOn (m .ring)) (result .ends) q < rank bits m w) (sym next-stood) (falls bits (fixedOn (m .ring)) (endsOn (m .ring)) (ownSlot m p) p busy found)
 
       long : i < length (m .ring .slots)
       long = omega (arith, small, base .few, pic .slots-long)
@@ -139,20 +139,20 @@ module _ (bits : Width) (c n workers : ℕ) (base : Base bits c n workers) (s : 
       slot-there j same (yes e) = rw e (getD-set-same (m .ring .slots) i (result .slot) (slot 0 0) long ∙ same)
       slot-there j same (no ne) = getD-set-other (m .ring .slots) i j (result .slot) (slot 0 0) ne
 
-      first : i ≡ indexOf (m .ring .fixed) (m .ring .ends .head) → valueAt m (m .ring .ends .head) ≡ ownSlot m p .value
+      first : i ≡ indexOf (fixedOn (m .ring)) (m .ring .head) → valueAt m (m .ring .head) ≡ ownSlot m p .value
       first e = ap (λ (j : ℕ). getD (m .ring .slots) j (slot 0 0) .value) (sym e)
 
       pub foretold-stays : foretold bits next w ≡ foretold bits m w
       unfolding actedBy stored
       foretold-stays =
-          let f = m .ring .fixed in
-          let k : Leaves bits f (m .ring .ends) (ownSlot m p) i (valueAt m (m .ring .ends .head)) first (foretold bits m w) result =
-          leaves bits f (m .ring .ends) (ownSlot m p) i (valueAt m (m .ring .ends .head)) first p busy refl found in
-          subst (λ (q : Place). foretoldOf bits f (result .ends) (valueAt next (next .ring .ends .head)) (ownValue next q) q ≡ foretold bits m w) (sym next-stood)
-          (k (valueAt next (next .ring .ends .head)) (ownValue next (result .place))
+          let f = fixedOn (m .ring) in
+          let k : Leaves bits f (endsOn (m .ring)) (ownSlot m p) i (valueAt m (m .ring .head)) first (foretold bits m w) result =
+          leaves bits f (endsOn (m .ring)) (ownSlot m p) i (valueAt m (m .ring .head)) first p busy refl found in
+          subst (λ (q : Place). foretoldOf bits f (result .ends) (valueAt next (next .ring .head)) (ownValue next q) q ≡ foretold bits m w) (sym next-stood)
+          (k (valueAt next (next .ring .head)) (ownValue next (result .place))
           (λ ends-same slot-same.
           ap (λ (e : Ends). getD (next .ring .slots) (indexOf f (e .head)) (slot 0 0) .value) ends-same
-          ∙ ap (λ (z : Slot). z .value) (slot-there (indexOf f (m .ring .ends .head)) slot-same (ℕ-discrete (indexOf f (m .ring .ends .head)) i)))
+          ∙ ap (λ (z : Slot). z .value) (slot-there (indexOf f (m .ring .head)) slot-same (ℕ-discrete (indexOf f (m .ring .head)) i)))
           (λ e. ap (λ (j : ℕ). getD (next .ring .slots) j (slot 0 0) .value) e ∙ ap (λ (z : Slot). z .value) (getD-set-same (m .ring .slots) i (result .slot) (slot 0 0) long)))
 
 -- The value v is the item of the tail claim that has the number of worker w's head claim, in the call that it is in.
@@ -166,7 +166,7 @@ pub record Ended (bits : Width) (m : Machine) (h : List Event) (from w most : �
   pub accepted-all : runAt bits m from (acts w (suc before)) .refusal ≡ 0
   pub busy-yet : viewOf (placeOf (runAt bits m from (acts w before) .machine .workers) w) .busy ≡ true
   pub ends : placeOf (runAt bits m from (acts w (suc before)) .machine .workers) w ≡ Idle a
-  pub true-then : Truth bits (m .ring .fixed) (runAt bits m from (acts w before) .machine .ring .ends) a
+  pub true-then : Truth bits (fixedOn (m .ring)) (endsOn (runAt bits m from (acts w before) .machine .ring)) a
   pub claimed : (v : ℕ) → HandsOut (Idle a) v → Claims (h ++ historyAt bits m (acts w before)) w v
   -- and acts past the end change nothing
   pub idle-by : viewOf (placeOf (runAt bits m from (acts w most) .machine .workers) w) .busy ≡ false
@@ -185,7 +185,7 @@ history-more bits m next h w k e =
 
 -- the answer foretold of an idle worker is the one it gave
 answered : (bits : Width) (m : Machine) (w : ℕ) (a : Answer) → stood m w ≡ Idle a → foretold bits m w ≡ a
-answered bits m w a e = ap (λ (q : Place). foretoldOf bits (m .ring .fixed) (m .ring .ends) (valueAt m (m .ring .ends .head)) (ownValue m q) q) e
+answered bits m w a e = ap (λ (q : Place). foretoldOf bits (fixedOn (m .ring)) (endsOn (m .ring)) (valueAt m (m .ring .head)) (ownValue m q) q) e
 
 -- acts of an idle worker are refused
 idle-refused : (bits : Width) (m : Machine) (w : ℕ) → viewOf (stood m w) .busy ≡ false → eqb (turnAt bits m (16 * w + 8) 0 .refusal) 0 ≡ false
@@ -203,7 +203,7 @@ idle-stays bits m from w (suc k) idle = rw (idle-refused bits m w idle)
 
 -- the last act
 last : (bits : Width) (m next : Machine) (h : List Event) (from w : ℕ) (a : Answer) → turnAt bits m (16 * w + 8) 0 ≡ accepted next → viewOf (stood m w) .busy ≡ true → stood next w ≡ Idle a
-    → Truth bits (m .ring .fixed) (m .ring .ends) a → ((v : ℕ) → HandsOut (Idle a) v → Claims h w v) → (k : ℕ) → Ended bits m h from w (suc k) a
+    → Truth bits (fixedOn (m .ring)) (endsOn (m .ring)) a → ((v : ℕ) → HandsOut (Idle a) v → Claims h w v) → (k : ℕ) → Ended bits m h from w (suc k) a
 unfolding runBy historyBy acts ran accepted
 last bits m next h from w a taken busy e t claims k =
     record {
@@ -231,8 +231,8 @@ module _ (bits : Width) (c n workers : ℕ) (base : Base bits c n workers) (w : 
   own-young m h r l busy young early =
       own-next bits c n workers base m h r w l false busy young early (λ (u : Shared) (a : Age) (q : Place). Recent c (markOf c) n u a (look c q))
       (stays-recent c (markOf c) n (r .ring) (r .pictured .ages w) (base .ground .laws)
-      (pictured.next bits c n workers base (r .ring) m (r .pictured) w l false busy young) (stood m w) (actOf bits (m .ring .fixed) (m .ring .ends) (ownSlot m (stood m w)) (stood m w) false .place)
-      (leads-on c (markOf c) n (r .ring) (r .pictured .ages w) bits (m .ring .fixed) (m .ring .ends) (ownSlot m (stood m w)) (stood m w) false)
+      (pictured.next bits c n workers base (r .ring) m (r .pictured) w l false busy young) (stood m w) (actOf bits (fixedOn (m .ring)) (endsOn (m .ring)) (ownSlot m (stood m w)) (stood m w) false .place)
+      (leads-on c (markOf c) n (r .ring) (r .pictured .ages w) bits (fixedOn (m .ring)) (endsOn (m .ring)) (ownSlot m (stood m w)) (stood m w) false)
       (grown bits c n workers base m h r w l false busy young) young)
 
   pub ends-by : (k : ℕ) (m : Machine) (h : List Event) (from : ℕ) (r : Reached c n workers m h) → viewOf (stood m w) .busy ≡ true → m .meter + k ≤ meterMost
@@ -278,9 +278,9 @@ module _ (bits : Width) (c n workers : ℕ) (base : Base bits c n workers) (w : 
             busy-yet = ap (λ (z : Ran). viewOf (placeOf (z .machine .workers) w) .busy) (run-more bits m next from w (d .before) taken) ∙ d .busy-yet;
             ends = ap (λ (z : Ran). placeOf (z .machine .workers) w) (run-more bits m next from w (suc (d .before)) taken) ∙ d .ends ∙ ap Idle told;
             true-then =
-                subst (λ (z : Ran). Truth bits (m .ring .fixed) (z .machine .ring .ends) (foretold bits m w)) (sym (run-more bits m next from w (d .before) taken))
-                (subst (λ (f : Fixed). Truth bits f (runAt bits next (from + 1) (acts w (d .before)) .machine .ring .ends) (foretold bits m w)) (acted-fixed bits m w (stood m w) false)
-                (subst (λ (a : Answer). Truth bits (next .ring .fixed) (runAt bits next (from + 1) (acts w (d .before)) .machine .ring .ends) a) told (d .true-then)));
+                subst (λ (z : Ran). Truth bits (fixedOn (m .ring)) (endsOn (z .machine .ring)) (foretold bits m w)) (sym (run-more bits m next from w (d .before) taken))
+                (subst (λ (f : Fixed). Truth bits f (endsOn (runAt bits next (from + 1) (acts w (d .before)) .machine .ring)) (foretold bits m w)) (acted-fixed bits m w (stood m w) false)
+                (subst (λ (a : Answer). Truth bits (fixedOn (next .ring)) (endsOn (runAt bits next (from + 1) (acts w (d .before)) .machine .ring)) a) told (d .true-then)));
             claimed =
                 λ v out.
                 subst (λ (l : List Event). Claims l w v) (history-more bits m next h w (d .before) taken)

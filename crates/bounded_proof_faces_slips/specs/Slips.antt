@@ -7,7 +7,7 @@ use lib.Dec.{eqb}
 use Rattle.bounded_machine.specs.declared.Machine.{Machine}
 use Rattle.bounded_machine.specs.declared.Did.{Did}
 use Rattle.bounded_machine.specs.declared.Ran.{Ran}
-use Rattle.bounded_machine.specs.Machine.{machineOf, blank}
+use Rattle.bounded_machine.specs.Machine.{machineOf, blank, fixedOn, endsOn}
 use Rattle.bounded_machine.specs.Run.{ran, runFrom, runOf}
 use Rattle.bounded.specs.Bounded as bounded
 use Rattle.bounded_demands.specs.Notions.{Face, sixtyFour, Promises, promisesOf}
@@ -52,7 +52,7 @@ abbrev pub machineOpen : ℕ
 machineOpen = 8
 
 abbrev withMeter : ℕ → Machine → Machine
-withMeter k m = machineOf (m .ring .fixed) (m .ring .ends) (m .ring .slots) (m .workers) (m .count) k
+withMeter k m = machineOf (fixedOn (m .ring)) (endsOn (m .ring)) (m .ring .slots) (m .workers) (m .count) k
 
 abbrev did : ℕ → Machine → Did
 did k m = record { refusal = k; machine = m }

@@ -28,7 +28,7 @@ use Rattle.bounded_places.specs.Places.{viewOf, beginOf}
 use Rattle.bounded_machine.specs.declared.Machine.{Machine}
 use Rattle.bounded_machine.specs.declared.Did.{Did}
 use Rattle.bounded_machine.specs.declared.Ran.{Ran}
-use Rattle.bounded_machine.specs.Machine.{machineOf, recordOf, placeOf, idler, idlers, freshWith, freshOf, blank, refused, accepted}
+use Rattle.bounded_machine.specs.Machine.{machineOf, recordOf, placeOf, idler, idlers, freshWith, freshOf, blank, refused, accepted, fixedOn, endsOn}
 use Rattle.bounded_machine.specs.Broken.{recordFits, brokenOf, allIdle}
 use Rattle.bounded_machine.specs.Contents.{countIn, contentsRefusal, written, capacityRefusal, capacityOf}
 use Rattle.bounded_machine.specs.Turn.{verdictOf, spotOf, beginner, recordAfter, begun, stored, actAt, actedBy, carried, turn, turnOf, turnOfBy}
@@ -66,7 +66,7 @@ joined (suc a) b = let e : suc (a + b) ≡ suc a + b = omega arith in ap (λ (zs
 
 -- ---- a machine with idle records behind its own
 abbrev padded : ℕ → Machine → Machine
-padded k m = machineOf (m .ring .fixed) (m .ring .ends) (m .ring .slots) (m .workers ++ idlers k) (m .count) (m .meter)
+padded k m = machineOf (fixedOn (m .ring)) (endsOn (m .ring)) (m .ring .slots) (m .workers ++ idlers k) (m .count) (m .meter)
 
 abbrev padded-did : ℕ → Did → Did
 padded-did k d = record { refusal = d .refusal; machine = padded k (d .machine) }
@@ -79,10 +79,10 @@ module _ (k : ℕ) (m : Machine) where
   unfolding refused accepted begun actedBy stored
   carried-padded w l p (Refuse number) = refl
   carried-padded w l p (Start c) =
-      ap (λ (zs : List Worker). record { refusal = 0; machine = machineOf (m .ring .fixed) (m .ring .ends) (m .ring .slots) zs (m .count) (m .meter) }) (set-before (m .workers) k w (beginner (beginOf c)) l)
+      ap (λ (zs : List Worker). record { refusal = 0; machine = machineOf (fixedOn (m .ring)) (endsOn (m .ring)) (m .ring .slots) zs (m .count) (m .meter) }) (set-before (m .workers) k w (beginner (beginOf c)) l)
   carried-padded w l p (Move lose) =
       let a = actAt (actOf SixtyFour) m p lose in
-      ap (λ (zs : List Worker). record { refusal = 0; machine = machineOf (m .ring .fixed) (a .ends) (set (m .ring .slots) (spotOf (m .ring .fixed) (viewOf p .held)) (a .slot)) zs (m .count) (m .meter + 1) })
+      ap (λ (zs : List Worker). record { refusal = 0; machine = machineOf (fixedOn (m .ring)) (a .ends) (set (m .ring .slots) (spotOf (fixedOn (m .ring)) (viewOf p .held)) (a .slot)) zs (m .count) (m .meter + 1) })
       (ap (λ (r : Worker). set (m .workers ++ idlers k) w (recordAfter r (a .place) (a .loss))) (same-record (m .workers) k w)
       ∙ set-before (m .workers) k w (recordAfter (recordOf (m .workers) w) (a .place) (a .loss)) l)
 
@@ -110,8 +110,8 @@ module _ (k : ℕ) (m : Machine) where
 -- what is lent, held
 holding-is : (n : ℕ) (m : Machine) → Whole n m → holding (meteredOf m) (m .workers) ≡ padded (workersMost - n) m
 holding-is n m u =
-    ap (λ (c : ℕ). machineOf (m .ring .fixed) (m .ring .ends) (m .ring .slots) (m .workers ++ idlers (workersMost - c)) c (m .meter)) (u .0)
-    ∙ ap (λ (c : ℕ). machineOf (m .ring .fixed) (m .ring .ends) (m .ring .slots) (m .workers ++ idlers (workersMost - n)) c (m .meter)) (sym (u .1))
+    ap (λ (c : ℕ). machineOf (fixedOn (m .ring)) (endsOn (m .ring)) (m .ring .slots) (m .workers ++ idlers (workersMost - c)) c (m .meter)) (u .0)
+    ∙ ap (λ (c : ℕ). machineOf (fixedOn (m .ring)) (endsOn (m .ring)) (m .ring .slots) (m .workers ++ idlers (workersMost - n)) c (m .meter)) (sym (u .1))
 
 -- ---- broken
 as-one : (b c : Bool) → (b ≡ false → c ≡ false) → (c ≡ false → b ≡ false) → b ≡ c
@@ -156,11 +156,11 @@ module _ (l : Metered) (ys : List Worker) (few : length ys ≤ workersMost) wher
         fits = λ i g. go i (decLt i (length ys));
       }
     where
-      go : (i : ℕ) → Dec (i < length ys) → recordFits (l .ring .fixed) (l .meter) (recordOf (ys ++ idlers (workersMost - length ys)) i) (ltb i (length ys)) ≡ true
-      go i (yes less) = ap (λ (r : Worker). recordFits (l .ring .fixed) (l .meter) r (ltb i (length ys))) (same-record ys (workersMost - length ys) i) ∙ u .fits i less
+      go : (i : ℕ) → Dec (i < length ys) → recordFits (fixedOn (l .ring)) (l .meter) (recordOf (ys ++ idlers (workersMost - length ys)) i) (ltb i (length ys)) ≡ true
+      go i (yes less) = ap (λ (r : Worker). recordFits (fixedOn (l .ring)) (l .meter) r (ltb i (length ys))) (same-record ys (workersMost - length ys) i) ∙ u .fits i less
       go i (no more) =
           let past : length ys ≤ i = omega arith in
-          idle-fits (l .ring .fixed) (l .meter) _ (ltb i (length ys)) (same-record ys (workersMost - length ys) i ∙ List·getD-eq-default ys idler past)
+          idle-fits (fixedOn (l .ring)) (l .meter) _ (ltb i (length ys)) (same-record ys (workersMost - length ys) i ∙ List·getD-eq-default ys idler past)
 
   of-held : UnbrokenWith workersMost (holding l ys) → UnbrokenWith (length ys) (held l ys)
   of-held u =
@@ -170,7 +170,7 @@ module _ (l : Metered) (ys : List Worker) (few : length ys ≤ workersMost) wher
         edition = u .edition;
         rule = u .rule;
         ends = u .ends;
-        fits = λ i g. ap (λ (r : Worker). recordFits (l .ring .fixed) (l .meter) r (ltb i (length ys))) (sym (same-record ys (workersMost - length ys) i)) ∙ u .fits i (omega arith);
+        fits = λ i g. ap (λ (r : Worker). recordFits (fixedOn (l .ring)) (l .meter) r (ltb i (length ys))) (sym (same-record ys (workersMost - length ys) i)) ∙ u .fits i (omega arith);
       }
 
   broken-held : brokenLent l ys ≡ brokenOf (holding l ys)
@@ -228,7 +228,7 @@ module _ (l : Metered) (ys : List Worker) (few : length ys ≤ workersMost) wher
 
   capacity-held : capacityLent l ys ≡ capacityOf (holding l ys)
   unfolding capacityTold capacityOf capacityRefusal
-  capacity-held = ap (λ (b : Bool). told (cond b 6 0) (l .ring .fixed .capacity)) broken-held
+  capacity-held = ap (λ (b : Bool). told (cond b 6 0) (l .ring .capacity)) broken-held
 
   contents-held : (buffer : List ℕ) → contentsLent l ys buffer ≡ filled (told (contentsRefusal (holding l ys) (length buffer)) (countIn (holding l ys))) (written (holding l ys) buffer)
   unfolding contentsLent contentsBy contentsRefusal written
@@ -280,8 +280,8 @@ module _ (ys : List Worker) (capacity edition : ℕ) (few : length ys ≤ worker
   fresh-held =
       let F = freshWith n capacity n edition in
       let all-of-them : n + (workersMost - n) ≡ workersMost = omega (arith, few) in
-      ap (λ (c : ℕ). machineOf (F .ring .fixed) (F .ring .ends) (F .ring .slots) (replicate n idler ++ replicate (workersMost - c) idler) c 0) (length-replicate n idler)
-      ∙ ap (λ (ws : List Worker). machineOf (F .ring .fixed) (F .ring .ends) (F .ring .slots) ws n 0) (joined n (workersMost - n) ∙ ap (λ (k : ℕ). replicate k idler) all-of-them)
+      ap (λ (c : ℕ). machineOf (fixedOn (F .ring)) (endsOn (F .ring)) (F .ring .slots) (replicate n idler ++ replicate (workersMost - c) idler) c 0) (length-replicate n idler)
+      ∙ ap (λ (ws : List Worker). machineOf (fixedOn (F .ring)) (endsOn (F .ring)) (F .ring .slots) ws n 0) (joined n (workersMost - n) ∙ ap (λ (k : ℕ). replicate k idler) all-of-them)
 
   made-held : makeLent ys capacity edition .answer ≡ 0 → holds-did (makeLent ys capacity edition) ≡ makeOf capacity n edition
   unfolding refused accepted

@@ -20,7 +20,7 @@ use Rattle.bounded_places.specs.declared.Worker.{Worker}
 use Rattle.bounded_machine.specs.declared.Machine.{Machine}
 use Rattle.bounded_machine.specs.declared.Did.{Did}
 use Rattle.bounded_machine.specs.declared.Ran.{Ran}
-use Rattle.bounded_machine.specs.Machine.{freshWith, blank, accepted}
+use Rattle.bounded_machine.specs.Machine.{freshWith, blank, accepted, fixedOn}
 use Rattle.bounded_machine.specs.Broken.{allIdle}
 use Rattle.bounded_machine.specs.Contents.{countOn, contentsOf, contentsRefusalBy}
 use Rattle.bounded_machine.specs.Turn.{turnOf}
@@ -101,10 +101,10 @@ module _ (l : Metered) (ys : List Worker) where
       rw (told-back (contentsRefusalBy (brokenLent l ys) (allIdle ys) (countOn (l .ring)) (length buffer)) (countOn (l .ring)))
       (picked Listed (brokenLent l ys) 6 _ refl (picked Listed (allIdle ys) _ 4 (picked Listed (ltb (length buffer) (countOn (l .ring))) 10 0 refl refl) refl))
 
-  capacity-among : has (0 ∷ 6 ∷ []) (refusalOf (capacityTold (brokenLent l ys) (l .ring .fixed))) ≡ true
+  capacity-among : has (0 ∷ 6 ∷ []) (refusalOf (capacityTold (brokenLent l ys) (l .ring .capacity))) ≡ true
   unfolding capacityTold has
   capacity-among =
-      rw (told-back (cond (brokenLent l ys) 6 0) (l .ring .fixed .capacity)) (picked (λ (k : ℕ). has (0 ∷ 6 ∷ []) k ≡ true) (brokenLent l ys) 6 0 refl refl)
+      rw (told-back (cond (brokenLent l ys) 6 0) (l .ring .capacity)) (picked (λ (k : ℕ). has (0 ∷ 6 ∷ []) k ≡ true) (brokenLent l ys) 6 0 refl refl)
 
   -- ---- unbroken
   pub run-sound : (s : List ℕ) → brokenLent l ys ≡ false → brokenLent (runLent l ys s .ring) (runLent l ys s .records) ≡ false

@@ -6,7 +6,7 @@ use mathlib.Core.Path.{_≡_}
 use lib.Dec.{eqb}
 use lib.ListN.{length, set}
 use Rattle.bounded_places.specs.declared.Worker.{Worker}
-use Rattle.bounded_machine.specs.Machine.{machineOf, recordOf, idler, freshWith, accepted}
+use Rattle.bounded_machine.specs.Machine.{machineOf, recordOf, idler, freshWith, accepted, fixedOn, endsOn}
 use Rattle.bounded_machine.specs.Turn.{turnOf}
 use Rattle.bounded_orders.specs.declared.Metered.{Metered}
 use Rattle.bounded_orders.specs.Orders.{report, Filled, filled}
@@ -77,7 +77,7 @@ stepWith n l ys first second =
     cond (eqb n neighbourWritten)
     (withRecords (set (stepLent l ys first second .records) (first / 16 + 1) (recordOf (stepLent l ys first second .records) (first / 16))) (stepLent l ys first second))
     (cond (eqb n countKept)
-    (cond (brokenLent l ys) (lent 6 l ys) (lentOf (turnOf (machineOf (l .ring .fixed) (l .ring .ends) (l .ring .slots) ys 2 (l .meter)) first second)))
+    (cond (brokenLent l ys) (lent 6 l ys) (lentOf (turnOf (machineOf (fixedOn (l .ring)) (endsOn (l .ring)) (l .ring .slots) ys 2 (l .meter)) first second)))
     (cond (eqb n refusedMoves) (cond (eqb (stepLent l ys first second .answer) 0) (stepLent l ys first second) (withMeter (l .meter + 1) (stepLent l ys first second)))
     (cond (eqb n meterStays) (withMeter (l .meter) (stepLent l ys first second))
     (stepLent l ys first second))))

@@ -34,7 +34,7 @@ use Rattle.bounded_places.specs.Places.{viewOf}
 use Rattle.bounded_acts.specs.Acts.{goes, actOf}
 use Rattle.bounded_machine.specs.declared.Machine.{Machine}
 use Rattle.bounded_machine.specs.declared.Event.{Event}
-use Rattle.bounded_machine.specs.Machine.{slot}
+use Rattle.bounded_machine.specs.Machine.{slot, fixedOn, endsOn}
 use Rattle.bounded_machine.specs.Turn.{acted}
 use Rattle.bounded_machine.specs.History.{movedOf, lossAt}
 use Rattle.bounded_causes.specs.Causes.{standOf, claimsTail, claimsHead}
@@ -108,13 +108,13 @@ module _ (bits : Width) (c n workers : ℕ) (base : Base bits c n workers) (ed :
   aged j far = upd-else (pic .ages) w j (new-age bits c n workers base s m pic w l lose busy) far
 
   -- where the act led from, if that matters
-  lead : Leads bits (m .ring .fixed) (m .ring .ends) (stood m w) q
-  lead = leads bits (m .ring .fixed) (m .ring .ends) (getD (m .ring .slots) (i bits c n workers base ed m st o w l lose busy young early) (slot 0 0)) (stood m w) lose busy
+  lead : Leads bits (fixedOn (m .ring)) (endsOn (m .ring)) (stood m w) q
+  lead = leads bits (fixedOn (m .ring)) (endsOn (m .ring)) (getD (m .ring .slots) (i bits c n workers base ed m st o w l lose busy young early) (slot 0 0)) (stood m w) lose busy
 
   from-f7 : (t : Stamp) (x : ℕ) → stood m w ≡ F7 t x → q ≡ F8 t x
   unfolding goes
   from-f7 t x h =
-      ap (λ (y : Place). actOf bits (m .ring .fixed) (m .ring .ends) (getD (m .ring .slots) (i bits c n workers base ed m st o w l lose busy young early) (slot 0 0)) y lose .place) h
+      ap (λ (y : Place). actOf bits (fixedOn (m .ring)) (endsOn (m .ring)) (getD (m .ring .slots) (i bits c n workers base ed m st o w l lose busy young early) (slot 0 0)) y lose .place) h
 
   -- ---- a force_push between its two claims
 
@@ -747,7 +747,7 @@ module _ (bits : Width) (c n workers : ℕ) (base : Base bits c n workers) (ed :
       d = due-at (F8 t x) h
 
       from : stood m w ≡ F7 t x
-      from = subst (Leads bits (m .ring .fixed) (m .ring .ends) (stood m w)) h lead
+      from = subst (Leads bits (fixedOn (m .ring)) (endsOn (m .ring)) (stood m w)) h lead
 
       rises-tail : next-ring .tail ≡ s .tail + 1
       rises-tail = mv .tails ∙ rw (ap movedOf h)
@@ -896,7 +896,7 @@ module _ (bits : Width) (c n workers : ℕ) (base : Base bits c n workers) (ed :
   abbrev age : Age
   age = pic .ages w
 
-  fixed-is : m .ring .fixed ≡ fixed c mark ed
+  fixed-is : fixedOn (m .ring) ≡ fixed c mark ed
   fixed-is = pic .rule ∙ ap (fixed c mark) (o .edition)
 
   -- a push or force_push with a word of tail, where the ring is full and nothing has moved since
@@ -1056,8 +1056,8 @@ module _ (bits : Width) (c n workers : ℕ) (base : Base bits c n workers) (ed :
       cl : Call
       cl = call.Push y
 
-      from : (t : Stamp) × (stood m w ≡ P6 t y) × (lapBehind bits (m .ring .fixed) (m .ring .ends .head) t ≡ true)
-      from = subst (Leads bits (m .ring .fixed) (m .ring .ends) (stood m w)) h lead
+      from : (t : Stamp) × (stood m w ≡ P6 t y) × (lapBehind bits (fixedOn (m .ring)) (m .ring .head) t ≡ true)
+      from = subst (Leads bits (fixedOn (m .ring)) (endsOn (m .ring)) (stood m w)) h lead
 
       given : GivenBy c n ed st s age w (call.Push y) (from .0)
       given = subst (λ (z : Place). Due c n ed st s age w (task z)) (from .1) (o .dues w)
@@ -1075,7 +1075,7 @@ module _ (bits : Width) (c n workers : ℕ) (base : Base bits c n workers) (ed :
             given = given;
             full =
                 lap-tests bits c n ed (base .ground) st s (pic .inv) (pic .shut) (o .shelf) w (i bits c n workers base ed m st o w l lose busy young early) age (lossAt bits m w lose) (call.Push y) (from .0) given fresh-word
-                (subst (λ (z : Ends). lapBehind bits (fixed c mark ed) (z .head) (from .0) ≡ true) (pic .ends) (subst (λ (z : Fixed). lapBehind bits z (m .ring .ends .head) (from .0) ≡ true) fixed-is (from .2)));
+                (subst (λ (z : Ends). lapBehind bits (fixed c mark ed) (z .head) (from .0) ≡ true) (pic .ends) (subst (λ (z : Fixed). lapBehind bits z (m .ring .head) (from .0) ≡ true) fixed-is (from .2)));
           }
 
       stays-full : (z : Queue) → z .closed ≡ false → fullOf z ≡ true → leftBy z (call.Push y) ≡ z
@@ -1125,8 +1125,8 @@ module _ (bits : Width) (c n workers : ℕ) (base : Base bits c n workers) (ed :
       d : SwapsBy c n ed st′ next-ring w x []
       d = due-at (F7 t x) h
 
-      from : (stood m w ≡ F6 t x) × (same (m .ring .ends .head) (minus bits t (m .ring .fixed .lap)) ≡ true)
-      from = subst (Leads bits (m .ring .fixed) (m .ring .ends) (stood m w)) h lead
+      from : (stood m w ≡ F6 t x) × (same (m .ring .head) (minus bits t (m .ring .lap)) ≡ true)
+      from = subst (Leads bits (fixedOn (m .ring)) (endsOn (m .ring)) (stood m w)) h lead
 
       given : GivenBy c n ed st s age w (call.ForcePush x) t
       given = subst (λ (z : Place). Due c n ed st s age w (task z)) (from .0) (o .dues w)
@@ -1148,7 +1148,7 @@ module _ (bits : Width) (c n workers : ℕ) (base : Base bits c n workers) (ed :
             full =
                 head-tests bits c n ed (base .ground) st s (pic .inv) (pic .shut) (o .shelf) w (i bits c n workers base ed m st o w l lose busy young early) age (lossAt bits m w lose) (call.ForcePush x) t given
                 (record { k = at-f6 .0; word = at-f6 .1; low = at-f6 .2 .0; high = at-f6 .2 .2; late = at-f6 .3 }) fresh-word
-                (subst (λ (z : Ends). same (z .head) (minus bits t (2 * mark)) ≡ true) (pic .ends) (subst (λ (z : Fixed). same (m .ring .ends .head) (minus bits t (z .lap)) ≡ true) fixed-is (from .1)));
+                (subst (λ (z : Ends). same (z .head) (minus bits t (2 * mark)) ≡ true) (pic .ends) (subst (λ (z : Fixed). same (m .ring .head) (minus bits t (z .lap)) ≡ true) fixed-is (from .1)));
           }
 
       some : 0 < length (known c ed st .queue .items)
@@ -1285,7 +1285,7 @@ module _ (bits : Width) (c n workers : ℕ) (base : Base bits c n workers) (ed :
   not-pop x h r says no-pop is none = absurd (pop-says (known c ed st .queue) (ans x h .call) (ap pops says ∙ no-pop) is)
 
   -- where O6 found the ring empty, nobody is between two claims
-  empty-pend : (y : Stamp) → stood m w ≡ O6 y → same (unmarkedOf (m .ring .fixed) (m .ring .ends .tail)) y ≡ true → lin .pend ≡ []
+  empty-pend : (y : Stamp) → stood m w ≡ O6 y → same (unmarkedOf (fixedOn (m .ring)) (m .ring .tail)) y ≡ true → lin .pend ≡ []
   empty-pend y from test = go (lin .pending)
     where
       at-o6 : Stands c mark n s w age (look c (O6 y))
@@ -1295,7 +1295,7 @@ module _ (bits : Width) (c n workers : ℕ) (base : Base bits c n workers) (ed :
       found =
           tail-tests bits c n ed (base .ground) st s (pic .inv) (pic .shut) (o .shelf) w (i bits c n workers base ed m st o w l lose busy young early) age (lossAt bits m w lose) y (at-o6 .0) (at-o6 .1) (at-o6 .2 .0) (at-o6 .3)
           (subst (λ (z : Place). Recent c mark n s age (look c z)) from young refl)
-          (subst (λ (z : Ends). same (unmarkedOf (fixed c mark ed) (z .tail)) y ≡ true) (pic .ends) (subst (λ (z : Fixed). same (unmarkedOf z (m .ring .ends .tail)) y ≡ true) fixed-is test))
+          (subst (λ (z : Ends). same (unmarkedOf (fixed c mark ed) (z .tail)) y ≡ true) (pic .ends) (subst (λ (z : Fixed). same (unmarkedOf z (m .ring .tail)) y ≡ true) fixed-is test))
 
       go : Pending m (lin .pend) → lin .pend ≡ []
       go (inl z) = z .0
@@ -1329,11 +1329,11 @@ module _ (bits : Width) (c n workers : ℕ) (base : Base bits c n workers) (ed :
   line-said (Popped v) h = had-out (Popped v) h v (plain.Popped v) refl refl refl (popped-call (queueAt c ed (ans (Popped v) h .moment) st) (ans (Popped v) h .call) v (ans (Popped v) h .plain) v)
   line-said Empty h =
       let at = said-now Empty h plain.Empty refl refl in
-      let from = subst (Leads bits (m .ring .fixed) (m .ring .ends) (stood m w)) h lead in
+      let from = subst (Leads bits (fixedOn (m .ring)) (endsOn (m .ring)) (stood m w)) h lead in
       line-now Empty h (at .0) plain.Empty (at .1) refl refl refl refl (λ is none. empty-pend (from .0) (from .1) (from .2))
   line-said PopClosed h =
       let at = said-now PopClosed h plain.EmptyAndClosed refl refl in
-      let from = subst (Leads bits (m .ring .fixed) (m .ring .ends) (stood m w)) h lead in
+      let from = subst (Leads bits (fixedOn (m .ring)) (endsOn (m .ring)) (stood m w)) h lead in
       line-now PopClosed h (at .0) plain.EmptyAndClosed (at .1) refl refl refl refl (λ is none. empty-pend (from .0) (from .1) (from .2))
   line-said (Len y) h =
       let says : answerOf (queueAt c ed (ans (Len y) h .moment) st) (ans (Len y) h .call) ≡ plain.Count y = one-reply _ (plain.Count y) (ans (Len y) h .plain) in
@@ -1341,7 +1341,7 @@ module _ (bits : Width) (c n workers : ℕ) (base : Base bits c n workers) (ed :
   line-said Yes h =
       let at = said-now Yes h plain.Yes refl refl in
       line-now Yes h (at .0) plain.Yes (at .1) refl refl refl refl (not-pop Yes h plain.Yes (at .1) refl)
-  line-said No h = go (subst (Leads bits (m .ring .fixed) (m .ring .ends) (stood m w)) h lead)
+  line-said No h = go (subst (Leads bits (fixedOn (m .ring)) (endsOn (m .ring)) (stood m w)) h lead)
     where
       last-act : standOf (stood m w) .far ≡ 1 → Lined c ed now st′ next-ring after
       last-act far =

@@ -25,7 +25,7 @@ use Rattle.bounded_places.specs.Places.{viewOf}
 use Rattle.bounded_machine.specs.declared.Machine.{Machine}
 use Rattle.bounded_machine.specs.declared.Did.{Did}
 use Rattle.bounded_machine.specs.declared.Event.{Event}
-use Rattle.bounded_machine.specs.Machine.{starts, freshWith}
+use Rattle.bounded_machine.specs.Machine.{starts, freshWith, endsOn}
 use Rattle.bounded_machine.specs.Turn.{turnAt, turnOfBy}
 use Rattle.bounded_machine.specs.Run.{runAt}
 use Rattle.bounded_machine.specs.History.{eventsOf}
@@ -175,11 +175,11 @@ module _ (bits : Width) (records c workers ed : ℕ) (a : AllowedWith records c 
 
   -- ---- the fresh machine
 
-  fresh-ends : freshWith records c workers ed .ring .ends ≡ starts
+  fresh-ends : endsOn (freshWith records c workers ed .ring) ≡ starts
   unfolding freshWith
   fresh-ends = refl
 
-  fresh-edition : freshWith records c workers ed .ring .fixed .edition ≡ ed
+  fresh-edition : freshWith records c workers ed .ring .edition ≡ ed
   unfolding freshWith
   fresh-edition = refl
 

@@ -33,7 +33,7 @@ use Rattle.bounded_acts.specs.declared.Acted.{Acted}
 use Rattle.bounded_acts.specs.Acts.{actOf}
 use Rattle.bounded_machine.specs.declared.Machine.{Machine}
 use Rattle.bounded_machine.specs.declared.Event.{Event}
-use Rattle.bounded_machine.specs.Machine.{slot, idler, placeOf}
+use Rattle.bounded_machine.specs.Machine.{slot, idler, placeOf, endsOn}
 use Rattle.bounded_machine.proofs.Kept.{few-workers}
 use Rattle.bounded_machine.specs.Turn.{beginner, begun, acted, actedBy, stored}
 use Rattle.bounded_machine.specs.History.{event, lossAt, movedOf}
@@ -168,7 +168,7 @@ module _ (bits : Width) (c n workers : ℕ) (base : Base bits c n workers) (ed :
     pub h : List Event
     pub acts : actsIn st ≡ h
     pub reached : Reached c n workers m h
-    pub edition : m .ring .fixed .edition ≡ ed
+    pub edition : m .ring .edition ≡ ed
     pub shelf : Shelved c (reached .ring) (reached .pictured .shut) (known c ed st .queue)
     pub dues : (w : ℕ) → Due c n ed st (reached .ring) (reached .pictured .ages w) w (task (stood m w))
     pub answers : (earlier later : Story) (act : Event) (a : Answer) → st ≡ earlier ++ Does act ∷ later → act .after ≡ Idle a → Answered c ed earlier act a × Meant c ed earlier act a
@@ -218,7 +218,7 @@ module _ (bits : Width) (c n workers : ℕ) (base : Base bits c n workers) (ed :
       outcome =
           let z = getD (m .ring .slots) i (slot 0 0) in
           let same-act : a ≡ actOf bits (fixed c mark ed) (endsOf c mark n s (pic .shut)) (getD (m .ring .slots) i (slot 0 0)) (stood m w) lose =
-          ap (λ (f : Fixed). actOf bits f (m .ring .ends) z (stood m w) lose) (pic .rule ∙ ap (fixed c mark) (o .edition))
+          ap (λ (f : Fixed). actOf bits f (endsOn (m .ring)) z (stood m w) lose) (pic .rule ∙ ap (fixed c mark) (o .edition))
           ∙ ap (λ (x : Ends). actOf bits (fixed c mark ed) x z (stood m w) lose) (pic .ends) in
           subst (Row bits c n ed (base .ground) st s (pic .inv) (pic .shut) (o .shelf) w i (pic .ages w) (lossAt bits m w lose) (stood m w)) (sym same-act)
           (row bits c n ed (base .ground) st s (pic .inv) (pic .shut) (o .shelf) w i (pic .ages w) (lossAt bits m w lose) z (stood m w) lose busy (pic .stands w) young (o .dues w)) u moves
@@ -259,7 +259,7 @@ module _ (bits : Width) (c n workers : ℕ) (base : Base bits c n workers) (ed :
       unfolding actedBy stored
       stood-else j far = ap (λ (z : Worker). z .place) (getD-set-other (m .workers) w j _ idler far)
 
-      same-edition : acted bits m w (stood m w) lose .ring .fixed .edition ≡ m .ring .fixed .edition
+      same-edition : acted bits m w (stood m w) lose .ring .edition ≡ m .ring .edition
       unfolding actedBy stored
       same-edition = refl
 
@@ -321,7 +321,7 @@ module _ (bits : Width) (c n workers : ℕ) (base : Base bits c n workers) (ed :
       longer-begun : length (st ++ Begun w cl ∷ []) ≡ length st + 1
       longer-begun = length-append st (Begun w cl ∷ []) ∙ omega arith
 
-      begun-edition : begun m w (beginOf cl) .ring .fixed .edition ≡ m .ring .fixed .edition
+      begun-edition : begun m w (beginOf cl) .ring .edition ≡ m .ring .edition
       unfolding begun
       begun-edition = refl
 

@@ -30,7 +30,7 @@ use Rattle.bounded_acts.specs.Acts.{goes, losing, exchangeOf, afterTail, tailTo
 use Rattle.bounded_machine.specs.declared.Machine.{Machine}
 use Rattle.bounded_machine.specs.declared.Event.{Event}
 use Rattle.bounded_machine.specs.declared.Tally.{Tally}
-use Rattle.bounded_machine.specs.Machine.{slot, emptySlots, stamped, freshSlots, idler, idlers, machineOf, freshWith, freshOf, placeOf, accepted}
+use Rattle.bounded_machine.specs.Machine.{slot, emptySlots, stamped, freshSlots, idler, idlers, machineOf, freshWith, freshOf, placeOf, accepted, fixedOn}
 use Rattle.bounded_machine.specs.Turn.{beginner, recordAfter, begun, stored, acted, actedBy, turnAt, turnOfBy}
 use Rattle.bounded_machine.specs.Run.{ran, runAt}
 use Rattle.bounded_machine.specs.History.{event, eventsOf, historyAt, untallied, tallyOf}
@@ -293,8 +293,8 @@ acts-few (first ∷ second ∷ rest) m =
 awhile : Width → Fixed → ℕ
 awhile bits f = 25 * turnLength bits f
 
-pub made-fixed : (s : List ℕ) → machineAfter (ofWidth Sixteen) 1 2 1 s .ring .fixed ≡ fixed 1 2 1
-made-fixed s = same-fixed Sixteen (freshOf 1 2 1) s ∙ ap (λ (m : Machine). m .ring .fixed) (fresh-is 1)
+pub made-fixed : (s : List ℕ) → fixedOn (machineAfter (ofWidth Sixteen) 1 2 1 s .ring) ≡ fixed 1 2 1
+made-fixed s = same-fixed Sixteen (freshOf 1 2 1) s ∙ ap (λ (m : Machine). fixedOn (m .ring)) (fresh-is 1)
 
 sleeps-on : KeepsPrompt awhile (ofWidth Sixteen) (freshOf 1 2 1) [] sleepingPush
 unfolding awhile

@@ -33,7 +33,7 @@ use Rattle.bounded_acts.specs.Acts.{goes, actOf}
 use Rattle.bounded_machine.specs.declared.Machine.{Machine}
 use Rattle.bounded_machine.specs.declared.Event.{Event}
 use Rattle.bounded_machine.specs.declared.Tally.{Tally}
-use Rattle.bounded_machine.specs.Machine.{slot, idler, idlers, freshSlots, machineOf, freshWith, freshOf}
+use Rattle.bounded_machine.specs.Machine.{slot, idler, idlers, freshSlots, machineOf, freshWith, freshOf, fixedOn}
 use Rattle.bounded_machine.specs.Turn.{beginner, turnAt}
 use Rattle.bounded_machine.specs.Run.{ran, runAt}
 use Rattle.bounded_machine.specs.History.{eventsOf, historyAt, movedOf, untallied, tallyOf}
@@ -249,8 +249,8 @@ module _ (c workers ed : ℕ) (a : Allowed c workers ed) (two : 1 < workers) whe
       let long = turn-is Sixteen c mark n ed g in
       (omega (arith, most .0, tails-few, long), omega (arith, most .1, heads-few, long))
 
-  made-fixed : (s : List ℕ) → machineAfter (ofWidth Sixteen) c workers ed s .ring .fixed ≡ f
-  made-fixed s = same-fixed Sixteen (freshOf c workers ed) s ∙ ap (λ (m : Machine). m .ring .fixed) fresh-is
+  made-fixed : (s : List ℕ) → fixedOn (machineAfter (ofWidth Sixteen) c workers ed s .ring) ≡ f
+  made-fixed s = same-fixed Sixteen (freshOf c workers ed) s ∙ ap (λ (m : Machine). fixedOn (m .ring)) fresh-is
 
   keeps : KeepsWindowOf wider (ofWidth Sixteen) (freshOf c workers ed) [] words
   keeps before after e w held =

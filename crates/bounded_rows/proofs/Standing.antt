@@ -1,4 +1,5 @@
 -- Words that stand for a ring and records: what is known of them, and that they are one to one.
+use Rattle.bounded_machine.specs.Machine.{fixedOn, endsOn, ringOf}
 use Prim.Native.Nat.{ℕ, _*_, _/_, _%_, _<_}
 use mathlib.Core.Path.{_≡_, refl, sym, ap, _∙_}
 use mathlib.Core.Bool.{Bool, true, false, cond}
@@ -62,7 +63,7 @@ module _ (w : Words) where
 module _ (l : Metered) (ys : List Worker) where
   pub same-ring : meteredIn (wordsOf l ys) ≡ l
   unfolding wordsOf headOf fixedIn endsIn
-  same-ring = λ i. record { ring = record { fixed = l .ring .fixed; ends = l .ring .ends; slots = slots-back (l .ring .slots) i }; meter = l .meter }
+  same-ring = λ i. record { ring = ringOf (fixedOn (l .ring)) (endsOn (l .ring)) (slots-back (l .ring .slots) i); meter = l .meter }
 
   pub same-records : recordsIn (wordsOf l ys .records) ≡ ys
   unfolding wordsOf

@@ -16,7 +16,7 @@ use Rattle.bounded_places.specs.declared.Worker.{Worker}
 use Rattle.bounded_places.specs.Places.{viewOf}
 use Rattle.bounded_acts.specs.declared.Acted.{Acted}
 use Rattle.bounded_acts.specs.Acts.{actOf}
-use Rattle.bounded_machine.specs.Machine.{slot}
+use Rattle.bounded_machine.specs.Machine.{slot, ringOf}
 use Rattle.bounded_codes.specs.declared.Coded.{Coded}
 use Rattle.bounded_codes.specs.Codes.{codeOf, placeIn, standsFor}
 use Rattle.bounded_orders.specs.declared.Metered.{Metered}
@@ -40,7 +40,7 @@ layout = 1
 -- ---- what stands for a ring and records
 unfoldable pub headOf : Metered → List ℕ
 headOf l =
-    l .ring .fixed .mark ∷ l .ring .fixed .lap ∷ l .ring .fixed .capacity ∷ l .ring .fixed .edition ∷ l .ring .ends .head .0 ∷ l .ring .ends .tail .0 ∷ l .meter ∷ layout ∷ []
+    l .ring .mark ∷ l .ring .lap ∷ l .ring .capacity ∷ l .ring .edition ∷ l .ring .head .0 ∷ l .ring .tail .0 ∷ l .meter ∷ layout ∷ []
 
 unfoldable pub slotsOf : List Slot → List ℕ
 slotsOf [] = []
@@ -78,7 +78,7 @@ recordsIn (c ∷ a ∷ b ∷ d ∷ []) = []
 recordsIn (c ∷ a ∷ b ∷ d ∷ f ∷ ws) = recordFrom c a b d f ∷ recordsIn ws
 
 abbrev pub meteredIn : Words → Metered
-meteredIn w = record { ring = record { fixed = fixedIn (w .head); ends = endsIn (w .head); slots = slotsIn (w .slots) }; meter = getD (w .head) 6 0 }
+meteredIn w = record { ring = ringOf (fixedIn (w .head)) (endsIn (w .head)) (slotsIn (w .slots)); meter = getD (w .head) 6 0 }
 
 -- ---- which words stand for a ring and records
 unfoldable pub shaped : Words → Bool

@@ -3,10 +3,13 @@ ghost use mathlib.Core.Path.{_≡_};
 ghost use Prim.Native.Nat.{_%_};
 ghost use mathlib.Core.Bool.{false};
 ghost use lib.ListN.{length};
+ghost use Rattle.queue_entries.specs.Entries.{entryOf};
+ghost use Rattle.queue_entries.specs.Schedules.{searchBy};
 ghost use Rattle.bounded_acts.specs.Acts.{actOf};
 ghost use Rattle.bounded_machine.specs.Broken.{brokenOf};
 ghost use Rattle.bounded_machine.specs.Machine.{machineOf};
 ghost use Rattle.bounded_machine.specs.Run.{ran, runAt, runOfBy};
+ghost use Rattle.bounded_runs.specs.Searched.{unlessUnread};
 use bounded_machine::Machine;
 use bounded_machine::Ran;
 use bounded_machine::Ring;
@@ -16,7 +19,6 @@ use bounded_places::Worker;
 use bounded_words::Fixed;
 use bounded_words::Width;
 use queue_entries::Entry;
-use queue_entries::Finding;
 use queue_entries::Verdict;
 
 fn ran(
@@ -31,13 +33,19 @@ fn ran(
 ) -> Ran
     ensures { λ r. ⌜ r ≡ ran refusal place (machineOf f e slots workers count meter) ⌝ }
 {
+    let head = e.head;
+    let tail = e.tail;
     Ran {
         refusal: refusal,
         place: place as u64,
         machine: Machine {
             ring: Ring {
-                fixed: f,
-                ends: e,
+                head: head,
+                tail: tail,
+                mark: f.mark,
+                lap: f.lap,
+                capacity: f.capacity,
+                edition: f.edition,
                 slots: slots,
             },
             workers: workers,
@@ -54,8 +62,18 @@ fn entries(bits: Width, m: Machine, schedule: &[u64]) -> Ran
     ensures { λ r. ⌜ r ≡ runAt bits m 0 (now (schedule .entry)) ⌝ }
 {
     let ring = m.ring;
-    let f = ring.fixed;
-    let mut ends = ring.ends;
+    let f = Fixed {
+        mark: ring.mark,
+        lap: ring.lap,
+        capacity: ring.capacity,
+        edition: ring.edition,
+    };
+    let head = ring.head;
+    let tail = ring.tail;
+    let mut ends = Ends {
+        head: head,
+        tail: tail,
+    };
     let mut slots = ring.slots;
     let mut workers = m.workers;
     let count = m.count;
@@ -118,8 +136,26 @@ fn unchanged(refusal: u64, place: usize, m: Machine) -> Ran
     }
 }
 
-// The search for refusal 9 comes before the first entry. A run that was not refused has read every entry, so that it is made only
-// where one was refused, with the machine still at hand as it was.
+// "If found, nothing is run and the first such place is reported": the machine as it was handed in, in place of what its entries gave.
+fn unless_unread(m: Machine, done: Ran, schedule: &[u64]) -> Ran
+    ensures { λ r. ⌜ r ≡ unlessUnread m done (searchBy entryOf 0 (now (schedule .entry))) ⌝ }
+{
+    let n = schedule.len() / 2;
+    let mut i = 0;
+    while i < n {
+        let Entry::Asks(worker, order) = queue_entries::entry_of(
+            schedule[2 * i],
+            schedule[2 * i + 1],
+        ) else {
+            return unchanged(9, i, m);
+        };
+        i += 1;
+    }
+    done
+}
+
+// Refusal 9 comes before the first entry is run. A run that was not refused has read every entry, so that it is looked for only where one was
+// refused, with the machine still at hand as it was.
 pub fn run(bits: Width, m: Machine, schedule: &[u64]) -> Ran
     ensures { λ r. ⌜ r ≡ runOfBy (actOf bits) m (now (schedule .entry)) ⌝ }
 {
@@ -133,8 +169,5 @@ pub fn run(bits: Width, m: Machine, schedule: &[u64]) -> Ran
     if done.refusal == 0 {
         return done;
     }
-    match queue_entries::search(schedule) {
-        Finding::UnreadableAt(place) => unchanged(9, place, m),
-        Finding::AllRead => done,
-    }
+    unless_unread(m, done, schedule)
 }

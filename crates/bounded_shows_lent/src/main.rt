@@ -50,9 +50,8 @@ fn first_changed(
 
 fn say_ring(l: Metered) {
     let ring = l.ring;
-    let e = ring.ends;
-    let head = e.head;
-    let tail = e.tail;
+    let head = ring.head;
+    let tail = ring.tail;
     let slots = ring.slots;
     let slot = slots[0];
     let stamp = slot.stamp;

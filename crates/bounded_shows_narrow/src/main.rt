@@ -35,9 +35,8 @@ const ROUND: [u64; 24] = [
 // ": REFUSAL at PLACE h=H t=T m=M"
 fn tell(refusal: u64, place: u64, m: Machine) {
     let ring = m.ring;
-    let ends = ring.ends;
-    let head = ends.head;
-    let tail = ends.tail;
+    let head = ring.head;
+    let tail = ring.tail;
     let h = head.0 as u64;
     let t = tail.0 as u64;
     text_output::say(b": # at # h=# t=# m=#\n", &[refusal, place, h, t, m.meter]);

@@ -12,11 +12,11 @@ use Rattle.bounded_places.specs.declared.Slot as places
 use Rattle.bounded_machine.specs.declared.Machine as machine
 use Rattle.bounded_machine.specs.declared.Did as did
 use Rattle.bounded_machine.specs.declared.Ran as ran
-use Rattle.bounded_machine.specs.Machine.{slot, machineOf}
+use Rattle.bounded_machine.specs.Machine.{slot, machineOf, fixedOn}
 use Rattle.bounded_machine.proofs.Kept.{placed}
 use Rattle.bounded_sixteen_bits.specs.declared.Slot.{Slot}
 use Rattle.bounded_sixteen_bits.specs.declared.Machine.{Machine}
-use Rattle.bounded_sixteen_bits.specs.SixteenBits.{wideSlot, widened, short, narrowSlot, narrowed, narrowedDid, narrowedRan, ShortSlots, Short}
+use Rattle.bounded_sixteen_bits.specs.SixteenBits.{shortFixed, shortRing, wideSlot, widened, short, narrowSlot, narrowed, narrowedDid, narrowedRan, ShortSlots, Short}
 
 -- so many of a list are done
 pub record Done {A B : Type 0} (f : A → B) (d : A) (l : List A) (r : List B) (i : ℕ) : Type 0 where
@@ -53,17 +53,17 @@ none-short i = zeros-short slotsMost i
 pub one-short : (l : List places.Slot) (i : ℕ) (x : places.Slot) → ShortSlots l → x .stamp .0 < narrow → ShortSlots (set l i x)
 one-short l i x o h k = placed l i k x (slot 0 0) (λ (z : places.Slot). z .stamp .0 < narrow) (λ e. h) (o k)
 
-pub short-is : (m : machine.Machine) → m .ring .ends .head .0 < narrow → m .ring .ends .tail .0 < narrow → ShortSlots (m .ring .slots) → Short m
+pub short-is : (m : machine.Machine) → m .ring .head .0 < narrow → m .ring .tail .0 < narrow → ShortSlots (m .ring .slots) → Short m
 short-is m head tail slots = record { head = head; tail = tail; slots = slots }
 
 -- what the code puts together
 pub widened-is : (m : Machine) (s : List places.Slot) → s ≡ map wideSlot (m .ring .slots)
-    → machineOf (m .ring .fixed) (record { head = stamp (m .ring .ends .head .0); tail = stamp (m .ring .ends .tail .0) }) s (m .workers) (m .count) (m .meter) ≡ widened m
+    → machineOf (shortFixed (m .ring)) (record { head = stamp (m .ring .head .0); tail = stamp (m .ring .tail .0) }) s (m .workers) (m .count) (m .meter) ≡ widened m
 unfolding widened
 widened-is m s e = rw e refl
 
 pub narrowed-is : (m : machine.Machine) (s : List Slot) → s ≡ map narrowSlot (m .ring .slots)
-    → record { ring = record { fixed = m .ring .fixed; ends = record { head = short (m .ring .ends .head); tail = short (m .ring .ends .tail) }; slots = s }; workers = m .workers; count = m .count; meter = m .meter }
+    → record { ring = shortRing (fixedOn (m .ring)) (short (m .ring .head)) (short (m .ring .tail)) s; workers = m .workers; count = m .count; meter = m .meter }
     ≡ narrowed m
 unfolding narrowed
 narrowed-is m s e = rw e refl

@@ -9,7 +9,9 @@ use Rattle.bounded_places.specs.declared.Slot as places
 use Rattle.bounded_machine.specs.declared.Machine as machine
 use Rattle.bounded_machine.specs.declared.Did as did
 use Rattle.bounded_machine.specs.declared.Ran as ran
-use Rattle.bounded_machine.specs.Machine.{slot, machineOf}
+use Rattle.bounded_machine.specs.Machine.{slot, machineOf, fixedOn}
+use Rattle.bounded_words.specs.declared.Fixed.{Fixed}
+use Rattle.bounded_sixteen_bits.specs.declared.Ring.{Ring}
 use Rattle.bounded_sixteen_bits.specs.declared.Stamp.{Stamp}
 use Rattle.bounded_sixteen_bits.specs.declared.Slot.{Slot}
 use Rattle.bounded_sixteen_bits.specs.declared.Machine.{Machine}
@@ -20,9 +22,12 @@ use Rattle.bounded_sixteen_bits.specs.declared.Ran.{Ran}
 abbrev pub wideSlot : Slot → places.Slot
 wideSlot s = slot (s .stamp .0) (s .value)
 
+abbrev pub shortFixed : Ring → Fixed
+shortFixed r = record { mark = r .mark; lap = r .lap; capacity = r .capacity; edition = r .edition }
+
 unfoldable pub widened : Machine → machine.Machine
 widened m =
-    machineOf (m .ring .fixed) (record { head = stamp (m .ring .ends .head .0); tail = stamp (m .ring .ends .tail .0) }) (map wideSlot (m .ring .slots))
+    machineOf (shortFixed (m .ring)) (record { head = stamp (m .ring .head .0); tail = stamp (m .ring .tail .0) }) (map wideSlot (m .ring .slots))
     (m .workers) (m .count) (m .meter)
 
 -- And narrowed again: the same numbers, which fit (`Short`).
@@ -32,15 +37,13 @@ short w = record { 0 = w .0 }
 abbrev pub narrowSlot : places.Slot → Slot
 narrowSlot s = record { stamp = short (s .stamp); value = s .value }
 
+abbrev pub shortRing : Fixed → Stamp → Stamp → List Slot → Ring
+shortRing f h t s = record { head = h; tail = t; mark = f .mark; lap = f .lap; capacity = f .capacity; edition = f .edition; slots = s }
+
 unfoldable pub narrowed : machine.Machine → Machine
 narrowed m =
     record {
-      ring =
-          record {
-            fixed = m .ring .fixed;
-            ends = record { head = short (m .ring .ends .head); tail = short (m .ring .ends .tail) };
-            slots = map narrowSlot (m .ring .slots);
-          };
+      ring = shortRing (fixedOn (m .ring)) (short (m .ring .head)) (short (m .ring .tail)) (map narrowSlot (m .ring .slots));
       workers = m .workers;
       count = m .count;
       meter = m .meter;
@@ -57,6 +60,6 @@ abbrev pub ShortSlots : List places.Slot → Type 0
 ShortSlots l = (i : ℕ) → getD l i (slot 0 0) .stamp .0 < narrow
 
 pub record Short (m : machine.Machine) : Type 0 where
-  pub head : m .ring .ends .head .0 < narrow
-  pub tail : m .ring .ends .tail .0 < narrow
+  pub head : m .ring .head .0 < narrow
+  pub tail : m .ring .tail .0 < narrow
   pub slots : ShortSlots (m .ring .slots)

@@ -3,7 +3,6 @@ ghost use mathlib.Core.Path.{_≡_};
 ghost use mathlib.Core.List.{map};
 ghost use Rattle.bounded_sixteen_bits.specs.SixteenBits.{wideSlot, narrowSlot, widened, narrowed, narrowedDid, narrowedRan, ShortSlots, Short};
 use bounded_places::Worker;
-use bounded_words::Fixed;
 
 // A word of head, of tail or of a slot.
 pub struct Stamp(pub u16);
@@ -13,14 +12,13 @@ pub struct Slot {
     pub value: u64,
 }
 
-pub struct Ends {
+pub struct Ring {
     pub head: Stamp,
     pub tail: Stamp,
-}
-
-pub struct Ring {
-    pub fixed: Fixed,
-    pub ends: Ends,
+    pub mark: u64,
+    pub lap: u64,
+    pub capacity: u64,
+    pub edition: u64,
     pub slots: [Slot; bounded_words::SLOTS],
 }
 
@@ -69,20 +67,19 @@ pub fn widen(m: Machine) -> bounded_machine::Machine
     ensures short { λ r. ⌜ Short r ⌝ }
 {
     let ring = m.ring;
-    let e = ring.ends;
-    let head = e.head;
-    let tail = e.tail;
-    let f = ring.fixed;
+    let head = ring.head;
+    let tail = ring.tail;
     let short = ring.slots;
     let slots = widen_slots(short);
     let workers = m.workers;
     bounded_machine::Machine {
         ring: bounded_machine::Ring {
-            fixed: f,
-            ends: bounded_places::Ends {
-                head: bounded_words::Stamp(head.0 as u64),
-                tail: bounded_words::Stamp(tail.0 as u64),
-            },
+            head: bounded_words::Stamp(head.0 as u64),
+            tail: bounded_words::Stamp(tail.0 as u64),
+            mark: ring.mark,
+            lap: ring.lap,
+            capacity: ring.capacity,
+            edition: ring.edition,
             slots: slots,
         },
         workers: workers,
@@ -117,20 +114,19 @@ fn narrow(m: bounded_machine::Machine) -> Machine
     ensures { λ r. ⌜ r ≡ narrowed m ⌝ }
 {
     let ring = m.ring;
-    let e = ring.ends;
-    let head = e.head;
-    let tail = e.tail;
-    let f = ring.fixed;
+    let head = ring.head;
+    let tail = ring.tail;
     let wide = ring.slots;
     let slots = narrow_slots(wide);
     let workers = m.workers;
     Machine {
         ring: Ring {
-            fixed: f,
-            ends: Ends {
-                head: Stamp(head.0 as u16),
-                tail: Stamp(tail.0 as u16),
-            },
+            head: Stamp(head.0 as u16),
+            tail: Stamp(tail.0 as u16),
+            mark: ring.mark,
+            lap: ring.lap,
+            capacity: ring.capacity,
+            edition: ring.edition,
             slots: slots,
         },
         workers: workers,

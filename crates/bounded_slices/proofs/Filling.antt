@@ -7,7 +7,7 @@ use native.Mathlib.Omega.{arith}
 use lib.ListN.{length, getD, set, length-set, replicate, length-replicate, getD-replicate}
 use Rattle.bounded_places.specs.declared.Ends.{Ends}
 use Rattle.bounded_places.specs.declared.Slot.{Slot}
-use Rattle.bounded_machine.specs.Machine.{slot}
+use Rattle.bounded_machine.specs.Machine.{slot, fixedOn, endsOn}
 use Rattle.bounded_words.specs.Limits.{slotsMost}
 use Rattle.bounded_words.specs.declared.Fixed.{Fixed}
 use Rattle.bounded_orders.specs.declared.Metered.{Metered}
@@ -138,11 +138,11 @@ long-fixed h f = simp length-set
 pub still-eight : (h : List ℕ) (f : Fixed) (h₁ h₂ : List ℕ) (e : Ends) (m : ℕ) → h₁ ≡ withFixed h f → h₂ ≡ withHead h₁ e m → length (set h₂ 7 layout) ≡ length h
 still-eight h f h₁ h₂ e m e₁ e₂ = length-set h₂ 7 layout ∙ ap length e₂ ∙ long-head h₁ e m ∙ ap length e₁ ∙ long-fixed h f
 
-pub eight-put : (h : List ℕ) (l : Metered) → length h ≡ 8 → (h₁ h₂ : List ℕ) → h₁ ≡ withFixed h (l .ring .fixed) → h₂ ≡ withHead h₁ (l .ring .ends) (l .meter) → set h₂ 7 layout ≡ headOf l
+pub eight-put : (h : List ℕ) (l : Metered) → length h ≡ 8 → (h₁ h₂ : List ℕ) → h₁ ≡ withFixed h (fixedOn (l .ring)) → h₂ ≡ withHead h₁ (endsOn (l .ring)) (l .meter) → set h₂ 7 layout ≡ headOf l
 unfolding withFixed withHead headOf
-eight-put h l n h₁ h₂ e₁ e₂ = ap (λ (z : List ℕ). set z 7 layout) (e₂ ∙ ap (λ (z : List ℕ). withHead z (l .ring .ends) (l .meter)) e₁) ∙ go h n
+eight-put h l n h₁ h₂ e₁ e₂ = ap (λ (z : List ℕ). set z 7 layout) (e₂ ∙ ap (λ (z : List ℕ). withHead z (endsOn (l .ring)) (l .meter)) e₁) ∙ go h n
   where
-    go : (h : List ℕ) → length h ≡ 8 → set (withHead (withFixed h (l .ring .fixed)) (l .ring .ends) (l .meter)) 7 layout ≡ headOf l
+    go : (h : List ℕ) → length h ≡ 8 → set (withHead (withFixed h (fixedOn (l .ring))) (endsOn (l .ring)) (l .meter)) 7 layout ≡ headOf l
     go [] n = absurd (omega (arith, n))
     go (a ∷ []) n = absurd (omega (arith, n))
     go (a ∷ b ∷ []) n = absurd (omega (arith, n))

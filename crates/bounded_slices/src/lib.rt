@@ -12,6 +12,7 @@ ghost use Rattle.bounded_lent.specs.Lent.{eachFits};
 ghost use Rattle.bounded_rows.specs.Rows.{words, headOf, slotsOf, slotsIn, recordAt, placedAt, recordsIn, shaped, placed};
 ghost use Rattle.bounded_slices.specs.Slices.{fitting, withFixed, brokenWords};
 use bounded_orders::Metered;
+use bounded_places::Ends;
 use bounded_places::Slot;
 use bounded_words::Fixed;
 use bounded_words::Stamp;
@@ -153,8 +154,15 @@ pub fn put_ring(head: &mut [u64], l: Metered)
     ensures { λ _. ⌜ now (head .exit) ≡ headOf l ⌝ }
 {
     let ring = l.ring;
-    let f = ring.fixed;
-    let e = ring.ends;
+    let f = Fixed {
+        mark: ring.mark,
+        lap: ring.lap,
+        capacity: ring.capacity,
+        edition: ring.edition,
+    };
+    let h = ring.head;
+    let t = ring.tail;
+    let e = Ends { head: h, tail: t };
     put_fixed(head, f);
     bounded_rows::put_head(head, e, l.meter);
     head[7] = LAYOUT;

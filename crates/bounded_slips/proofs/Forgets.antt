@@ -16,7 +16,7 @@ use Rattle.bounded_acts.specs.Acts.{goes, afterTail}
 use Rattle.bounded_machine.specs.declared.Machine.{Machine}
 use Rattle.bounded_machine.specs.declared.Event.{Event}
 use Rattle.bounded_machine.specs.declared.Tally.{Tally}
-use Rattle.bounded_machine.specs.Machine.{freshOf, placeOf, accepted, idler}
+use Rattle.bounded_machine.specs.Machine.{freshOf, placeOf, accepted, idler, fixedOn}
 use Rattle.bounded_machine.specs.Turn.{recordAfter, begun, stored, actedBy, turnOfBy}
 use Rattle.bounded_machine.specs.Run.{ran, runAt}
 use Rattle.bounded_machine.specs.History.{historyAt, movedOf, untallied, tallyOf}
@@ -129,7 +129,7 @@ module _ (g : Rounds Sixteen 1 (markOf 1) (laps Sixteen 1 1 one-one) 1 (ground S
   unfolding doubled markOf markedOf strayOf orderOf entryOf goes afterTail accepted recordAfter begun stored actedBy turnOfBy ran runBy
   held = rw unmarked
 
-  window : windowLength Sixteen (runAt Sixteen left 0 loads .machine .ring .fixed) ≡ 16382
+  window : windowLength Sixteen (fixedOn (runAt Sixteen left 0 loads .machine .ring)) ≡ 16382
   unfolding doubled markOf markedOf strayOf orderOf entryOf goes afterTail accepted recordAfter begun stored actedBy turnOfBy ran runBy
   window = refl
 
@@ -148,7 +148,7 @@ module _ (g : Rounds Sixteen 1 (markOf 1) (laps Sixteen 1 1 one-one) 1 (ground S
   forgets keeps =
       let q = keeps 1 1 one-one (rounds 16383 ++ loads) (rounds 16383 ++ loads) [] (sym (append-nil (rounds 16383 ++ loads))) 0
       (ap (λ (m : Machine). holds (holdingAt (placeOf (m .workers) 0))) ran-is ∙ held) .0 in
-      let size : windowLength Sixteen (runAt Sixteen start 0 (rounds 16383 ++ loads) .machine .ring .fixed) ≡ 16382 = ap (λ (m : Machine). windowLength Sixteen (m .ring .fixed)) ran-is ∙ window in
+      let size : windowLength Sixteen (fixedOn (runAt Sixteen start 0 (rounds 16383 ++ loads) .machine .ring)) ≡ 16382 = ap (λ (m : Machine). windowLength Sixteen (fixedOn (m .ring))) ran-is ∙ window in
       omega (arith, q, claimed, size)
 
 pub alone-keeps : AloneKeeps forgetful → ⊥

@@ -61,7 +61,7 @@ refuted-counts =
       losses-of-sixteen = λ t. let q : _≡_ {A = ℕ} 2 1 = t 1 2 1 one-two popLoses 0 .1 in omega arith;
       close-anywhere = λ o. true≢false (sym (o (reached closedF) refl refl refl (acts 0 2)));
       words-of-64 = λ f. let q : 65536 < 65536 = f .entry nearEnd 8 0 short .tail in omega arith;
-      cut-to-fifteen = λ f. let q : _≡_ {A = ℕ} 32764 65532 = ap (λ (m : Machine). m .ring .ends .head .0) (f .uncut nearEnd short) in omega arith;
-      same-numbers = λ s. let q : _≡_ {A = ℕ} 32764 65532 = ap (λ (m : Machine). m .ring .ends .head .0) (s .again nearEnd) in omega arith;
+      cut-to-fifteen = λ f. let q : _≡_ {A = ℕ} 32764 65532 = ap (λ (m : Machine). m .ring .head .0) (f .uncut nearEnd short) in omega arith;
+      same-numbers = λ s. let q : _≡_ {A = ℕ} 32764 65532 = ap (λ (m : Machine). m .ring .head .0) (s .again nearEnd) in omega arith;
       not-run = λ s. true≢false (sym (ap (λ (m : Machine). busyAt m 0) (s .reaches 1 2 1 one-two (0 ∷ 5 ∷ []) refl (readable, tt))));
     }

@@ -22,7 +22,7 @@ use Rattle.bounded_places.specs.declared.Place.the-variants.{Idle}
 use Rattle.bounded_places.specs.Places.{viewOf}
 use Rattle.bounded_machine.specs.declared.Machine.{Machine}
 use Rattle.bounded_machine.specs.declared.Event.{Event}
-use Rattle.bounded_machine.specs.Machine.{idler, placeOf, accepted}
+use Rattle.bounded_machine.specs.Machine.{idler, placeOf, accepted, fixedOn, endsOn}
 use Rattle.bounded_machine.specs.Run.{ran}
 use Rattle.bounded_machine.specs.Turn.{Table, turnOfBy}
 use Rattle.bounded_demands.specs.Notions.{Definition, Acts, acts, Truth, itemIn, itemsOf, takersOf, LatestIn, ItemIn, WrittenIn, CallClaim, Fifo, start, enqueue, dequeue, rest, OtherHand, passed, LetsGo, byTable}
@@ -84,7 +84,7 @@ acting d m w asks done = record { first = 16 * w + 8; second = 0; lose = false; 
 -- If it answers, what it answers is true.
 pub said : (d : Definition) (m : Machine) (w : ℕ) (a : Answer) → AnswersTrue d m → entryOf (16 * w + 8) 0 ≡ Asks w (Act false)
     → d .turn m (16 * w + 8) 0 ≡ accepted (d .turn m (16 * w + 8) 0 .machine)
-    → placeOf (d .turn m (16 * w + 8) 0 .machine .workers) w ≡ Idle a → Truth (d .width) (m .ring .fixed) (m .ring .ends) a
+    → placeOf (d .turn m (16 * w + 8) 0 .machine .workers) w ≡ Idle a → Truth (d .width) (fixedOn (m .ring)) (endsOn (m .ring)) a
 said d m w a all asks done ends =
     all w (d .turn m (16 * w + 8) 0 .machine) a (acting d m w asks done) ends
 
@@ -153,16 +153,16 @@ rests table m place w (suc k) e = rw e
 pub at-once : (d : Definition) (m : Machine) (h : List Event) (w most : ℕ) (a : Answer)
     → placeOf (d .run m 0 (acts w 1) .machine .workers) w ≡ Idle a
     → ((n : ℕ) → busyAt (d .run m 0 (acts w (suc n)) .machine) w ≡ false)
-    → EndsAlone d m h w most → Truth (d .width) (m .ring .fixed) (d .run m 0 (acts w 0) .machine .ring .ends) a × (a ≡ foretold (d .width) m w)
+    → EndsAlone d m h w most → Truth (d .width) (fixedOn (m .ring)) (endsOn (d .run m 0 (acts w 0) .machine .ring)) a × (a ≡ foretold (d .width) m w)
 at-once d m h w most a ends idle e = go (e .before) refl
   where
-    go : (n : ℕ) → e .before ≡ n → Truth (d .width) (m .ring .fixed) (d .run m 0 (acts w 0) .machine .ring .ends) a × (a ≡ foretold (d .width) m w)
+    go : (n : ℕ) → e .before ≡ n → Truth (d .width) (fixedOn (m .ring)) (endsOn (d .run m 0 (acts w 0) .machine .ring)) a × (a ≡ foretold (d .width) m w)
     go zero first =
         let same : e .answer ≡ a =
         ap (λ (p : Place). answerIn (look 1 p))
         (sym (subst (λ (n : ℕ). placeOf (d .run m 0 (acts w (suc n)) .machine .workers) w ≡ Idle (e .answer)) first (e .ends)) ∙ ends) in (
-          subst (Truth (d .width) (m .ring .fixed) (d .run m 0 (acts w 0) .machine .ring .ends)) same
-              (subst (λ (n : ℕ). Truth (d .width) (m .ring .fixed) (d .run m 0 (acts w n) .machine .ring .ends) (e .answer)) first (e .true-then)),
+          subst (Truth (d .width) (fixedOn (m .ring)) (endsOn (d .run m 0 (acts w 0) .machine .ring))) same
+              (subst (λ (n : ℕ). Truth (d .width) (fixedOn (m .ring)) (endsOn (d .run m 0 (acts w n) .machine .ring)) (e .answer)) first (e .true-then)),
           sym same ∙ e .foretold-answer,
         )
     go (suc n) later = absurd (true≢false (sym (subst (λ (n : ℕ). busyAt (d .run m 0 (acts w n) .machine) w ≡ true) later (e .busy)) ∙ idle n))

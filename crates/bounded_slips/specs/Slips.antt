@@ -30,7 +30,7 @@ use Rattle.bounded_acts.specs.Acts.{goes, losing, afterTail, tailTo, headTo, st
 use Rattle.bounded_machine.specs.declared.Machine.{Machine}
 use Rattle.bounded_machine.specs.declared.Did.{Did}
 use Rattle.bounded_machine.specs.declared.Event.{Event}
-use Rattle.bounded_machine.specs.Machine.{machineOf, recordOf, refused}
+use Rattle.bounded_machine.specs.Machine.{machineOf, recordOf, refused, fixedOn, endsOn}
 use Rattle.bounded_machine.specs.Turn.{beginner, turnAt, turnOf}
 use Rattle.bounded_machine.specs.Run.{ran, runWith, runFrom, runAt}
 use Rattle.bounded_machine.specs.declared.Tally.{Tally}
@@ -298,7 +298,7 @@ slipped n = byTable SixtyFour (actWith n)
 abbrev recounted : (Worker → Worker → Worker) → Machine → Entry → Machine → Machine
 recounted how m Unreadable next = next
 recounted how m (Asks w o) next =
-    machineOf (next .ring .fixed) (next .ring .ends) (next .ring .slots) (set (next .workers) w (how (recordOf (m .workers) w) (recordOf (next .workers) w)))
+    machineOf (fixedOn (next .ring)) (endsOn (next .ring)) (next .ring .slots) (set (next .workers) w (how (recordOf (m .workers) w) (recordOf (next .workers) w)))
     (next .count) (next .meter)
 
 abbrev turnCounting : Width → (Worker → Worker → Worker) → Machine → ℕ → ℕ → Did

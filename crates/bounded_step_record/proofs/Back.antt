@@ -18,7 +18,7 @@ use Rattle.bounded_places.specs.Places.{beginOf}
 use Rattle.bounded_acts.specs.Acts.{actOf}
 use Rattle.bounded_machine.specs.declared.Machine.{Machine}
 use Rattle.bounded_machine.specs.declared.Did.{Did}
-use Rattle.bounded_machine.specs.Machine.{slot, machineOf, recordOf, placeOf, idler, refused, accepted}
+use Rattle.bounded_machine.specs.Machine.{slot, machineOf, recordOf, placeOf, idler, refused, accepted, fixedOn, endsOn}
 use Rattle.bounded_machine.specs.Turn.{verdictOf, beginner, begun, stored, actedBy, carried, turn, turnAt, turnOfBy}
 use Rattle.bounded_machine.proofs.Kept.{either}
 use Rattle.bounded_step_record.specs.declared.Turned.{Turned}
@@ -43,7 +43,7 @@ who first second =
 
 abbrev pub putBack : Machine → ℕ → ℕ → Turned → Did
 putBack m w k t =
-    record { refusal = t .refusal; machine = machineOf (m .ring .fixed) (t .ends) (set (m .ring .slots) k (t .slot)) (set (m .workers) w (t .worker)) (m .count) (t .meter) }
+    record { refusal = t .refusal; machine = machineOf (fixedOn (m .ring)) (t .ends) (set (m .ring .slots) k (t .slot)) (set (m .workers) w (t .worker)) (m .count) (t .meter) }
 
 module _ (bits : Width) (m : Machine) where
   -- the slot and the record that are taken out
@@ -51,48 +51,48 @@ module _ (bits : Width) (m : Machine) where
   slotAt k = getD (m .ring .slots) k (slot 0 0)
 
   abbrev spotAt : ℕ → ℕ
-  spotAt w = slotOf (m .ring .fixed) (recordOf (m .workers) w)
+  spotAt w = slotOf (fixedOn (m .ring)) (recordOf (m .workers) w)
 
-  still : (w k number : ℕ) → putBack m w k (with number (m .ring .ends) (slotAt k) (recordOf (m .workers) w) (m .meter)) ≡ refused number m
+  still : (w k number : ℕ) → putBack m w k (with number (endsOn (m .ring)) (slotAt k) (recordOf (m .workers) w) (m .meter)) ≡ refused number m
   unfolding with refused
   still w k number =
-      λ i. record { refusal = number; machine = machineOf (m .ring .fixed) (m .ring .ends) (set-same (m .ring .slots) k (slot 0 0) i) (set-same (m .workers) w idler i) (m .count) (m .meter) }
+      λ i. record { refusal = number; machine = machineOf (fixedOn (m .ring)) (endsOn (m .ring)) (set-same (m .ring .slots) k (slot 0 0) i) (set-same (m .workers) w idler i) (m .count) (m .meter) }
 
   module _ (w : ℕ) (o : Order) where
     at-verdict : (v : Verdict) → v ≡ verdictOf (m .meter) (placeOf (m .workers) w) o
-        → putBack m w (spotAt w) (carriedOn bits (m .ring .fixed) (m .ring .ends) (slotAt (spotAt w)) (recordOf (m .workers) w) (m .meter) v) ≡ carried bits m w (placeOf (m .workers) w) v
+        → putBack m w (spotAt w) (carriedOn bits (fixedOn (m .ring)) (endsOn (m .ring)) (slotAt (spotAt w)) (recordOf (m .workers) w) (m .meter) v) ≡ carried bits m w (placeOf (m .workers) w) v
     unfolding with moved begun stored accepted actedBy
     at-verdict (Refuse number) e = still w (spotAt w) number
     at-verdict (Start c) e =
-        λ i. record { refusal = 0; machine = machineOf (m .ring .fixed) (m .ring .ends) (set-same (m .ring .slots) (spotAt w) (slot 0 0) i) (set (m .workers) w (beginner (beginOf c))) (m .count) (m .meter) }
+        λ i. record { refusal = 0; machine = machineOf (fixedOn (m .ring)) (endsOn (m .ring)) (set-same (m .ring .slots) (spotAt w) (slot 0 0) i) (set (m .workers) w (beginner (beginOf c))) (m .count) (m .meter) }
     at-verdict (Move lose) e =
-        ap (λ (k : ℕ). putBack m w k (moved (recordOf (m .workers) w) (m .meter) (actOf bits (m .ring .fixed) (m .ring .ends) (slotAt k) (placeOf (m .workers) w) lose)))
+        ap (λ (k : ℕ). putBack m w k (moved (recordOf (m .workers) w) (m .meter) (actOf bits (fixedOn (m .ring)) (endsOn (m .ring)) (slotAt k) (placeOf (m .workers) w) lose)))
         (simp (move-busy (m .meter) (placeOf (m .workers) w) o (Move lose) e lose refl))
 
   -- by whether there is such a record
   by-count : (x n : ℕ) (o : Order) (t : Bool) → ltb x n ≡ t
-      → putBack m (cond t x 0) (spotAt (cond t x 0)) (cond t (carriedOn bits (m .ring .fixed) (m .ring .ends) (slotAt (spotAt (cond t x 0))) (recordOf (m .workers) (cond t x 0)) (m .meter) (verdictOf (m .meter) (recordOf (m .workers) (cond t x 0) .place) o)) (with 3 (m .ring .ends) (slotAt (spotAt (cond t x 0))) (recordOf (m .workers) (cond t x 0)) (m .meter)))
+      → putBack m (cond t x 0) (spotAt (cond t x 0)) (cond t (carriedOn bits (fixedOn (m .ring)) (endsOn (m .ring)) (slotAt (spotAt (cond t x 0))) (recordOf (m .workers) (cond t x 0)) (m .meter) (verdictOf (m .meter) (recordOf (m .workers) (cond t x 0) .place) o)) (with 3 (endsOn (m .ring)) (slotAt (spotAt (cond t x 0))) (recordOf (m .workers) (cond t x 0)) (m .meter)))
       ≡ cond t (carried bits m x (placeOf (m .workers) x) (verdictOf (m .meter) (placeOf (m .workers) x) o)) (refused 3 m)
   by-count x n o true e = at-verdict x o _ refl
   by-count x n o false e = still 0 (spotAt 0) 3
 
   at-entry : (first : ℕ) (x : Entry) → Who (first / 16) x
-      → putBack m (workerOf first (m .count)) (spotAt (workerOf first (m .count))) (turnedOn bits (m .ring .fixed) (m .ring .ends) (slotAt (spotAt (workerOf first (m .count)))) (recordOf (m .workers) (workerOf first (m .count))) (m .meter) (m .count) x) ≡ turn bits m x
+      → putBack m (workerOf first (m .count)) (spotAt (workerOf first (m .count))) (turnedOn bits (fixedOn (m .ring)) (endsOn (m .ring)) (slotAt (spotAt (workerOf first (m .count)))) (recordOf (m .workers) (workerOf first (m .count))) (m .meter) (m .count) x) ≡ turn bits m x
   unfolding workerOf
   at-entry first Unreadable h = still _ _ 9
   at-entry first (Asks v o) h =
-      subst (λ (x : ℕ). putBack m (workerOf first (m .count)) (spotAt (workerOf first (m .count))) (turnedOn bits (m .ring .fixed) (m .ring .ends) (slotAt (spotAt (workerOf first (m .count)))) (recordOf (m .workers) (workerOf first (m .count))) (m .meter) (m .count) (Asks x o)) ≡ turn bits m (Asks x o)) (sym h)
+      subst (λ (x : ℕ). putBack m (workerOf first (m .count)) (spotAt (workerOf first (m .count))) (turnedOn bits (fixedOn (m .ring)) (endsOn (m .ring)) (slotAt (spotAt (workerOf first (m .count)))) (recordOf (m .workers) (workerOf first (m .count))) (m .meter) (m .count) (Asks x o)) ≡ turn bits m (Asks x o)) (sym h)
       (by-count (first / 16) (m .count) o (ltb (first / 16) (m .count)) refl)
 
-  turned-back : (first second : ℕ) → putBack m (workerOf first (m .count)) (spotAt (workerOf first (m .count))) (turnedOf bits (m .ring .fixed) (m .ring .ends) (slotAt (spotAt (workerOf first (m .count)))) (recordOf (m .workers) (workerOf first (m .count))) (m .meter) (m .count) first second) ≡ turnAt bits m first second
+  turned-back : (first second : ℕ) → putBack m (workerOf first (m .count)) (spotAt (workerOf first (m .count))) (turnedOf bits (fixedOn (m .ring)) (endsOn (m .ring)) (slotAt (spotAt (workerOf first (m .count)))) (recordOf (m .workers) (workerOf first (m .count))) (m .meter) (m .count) first second) ≡ turnAt bits m first second
   unfolding turnedOf turnOfBy
   turned-back first second = at-entry first (entryOf first second) (who first second)
 
   -- the same with what the code has
-  pub put-back : (w k count : ℕ) (t : Turned) (first second : ℕ) → count ≡ m .count → w ≡ workerOf first count → k ≡ slotOf (m .ring .fixed) (recordOf (m .workers) w)
-      → t ≡ turnedOf bits (m .ring .fixed) (m .ring .ends) (getD (m .ring .slots) k (slot 0 0)) (recordOf (m .workers) w) (m .meter) count first second → putBack m w k t ≡ turnAt bits m first second
+  pub put-back : (w k count : ℕ) (t : Turned) (first second : ℕ) → count ≡ m .count → w ≡ workerOf first count → k ≡ slotOf (fixedOn (m .ring)) (recordOf (m .workers) w)
+      → t ≡ turnedOf bits (fixedOn (m .ring)) (endsOn (m .ring)) (getD (m .ring .slots) k (slot 0 0)) (recordOf (m .workers) w) (m .meter) count first second → putBack m w k t ≡ turnAt bits m first second
   put-back w k count t first second n ew ek et =
-      ap (putBack m w k) (et ∙ ap (λ (c : ℕ). turnedOf bits (m .ring .fixed) (m .ring .ends) (slotAt k) (recordOf (m .workers) w) (m .meter) c first second) n)
-      ∙ ap (λ (j : ℕ). putBack m w j (turnedOf bits (m .ring .fixed) (m .ring .ends) (slotAt j) (recordOf (m .workers) w) (m .meter) (m .count) first second)) ek
-      ∙ ap (λ (v : ℕ). putBack m v (spotAt v) (turnedOf bits (m .ring .fixed) (m .ring .ends) (slotAt (spotAt v)) (recordOf (m .workers) v) (m .meter) (m .count) first second)) (ew ∙ ap (workerOf first) n)
+      ap (putBack m w k) (et ∙ ap (λ (c : ℕ). turnedOf bits (fixedOn (m .ring)) (endsOn (m .ring)) (slotAt k) (recordOf (m .workers) w) (m .meter) c first second) n)
+      ∙ ap (λ (j : ℕ). putBack m w j (turnedOf bits (fixedOn (m .ring)) (endsOn (m .ring)) (slotAt j) (recordOf (m .workers) w) (m .meter) (m .count) first second)) ek
+      ∙ ap (λ (v : ℕ). putBack m v (spotAt v) (turnedOf bits (fixedOn (m .ring)) (endsOn (m .ring)) (slotAt (spotAt v)) (recordOf (m .workers) v) (m .meter) (m .count) first second)) (ew ∙ ap (workerOf first) n)
       ∙ turned-back first second

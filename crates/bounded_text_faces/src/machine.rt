@@ -53,9 +53,17 @@ fn slots_in(m: [u64; WORDS]) -> [Slot; bounded_words::SLOTS] {
 }
 
 fn ring_in(m: [u64; WORDS]) -> Ring {
+    let f = fixed_in(m);
+    let e = ends_in(m);
+    let head = e.head;
+    let tail = e.tail;
     Ring {
-        fixed: fixed_in(m),
-        ends: ends_in(m),
+        head: head,
+        tail: tail,
+        mark: f.mark,
+        lap: f.lap,
+        capacity: f.capacity,
+        edition: f.edition,
         slots: slots_in(m),
     }
 }
@@ -159,7 +167,19 @@ fn put_all(words: &mut [u64], ring: Ring, workers: [Worker; queue_entries::WORKE
 pub fn written(m: Machine) -> [u64; WORDS] {
     let ring = m.ring;
     let workers = m.workers;
-    let mut words = numbers_of(ring.fixed, ring.ends, m.count, m.meter);
+    let f = Fixed {
+        mark: ring.mark,
+        lap: ring.lap,
+        capacity: ring.capacity,
+        edition: ring.edition,
+    };
+    let head = ring.head;
+    let tail = ring.tail;
+    let e = Ends {
+        head: head,
+        tail: tail,
+    };
+    let mut words = numbers_of(f, e, m.count, m.meter);
     put_all(&mut words, ring, workers);
     words
 }

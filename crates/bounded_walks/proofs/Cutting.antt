@@ -19,7 +19,7 @@ use Rattle.bounded_places.specs.Places.{viewOf}
 use Rattle.bounded_acts.specs.declared.Acted.{Acted}
 use Rattle.bounded_acts.specs.Acts.{actOf}
 use Rattle.bounded_machine.specs.declared.Machine.{Machine}
-use Rattle.bounded_machine.specs.Machine.{machineOf, idler, recordOf, placeOf}
+use Rattle.bounded_machine.specs.Machine.{machineOf, idler, recordOf, placeOf, fixedOn, endsOn}
 use Rattle.bounded_machine.specs.Broken.{placeFits, recordFits, allIdle}
 use Rattle.bounded_machine.specs.Turn.{spotOf, recordAfter, actAt, stored, actedBy}
 use Rattle.bounded_machine.proofs.Kept.{every, all-of, Unbroken, acted-unbroken}
@@ -28,7 +28,7 @@ use Rattle.bounded_sequences.proofs.Acting.{choice-moves, choice-stays, may-bus
 use Rattle.bounded_sequences.proofs.Lasting.{same-turns}
 
 abbrev pub cut : Machine → Machine
-cut m = machineOf (m .ring .fixed) (m .ring .ends) (m .ring .slots) (take walkersMost (m .workers)) (m .count) (m .meter)
+cut m = machineOf (fixedOn (m .ring)) (endsOn (m .ring)) (m .ring .slots) (take walkersMost (m .workers)) (m .count) (m .meter)
 
 -- ---- records that are kept, and those that are not
 past : (n : ℕ) (ws : List Worker) (i : ℕ) → n ≤ i → getD (take n ws) i idler ≡ idler
@@ -90,7 +90,7 @@ module _ (more : ℕ) (m : Machine) (g : Walks more m) where
   far-idle i l = by (decLt i workersMost)
     where
       by : Dec (i < workersMost) → rests (recordOf (m .workers) i) ≡ true
-      by (yes h) = uncounted (m .ring .fixed) (m .meter) (recordOf (m .workers) i) (subst (λ (b : Bool). recordFits (m .ring .fixed) (m .meter) (recordOf (m .workers) i) b ≡ true)
+      by (yes h) = uncounted (fixedOn (m .ring)) (m .meter) (recordOf (m .workers) i) (subst (λ (b : Bool). recordFits (fixedOn (m .ring)) (m .meter) (recordOf (m .workers) i) b ≡ true)
           (le-ltb i (m .count) (omega (arith, l, g .few))) (g .whole .fits i h))
       by (no h) = ap rests (outside (m .workers) i (omega (arith, h, g .long)))
 
@@ -113,19 +113,19 @@ idler-fits : (f : Fixed) (meter : ℕ) (counted : Bool) → recordFits f meter i
 unfolding recordFits placeFits
 idler-fits f meter counted = simp (le-ltb meter 0 (omega arith))
 
-pub cut-fits : (m : Machine) → Unbroken m → (i : ℕ) → i < workersMost → recordFits (m .ring .fixed) (m .meter) (recordOf (take walkersMost (m .workers)) i) (ltb i (m .count)) ≡ true
+pub cut-fits : (m : Machine) → Unbroken m → (i : ℕ) → i < workersMost → recordFits (fixedOn (m .ring)) (m .meter) (recordOf (take walkersMost (m .workers)) i) (ltb i (m .count)) ≡ true
 cut-fits m u i l = by (decLt i walkersMost)
   where
-    by : Dec (i < walkersMost) → recordFits (m .ring .fixed) (m .meter) (recordOf (take walkersMost (m .workers)) i) (ltb i (m .count)) ≡ true
-    by (yes h) = ap (λ (r : Worker). recordFits (m .ring .fixed) (m .meter) r (ltb i (m .count))) (kept-record (m .workers) i h) ∙ u .fits i l
-    by (no h) = ap (λ (r : Worker). recordFits (m .ring .fixed) (m .meter) r (ltb i (m .count))) (past walkersMost (m .workers) i (omega (arith, h)))
-        ∙ idler-fits (m .ring .fixed) (m .meter) (ltb i (m .count))
+    by : Dec (i < walkersMost) → recordFits (fixedOn (m .ring)) (m .meter) (recordOf (take walkersMost (m .workers)) i) (ltb i (m .count)) ≡ true
+    by (yes h) = ap (λ (r : Worker). recordFits (fixedOn (m .ring)) (m .meter) r (ltb i (m .count))) (kept-record (m .workers) i h) ∙ u .fits i l
+    by (no h) = ap (λ (r : Worker). recordFits (fixedOn (m .ring)) (m .meter) r (ltb i (m .count))) (past walkersMost (m .workers) i (omega (arith, h)))
+        ∙ idler-fits (fixedOn (m .ring)) (m .meter) (ltb i (m .count))
 
 -- ---- an act of a kept record
 acted-cut : (m : Machine) (w : ℕ) (p : Place) (lose : Bool) → w < walkersMost → cut (actedBy (actOf SixtyFour) m w p lose) ≡ actedBy (actOf SixtyFour) (cut m) w p lose
 unfolding actedBy stored
 acted-cut m w p lose l =
-    ap (λ (x : List Worker). machineOf (m .ring .fixed) (a .ends) (set (m .ring .slots) (spotOf (m .ring .fixed) (viewOf p .held)) (a .slot)) x (m .count) (m .meter + 1))
+    ap (λ (x : List Worker). machineOf (fixedOn (m .ring)) (a .ends) (set (m .ring .slots) (spotOf (fixedOn (m .ring)) (viewOf p .held)) (a .slot)) x (m .count) (m .meter + 1))
     (take-set-lt walkersMost (m .workers) w (recordAfter (recordOf (m .workers) w) (a .place) (a .loss)) l
     ∙ ap (λ (r : Worker). set (take walkersMost (m .workers)) w (recordAfter r (a .place) (a .loss))) (sym (kept-record (m .workers) w l)))
   where

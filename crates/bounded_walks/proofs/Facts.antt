@@ -33,7 +33,7 @@ use Rattle.bounded_places.specs.Places.{beginOf}
 use Rattle.bounded_acts.specs.Acts.{actOf}
 use Rattle.bounded_machine.specs.declared.Machine.{Machine}
 use Rattle.bounded_machine.specs.declared.Did.{Did}
-use Rattle.bounded_machine.specs.Machine.{slot, machineOf, recordOf, placeOf, refused, accepted}
+use Rattle.bounded_machine.specs.Machine.{slot, machineOf, recordOf, placeOf, refused, accepted, fixedOn, endsOn}
 use Rattle.bounded_machine.specs.Broken.{brokenOf, allIdle}
 use Rattle.bounded_machine.specs.Turn.{verdictOf, begun, stored, actedBy, carried, turn, turnOf, turnOfBy}
 use Rattle.bounded_machine.proofs.Kept.{either, every, Unbroken, unbroken-of, of-unbroken}
@@ -104,7 +104,7 @@ module _ (m : Machine) (depth : ℕ) (ok : sizeRefusal m depth ≡ 0) where
 
   -- ---- the walker's state is the machine, but for records that take no part
   abbrev state : List Worker → State
-  state three = record { fixed = m .ring .fixed; ends = m .ring .ends; workers = three; count = m .count; meter = m .meter }
+  state three = record { fixed = fixedOn (m .ring); ends = endsOn (m .ring); workers = three; count = m .count; meter = m .meter }
 
   cut-whole : (stamps values : List ℕ) → Unbroken (machineIn (state (take walkersMost (m .workers))) stamps values)
   cut-whole stamps values =
@@ -140,7 +140,7 @@ module _ (m : Machine) (depth : ℕ) (ok : sizeRefusal m depth ≡ 0) where
           ∙ ap (λ (x : List Worker). walkOf depth (machineIn (state x) stamps values)) first
           ∙ ap (λ (x : List ℕ). walkOf depth (machineIn (state (take walkersMost (m .workers))) x values)) p
           ∙ ap (λ (x : List ℕ). walkOf depth (machineIn (state (take walkersMost (m .workers))) (rowOf false (m .ring .slots)) x)) q
-          ∙ ap (λ (x : List Slot). walkOf depth (machineOf (m .ring .fixed) (m .ring .ends) x (take walkersMost (m .workers)) (m .count) (m .meter))) (slots-of (m .ring .slots))
+          ∙ ap (λ (x : List Slot). walkOf depth (machineOf (fixedOn (m .ring)) (endsOn (m .ring)) x (take walkersMost (m .workers)) (m .count) (m .meter))) (slots-of (m .ring .slots))
           ∙ sym (walk-cut depth m (record { whole = unbroken-of m (parts .0); few = parts .1 .0; long = omega (arith, long); meter = parts .1 .1 .1 }))
 
       pub room : Room (walked 0 0) (walkFrom (state three) stamps values path 0 depth)

@@ -11,9 +11,11 @@ ghost use Rattle.queue_walks.specs.Listed.{bytesOf, walked, counted};
 ghost use Rattle.bounded_sequences.specs.Sequences.{walkOf};
 ghost use Rattle.bounded_walks.specs.Walks.{allBusy, sizeRefusal, walkTold, listed, sizeOf, numberOf, rowOf};
 use bounded_machine::Machine;
+use bounded_places::Ends;
 use bounded_places::Slot;
 use bounded_places::Worker;
 use bounded_sequences::State;
+use bounded_words::Fixed;
 use queue_entries::Told;
 use queue_walks::Walked;
 
@@ -114,8 +116,18 @@ fn walk_into(m: Machine, depth: u64, out: &mut [u8]) -> Walked
     ensures lent { λ r. ⌜ now (out .exit) ≡ sets (now (out .entry)) 0 (bytesOf (walkOf depth m)) ⌝ }
 {
     let ring = m.ring;
-    let f = ring.fixed;
-    let e = ring.ends;
+    let f = Fixed {
+        mark: ring.mark,
+        lap: ring.lap,
+        capacity: ring.capacity,
+        edition: ring.edition,
+    };
+    let head = ring.head;
+    let tail = ring.tail;
+    let e = Ends {
+        head: head,
+        tail: tail,
+    };
     let slots = ring.slots;
     let records = m.workers;
     let workers = first_records(records);

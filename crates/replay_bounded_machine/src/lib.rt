@@ -35,10 +35,16 @@ fn machine_in(head: &[u64], slots: &[u64], records: &[u64]) -> Machine {
     let ends = bounded_rows::ends_in(head);
     let all = bounded_slices::slots_in(slots);
     let workers = workers_in(records);
+    let first = ends.head;
+    let last = ends.tail;
     Machine {
         ring: Ring {
-            fixed: fixed,
-            ends: ends,
+            head: first,
+            tail: last,
+            mark: fixed.mark,
+            lap: fixed.lap,
+            capacity: fixed.capacity,
+            edition: fixed.edition,
             slots: all,
         },
         workers: workers,

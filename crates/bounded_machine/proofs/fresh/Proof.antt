@@ -18,12 +18,12 @@ fresh-slots-requires : tie.Need-fresh-slots-requires
 fresh-slots-requires c κs = search needs
 
 -- src/lib.rt:109:22
-mul-t6 : tie.Need-mul-t6
-mul-t6 c = let s = mark-is (c .before .before .args .capacity) in omega (arith, s .least, c .before .mark-of .ensures)
+mul-lap : tie.Need-mul-lap
+mul-lap c = let s = mark-is (c .before .before .args .capacity) in omega (arith, s .least, c .before .mark-of .ensures)
 
 -- src/lib.rt:99:1
 returns : tie.Need-returns
 returns c = fresh-is _ _ _ _ _ (c .before .mark-of .ensures) (c .fresh-slots .ensures)
 
 pub fresh-spec : {M : Type 1} → statement M
-fresh-spec = tie.close (tie.spec mark-of-requires fresh-slots-requires mul-t6 returns)
+fresh-spec = tie.close (tie.spec mark-of-requires fresh-slots-requires mul-lap returns)

@@ -15,7 +15,7 @@ use Rattle.bounded_places.specs.Places.{viewOf}
 use Rattle.bounded_places.proofs.first_place.Reads as first-place-reads
 use Rattle.bounded_places.proofs.view_of.Reads as view-of-reads
 use Rattle.bounded_table.proofs.act_at.Reads as act-at-reads
-use Rattle.bounded_machine.specs.Machine.{machineOf, placeOf}
+use Rattle.bounded_machine.specs.Machine.{machineOf, placeOf, fixedOn}
 use Rattle.bounded_machine.specs.Turn.{spotOf, begun}
 use Rattle.bounded_machine.specs.Run.{runAt}
 use Rattle.bounded_machine.proofs.Kept.{Unbroken, unbroken-of, fair-in}
@@ -62,8 +62,8 @@ in-time-at c =
     let v = c .before .before .before .verdict-of in
     move-in-time (c .before .before .before .before .before .before .before .before .before .before .before .before .before .loop .meter) (placeOf (c .before .before .before .before .before .before .before .before .before .before .before .before .before .loop .workers) (c .before .before .before .before .before .before .before .worker .given .0 .0)) (c .before .before .before .before .before .before .before .worker .given .0 .1 .0) (v .result) (v .ensures) (c .before .verdict3 .given .0 .0) (moves-at c)
 
-spot-at : (c : tie.After-spot Inv-loop μ-loop) → c .spot .result ≡ spotOf (c .before .before .before .before .before .before .before .before .before .before .before .before .before .before .before .before .before .before .before .before .before .before .args .m .ring .fixed) (viewOf (placeOf (c .before .before .before .before .before .before .before .before .before .before .before .before .before .before .before .loop .workers) (c .before .before .before .before .before .before .before .before .before .worker .given .0 .0)) .held)
-spot-at c = c .spot .ensures ∙ ap (λ (v : View). spotOf (c .before .before .before .before .before .before .before .before .before .before .before .before .before .before .before .before .before .before .before .before .before .before .args .m .ring .fixed) (v .held)) (c .before .view-of .ensures)
+spot-at : (c : tie.After-spot Inv-loop μ-loop) → c .spot .result ≡ spotOf (fixedOn (c .before .before .before .before .before .before .before .before .before .before .before .before .before .before .before .before .before .before .before .before .before .before .args .m .ring)) (viewOf (placeOf (c .before .before .before .before .before .before .before .before .before .before .before .before .before .before .before .loop .workers) (c .before .before .before .before .before .before .before .before .before .worker .given .0 .0)) .held)
+spot-at c = c .spot .ensures ∙ ap (λ (v : View). spotOf (fixedOn (c .before .before .before .before .before .before .before .before .before .before .before .before .before .before .before .before .before .before .before .before .before .before .args .m .ring)) (v .held)) (c .before .view-of .ensures)
 
 spot-below-at : (c : tie.After-spot Inv-loop μ-loop) → c .spot .result < slotsMost
 spot-below-at c = spot-below _ (c .before .before .before .before .before .before .before .before .before .before .before .before .before .before .before .loop .inv .2) _ (c .before .before .before .before .before .before .before .if1 .left) (busy-at (c .before .before)) (c .spot .result) (spot-at c)

@@ -1,7 +1,7 @@
 use mathlib.Core.Path.{_≡_, sym, _∙_}
 use native.Mathlib.Omega.{arith}
 use borrow.Author.Needs.{needs}
-use Rattle.bounded_runs.proofs.Ended.{broken-run, odd-run, unread-run, read-run, not-refused}
+use Rattle.bounded_runs.proofs.Ended.{broken-run, odd-run, searched-run, not-refused}
 use Rattle.bounded_runs.proofs.run.Statement.{statement}
 use Rattle.bounded_runs.proofs.run.Tie as tie
 use Rattle.bounded_runs.proofs.run.Reads as reads
@@ -9,7 +9,7 @@ use Rattle.bounded_runs.proofs.run.Lts as lts
 use Rattle.bounded_machine.proofs.broken.Reads as broken-reads
 use Rattle.bounded_runs.proofs.entries.Reads as entries-reads
 use Rattle.bounded_runs.proofs.unchanged.Reads as unchanged-reads
-use Rattle.queue_entries.proofs.search.Reads as search-reads
+use Rattle.bounded_runs.proofs.unless_unread.Reads as unless-unread-reads
 
 -- src/lib.rt:126:8
 broken-requires : tie.Need-broken-requires
@@ -42,39 +42,17 @@ returns-3 c =
     let h = d .before .before in
     not-refused _ _ _ (sym (h .before .broken .ensures) ∙ h .if1 .left) (d .before .if2 .left) (d .entries .result) (d .entries .ensures) (c .if3 .taken)
 
--- src/lib.rt:136:11
-search-requires : tie.Need-search-requires
-search-requires c κs = search needs
+-- src/lib.rt:170:5
+unless-unread-requires : tie.Need-unless-unread-requires
+unless-unread-requires c κs = search needs
 
--- src/lib.rt:137:31
-enum-known-place : tie.Need-enum-known-place
-enum-known-place c = search needs
-
--- src/lib.rt:137:41
-unchanged-requires-3 : tie.Need-unchanged-requires-3
-unchanged-requires-3 c κs = search needs
-
--- src/lib.rt:138:29
-enum-told : tie.Need-enum-told
-enum-told c = search needs
-
--- src/lib.rt:123:1
+-- src/lib.rt:156:1
 returns-4 : tie.Need-returns-4
 returns-4 c =
-    let f = c .before .before .before .before in
-    let d = f .before .before .before in
+    let d = c .before .before .before in
     let h = d .before .before in
-    c .unchanged3 .ensures
-    ∙ unread-run _ _ _ (h .before .broken .result) (h .before .broken .ensures) (h .if1 .left) (d .before .if2 .left) (f .search .result) (f .search .ensures) _ (search needs)
-
--- src/lib.rt:123:1
-returns-5 : tie.Need-returns-5
-returns-5 c =
-    let f = c .before .before in
-    let d = f .before .before .before in
-    let h = d .before .before in
-    d .entries .ensures
-    ∙ read-run _ _ _ (h .before .broken .result) (h .before .broken .ensures) (h .if1 .left) (d .before .if2 .left) (f .search .result) (f .search .ensures) (search needs)
+    c .unless-unread .ensures
+    ∙ searched-run _ _ _ (h .before .broken .result) (h .before .broken .ensures) (h .if1 .left) (d .before .if2 .left) (d .entries .result) (d .entries .ensures)
 
 pub run-spec : {M : Type 1} → statement M
 run-spec =
@@ -87,9 +65,5 @@ run-spec =
     returns-2
     entries-requires
     returns-3
-    search-requires
-    enum-known-place
-    unchanged-requires-3
-    enum-told
-    returns-4
-    returns-5)
+    unless-unread-requires
+    returns-4)

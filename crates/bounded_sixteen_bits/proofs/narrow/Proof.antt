@@ -11,16 +11,16 @@ narrow-slots-requires : tie.Need-narrow-slots-requires
 narrow-slots-requires c κs = search needs
 
 -- src/lib.rt:133:29
-cast-t10 : tie.Need-cast-t10
-cast-t10 c = search needs
+cast-t8 : tie.Need-cast-t8
+cast-t8 c = search needs
 
 -- src/lib.rt:134:29
-cast-t12 : tie.Need-cast-t12
-cast-t12 c = search needs
+cast-t10 : tie.Need-cast-t10
+cast-t10 c = search needs
 
 -- src/lib.rt:117:1
 returns : tie.Need-returns
 returns c = search (needs, narrowed-is)
 
 pub narrow-spec : {M : Type 1} → statement M
-narrow-spec = tie.close (tie.spec narrow-slots-requires cast-t10 cast-t12 returns)
+narrow-spec = tie.close (tie.spec narrow-slots-requires cast-t8 cast-t10 returns)
