@@ -1,18 +1,11 @@
 """The program archive: its arguments, and one run from its beginning to its end."""
 
-import signal
-import sys
-
-if sys.version_info < (3, 9):  # of any Python 3 that comes so far
-    sys.stderr.write('archive: Python 3.9 or newer is needed, and this is {}.{}\n'.format(*sys.version_info))
-    sys.exit(2)
-if signal.getsignal(signal.SIGINT) == signal.default_int_handler:
-    signal.signal(signal.SIGINT, signal.SIG_DFL)  # it ends what has not begun yet
-
 import gc
 import itertools
 import json
 import os
+import signal
+import sys
 
 import files
 import log
