@@ -83,7 +83,7 @@ class Arguments:
         if not (self.places or self.sum or self.help):
             raise Wrong('no folder and no file to replay (see --help)')
         if self.expect is not None and not self.sum:
-            raise Wrong('no use for this argument (see --help): --expect')
+            raise Wrong('--expect goes with --sum alone (see --help)')
 
     def valued(self, word, value):
         if value is None:
@@ -92,9 +92,11 @@ class Arguments:
             self.log = value
         elif word in WITH_VALUE:
             self.options += [word, value]
-        elif word == '--expect' and value.isascii() and value.isdigit() and len(value) < 19:
+        elif word == '--expect':
+            if not (value.isascii() and value.isdigit() and len(value) < 19):
+                raise Wrong(f'--expect wants a number, not {value} (see --help)')
             self.expect = int(value)
-        elif word == '--jobs' and value.isascii() and value.isdigit() and 0 < int(value) <= JOBS_MOST:
+        elif value.isascii() and value.isdigit() and 0 < int(value) <= JOBS_MOST:
             self.jobs = int(value)
         else:
             raise Wrong(f'no use for this argument (see --help): {value}')
