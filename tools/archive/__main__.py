@@ -25,7 +25,8 @@ table: how many ran to their end, were refused, by number, differ, cannot be rea
 
 A record is what replay prints; for a tape that is refused its line 'refused N at byte B: ..' comes
 last. Records are compared where they are, and none that is a link is followed; names that end in
-neither .tape, .txt nor .out are left aside and counted.
+neither .tape, .txt nor .out are left aside and counted. A run has a log while it lasts; where you
+may not write target/archive, it is kept in fernmoldew/archive of XDG_STATE_HOME, or ~/.local/state.
 
   --record    writes a record for each file that has none and could be replayed
   --json      one line of JSON for each file: file, result (ran, refused, differs, unreadable; gone:
@@ -36,9 +37,7 @@ neither .tape, .txt nor .out are left aside and counted.
   --expect N  with --sum: so many files there should be, each once
   --jobs N    so many runs of replay at once; as many as there are processors if not given
   --resume    goes on with a run of the same places and options that was interrupted
-  --log DIR   where the log of a run is kept while it lasts; if not given, target/archive, or where
-              you may not write there, fernmoldew/archive in XDG_STATE_HOME, ~/.local/state if not
-              set
+  --log DIR   where the log of a run is kept while it lasts; target/archive if not given
   --help      prints this
 
 The options of replay are handed on, and are the same for all files: --queue NAME, --edition N,
@@ -67,7 +66,7 @@ class Arguments:
         self.places, self.options = [], []
         self.record = self.json = self.sum = self.resume = self.help = False
         self.jobs = len(os.sched_getaffinity(0))
-        self.log = self.expect = None
+        self.log, self.expect = None, None
         words = iter(words)
         for word in words:
             if word in ('--record', '--json', '--sum', '--resume', '--help'):
