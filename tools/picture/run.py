@@ -102,12 +102,12 @@ class Replay:
     """replay, started on one input as often as is asked."""
 
     def __init__(self, starter, queue_words, file, given):
-        self.starter, self.words, self.file, self.given = starter, queue_words, file, given  # a file that is given is read so, and is a name only
-        self.name = file or 'standard input'
+        self.starter, self.words, self.file, self.given = starter, queue_words, None if given else file, given  # what is given is read so, and has a name at the most
+        self.name, self.is_named = file or 'standard input', file is not None
         self.noted = None  # the starter's word on what is not proved
 
     def started(self, *options):
-        words = [*self.starter, *options, *self.words, *([self.file] if self.file and not self.given else [])]
+        words = [*self.starter, *options, *self.words, *([self.file] if self.file else [])]
         if self.given:
             self.given.seek(0)
         try:
@@ -137,8 +137,8 @@ class Replay:
                 said = said[len('replay: '):]
                 if self.given and said.startswith('standard input: '):
                     said = f'{self.name}: {said[len("standard input: "):]}'
-            elif self.file:
-                said = f'{self.file}: {said}'
+            elif self.is_named:
+                said = f'{self.name}: {said}'
             raise Told(said, 1 if started.returncode == 1 else 2)
         return out.splitlines(), started.returncode
 
