@@ -102,7 +102,8 @@ class Replay:
     """replay, started on one input as often as is asked."""
 
     def __init__(self, starter, queue_words, file, given):
-        self.starter, self.words, self.file, self.given = starter, queue_words, file, given
+        self.starter, self.words, self.file, self.given = starter, queue_words, None if given else file, given  # what is given is read so, and has a name at the most
+        self.name, self.is_named = file or 'standard input', file is not None
         self.noted = None  # the starter's word on what is not proved
 
     def started(self, *options):
@@ -110,7 +111,7 @@ class Replay:
         if self.given:
             self.given.seek(0)
         try:
-            return subprocess.Popen(words, stdin=self.given or subprocess.DEVNULL, stdout=subprocess.PIPE, stderr=subprocess.PIPE, text=True, errors='replace')
+            return subprocess.Popen(words, stdin=self.given or subprocess.DEVNULL, stdout=subprocess.PIPE, stderr=subprocess.PIPE, text=True, errors='surrogateescape')
         except OSError as wrong:
             raise Told(f'{self.starter[-1]}: {wrong.strerror}')
 
@@ -123,17 +124,21 @@ class Replay:
             started.terminate()
             raise
         lines = []
-        for line in said.splitlines():
+        for line in said.split('\n')[:-1]:
             if line.startswith(UNPROVED):
                 self.noted = line
+            elif lines and lines[-1].startswith('replay: ') and not line.startswith('replay: '):
+                lines[-1] += '\n' + line  # of a name that has two
             else:
                 lines.append(line)
         if started.returncode not in (0, 1) or not out:
             said = lines[-1] if lines else f'replay ended with status {started.returncode}'
             if said.startswith('replay: '):
                 said = said[len('replay: '):]
-            elif self.file:
-                said = f'{self.file}: {said}'
+                if self.given and said.startswith('standard input: '):
+                    said = f'{self.name}: {said[len("standard input: "):]}'
+            elif self.is_named:
+                said = f'{self.name}: {said}'
             raise Told(said, 1 if started.returncode == 1 else 2)
         return out.splitlines(), started.returncode
 
@@ -166,7 +171,7 @@ def lines_to_show(replay, first, last):
 
 def run_of(replay, queue, options, first, last):
     """The run from entry FIRST to LAST, or to its end."""
-    name = ''.join(letter if letter.isprintable() else '?' for letter in replay.file or 'standard input')
+    name = ''.join(letter if letter.isprintable() else '?' for letter in replay.name)
     quiet, _ = replay.all('--quiet')
     words = quiet[1].split()
     ended, refused = int(words[0]), int(words[1])
