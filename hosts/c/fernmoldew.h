@@ -1,8 +1,17 @@
 /* fernmoldew.h: the proved bounded queue, the one-slot queue, and tapes of schedules, linked into a program of yours.
  *
  * What no proof speaks of, and you must see to: the slices of a call must not overlap, each must be as long as is
- * said, two calls on the same words must not run at once, and nobody else may write the words between two calls.
- * Everything else is refused with a number, and a refused call changes no word.
+ * said and aligned as its type is (words at 8 bytes, a tape anywhere), two calls on the same words must not run at once,
+ * and nobody else may write the words between two calls. Everything else is refused with a number, and a refused call
+ * changes no word. NULL is taken where the length is 0.
+ *
+ * Calls on different words may run at once, in any threads: the library has no data of its own, asks for no memory, and
+ * takes less than FERN_STACK_BYTES of stack. Words are in the machine's byte order: lent as they are, they go to a
+ * machine of the same order; a tape goes to any.
+ *
+ * The meter counts acts. At FERN_METER_LAST every act is refused with FERN_METER_FULL, so a call under way never ends,
+ * and while one is, contents is refused. Before that, begin no more calls, let those under way end, take the contents,
+ * make the ring afresh and push them again.
  *
  * The ring and its workers' records are words in your memory, three arrays of uint64_t that you keep and lend with
  * each call:
@@ -14,7 +23,8 @@
  *
  * A step is an entry of two words: `first` is 16 times the worker's number plus a code (FERN_PUSH .. FERN_ACT_LOSE),
  * `second` is the item of a push or a force_push, else 0. A call is begun by one entry and then goes on by one atomic
- * action with each FERN_ACT; the worker's record says where it stands. README.md of this folder shows a whole call.
+ * action with each FERN_ACT; the worker's record says where it stands. ../README.md (hosts/README.md) shows a whole
+ * call, which stops beside a worker who has a slot in hand.
  *
  * Words that stand for no ring and records (a wrong length, a code that there is none of, a word that is not used
  * and not 0, another layout number) are refusal FERN_BROKEN, as are those of a broken ring.
