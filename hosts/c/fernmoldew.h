@@ -23,8 +23,8 @@
  *
  * A step is an entry of two words: `first` is 16 times the worker's number plus a code (FERN_PUSH .. FERN_ACT_LOSE),
  * `second` is the item of a push or a force_push, else 0. A call is begun by one entry and then goes on by one atomic
- * action with each FERN_ACT; the worker's record says where it stands. ../README.md (hosts/README.md) shows a whole
- * call, which stops beside a worker who has a slot in hand.
+ * action with each FERN_ACT; the worker's record says where it stands. hosts/README.md shows a whole call, and where
+ * it stops: beside a worker who has a slot in hand.
  *
  * Words that stand for no ring and records (a wrong length, a code that there is none of, a word that is not used
  * and not 0, another layout number) are refusal FERN_BROKEN, as are those of a broken ring.
