@@ -75,6 +75,14 @@ fn moment_if(asked: bool, out: &mut [u8], at: usize, a: Answers) -> usize {
     at
 }
 
+// left the window at entry N, behind the line of that entry
+fn window_if(asked: bool, out: &mut [u8], at: usize, a: Answers, place: u64) -> usize {
+    if asked {
+        return replay_bounded_window::tell(out, at, a.window, place);
+    }
+    at
+}
+
 // PLACE R h=H t=T m=M wN=S, and what is asked beside it
 pub fn line(
     o: Options,
@@ -97,7 +105,7 @@ pub fn line(
     let t = stock_if(o.stock, out, s, summary);
     let u = moment_if(o.moments, out, t, answers);
     let v = text_output::byte(out, u, b'\n');
-    text_output::settle(out, v)
+    window_if(o.moments, out, text_output::settle(out, v), answers, e.place)
 }
 
 // PLACE R h=H t=T m=M, of the whole
