@@ -10,7 +10,6 @@ use Rattle.walk.proofs.many.run_in.Lts as lts
 use Rattle.replay_many.proofs.first.Reads as first-reads
 use Rattle.walk.proofs.many.one.Reads as one-reads
 use Rattle.replay_many.proofs.unless_at_end.Reads as unless-at-end-reads
-use Rattle.walk.proofs.many.written.Reads as written-reads
 
 abbrev Inv-loop : tie.InvT-loop
 Inv-loop o fd name out₀ n₀ turns₀ out n turns = length out ≡ length out₀
@@ -46,10 +45,6 @@ loop-less c = search needs
 loop-again : tie.Need-loop-again Inv-loop μ-loop
 loop-again c = search needs
 
--- src/many.rt:220:5
-written-requires : tie.Need-written-requires Inv-loop μ-loop
-written-requires c κs = search needs
-
 -- src/many.rt:207:1
 same-length : tie.Need-same-length Inv-loop μ-loop
 same-length c = search needs
@@ -57,6 +52,12 @@ same-length c = search needs
 -- src/many.rt:207:1
 returns : tie.Need-returns Inv-loop μ-loop
 returns c = search needs
+
+same-length-2 : tie.Need-same-length-2 Inv-loop μ-loop
+same-length-2 c = search needs
+
+returns-2 : tie.Need-returns-2 Inv-loop μ-loop
+returns-2 c = search needs
 
 pub run-in-spec : {M : Type 1} → statement M
 run-in-spec =
@@ -71,6 +72,7 @@ run-in-spec =
     sub-turns
     loop-less
     loop-again
-    written-requires
     same-length
-    returns)
+    returns
+    same-length-2
+    returns-2)
