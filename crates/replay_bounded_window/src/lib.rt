@@ -26,7 +26,8 @@ fn length_of(capacity: u64, lap: u64) -> u64 {
     if lap == 0 || 1024 < capacity {
         return NONE;
     }
-    std::num::wrapping_sub_u64(capacity * 65536 / lap, 2 * capacity)
+    let two = std::num::wrapping_add_u64(capacity, capacity);
+    std::num::wrapping_sub_u64(capacity * 65536 / lap, two)
 }
 
 // Before the first entry, of a ring of this capacity and lap.
