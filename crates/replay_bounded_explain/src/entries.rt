@@ -88,7 +88,15 @@ fn accepted(
     }
 }
 
-fn refused(r: Run, c: Counts, window: Window, o: Asked, refusal: u64, w: u64, out: &mut [u8]) -> Going {
+fn refused(
+    r: Run,
+    c: Counts,
+    window: Window,
+    o: Asked,
+    refusal: u64,
+    w: u64,
+    out: &mut [u8],
+) -> Going {
     Going {
         run: Run {
             place: r.place,

@@ -105,7 +105,13 @@ pub fn line(
     let t = stock_if(o.stock, out, s, summary);
     let u = moment_if(o.moments, out, t, answers);
     let v = text_output::byte(out, u, b'\n');
-    window_if(o.moments, out, text_output::settle(out, v), answers, e.place)
+    window_if(
+        o.moments,
+        out,
+        text_output::settle(out, v),
+        answers,
+        e.place,
+    )
 }
 
 // PLACE R h=H t=T m=M, of the whole

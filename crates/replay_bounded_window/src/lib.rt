@@ -33,7 +33,11 @@ fn length_of(capacity: u64, lap: u64) -> u64 {
 // Before the first entry, of a ring of this capacity and lap.
 pub fn start(narrow: bool, capacity: u64, lap: u64) -> Window {
     Window {
-        length: if narrow { length_of(capacity, lap) } else { NONE },
+        length: if narrow {
+            length_of(capacity, lap)
+        } else {
+            NONE
+        },
         tally: Tally {
             tail: Claim(0),
             head: Claim(0),
@@ -95,7 +99,12 @@ fn is_any_out(w: Window, tail: u64, head: u64) -> bool {
     let mut i = 0;
     let mut out = false;
     while i < WORKERS {
-        if is_out(w.length, holds[i], since(tail, tails[i]), since(head, heads[i])) {
+        if is_out(
+            w.length,
+            holds[i],
+            since(tail, tails[i]),
+            since(head, heads[i]),
+        ) {
             out = true;
         }
         i += 1;

@@ -237,14 +237,7 @@ pub fn carry(list: &mut [u64], count: usize) -> usize {
 
 // Of a schedule that is read again, to be run or told: so many numbers, none or one, stand in the list before its first. The first reading began with this sum,
 // and came to what is due.
-pub fn begun(
-    is_tape: bool,
-    offset: u64,
-    line: u64,
-    before: usize,
-    sum: Sum,
-    due: Sum,
-) -> Reading {
+pub fn begun(is_tape: bool, offset: u64, line: u64, before: usize, sum: Sum, due: Sum) -> Reading {
     let mut r = start(is_tape, offset, line, before, sum);
     r.count = before;
     r.due = due;
@@ -347,7 +340,11 @@ pub fn checked(fd: i32, many: bool, r: Reading, bytes: &mut [u8], at: usize) -> 
     if rest.event == FAILED {
         return UNREAD;
     }
-    if text_sums::is_same(rest.sum, r.due) { at } else { CHANGED }
+    if text_sums::is_same(rest.sum, r.due) {
+        at
+    } else {
+        CHANGED
+    }
 }
 
 // How a copy goes on.

@@ -11,7 +11,11 @@ fn said(text: &[u8]) {
 }
 
 pub fn special(name: &[u8]) {
-    replay_input::say::of_name(b"tape", name, b": a link or a device; - writes to standard output\n");
+    replay_input::say::of_name(
+        b"tape",
+        name,
+        b": a link or a device; - writes to standard output\n",
+    );
 }
 
 pub fn abandoned(name: &[u8]) {

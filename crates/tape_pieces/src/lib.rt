@@ -282,7 +282,14 @@ fn first(fd: i32, before: Piece, f: Filled, window: &mut [u8], words: &mut [u64]
     match h {
         Head::Fault(number) => refused(before, number, 0),
         Head::Makes(v, capacity, workers) => {
-            later(fd, begun(v, capacity, workers, before.sum), f, window, 7, words)
+            later(
+                fd,
+                begun(v, capacity, workers, before.sum),
+                f,
+                window,
+                7,
+                words,
+            )
         }
     }
 }

@@ -71,8 +71,11 @@ fn put_head(to: i32, p: Piece, out: &mut [u8]) -> bool {
     put(to, out, n)
 }
 
-// The first line, and those of the first piece.
+// The first line, and those of the first piece, if there is one.
 fn put_first(to: i32, p: Piece, words: &[u64], out: &mut [u8]) -> bool {
+    if p.state == tape_pieces::REFUSED || p.state == tape_pieces::FAILED {
+        return true;
+    }
     if put_head(to, p, out) {
         return put_some(to, words, p.count, out);
     }

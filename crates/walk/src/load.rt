@@ -97,14 +97,7 @@ fn all(
 }
 
 // Read piece by piece and run to its end or to its first refusal.
-pub fn load(
-    edition: u64,
-    fd: i32,
-    many: bool,
-    begun: Reading,
-    whole: Whole,
-    at: usize,
-) -> Loaded {
+pub fn load(edition: u64, fd: i32, many: bool, begun: Reading, whole: Whole, at: usize) -> Loaded {
     let mut bytes = [0u8; replay_input::source::BYTES];
     let mut list = [1u64; replay_input::source::NUMBERS];
     all(edition, fd, many, begun, whole, at, &mut bytes, &mut list)

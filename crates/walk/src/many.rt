@@ -45,7 +45,13 @@ fn asked(o: Options, fd: i32, due: Sum) -> Asked {
 
 fn play(o: Options, fd: i32, begun: Reading, whole: Whole, out: &mut [u8], at: usize) -> Played {
     let l = crate::load::load(o.edition, fd, o.many, begun, whole, at);
-    if l.refusal != 0 || replay_input::source::is_lost(l.at) {
+    if replay_input::source::is_lost(l.at) {
+        return Played {
+            at: l.at,
+            refused: false,
+        };
+    }
+    if l.refusal != 0 {
         return Played {
             at: walk_play::refused::tell(out, l.at, o.many, l.refusal, &[l.place]),
             refused: true,

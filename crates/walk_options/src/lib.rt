@@ -79,7 +79,8 @@ fn options_of(a: Arguments) -> Options {
 }
 
 pub fn read() -> Options {
-    let table = b"--edition=#|--depth=#|--ending=+|--list|--explain|--many|--help|--tell-status|--tell-status-on=#|";
+    let table =
+        b"--edition=#|--depth=#|--ending=+|--list|--explain|--many|--help|--tell-status|--tell-status-on=#|";
     options_of(text_options::read(table))
 }
 
