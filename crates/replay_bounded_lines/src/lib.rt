@@ -84,7 +84,7 @@ fn window_if(asked: bool, out: &mut [u8], at: usize, a: Answers, place: u64) -> 
 }
 
 // PLACE R h=H t=T m=M wN=S, and what is asked beside it
-pub fn line(
+fn own_line(
     o: Options,
     out: &mut [u8],
     at: usize,
@@ -105,13 +105,21 @@ pub fn line(
     let t = stock_if(o.stock, out, s, summary);
     let u = moment_if(o.moments, out, t, answers);
     let v = text_output::byte(out, u, b'\n');
-    window_if(
-        o.moments,
-        out,
-        text_output::settle(out, v),
-        answers,
-        e.place,
-    )
+    text_output::settle(out, v)
+}
+
+// The line of an entry, and the one behind it, if there is one.
+pub fn line(
+    o: Options,
+    out: &mut [u8],
+    at: usize,
+    e: Entered,
+    summary: Summary,
+    because: Because,
+    answers: Answers,
+) -> usize {
+    let p = own_line(o, out, at, e, summary, because, answers);
+    window_if(o.moments, out, p, answers, e.place)
 }
 
 // PLACE R h=H t=T m=M, of the whole
