@@ -28,15 +28,14 @@ fn records_of(lent: bool, workers: u64) -> usize
     RECORDS
 }
 
-// Before the first entry, of a ring with these words.
-fn started(o: Options, broken: bool, whole: Whole, ring: [u64; 8], at: usize) -> Going {
-    let window = replay_bounded_window::start(o.narrow, ring[2], ring[1]);
+// Before the first entry, of a ring of this capacity.
+fn started(broken: bool, whole: Whole, capacity: u64, at: usize) -> Going {
     let run = replay_survey::pieces::begun(broken, whole, at);
     Going {
         run: run,
         summary: replay_bounded_lines::summary::none(run.refusal != 0),
         because: replay_bounded_lines::because::none(),
-        answers: replay_bounded_lines::moments::none(ring[2], window),
+        answers: replay_bounded_lines::moments::none(capacity),
     }
 }
 
@@ -138,7 +137,7 @@ fn play_on(
     );
     let p = text_output::form(out, at, b"made #\n", &[refusal]);
     let broken = bounded_slices::broken(&head, &slots, records);
-    let made = started(o, broken, whole, crate::entries::ring_in(&head), p);
+    let made = started(broken, whole, head[2], p);
     let g = all(
         o,
         fd,

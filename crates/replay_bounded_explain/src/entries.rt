@@ -79,7 +79,10 @@ fn accepted(
         };
     }
     let causes = notes::noted(seen, records, c, e);
-    let now = replay_bounded_window::after(window, e.first, 0, e.before, e.after);
+    let ring = e.ring;
+    let from = e.before;
+    let to = e.after;
+    let now = replay_bounded_window::after(window, e.narrow, ring, e.first, 0, from, to);
     let p = told_if(shown, o, out, at, e, c, causes);
     Going {
         run: run_on(e.place, replay_bounded_window::tell(out, p, now, e.place)),

@@ -4,7 +4,6 @@ use crate::entries::Going;
 use replay_bounded_explain_lines::lines;
 use replay_bounded_explain_lines::lines::Asked;
 use replay_bounded_explain_lines::notes;
-use replay_bounded_explain_lines::words;
 use replay_input::source::Reading;
 use replay_survey::Played;
 use replay_survey::Whole;
@@ -31,11 +30,11 @@ fn records_of(lent: bool, workers: u64) -> usize
     RECORDS
 }
 
-fn started(o: Asked, refusal: u64, whole: Whole, ring: [u64; 8], at: usize) -> Going {
+fn started(refusal: u64, whole: Whole, at: usize) -> Going {
     Going {
-        window: replay_bounded_window::start(o.narrow, ring[2], ring[1]),
         run: pieces::begun(refusal != 0, whole, at),
         counts: notes::start(),
+        window: replay_bounded_window::start(),
     }
 }
 
@@ -127,7 +126,7 @@ fn run_made(
     let mut seen = [0u64; notes::NOTES];
     let mut bytes = [0u8; replay_input::source::BYTES];
     let mut list = [1u64; replay_input::source::NUMBERS];
-    let made = started(o, refusal, whole, words::ring_of(head), at);
+    let made = started(refusal, whole, at);
     let g = all(
         o,
         fd,

@@ -25,11 +25,11 @@ fn not_ended() -> Ended {
 }
 
 // Before the first entry, of a ring of this capacity.
-pub fn none(capacity: u64, window: Window) -> Answers {
+pub fn none(capacity: u64) -> Answers {
     Answers {
         moments: bounded_moments::start(capacity),
         latest: not_ended(),
-        window: window,
+        window: replay_bounded_window::start(),
     }
 }
 
@@ -70,11 +70,14 @@ fn acted(a: Answers, window: Window, w: u64, before: [u64; 5], after: [u64; 5]) 
     }
 }
 
-pub fn after(a: Answers, e: Entered) -> Answers {
+// At sixteen bits or not.
+pub fn after(a: Answers, e: Entered, narrow: bool) -> Answers {
     let before = e.before;
     let after = e.after;
     let kind = crate::kind_of(e);
-    let window = replay_bounded_window::after(a.window, e.first, e.refusal, before, after);
+    let ring = e.ring;
+    let window =
+        replay_bounded_window::after(a.window, narrow, ring, e.first, e.refusal, before, after);
     match kind {
         crate::REFUSED => refused(a, window),
         crate::BEGUN => begun(a, window),

@@ -2,14 +2,9 @@
 use bounded_machine::Tally;
 use bounded_words::Claim;
 
-// The length of a window that no run leaves: words of 64 bits do not come round.
-const NONE: u64 = u64::MAX;
-
 const WORKERS: usize = queue_entries::WORKERS;
 
 pub struct Window {
-    // at either end fewer claims than so many may be made while a word is held
-    pub length: u64,
     // the claims so far
     pub tally: Tally,
     // of each worker: it holds a word of an end, 1 or 0, and the claims when it got it
@@ -21,23 +16,9 @@ pub struct Window {
     pub leaves: bool,
 }
 
-// "a turn less two capacities", a turn being capacity × 65,536 / lap claims
-fn length_of(capacity: u64, lap: u64) -> u64 {
-    if lap == 0 || 1024 < capacity {
-        return NONE;
-    }
-    let two = std::num::wrapping_add_u64(capacity, capacity);
-    std::num::wrapping_sub_u64(capacity * 65536 / lap, two)
-}
-
-// Before the first entry, of a ring of this capacity and lap.
-pub fn start(narrow: bool, capacity: u64, lap: u64) -> Window {
+// Before the first entry.
+pub fn start() -> Window {
     Window {
-        length: if narrow {
-            length_of(capacity, lap)
-        } else {
-            NONE
-        },
         tally: Tally {
             tail: Claim(0),
             head: Claim(0),
@@ -49,6 +30,15 @@ pub fn start(narrow: bool, capacity: u64, lap: u64) -> Window {
         left: false,
         leaves: false,
     }
+}
+
+// "a turn less two capacities", a turn being capacity × 65,536 / lap claims; of no ring no window is left
+fn length_of(capacity: u64, lap: u64) -> u64 {
+    if lap == 0 || 1024 < capacity {
+        return u64::MAX;
+    }
+    let two = std::num::wrapping_add_u64(capacity, capacity);
+    std::num::wrapping_sub_u64(capacity * 65536 / lap, two)
 }
 
 // How far in its call a worker stands: from the second place on it holds a word of an end, which the act that led there gave it.
@@ -91,8 +81,8 @@ fn is_out(length: u64, holds: u64, tails: u64, heads: u64) -> bool {
     holds == 1 && (length <= tails || length <= heads)
 }
 
-// Whether a worker holds a word for too many claims.
-fn is_any_out(w: Window, tail: u64, head: u64) -> bool {
+// Whether a worker holds a word for so many claims at an end, or more.
+fn is_any_out(w: Window, length: u64, tail: u64, head: u64) -> bool {
     let holds = w.holds;
     let tails = w.tails;
     let heads = w.heads;
@@ -100,7 +90,7 @@ fn is_any_out(w: Window, tail: u64, head: u64) -> bool {
     let mut out = false;
     while i < WORKERS {
         if is_out(
-            w.length,
+            length,
             holds[i],
             since(tail, tails[i]),
             since(head, heads[i]),
@@ -112,26 +102,35 @@ fn is_any_out(w: Window, tail: u64, head: u64) -> bool {
     out
 }
 
-fn judged(w: Window) -> Window {
+fn judged(w: Window, length: u64) -> Window {
     let tally = w.tally;
     let tail = tally.tail;
     let head = tally.head;
     let mut now = w;
-    now.leaves = !w.left && is_any_out(w, tail.0, head.0);
+    now.leaves = !w.left && is_any_out(w, length, tail.0, head.0);
     now.left = w.left || now.leaves;
     now
 }
 
-fn acted(w: Window, first: u64, before: [u64; 5], after: [u64; 5]) -> Window {
-    let tally = tallied(w.tally, before, after);
+fn acted(w: Window, length: u64, first: u64, from: [u64; 5], to: [u64; 5]) -> Window {
+    let tally = tallied(w.tally, from, to);
     let mut now = w;
     now.tally = tally;
-    judged(with_word(now, (first / 16) as usize, far_of(after)))
+    judged(with_word(now, (first / 16) as usize, far_of(to)), length)
 }
 
-// An entry of this first word, refused by this number or by none, which led its worker from one record to the other.
-pub fn after(w: Window, first: u64, refusal: u64, from: [u64; 5], to: [u64; 5]) -> Window {
-    if w.length == NONE {
+// An entry of this first word, refused by this number or by none, on a ring with these words and of sixteen bits or not, which led its worker from one record to the
+// other. Words of 64 bits do not come round.
+pub fn after(
+    w: Window,
+    narrow: bool,
+    ring: [u64; 8],
+    first: u64,
+    refusal: u64,
+    from: [u64; 5],
+    to: [u64; 5],
+) -> Window {
+    if !narrow {
         return w;
     }
     if refusal != 0 || first % 16 < 8 {
@@ -139,7 +138,7 @@ pub fn after(w: Window, first: u64, refusal: u64, from: [u64; 5], to: [u64; 5]) 
         now.leaves = false;
         return now;
     }
-    acted(w, first, from, to)
+    acted(w, length_of(ring[2], ring[1]), first, from, to)
 }
 
 // The line behind that of the entry at this place, if that left the window.
