@@ -76,8 +76,15 @@ pub fn after(a: Answers, e: Entered, narrow: bool) -> Answers {
     let after = e.after;
     let kind = crate::kind_of(e);
     let ring = e.ring;
-    let window =
-        replay_bounded_window::after(a.window, narrow, ring, e.first, e.refusal, before, after);
+    let window = replay_bounded_window::after(
+        a.window,
+        narrow,
+        ring,
+        e.first,
+        e.refusal,
+        before,
+        after,
+    );
     match kind {
         crate::REFUSED => refused(a, window),
         crate::BEGUN => begun(a, window),

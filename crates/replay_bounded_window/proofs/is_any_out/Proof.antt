@@ -8,10 +8,10 @@ use Rattle.replay_bounded_window.proofs.is_out.Reads as is-out-reads
 use Rattle.replay_bounded_window.proofs.since.Reads as since-reads
 
 abbrev Inv-loop : tie.InvT-loop
-Inv-loop w length tail head holds tails heads i₀ out₀ i out = Unit {0}
+Inv-loop length tail head holds tails heads i₀ out₀ i out = Unit {0}
 
 abbrev μ-loop : tie.MeasureT-loop
-μ-loop w length tail head holds tails heads i₀ out₀ i out = 16 - i
+μ-loop length tail head holds tails heads i₀ out₀ i out = 16 - i
 
 -- src/lib.rt:96:5
 loop-holds : tie.Need-loop-holds Inv-loop μ-loop
