@@ -2,15 +2,20 @@
 use bounded_machine::Tally;
 use bounded_words::Claim;
 
-const WORKERS: usize = queue_entries::WORKERS;
+// Sixteen words each: of each worker whether it holds a word of an end, 1 or 0, and the claims at tail and at head when it got it; then the claims so far. Words
+// and no fields, since the check of a loop that carries them counts fields.
+const TAILS: usize = 16;
+
+const HEADS: usize = 32;
+
+const TAIL: usize = 48;
+
+const HEAD: usize = 49;
+
+const WORDS: usize = 50;
 
 pub struct Window {
-    // the claims so far
-    pub tally: Tally,
-    // of each worker: it holds a word of an end, 1 or 0, and the claims when it got it
-    pub holds: [u64; WORKERS],
-    pub tails: [u64; WORKERS],
-    pub heads: [u64; WORKERS],
+    pub words: [u64; WORDS],
     // the window was left, and that by the latest entry
     pub left: bool,
     pub leaves: bool,
@@ -19,14 +24,7 @@ pub struct Window {
 // Before the first entry.
 pub fn start() -> Window {
     Window {
-        tally: Tally {
-            tail: Claim(0),
-            head: Claim(0),
-            reads: 0,
-        },
-        holds: [0; WORKERS],
-        tails: [0; WORKERS],
-        heads: [0; WORKERS],
+        words: [0; WORDS],
         left: false,
         leaves: false,
     }
@@ -48,28 +46,40 @@ fn far_of(r: [u64; 5]) -> u64 {
     stand.far
 }
 
-fn tallied(t: Tally, before: [u64; 5], after: [u64; 5]) -> Tally {
-    let stood = bounded_codes::place_in(before[0], before[1], before[2]);
-    let stands = bounded_codes::place_in(after[0], after[1], after[2]);
+// One more act, from record to record.
+fn tallied(tail: u64, head: u64, from: [u64; 5], to: [u64; 5]) -> Tally {
+    let t = Tally {
+        tail: Claim(tail),
+        head: Claim(head),
+        reads: 0,
+    };
+    let stood = bounded_codes::place_in(from[0], from[1], from[2]);
+    let stands = bounded_codes::place_in(to[0], to[1], to[2]);
     bounded_stock::tally(t, stood, stands)
 }
 
-fn with_word(w: Window, i: usize, far: u64) -> Window {
-    let mut now = w;
-    let tally = w.tally;
-    let tail = tally.tail;
-    let head = tally.head;
-    if i < WORKERS {
+fn with_claims(before: [u64; WORDS], t: Tally) -> [u64; WORDS] {
+    let tail = t.tail;
+    let head = t.head;
+    let mut words = before;
+    words[TAIL] = tail.0;
+    words[HEAD] = head.0;
+    words
+}
+
+fn with_word(before: [u64; WORDS], i: usize, far: u64) -> [u64; WORDS] {
+    let mut words = before;
+    if i < TAILS {
         if far < 2 {
-            now.holds[i] = 0;
+            words[i] = 0;
         }
         if far == 2 {
-            now.holds[i] = 1;
-            now.tails[i] = tail.0;
-            now.heads[i] = head.0;
+            words[i] = 1;
+            words[TAILS + i] = words[TAIL];
+            words[HEADS + i] = words[HEAD];
         }
     }
-    now
+    words
 }
 
 // So many claims since others.
@@ -82,18 +92,17 @@ fn is_out(length: u64, holds: u64, tails: u64, heads: u64) -> bool {
 }
 
 // Whether a worker holds a word for so many claims at an end, or more.
-fn is_any_out(w: Window, length: u64, tail: u64, head: u64) -> bool {
-    let holds = w.holds;
-    let tails = w.tails;
-    let heads = w.heads;
+fn is_any_out(words: [u64; WORDS], length: u64) -> bool {
+    let tail = words[TAIL];
+    let head = words[HEAD];
     let mut i = 0;
     let mut out = false;
-    while i < WORKERS {
+    while i < TAILS {
         if is_out(
             length,
-            holds[i],
-            since(tail, tails[i]),
-            since(head, heads[i]),
+            words[i],
+            since(tail, words[TAILS + i]),
+            since(head, words[HEADS + i]),
         ) {
             out = true;
         }
@@ -102,21 +111,20 @@ fn is_any_out(w: Window, length: u64, tail: u64, head: u64) -> bool {
     out
 }
 
-fn judged(w: Window, length: u64) -> Window {
-    let tally = w.tally;
-    let tail = tally.tail;
-    let head = tally.head;
-    let mut now = w;
-    now.leaves = !w.left && is_any_out(w, length, tail.0, head.0);
-    now.left = w.left || now.leaves;
-    now
+fn judged(words: [u64; WORDS], left: bool, length: u64) -> Window {
+    let out = is_any_out(words, length);
+    Window {
+        words: words,
+        left: left || out,
+        leaves: out && !left,
+    }
 }
 
 fn acted(w: Window, length: u64, first: u64, from: [u64; 5], to: [u64; 5]) -> Window {
-    let tally = tallied(w.tally, from, to);
-    let mut now = w;
-    now.tally = tally;
-    judged(with_word(now, (first / 16) as usize, far_of(to)), length)
+    let words = w.words;
+    let claimed = with_claims(words, tallied(words[TAIL], words[HEAD], from, to));
+    let now = with_word(claimed, (first / 16) as usize, far_of(to));
+    judged(now, w.left, length)
 }
 
 // An entry of this first word, refused by this number or by none, on a ring with these words and of sixteen bits or not, which led its worker from one record to the

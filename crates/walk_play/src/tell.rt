@@ -55,11 +55,12 @@ fn explained(
     sequences: u64,
     list: &[u8],
 ) -> Played {
+    let due = o.due;
     let asked = walk_explain::Asked {
         depth: o.depth,
         ending: o.ending,
         fd: o.fd,
-        due: o.due,
+        due: due,
     };
     let t = walk_explain::tell(out, at, asked, m, sequences, list);
     played(t.at, t.found == false)
