@@ -116,12 +116,12 @@ fn row_of(m: Moment) -> Row {
 // at=J or at=J+; an answer whose moment is still to come there is none (`Answered` of bounded_demands); at=- beyond the window
 pub fn tell(out: &mut [u8], at: usize, a: Answers) -> usize {
     let e = a.latest;
-    let window = a.window;
+    let left = replay_bounded_window::is_left(a.window);
     if !e.ends {
         return at;
     }
     let moment = e.moment;
     let r = row_of(moment);
-    let row = if window.left { 3 } else { r.row };
+    let row = if left { 3 } else { r.row };
     text_output::nth(out, at, b" at=#| at=#+| at=none| at=-|", row, &[r.place])
 }

@@ -2,8 +2,8 @@
 use bounded_machine::Tally;
 use bounded_words::Claim;
 
-// Sixteen words each: of each worker whether it holds a word of an end, 1 or 0, and the claims at tail and at head when it got it; then the claims so far. Words
-// and no fields, since the check of a loop that carries them counts fields.
+// Sixteen words each: of each worker whether it holds a word of an end, 1 or 0, and the claims at tail and at head when it got it; then the claims so far; whether the window
+// was left, and that by the latest entry. Words and no fields, since the check of a loop that carries them counts fields.
 const TAILS: usize = 16;
 
 const HEADS: usize = 32;
@@ -12,22 +12,24 @@ const TAIL: usize = 48;
 
 const HEAD: usize = 49;
 
-const WORDS: usize = 50;
+const LEFT: usize = 50;
+
+const LEAVES: usize = 51;
+
+const WORDS: usize = 52;
 
 pub struct Window {
     pub words: [u64; WORDS],
-    // the window was left, and that by the latest entry
-    pub left: bool,
-    pub leaves: bool,
 }
 
 // Before the first entry.
 pub fn start() -> Window {
-    Window {
-        words: [0; WORDS],
-        left: false,
-        leaves: false,
-    }
+    Window { words: [0; WORDS] }
+}
+
+pub fn is_left(w: Window) -> bool {
+    let words = w.words;
+    words[LEFT] == 1
 }
 
 // "a turn less two capacities", a turn being capacity × 65,536 / lap claims; of no ring no window is left
@@ -111,20 +113,28 @@ fn is_any_out(words: [u64; WORDS], length: u64) -> bool {
     out
 }
 
-fn judged(words: [u64; WORDS], left: bool, length: u64) -> Window {
-    let out = is_any_out(words, length);
-    Window {
-        words: words,
-        left: left || out,
-        leaves: out && !left,
+fn judged(before: [u64; WORDS], length: u64) -> [u64; WORDS] {
+    let mut words = before;
+    words[LEAVES] = 0;
+    if words[LEFT] == 0 {
+        if is_any_out(before, length) {
+            words[LEFT] = 1;
+            words[LEAVES] = 1;
+        }
     }
+    words
 }
 
-fn acted(w: Window, length: u64, first: u64, from: [u64; 5], to: [u64; 5]) -> Window {
-    let words = w.words;
+fn acted(
+    words: [u64; WORDS],
+    length: u64,
+    first: u64,
+    from: [u64; 5],
+    to: [u64; 5],
+) -> [u64; WORDS] {
     let claimed = with_claims(words, tallied(words[TAIL], words[HEAD], from, to));
     let now = with_word(claimed, (first / 16) as usize, far_of(to));
-    judged(now, w.left, length)
+    judged(now, length)
 }
 
 // An entry of this first word, refused by this number or by none, on a ring with these words and of sixteen bits or not, which led its worker from one record to the
@@ -141,17 +151,20 @@ pub fn after(
     if !narrow {
         return w;
     }
+    let mut words = w.words;
+    words[LEAVES] = 0;
     if refusal != 0 || first % 16 < 8 {
-        let mut now = w;
-        now.leaves = false;
-        return now;
+        return Window { words: words };
     }
-    acted(w, length_of(ring[2], ring[1]), first, from, to)
+    Window {
+        words: acted(words, length_of(ring[2], ring[1]), first, from, to),
+    }
 }
 
 // The line behind that of the entry at this place, if that left the window.
 pub fn tell(out: &mut [u8], at: usize, w: Window, place: u64) -> usize {
-    if w.leaves {
+    let words = w.words;
+    if words[LEAVES] == 1 {
         let p = text_output::form(out, at, b"left the window at entry #\n", &[place]);
         return text_output::settle(out, p);
     }

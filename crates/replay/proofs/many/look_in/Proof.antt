@@ -8,10 +8,10 @@ use Rattle.replay.proofs.many.look.Reads as look-reads
 use Rattle.replay_many.proofs.unless_at_end.Reads as unless-at-end-reads
 
 abbrev Inv-loop : tie.InvT-loop
-Inv-loop o fd name n₀ turns₀ n turns = Unit {0}
+Inv-loop o fd name n₀ turns₀ t6 n turns = Unit {0}
 
 abbrev μ-loop : tie.MeasureT-loop
-μ-loop o fd name n₀ turns₀ n turns = turns
+μ-loop o fd name n₀ turns₀ t6 n turns = turns
 
 -- src/many.rt:299:9
 first-requires : tie.Need-first-requires Inv-loop μ-loop

@@ -12,10 +12,10 @@ use Rattle.replay.proofs.many.one.Reads as one-reads
 use Rattle.replay_many.proofs.unless_at_end.Reads as unless-at-end-reads
 
 abbrev Inv-loop : tie.InvT-loop
-Inv-loop o fd name out₀ n₀ turns₀ out n turns = length out ≡ length out₀
+Inv-loop o fd name out₀ n₀ turns₀ t7 out n turns = length out ≡ length out₀
 
 abbrev μ-loop : tie.MeasureT-loop
-μ-loop o fd name out₀ n₀ turns₀ out n turns = turns
+μ-loop o fd name out₀ n₀ turns₀ t7 out n turns = turns
 
 -- src/many.rt:215:5
 first-requires : tie.Need-first-requires Inv-loop μ-loop
