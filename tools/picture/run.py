@@ -9,6 +9,7 @@ from typing import NamedTuple, Optional
 from queues import IDLE, READINGS, stand_of
 
 MOST = 20_000  # entries of one picture
+LEFT = 'left the window at entry '
 UNPROVED = 'built from the sources, not proved on this machine: '
 REFUSALS = {
     1: 'a capacity of 0 or above 1,024', 2: 'too many workers, or none', 3: 'no such worker', 4: 'a call begun by a busy worker',
@@ -93,6 +94,7 @@ class Run:
     slots: dict = field(default_factory=dict)  # before the drawn part
     changes: list = field(default_factory=list)  # entry, slot, stamp, value
     refusal: Optional[tuple] = None  # entry or None, number
+    left: Optional[int] = None  # the entry that left the window of sixteen-bit words: from there on no item is followed
     lines: dict = field(default_factory=dict)
     ending: str = ''
     workers: int = 0
@@ -213,6 +215,8 @@ def fold(run, reading, lines, back):
     entry = -1
     for line in lines:
         words = line.split()
+        if line.startswith(LEFT):
+            run.left = int(words[-1])
         if not words or not words[0].isdigit():
             continue
         entry = int(words[0])
@@ -252,10 +256,13 @@ def fold(run, reading, lines, back):
                         run.changes.append((entry, change.slot, *now))
             for end, item in reading.claims(before, after):
                 if end == 'tail':
-                    lives.append(Life(tails, item, worker, entry))
+                    if run.left is None:
+                        lives.append(Life(tails, item, worker, entry))
                     tails += 1
                 else:
                     heads += 1
+                    if run.left is not None or not lives:
+                        continue
                     life = lives.popleft()
                     life.taker, life.ended = worker, entry
                     items[worker] = call.item or life.item

@@ -15,6 +15,7 @@ fn surveyed(o: Options, fd: i32, from: Next) -> Survey {
         o.tape,
         from.offset,
         from.line,
+        from.sum,
     )
 }
 
@@ -65,46 +66,54 @@ fn one(o: Options, fd: i32, name: &[u8], from: Next, out: &mut [u8]) -> Next {
         from.offset,
         from.line,
         crate::queue::before(o),
+        from.sum,
+        replay_input::source::sum_of(s.reading),
     );
     let whole = replay_survey::refused_whole(s);
     let p = crate::queue::play(o, fd, begun, whole, out, from.at);
+    if replay_input::say::is_read(b"replay", name, p.at) {} else {
+        return replay_many::stop(UNREADABLE);
+    }
     replay_many::after(s, p.at, replay_many::worse(from.status, p.refused))
 }
 
 // Of many, each is read before the first is run, so that nothing is written where one cannot be read.
-fn look_in(o: Options, fd: i32, name: &[u8]) -> u8 {
+fn look_in(o: Options, fd: i32, name: &[u8]) -> Next {
     let mut n = replay_many::first();
     let mut turns = u64::MAX;
     while turns > 0 && n.more {
         n = look(o, fd, name, n);
-        n = replay_many::unless_at_end(fd, n);
+        n = replay_many::unless_at_end(b"replay", name, fd, n);
         turns -= 1;
     }
-    n.status
+    n
 }
 
-fn written(n: Next, out: &[u8]) -> u8 {
-    replay_many::written(b"replay", n, out)
-}
-
-fn run_in(o: Options, fd: i32, name: &[u8], out: &mut [u8]) -> u8 {
+fn run_in(o: Options, fd: i32, name: &[u8], out: &mut [u8]) -> Next {
     let mut n = replay_many::first();
     let mut turns = u64::MAX;
     while turns > 0 && n.more {
         n = one(o, fd, name, n, out);
-        n = replay_many::unless_at_end(fd, n);
+        n = replay_many::unless_at_end(b"replay", name, fd, n);
         turns -= 1;
     }
-    written(n, out)
+    n
+}
+
+fn run_looked(o: Options, fd: i32, name: &[u8], out: &mut [u8]) -> u8 {
+    let looked = look_in(o, fd, name);
+    if looked.status != DONE {
+        return looked.status;
+    }
+    let n = run_in(o, fd, name, out);
+    replay_many::written_as_looked(b"replay", name, n, looked, out)
 }
 
 pub fn run_all(o: Options, fd: i32, name: &[u8]) -> u8 {
-    if o.many {
-        let status = look_in(o, fd, name);
-        if status != DONE {
-            return status;
-        }
-    }
     let mut out = io::large_buffer();
-    run_in(o, fd, name, &mut out)
+    if o.many {
+        return run_looked(o, fd, name, &mut out);
+    }
+    let n = run_in(o, fd, name, &mut out);
+    replay_many::written(b"replay", n, &out)
 }

@@ -67,6 +67,8 @@ fn all(
             out,
         );
     }
+    let run = replay_survey::pieces::ended(fd, o.many, p, g.run, bytes);
+    g.run = run;
     g
 }
 

@@ -34,6 +34,7 @@ fn started(refusal: u64, whole: Whole, at: usize) -> Going {
     Going {
         run: pieces::begun(refusal != 0, whole, at),
         counts: notes::start(),
+        window: replay_bounded_window::start(),
     }
 }
 
@@ -67,6 +68,8 @@ fn all(
             out,
         );
     }
+    let run = replay_survey::pieces::ended(fd, o.many, p, g.run, bytes);
+    g.run = run;
     g
 }
 

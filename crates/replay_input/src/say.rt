@@ -8,11 +8,35 @@ fn out(text: &[u8], n: usize) {
     }
 }
 
+// The room of a line that has a name.
+pub const LINE: usize = text_names::ROOM + 512;
+
+fn with_reason(text: &[u8], n: usize) {
+    if n <= text.len() {
+        os::fail(&text[..n]);
+    }
+}
+
+// PROGRAM: NAME
+fn named(text: &mut [u8], program: &[u8], name: &[u8]) -> usize {
+    let o = text_output::text(text, 0, program);
+    let p = text_output::text(text, o, b": ");
+    text_names::shown(text, p, name)
+}
+
 // PROGRAM: WHAT: and errno's text; just after the call that failed
 pub fn fail(program: &[u8], what: &[u8]) {
-    io::write_all(libc::STDERR_FILENO, program);
-    io::write_all(libc::STDERR_FILENO, b": ");
-    os::fail(what);
+    let mut text = [0u8; LINE];
+    let n = named(&mut text, program, what);
+    with_reason(&text, n);
+}
+
+// PROGRAM: NAME and what is said of it
+pub fn of_name(program: &[u8], name: &[u8], what: &[u8]) {
+    let mut text = [0u8; LINE];
+    let n = named(&mut text, program, name);
+    let p = text_output::text(&mut text, n, what);
+    out(&text, p);
 }
 
 // Says that a write to this file has failed; nobody is left to be told of a pipe that was closed.
@@ -31,16 +55,33 @@ pub fn is_written(program: &[u8], whole: bool) -> bool {
     false
 }
 
+// Of an input that was read again, as a place of text says it (source::checked): says so where it could not be, or was not what it was, and answers whether all is well.
+pub fn is_read(program: &[u8], name: &[u8], at: usize) -> bool {
+    match at {
+        crate::source::UNREAD => {
+            fail(program, name);
+            false
+        }
+        crate::source::CHANGED => {
+            changed(program, name);
+            false
+        }
+        _ => true,
+    }
+}
+
+pub fn changed(program: &[u8], name: &[u8]) {
+    of_name(program, name, b": changed while it was read\n");
+}
+
 // PROGRAM: NAME: line L, column C:
 fn place(text: &mut [u8], program: &[u8], name: &[u8], line: u64, column: u64) -> usize {
-    let o = text_output::text(text, 0, program);
-    let p = text_output::text(text, o, b": ");
-    let q = text_output::text(text, p, name);
+    let q = named(text, program, name);
     text_output::form(text, q, b": line #, column #: ", &[line, column])
 }
 
 fn fault(program: &[u8], name: &[u8], line: u64, column: u64, what: &[u8]) {
-    let mut text = [0u8; 4608];
+    let mut text = [0u8; LINE];
     let r = place(&mut text, program, name, line, column);
     let s = text_output::text(&mut text, r, what);
     let t = text_output::byte(&mut text, s, b'\n');
@@ -49,7 +90,7 @@ fn fault(program: &[u8], name: &[u8], line: u64, column: u64, what: &[u8]) {
 
 // Of a word that is none of those that may stand there, or is missing.
 fn unexpected(program: &[u8], name: &[u8], line: u64, column: u64, words: Words) {
-    let mut text = [0u8; 4608];
+    let mut text = [0u8; LINE];
     let r = place(&mut text, program, name, line, column);
     let s = text_words::line::expected(&mut text, r, words);
     let t = text_output::byte(&mut text, s, b'\n');
@@ -119,7 +160,7 @@ const STRIDE: u64 = 1000000;
 // Entries run before a piece and after it: told to a terminal, now and then. Where the text is lost nothing is asked of the system, so
 // that errno still says why at the end.
 pub fn progress(before: u64, after: u64, at: usize) {
-    if at == text_output::LOST {
+    if crate::source::is_lost(at) {
         return;
     }
     if before / STRIDE != after / STRIDE {

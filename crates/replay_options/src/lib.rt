@@ -44,6 +44,8 @@ const HELP: usize = 15;
 
 const TELLS: usize = 16;
 
+const TELLS_ON: usize = 17;
+
 pub struct Options {
     pub queue: u64,
     // handed to making as it stands
@@ -69,8 +71,8 @@ pub struct Options {
     // the input is a tape, and no text
     pub tape: bool,
     pub help: bool,
-    // the starter asks for the status on a descriptor
-    pub tells: bool,
+    // the starter asks for the status on this descriptor; 0: nobody asks
+    pub tells_on: u64,
     // the number of the argument that names the file; 0: standard input
     pub file: usize,
     // the number of an argument that is of no use; 0: all are
@@ -153,7 +155,7 @@ fn options_of(a: Arguments) -> Options {
         item: values[FOLLOW],
         tape: at[TAPE] != 0,
         help: at[HELP] != 0,
-        tells: at[TELLS] != 0,
+        tells_on: if at[TELLS] != 0 { 3 } else { values[TELLS_ON] },
         file: a.file,
         wrong: wrong_of_lines(wrong, at, lacks, queue),
     }
@@ -162,7 +164,7 @@ fn options_of(a: Arguments) -> Options {
 pub fn read() -> Options {
     let table =
         b"--queue=bounded,single,unbounded|--edition=#|--bits=64,16|--follow=#|--lent|--quiet|--causes|--moments|--losses|--stock|--summary|--many|\
-        --words-of|--explain|--tape|--help|--tell-status|";
+        --words-of|--explain|--tape|--help|--tell-status|--tell-status-on=#|";
     options_of(text_options::read(table))
 }
 

@@ -3,6 +3,7 @@ pub mod pieces;
 
 use queue_entries::Finding;
 use replay_input::source::Reading;
+use text_sums::Sum;
 
 pub struct Survey {
     pub reading: Reading,
@@ -118,7 +119,7 @@ fn survey_in(fd: i32, many: bool, begin: Survey, bytes: &mut [u8], list: &mut [u
     s
 }
 
-// Of the schedule that begins at this offset and line; so many numbers, each 1, are put before it: none or one.
+// Of the schedule that begins at this offset and line, before which the bytes have this sum; so many numbers, each 1, are put before it: none or one.
 pub fn surveyed(
     fd: i32,
     many: bool,
@@ -127,11 +128,12 @@ pub fn surveyed(
     is_tape: bool,
     offset: u64,
     line: u64,
+    sum: Sum,
 ) -> Survey {
     let mut bytes = [0u8; replay_input::source::BYTES];
     let mut list = [1u64; replay_input::source::NUMBERS];
     let begin = Survey {
-        reading: replay_input::source::start(is_tape, offset, line, before),
+        reading: replay_input::source::start(is_tape, offset, line, before, sum),
         barred: barred,
         pairs: 0,
         left: before,

@@ -102,6 +102,13 @@ pub fn goes_on(p: Pieces, r: Run) -> bool {
     replay_input::source::tells_on(reading.event, r.refusal, r.at)
 }
 
+// After the last piece: the run as it is, whose text goes on nowhere if the bytes were not those that were surveyed.
+pub fn ended(fd: i32, many: bool, p: Pieces, r: Run, bytes: &mut [u8]) -> Run {
+    let mut after = r;
+    after.at = replay_input::source::checked(fd, many, p.reading, bytes, r.at);
+    after
+}
+
 pub fn next_place(place: u64, refusal: u64) -> u64 {
     if refusal == 0 {
         return std::num::wrapping_add_u64(place, 1);

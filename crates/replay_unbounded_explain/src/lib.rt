@@ -144,6 +144,8 @@ fn all(
         p = replay_survey::pieces::next(fd, o.many, p, g.run, bytes, list);
         g = steps(g, o, replay_survey::pieces::entries(p, list), slots, out);
     }
+    let run = replay_survey::pieces::ended(fd, o.many, p, g.run, bytes);
+    g.run = run;
     g
 }
 

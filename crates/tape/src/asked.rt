@@ -9,8 +9,10 @@ pub const WRITE: u64 = 2;
 pub const READ: u64 = 3;
 
 pub struct Asked {
-    // the starter asks for the status on a descriptor
-    pub tell: bool,
+    // the starter asks for the status on this descriptor; 0: nobody asks
+    pub tells_on: u64,
+    // the descriptor's number is the next argument
+    pub tells_next: bool,
     pub act: u64,
     pub little: bool,
     // the schedule is printed in words, and not in numbers
@@ -23,7 +25,8 @@ pub struct Asked {
 
 fn nothing() -> Asked {
     Asked {
-        tell: false,
+        tells_on: 0,
+        tells_next: false,
         act: NOTHING,
         little: false,
         words: false,
@@ -102,9 +105,18 @@ fn with_argument(before: Asked, i: usize) -> Asked {
     let mut a = before;
     if i == 1 {
         if check::same(&word[..n], b"--tell-status") {
-            a.tell = true;
+            a.tells_on = replay_input::starter::FILENO;
             return a;
         }
+        if check::same(&word[..n], b"--tell-status-on") {
+            a.tells_next = true;
+            return a;
+        }
+    }
+    if a.tells_next {
+        a.tells_next = false;
+        a.tells_on = replay_input::starter::number_in(&word[..n]);
+        return a;
     }
     with_word(a, i, &word[..n])
 }

@@ -1,5 +1,6 @@
 // The numbers of a schedule, read piece by piece as replay reads them, and their tape.
 use replay_input::source::Reading;
+use replay_input::starter::Starter;
 use tapes::Writing;
 use tapes_numbers::Variant;
 
@@ -28,7 +29,7 @@ struct Work {
 
 fn start() -> Work {
     Work {
-        reading: replay_input::source::start(false, 0, 1, 0),
+        reading: replay_input::source::start(false, 0, 1, 0, text_sums::start()),
         left: 0,
         begun: false,
         capacity: 0,
@@ -229,7 +230,7 @@ fn status_of(w: Work, name: &[u8]) -> u8 {
     0
 }
 
-fn write_to(starter: i32, from: i32, name: &[u8], v: Variant, tape: &[u8], path: &[u8]) -> u8 {
+fn write_to(starter: Starter, from: i32, name: &[u8], v: Variant, tape: &[u8], path: &[u8]) -> u8 {
     let to = tape_files::files::sink(starter, tape, path);
     if to < 0 {
         return 2;
@@ -239,7 +240,7 @@ fn write_to(starter: i32, from: i32, name: &[u8], v: Variant, tape: &[u8], path:
 }
 
 fn write_from(
-    starter: i32,
+    starter: Starter,
     from: i32,
     name: &[u8],
     v: Variant,
@@ -254,7 +255,7 @@ fn write_from(
 }
 
 // A schedule's text and the name of its tape; answers the status.
-pub fn run(starter: i32, from: i32, name: &[u8], v: Variant, tape: &[u8]) -> u8 {
+pub fn run(starter: Starter, from: i32, name: &[u8], v: Variant, tape: &[u8]) -> u8 {
     let kept = replay_input::source::kept(b"tape", from, name);
     if kept < 0 {
         return 2;

@@ -18,6 +18,8 @@ const HELP: usize = 6;
 
 const TELLS: usize = 7;
 
+const TELLS_ON: usize = 8;
+
 pub struct Options {
     // handed to making as it stands
     pub edition: u64,
@@ -30,8 +32,8 @@ pub struct Options {
     pub ending: u64,
     pub many: bool,
     pub help: bool,
-    // the starter asks for the status on a descriptor
-    pub tells: bool,
+    // the starter asks for the status on this descriptor; 0: nobody asks
+    pub tells_on: u64,
     // the number of the argument that names the file; 0: standard input
     pub file: usize,
     // the number of an argument that is of no use; 0: all are
@@ -70,14 +72,15 @@ fn options_of(a: Arguments) -> Options {
         ending: values[ENDING],
         many: at[MANY] != 0,
         help: at[HELP] != 0,
-        tells: at[TELLS] != 0,
+        tells_on: if at[TELLS] != 0 { 3 } else { values[TELLS_ON] },
         file: a.file,
         wrong: lacking(a, wrong),
     }
 }
 
 pub fn read() -> Options {
-    let table = b"--edition=#|--depth=#|--ending=+|--list|--explain|--many|--help|--tell-status|";
+    let table =
+        b"--edition=#|--depth=#|--ending=+|--list|--explain|--many|--help|--tell-status|--tell-status-on=#|";
     options_of(text_options::read(table))
 }
 
