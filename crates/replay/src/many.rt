@@ -1,10 +1,13 @@
 // One schedule, or one after another: each is read once to see that it can be run, and once more to run it.
+use replay_input::source::Reading;
 use replay_many::DONE;
 use replay_many::Next;
 use replay_many::REFUSED;
 use replay_many::UNREADABLE;
 use replay_options::Options;
+use replay_survey::Played;
 use replay_survey::Survey;
+use replay_survey::Whole;
 
 fn surveyed(o: Options, fd: i32, from: Next) -> Survey {
     replay_survey::surveyed(
@@ -68,7 +71,42 @@ fn one(o: Options, fd: i32, name: &[u8], from: Next, out: &mut [u8]) -> Next {
     );
     let whole = replay_survey::refused_whole(s);
     let p = crate::queue::play(o, fd, begun, whole, out, from.at);
-    replay_many::after(s, p.at, replay_many::worse(from.status, p.refused))
+    let at = with_refusal(o, fd, name, begun, whole, p, out);
+    replay_many::after(s, at, replay_many::worse(from.status, p.refused))
+}
+
+// What is refused is told on standard error too, behind what was printed so far; of many the lines follow as they come.
+fn with_refusal(
+    o: Options,
+    fd: i32,
+    name: &[u8],
+    begun: Reading,
+    whole: Whole,
+    p: Played,
+    out: &[u8],
+) -> usize {
+    if !p.refused {
+        return p.at;
+    }
+    let at = if o.many {
+        p.at
+    } else {
+        text_output::flush(out, p.at)
+    };
+    if at != text_output::LOST {
+        replay_refusals::tell(
+            name,
+            fd,
+            o.many,
+            begun,
+            whole,
+            p.refusal,
+            p.place,
+            crate::queue::before(o),
+            o.edition,
+        );
+    }
+    at
 }
 
 // Of many, each is read before the first is run, so that nothing is written where one cannot be read.

@@ -27,10 +27,12 @@ pub struct Whole {
     pub workers: u64,
 }
 
-// A schedule that was run: where the text to be written goes on, and whether it was refused.
+// A schedule that was run: where the text to be written goes on, and whether it was refused; by which number, and at which place.
 pub struct Played {
     pub at: usize,
     pub refused: bool,
+    pub refusal: u64,
+    pub place: u64,
 }
 
 // The k-th entry among those after so many pairs.

@@ -449,7 +449,7 @@ fn shown_byte(out: &mut [u8], at: usize, b: u8) -> usize {
     text_output::byte(out, q, hex(b % 16))
 }
 
-fn shown(out: &mut [u8], at: usize, word: &[u8]) -> usize {
+pub fn shown(out: &mut [u8], at: usize, word: &[u8]) -> usize {
     let mut p = at;
     let mut i = 0;
     while i < word.len() {
@@ -590,7 +590,7 @@ fn object(
     }
 }
 
-fn out(fd: i32, text: &[u8], n: usize) -> bool {
+pub fn out(fd: i32, text: &[u8], n: usize) -> bool {
     io::write_all(fd, part(text, 0, n))
 }
 

@@ -47,6 +47,8 @@ fn play(o: Options, fd: i32, begun: Reading, whole: Whole, out: &mut [u8], at: u
         return Played {
             at: walk_play::refused::tell(out, at, o.many, l.refusal, &[l.place]),
             refused: true,
+            refusal: l.refusal,
+            place: l.place,
         };
     }
     let m = l.words;
