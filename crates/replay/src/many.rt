@@ -32,14 +32,14 @@ fn said_of_words(o: Options, s: Survey) -> u8 {
 }
 
 // Says what is wrong, and answers the status.
-fn said(o: Options, s: Survey, name: &[u8]) -> u8 {
+fn said(o: Options, s: Survey, fd: i32, name: &[u8]) -> u8 {
     let r = s.reading;
     if r.event == replay_input::source::REFUSED {
         let p = r.tape;
         tape_files::say::refused_tape(p.number, p.byte);
         return REFUSED;
     }
-    if replay_survey::is_sound(s, name) {
+    if replay_survey::is_sound(s, fd, o.many, name) {
         said_of_words(o, s)
     } else {
         UNREADABLE
@@ -49,7 +49,7 @@ fn said(o: Options, s: Survey, name: &[u8]) -> u8 {
 // Read once, and not run.
 fn look(o: Options, fd: i32, name: &[u8], from: Next) -> Next {
     let s = surveyed(o, fd, from);
-    let status = said(o, s, name);
+    let status = said(o, s, fd, name);
     if status == DONE {
         replay_many::after(s, 0, from.status)
     } else {
@@ -59,7 +59,7 @@ fn look(o: Options, fd: i32, name: &[u8], from: Next) -> Next {
 
 fn one(o: Options, fd: i32, name: &[u8], from: Next, out: &mut [u8]) -> Next {
     let s = surveyed(o, fd, from);
-    let status = said(o, s, name);
+    let status = said(o, s, fd, name);
     if status != DONE {
         return replay_many::stop(status);
     }

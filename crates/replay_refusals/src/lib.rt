@@ -83,14 +83,21 @@ fn note(notes: &mut [u64], pair: u64, first: u64) {
     }
 }
 
-// Those of a list that follow so many pairs, up to this one.
+// The k-th of a list that follows so many pairs, if it comes before this one.
+fn note_at(notes: &mut [u64], list: &[u64], k: usize, pairs: u64, target: u64) {
+    let pair = more(pairs, k as u64);
+    if pair < target {
+        note(notes, pair, get(list, up(k, k)));
+    }
+}
+
 fn note_all(notes: &mut [u64], list: &[u64], count: usize, pairs: u64, target: u64) {
+    let n = count / 2;
     let mut k = 0;
-    let mut pair = pairs;
-    while k < count && pair < target {
-        note(notes, pair, get(list, k));
-        k = std::num::wrapping_add_usize(k, 2);
-        pair = std::num::wrapping_add_u64(pair, 1);
+    while k < n {
+        let i = k;
+        k += 1;
+        note_at(notes, list, i, pairs, target);
     }
 }
 
@@ -290,10 +297,10 @@ fn besides(out: &mut [u8], at: usize, refusal: u64, w: u64, notes: &[u64], worke
         return text_output::nth(out, at, form, 2, &[workers]);
     }
     if refusal == 4 && begun != 0 {
-        return text_output::nth(out, at, form, 3, &[begun - 1]);
+        return text_output::nth(out, at, form, 3, &[std::num::wrapping_sub_u64(begun, 1)]);
     }
     if refusal == 5 && last != 0 {
-        return text_output::nth(out, at, form, 4, &[last - 1]);
+        return text_output::nth(out, at, form, 4, &[std::num::wrapping_sub_u64(last, 1)]);
     }
     if refusal == 5 {
         return text_output::text(out, at, b": it has begun no call");
