@@ -35,10 +35,10 @@ class Fault(Exception):
         begins = lines[line - 1][column - 1:column]
         mark, tape, no_capacity = HINTS[program]
         hint = ''
-        if self.what == NO_NUMBER or self.what.startswith('expected: '):
-            if begins == b'%' and column == 1 and not many and (line < len(lines) or self.what == NO_NUMBER):
+        if column == 1 and (self.what == NO_NUMBER or self.what.startswith('expected: ')):
+            if begins == b'%' and not many and (line < len(lines) or self.what == NO_NUMBER):
                 hint = mark
-            elif begins in (b'\1', b'\x81') and self.place == (1, 1):
+            elif begins in (b'\1', b'\x81') and line == 1:
                 hint = tape
             elif begins == b'w' and self.what == 'expected: capacity and a number':
                 hint = no_capacity

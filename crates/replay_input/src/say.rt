@@ -83,10 +83,13 @@ fn hint(fd: i32, many: bool, r: Reading, numbers: u64) -> usize {
     let scan = r.scan;
     let b = first_byte(fd, r);
     let is_tag = b == 1 || b == 129;
-    if b == b'%' && scan.start == 1 && !many {
+    if scan.start != 1 {
+        return NO_HINT;
+    }
+    if b == b'%' && !many {
         return MARK;
     }
-    if is_tag && scan.start == 1 && scan.line == 1 {
+    if is_tag && scan.line == 1 {
         return TAPE;
     }
     if b == b'w' && numbers == 0 {

@@ -169,6 +169,22 @@ fn goes_on(l: Look) -> bool {
     !l.found && r.event == text_numbers::NOTHING
 }
 
+// One reading more.
+fn turn(
+    l: Look,
+    fd: i32,
+    many: bool,
+    target: u64,
+    bytes: &mut [u8],
+    list: &mut [u64],
+    notes: &mut [u64],
+) -> Look {
+    let r = replay_input::source::next(fd, many, l.reading, bytes, list);
+    note_all(notes, list, r.count, l.pairs, target);
+    note_owed(notes, r, more(l.pairs, (r.count / 2) as u64), target);
+    after(l, r, list, target)
+}
+
 // By pieces as long as the bytes, to the one that has the pair with this number or to the end.
 fn reach(
     from: Look,
@@ -183,12 +199,24 @@ fn reach(
     let mut turns = u64::MAX;
     while turns > 0 && goes_on(l) {
         turns -= 1;
-        let r = replay_input::source::next(fd, many, l.reading, bytes, list);
-        note_all(notes, list, r.count, l.pairs, target);
-        note_owed(notes, r, more(l.pairs, (r.count / 2) as u64), target);
-        l = after(l, r, list, target);
+        l = turn(l, fd, many, target, bytes, list, notes);
     }
     l
+}
+
+// Byte by byte, from where no pair and no row was begun; a queue without a capacity has a 1 before its first number.
+fn reach_line(
+    l: Look,
+    fd: i32,
+    many: bool,
+    target: u64,
+    list: &mut [u64],
+    notes: &mut [u64],
+) -> Look {
+    let mut byte = [0u8; 1];
+    put(list, 0, 1);
+    let from = start(l.again, l.again_pairs);
+    reach(from, fd, many, target, &mut byte, list, notes)
 }
 
 // The pair with this number, and the line where it was written.
@@ -203,19 +231,10 @@ fn looked(
 ) -> Look {
     let l = reach(start(begun, 0), fd, many, target, bytes, list, notes);
     if begun.is_tape {
-        return l;
+        l
+    } else {
+        reach_line(l, fd, many, target, list, notes)
     }
-    let mut byte = [0u8; 1];
-    put(list, 0, 1);
-    reach(
-        start(l.again, l.again_pairs),
-        fd,
-        many,
-        target,
-        &mut byte,
-        list,
-        notes,
-    )
 }
 
 // ---- in one line
