@@ -169,6 +169,13 @@ fn goes_on(l: Look) -> bool {
     !l.found && r.event == text_numbers::NOTHING
 }
 
+// What a reading brought is noted.
+fn with_reading(l: Look, r: Reading, list: &[u64], target: u64, notes: &mut [u64]) -> Look {
+    note_all(notes, list, r.count, l.pairs, target);
+    note_owed(notes, r, more(l.pairs, (r.count / 2) as u64), target);
+    after(l, r, list, target)
+}
+
 // One reading more.
 fn turn(
     l: Look,
@@ -180,9 +187,7 @@ fn turn(
     notes: &mut [u64],
 ) -> Look {
     let r = replay_input::source::next(fd, many, l.reading, bytes, list);
-    note_all(notes, list, r.count, l.pairs, target);
-    note_owed(notes, r, more(l.pairs, (r.count / 2) as u64), target);
-    after(l, r, list, target)
+    with_reading(l, r, list, target, notes)
 }
 
 // By pieces as long as the bytes, to the one that has the pair with this number or to the end.
