@@ -38,7 +38,10 @@ may not write target/archive, it is kept in fernmoldew/archive of XDG_STATE_HOME
   --jobs N    so many runs of replay at once; as many as there are processors if not given
   --resume    goes on with a run of the same places and options that was interrupted
   --log DIR   where the log of a run is kept while it lasts; target/archive if not given
-  --help      prints this
+  --version   prints the version
+  -h, --help  prints this
+
+A value may stand behind an = too, as in --jobs=2. What follows a word -- is a place.
 
 The options of replay are handed on, and are the same for all files: --queue NAME, --edition N,
 --bits N, --lent, --quiet, --causes, --moments, --losses, --stock, --summary, --explain, --follow
@@ -49,8 +52,10 @@ so, differ, or are gone; 2 some cannot be read, the arguments cannot be read, li
 expects are missing, told twice, or there is none, or not all can be written.
 """
 WITH_VALUE = ('--queue', '--edition', '--bits', '--follow')
+ALONE = ('--record', '--json', '--sum', '--resume', '--help', '-h', '--version')
 HANDED_ON = (*WITH_VALUE, '--lent', '--quiet', '--causes', '--moments', '--losses', '--stock', '--summary', '--explain')
 JOBS_MOST = 1024
+VERSION = 'archive 0.1.0 of Fernmoldew, the port of concurrent-queue 2.5.0\n'
 
 
 class Wrong(Exception):
@@ -64,29 +69,34 @@ class Interrupted(Exception):
 class Arguments:
     def __init__(self, words):
         self.places, self.options = [], []
-        self.record = self.json = self.sum = self.resume = self.help = False
+        self.record = self.json = self.sum = self.resume = self.help = self.version = False
         self.jobs = len(os.sched_getaffinity(0))
         self.log, self.expect = None, None
-        words = iter(words)
+        words, are_places = iter(words), False
         for word in words:
-            if word in ('--record', '--json', '--sum', '--resume', '--help'):
-                setattr(self, word[2:], True)
-            elif word in ('--jobs', '--log', '--expect') or word in WITH_VALUE:
-                self.valued(word, next(words, None))
+            option, equals, value = word.partition('=')
+            if are_places or word and not word.startswith('-'):
+                self.places.append(os.fsencode(word))
+            elif word == '--':
+                are_places = True
+            elif option in ('--jobs', '--log', '--expect') or option in WITH_VALUE:
+                self.valued(option, value if equals else next(words, None))
+            elif equals and option in (*ALONE, *HANDED_ON):
+                raise Wrong(f'{option} takes no value: {word} (see --help)')
+            elif word in ALONE:
+                setattr(self, 'help' if word == '-h' else word[2:], True)
             elif word in HANDED_ON:
                 self.options.append(word)
-            elif word.startswith('-') or word == '':
-                raise Wrong(f'no use for this argument (see --help): {word}')
             else:
-                self.places.append(os.fsencode(word))
-        if not (self.places or self.sum or self.help):
+                raise Wrong(f"{word or 'an empty word'} is no option (see --help)")
+        if not (self.places or self.sum or self.help or self.version):
             raise Wrong('no folder and no file to replay (see --help)')
         if self.expect is not None and not self.sum:
             raise Wrong('--expect goes with --sum alone (see --help)')
 
     def valued(self, word, value):
         if value is None:
-            raise Wrong(f'no use for this argument (see --help): {word}')
+            raise Wrong(f'{word} wants a value (see --help)')
         if word == '--log':
             self.log = value
         elif word in WITH_VALUE:
@@ -98,7 +108,7 @@ class Arguments:
         elif value.isascii() and value.isdigit() and 0 < int(value) <= JOBS_MOST:
             self.jobs = int(value)
         else:
-            raise Wrong(f'no use for this argument (see --help): {value}')
+            raise Wrong(f'{word} wants a number from 1 to {JOBS_MOST}, not {value} (see --help)')
 
 
 class Starter:
@@ -255,8 +265,8 @@ def interrupted(number, _):
 
 def run(words):
     arguments = Arguments(words)
-    if arguments.help:
-        runs.write_all(1, HELP.encode())
+    if arguments.help or arguments.version:
+        runs.write_all(1, (HELP if arguments.help else VERSION).encode())
         return 0
     if arguments.sum:
         return summed(arguments.places, arguments.expect)

@@ -10,7 +10,8 @@ from drawing import Picture
 from page import html_of, svg_of
 from run import MOST, Replay, Told, run_of
 
-HELP = f'''picture [-o NAME.svg|NAME.html] [--from N] [--to N] [--queue NAME] [--edition N] [--bits N] [--lent] [--tape] [FILE]
+HELP = f'''picture [-o NAME.svg|NAME.html] [--from N] [--to N] [--queue NAME] [--edition N] [--bits N] [--lent]
+        [--tape] [FILE]
 
 Draws the run of a schedule: an SVG, or an HTML page that needs no network and nothing beside
 itself. The schedule is read from FILE, or from standard input, and run by replay; replay --help
@@ -30,7 +31,12 @@ there), and a table of all entries.
               and in place of a link comes the file; without it the SVG goes to standard output
   --from N    the first entry that is drawn (0 if not given)
   --to N      the last one (the run's last if not given); at most {MOST:,} entries are drawn
-  --queue single, --queue unbounded, --edition 2, --bits 16, --lent, --tape   for replay, as its help says
+  --queue single, --queue unbounded, --edition 2, --bits 16, --lent, --tape   for replay, as its
+              help says
+  --version   prints the version
+  -h, --help  prints this
+
+A value may stand behind an = too, as in --to=99. What follows a word -- is a name.
 
 A refused schedule is drawn up to its refusal, which is shown.
 Status: 0 drawn, 1 drawn up to a refusal, or a tape that is refused, 2 input or arguments cannot be
@@ -38,34 +44,38 @@ read, or not all can be written.
 '''
 WITH_VALUE = ('-o', '--from', '--to', '--queue', '--edition', '--bits')
 ALONE = ('--lent', '--tape')
+VERSION = 'picture 0.1.0 of Fernmoldew, the port of concurrent-queue 2.5.0\n'
 FOR_REPLAY = ('--queue', '--edition', '--bits', '--lent', '--tape')
 
 
-def no_use(word):
-    return Told(f'no use for this argument (see --help): {word}')
-
-
-def number_of(word):
+def number_of(option, word):
     if not (word.isascii() and word.isdigit()) or len(word) > 19:
-        raise no_use(word)
+        raise Told(f'{option} wants a number, not {word} (see --help)')
     return int(word)
 
 
 def read(words):
     """The options, in order, and the file."""
-    options, file, words = [], None, list(words)
+    options, file, words, are_names = [], None, list(words), False
     while words:
         word = words.pop(0)
-        if word in WITH_VALUE:
-            if not words:
-                raise no_use(word)
-            options.append((word, words.pop(0)))
-        elif word in ALONE:
-            options.append((word, ''))
-        elif word.startswith('-') or not word or file is not None:
-            raise no_use(word)
-        else:
+        option, equals, value = word.partition('=')
+        if are_names or word and not word.startswith('-'):
+            if file is not None:
+                raise Told(f'{word} is one name too many (see --help)')
             file = word
+        elif word == '--':
+            are_names = True
+        elif option in WITH_VALUE:
+            if not (equals or words):
+                raise Told(f'{option} wants a value (see --help)')
+            options.append((option, value if equals else words.pop(0)))
+        elif option in ALONE:
+            if equals:
+                raise Told(f'{option} takes no value: {word} (see --help)')
+            options.append((option, ''))
+        else:
+            raise Told(f"{word or 'an empty word'} is no option (see --help)")
     return options, file
 
 
@@ -162,12 +172,14 @@ def say(said):
 
 
 def main(starter, words):
-    if '--help' in words:
-        printed(HELP.encode())
-        return 0
+    asked = words[:words.index('--')] if '--' in words else words
+    for text, names in ((HELP, ('--help', '-h')), (VERSION, ('--version',))):
+        if any(name in asked for name in names):
+            printed(text.encode())
+            return 0
     options, file = read(words)
     chosen = dict(options)
-    first, last = (number_of(chosen[option]) if option in chosen else None for option in ('--from', '--to'))
+    first, last = (number_of(option, chosen[option]) if option in chosen else None for option in ('--from', '--to'))
     if last is not None and last < (first or 0):
         raise Told(f'nothing from entry {first or 0} to {last}')
     name = chosen.get('-o')

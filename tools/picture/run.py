@@ -109,7 +109,7 @@ class Replay:
         self.noted = None  # the starter's word on what is not proved
 
     def started(self, *options):
-        words = [*self.starter, *options, *self.words, *([self.file] if self.file else [])]
+        words = [*self.starter, *options, *self.words, *(['--', self.file] if self.file else [])]
         if self.given:
             self.given.seek(0)
         try:

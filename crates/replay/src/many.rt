@@ -1,10 +1,13 @@
 // One schedule, or one after another: each is read once to see that it can be run, and once more to run it.
+use replay_input::source::Reading;
 use replay_many::DONE;
 use replay_many::Next;
 use replay_many::REFUSED;
 use replay_many::UNREADABLE;
 use replay_options::Options;
+use replay_survey::Played;
 use replay_survey::Survey;
+use replay_survey::Whole;
 
 fn surveyed(o: Options, fd: i32, from: Next) -> Survey {
     replay_survey::surveyed(
@@ -30,14 +33,14 @@ fn said_of_words(o: Options, s: Survey) -> u8 {
 }
 
 // Says what is wrong, and answers the status.
-fn said(o: Options, s: Survey, name: &[u8]) -> u8 {
+fn said(o: Options, s: Survey, fd: i32, name: &[u8]) -> u8 {
     let r = s.reading;
     if r.event == replay_input::source::REFUSED {
         let p = r.tape;
         tape_files::say::refused_tape(p.number, p.byte);
         return REFUSED;
     }
-    if replay_survey::is_sound(s, name) {
+    if replay_survey::is_sound(s, fd, o.many, name) {
         said_of_words(o, s)
     } else {
         UNREADABLE
@@ -47,7 +50,7 @@ fn said(o: Options, s: Survey, name: &[u8]) -> u8 {
 // Read once, and not run.
 fn look(o: Options, fd: i32, name: &[u8], from: Next) -> Next {
     let s = surveyed(o, fd, from);
-    let status = said(o, s, name);
+    let status = said(o, s, fd, name);
     if status == DONE {
         replay_many::after(s, 0, from.status)
     } else {
@@ -57,7 +60,7 @@ fn look(o: Options, fd: i32, name: &[u8], from: Next) -> Next {
 
 fn one(o: Options, fd: i32, name: &[u8], from: Next, out: &mut [u8]) -> Next {
     let s = surveyed(o, fd, from);
-    let status = said(o, s, name);
+    let status = said(o, s, fd, name);
     if status != DONE {
         return replay_many::stop(status);
     }
@@ -74,7 +77,42 @@ fn one(o: Options, fd: i32, name: &[u8], from: Next, out: &mut [u8]) -> Next {
     if replay_input::say::is_read(b"replay", name, p.at) {} else {
         return replay_many::stop(UNREADABLE);
     }
-    replay_many::after(s, p.at, replay_many::worse(from.status, p.refused))
+    let at = with_refusal(o, fd, name, begun, whole, p, out);
+    replay_many::after(s, at, replay_many::worse(from.status, p.refused))
+}
+
+// What is refused is told on standard error too, behind what was printed so far; of many the lines follow as they come.
+fn with_refusal(
+    o: Options,
+    fd: i32,
+    name: &[u8],
+    begun: Reading,
+    whole: Whole,
+    p: Played,
+    out: &[u8],
+) -> usize {
+    if !p.refused {
+        return p.at;
+    }
+    let at = if o.many {
+        p.at
+    } else {
+        text_output::flush(out, p.at)
+    };
+    if at != text_output::LOST {
+        replay_refusals::tell(
+            name,
+            fd,
+            o.many,
+            begun,
+            whole,
+            p.refusal,
+            p.place,
+            crate::queue::before(o),
+            o.edition,
+        );
+    }
+    at
 }
 
 // Of many, each is read before the first is run, so that nothing is written where one cannot be read.

@@ -28,10 +28,12 @@ pub struct Whole {
     pub workers: u64,
 }
 
-// A schedule that was run: where the text to be written goes on, and whether it was refused.
+// A schedule that was run: where the text to be written goes on, and whether it was refused; by which number, and at which place.
 pub struct Played {
     pub at: usize,
     pub refused: bool,
+    pub refusal: u64,
+    pub place: u64,
 }
 
 // The k-th entry among those after so many pairs.
@@ -150,8 +152,10 @@ fn numbers(s: Survey) -> u64 {
 }
 
 // Says what is wrong, and answers whether nothing is.
-pub fn is_sound(s: Survey, name: &[u8]) -> bool {
-    replay_input::say::is_sound(b"replay", name, s.reading, numbers(s))
+pub fn is_sound(s: Survey, fd: i32, many: bool, name: &[u8]) -> bool {
+    let hints =
+        b"|; several schedules are read with --many|; a tape is read with --tape|; a schedule without one is of another --queue|";
+    replay_input::say::is_sound(b"replay", name, fd, many, s.reading, numbers(s), hints)
 }
 
 fn of_whole(s: Survey, refusal: u64, place: u64) -> Whole {

@@ -1,4 +1,5 @@
 // A schedule that is read to be run, piece by piece, and how far the run is.
+use crate::Played;
 use crate::Whole;
 use replay_input::source::Reading;
 
@@ -119,6 +120,16 @@ pub fn next_place(place: u64, refusal: u64) -> u64 {
 // Whether the whole is reported at the end: where there was no line for each entry.
 pub fn is_reported(r: Run, quiet: bool) -> bool {
     quiet || r.whole
+}
+
+// A run that is over, whose text goes on at this place.
+pub fn played(r: Run, at: usize) -> Played {
+    Played {
+        at: at,
+        refused: r.refusal != 0,
+        refusal: r.refusal,
+        place: r.place,
+    }
 }
 
 // What follows the output of one of many.

@@ -120,10 +120,7 @@ fn make(o: Asked, whole: Whole, out: &mut [u8], at: usize) -> Going {
 fn finish(g: Going, o: Asked, out: &mut [u8]) -> Played {
     let r = g.run;
     let at = ends::tell(out, o, r, g.machine, g.notes);
-    Played {
-        at: replay_survey::pieces::end(out, at, o.many),
-        refused: r.refusal != 0,
-    }
+    replay_survey::pieces::played(r, replay_survey::pieces::end(out, at, o.many))
 }
 
 fn all(

@@ -41,16 +41,22 @@ fn run_file(starter: Starter, a: Asked, name: &[u8]) -> u8 {
     status
 }
 
+fn told(whole: bool) -> u8 {
+    if replay_input::say::is_written(b"tape", whole) {
+        return 0;
+    }
+    2
+}
+
 // 0: done. 1: the tape or the schedule is refused. 2: anything else.
 fn status_of(starter: Starter, a: Asked) -> u8 {
-    if a.wrong {
-        asked::usage();
-        return 2;
+    if a.help {
+        return told(asked::help());
     }
-    if a.act == asked::HELP {
-        if replay_input::say::is_written(b"tape", asked::help()) {
-            return 0;
-        }
+    if a.version {
+        return told(text_options::version(b"tape"));
+    }
+    if a.wrong {
         return 2;
     }
     let mut name = io::buffer();

@@ -212,11 +212,17 @@ fn numbers_of(w: Work) -> u64 {
 }
 
 // Says what is wrong with the text, or what is refused.
-fn status_of(w: Work, name: &[u8]) -> u8 {
+fn is_sound(w: Work, from: i32, name: &[u8]) -> bool {
+    let hints =
+        b"|; a tape has one schedule|; this is a tape, and tape read prints it|; a tape has one, which other queues do not use: capacity 1|";
+    replay_input::say::is_sound(b"tape", name, from, false, w.reading, numbers_of(w), hints)
+}
+
+fn status_of(w: Work, from: i32, name: &[u8]) -> u8 {
     if w.stuck {
         return 2;
     }
-    if replay_input::say::is_sound(b"tape", name, w.reading, numbers_of(w)) {} else {
+    if is_sound(w, from, name) {} else {
         return 2;
     }
     if w.left == 1 {
@@ -236,7 +242,7 @@ fn write_to(starter: Starter, from: i32, name: &[u8], v: Variant, tape: &[u8], p
         return 2;
     }
     let w = worked(from, v, to);
-    tape_files::files::finish(starter, status_of(w, name), tape, path, to)
+    tape_files::files::finish(starter, status_of(w, from, name), tape, path, to)
 }
 
 fn write_from(

@@ -17,14 +17,16 @@ fn numbers(s: Survey) -> u64 {
     if s.pairs == 0 { s.left as u64 } else { 2 }
 }
 
-fn is_sound(s: Survey, name: &[u8]) -> bool {
-    replay_input::say::is_sound(b"walk", name, s.reading, numbers(s))
+fn is_sound(s: Survey, fd: i32, many: bool, name: &[u8]) -> bool {
+    let hints =
+        b"|; several schedules are read with --many|; tape read prints a tape as a schedule|; walk has the ring alone, which has one|";
+    replay_input::say::is_sound(b"walk", name, fd, many, s.reading, numbers(s), hints)
 }
 
 // Read once, and not run.
 fn look(o: Options, fd: i32, name: &[u8], from: Next) -> Next {
     let s = surveyed(o, fd, from);
-    if is_sound(s, name) {
+    if is_sound(s, fd, o.many, name) {
         replay_many::after(s, 0, from.status)
     } else {
         replay_many::stop(UNREADABLE)
@@ -55,6 +57,8 @@ fn play(o: Options, fd: i32, begun: Reading, whole: Whole, out: &mut [u8], at: u
         return Played {
             at: walk_play::refused::tell(out, l.at, o.many, l.refusal, &[l.place]),
             refused: true,
+            refusal: l.refusal,
+            place: l.place,
         };
     }
     let m = l.words;
@@ -71,7 +75,7 @@ fn mark(out: &mut [u8], at: usize, many: bool) -> usize {
 
 fn one(o: Options, fd: i32, name: &[u8], from: Next, out: &mut [u8]) -> Next {
     let s = surveyed(o, fd, from);
-    if is_sound(s, name) {} else {
+    if is_sound(s, fd, o.many, name) {} else {
         return replay_many::stop(UNREADABLE);
     }
     let begun = replay_input::source::begun(

@@ -23,6 +23,8 @@ fn played(at: usize, refused: bool) -> Played {
     Played {
         at: at,
         refused: refused,
+        refusal: 0,
+        place: 0,
     }
 }
 
