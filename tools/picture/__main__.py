@@ -27,8 +27,9 @@ happens to): whose hand, stamp or state, value. The page has zoom (buttons, or t
 search for an item, the line of replay for the column under the cursor (arrow keys go on from
 there), and a table of all entries.
 
-  -o NAME     writes this file, whole or not at all: .svg or .html; one that is there keeps its mode,
-              and in place of a link comes the file; without it the SVG goes to standard output
+  -o NAME     writes this file, whole or not at all: .svg or .html; one that is there keeps its
+              mode, and in place of a link comes the file; without it the SVG goes to standard
+              output
   --from N    the first entry that is drawn (0 if not given)
   --to N      the last one (the run's last if not given); at most {MOST:,} entries are drawn
   --queue single, --queue unbounded, --edition 2, --bits 16, --lent, --tape   for replay, as its

@@ -10,14 +10,12 @@ use replay_bounded_explain_lines::words::after;
 use replay_bounded_explain_lines::words::get;
 use replay_bounded_explain_lines::words::record_of;
 use replay_bounded_explain_lines::words::ring_of;
-use replay_bounded_window::Window;
 use replay_survey::pieces::Run;
 
 // How far the run is, and what is counted along it.
 pub struct Going {
     pub run: Run,
     pub counts: Counts,
-    pub window: Window,
 }
 
 fn width(narrow: bool) -> Width {
@@ -63,7 +61,6 @@ fn run_on(place: u64, at: usize) -> Run {
 fn accepted(
     at: usize,
     c: Counts,
-    window: Window,
     o: Asked,
     seen: &mut [u64],
     records: &[u64],
@@ -75,31 +72,16 @@ fn accepted(
         return Going {
             run: run_on(e.place, told_if(shown, o, out, at, e, c, notes::none())),
             counts: c,
-            window: window,
         };
     }
     let causes = notes::noted(seen, records, c, e);
-    let ring = e.ring;
-    let from = e.before;
-    let to = e.after;
-    let now = replay_bounded_window::after(window, e.narrow, ring, e.first, 0, from, to);
-    let p = told_if(shown, o, out, at, e, c, causes);
     Going {
-        run: run_on(e.place, replay_bounded_window::tell(out, p, now, e.place)),
+        run: run_on(e.place, told_if(shown, o, out, at, e, c, causes)),
         counts: notes::counted(c, e),
-        window: now,
     }
 }
 
-fn refused(
-    r: Run,
-    c: Counts,
-    window: Window,
-    o: Asked,
-    refusal: u64,
-    w: u64,
-    out: &mut [u8],
-) -> Going {
+fn refused(r: Run, c: Counts, o: Asked, refusal: u64, w: u64, out: &mut [u8]) -> Going {
     Going {
         run: Run {
             place: r.place,
@@ -108,7 +90,6 @@ fn refused(
             at: text_explain::words::refused(out, r.at, o.colours, r.place, refusal, w),
         },
         counts: c,
-        window: window,
     }
 }
 
@@ -144,7 +125,7 @@ fn step(
     let before = record_of(records, first / 16);
     let refusal = turn(width(o.narrow), head, slots, records, first, second);
     if refusal != 0 {
-        return refused(run, counts, g.window, o, refusal, first / 16, out);
+        return refused(run, counts, o, refusal, first / 16, out);
     }
     let e = Entered {
         place: run.place,
@@ -156,7 +137,7 @@ fn step(
         before: before,
         after: record_of(records, first / 16),
     };
-    accepted(run.at, counts, g.window, o, seen, records, e, out)
+    accepted(run.at, counts, o, seen, records, e, out)
 }
 
 fn is_refused(g: Going) -> bool {

@@ -34,7 +34,6 @@ fn started(refusal: u64, whole: Whole, at: usize) -> Going {
     Going {
         run: pieces::begun(refusal != 0, whole, at),
         counts: notes::start(),
-        window: replay_bounded_window::start(),
     }
 }
 

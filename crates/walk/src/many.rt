@@ -51,6 +51,8 @@ fn play(o: Options, fd: i32, begun: Reading, whole: Whole, out: &mut [u8], at: u
         return Played {
             at: l.at,
             refused: false,
+            refusal: 0,
+            place: 0,
         };
     }
     if l.refusal != 0 {
