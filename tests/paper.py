@@ -438,6 +438,35 @@ class Plainly:
         return False
 
 
+# The window of sixteen-bit words: docs/RULES.md, section 12
+
+GIVES_A_WORD = (*LOADS_OR_FINDS, ('is_empty1', 'is_empty2'), ('is_full1', 'is_full2'))
+
+
+class Window:
+    """A run keeps it while, of every busy worker that holds a word of an end, fewer claims than a turn less two capacities were made at either end since
+    the load or exchange that gave it the word."""
+
+    def __init__(self, ring):
+        self.length = ring.capacity * (WIDTHS[16] // ring.lap) - 2 * ring.capacity
+        self.claims = {end: 0 for end in CLAIMS}
+        self.given = {}  # by worker, the claims at the act that gave it its word
+        self.left = False
+
+    def leaves(self, number, found, left):
+        """An act of worker NUMBER, from record to record. Whether it is the first after which the window is not kept."""
+        way = found.place, left.place
+        for end, ways in CLAIMS.items():
+            self.claims[end] += way in ways
+        if left.place in ('idle', *FIRST_PLACES.values()):
+            self.given.pop(number, None)
+        elif way in GIVES_A_WORD:
+            self.given[number] = dict(self.claims)
+        was_left = self.left
+        self.left = was_left or any(self.claims[end] - given[end] >= self.length for given in self.given.values() for end in CLAIMS)
+        return self.left and not was_left
+
+
 # "Broken", under Eleven ways to be turned away
 
 def index_amiss(ring, word):

@@ -22,11 +22,21 @@ def name_of(place):
     return SHORT.get(place, place)
 
 
-def exchanged(end, found, held, to, worker, before, goes):
+def lap_and_slot(ring, word):
+    """A lap has twice as many words as the mark says: those with the mark and those without it."""
+    return f'lap {word // (2 * ring.mark)}, slot {paper.index(ring, word)}'
+
+
+def decoded(ring, word):
+    """A word of tail or head where it is read, and what it says."""
+    return f'{word}: {lap_and_slot(ring, word)}' + (', closed' if paper.marked(ring, word) else '')
+
+
+def exchanged(end, found, held, to, worker, before, goes, found_as):
     """Of an exchange that was not won."""
     if worker.failed > before.failed:
         return f'{end} {held} -> {to} failed by the schedule; ' + goes.format(held)
-    return f'{end} is {found}, not {held}: lost; ' + goes.format(found)
+    return f'{end} is {found}, not {held}: lost; ' + goes.format(found_as)
 
 
 def sentence(w, before, after, was, ring, claim):
@@ -34,7 +44,7 @@ def sentence(w, before, after, was, ring, claim):
     i = paper.index(ring, before.t if before.t is not None else before.h) if (before.t, before.h) != (None, None) else None
     t, h, place, to = before.t, before.h, before.place, after.place
     if place == 'P1':
-        return f'reads tail, {ring.tail}, marked: closed, {before.item} not pushed' if to == 'idle' else f'reads tail, {ring.tail}: slot {paper.index(ring, ring.tail)}'
+        return f'reads tail {decoded(ring, ring.tail)}' + (f'; {before.item} not pushed' if to == 'idle' else '')
     if place == 'P2':
         return {'P3': f'slot {i} is free for tail {t}', 'P6': f"slot {i} has the last lap's item: full?", 'F6': f"slot {i} has the last lap's item: displaces it?",
                 'P1': f'slot {i} is not at tail {t}: tries again'}[to]
@@ -43,7 +53,7 @@ def sentence(w, before, after, was, ring, claim):
             return f"tail {t} -> {ring.tail} won: claim {claim} is w{w}'s; slot {i} in its hand"
         if to == 'idle':
             return f'tail is {ring.tail}, marked: lost; closed, {before.item} not pushed'
-        return exchanged('tail', ring.tail, t, paper.next_of(ring, t), after, before, 'goes on with {}')
+        return exchanged('tail', ring.tail, t, paper.next_of(ring, t), after, before, 'goes on with {}', lap_and_slot(ring, ring.tail))
     if place == 'P4':
         return f'writes {before.item} into slot {i}'
     if place == 'P5':
@@ -54,7 +64,7 @@ def sentence(w, before, after, was, ring, claim):
         front = paper.minus_lap(ring, t)
         if to == 'F7':
             return f"head {front} -> {ring.head} won: claim {claim} is w{w}'s to displace; slot {i} in its hand"
-        return exchanged('head', ring.head, front, paper.next_of(ring, front), after, before, 'tries again')
+        return exchanged('head', ring.head, front, paper.next_of(ring, front), after, before, 'tries again', None)
     if place == 'F7':
         lost = '; the close is lost' if paper.marked(ring, was.tail) and not paper.marked(ring, ring.tail) else ''
         return f"tail {was.tail} -> {ring.tail}: claim {claim} is w{w}'s" + lost
@@ -63,13 +73,13 @@ def sentence(w, before, after, was, ring, claim):
     if place == 'F9':
         return f'slot {i} ready to be popped: displaced {before.value}'
     if place == 'O1':
-        return f'reads head, {ring.head}: slot {paper.index(ring, ring.head)}'
+        return f'reads head {decoded(ring, ring.head)}'
     if place == 'O2':
         return {'O3': f'slot {i} has an item for head {h}', 'O6': f'slot {i} has none for head {h}: empty?', 'O1': f'slot {i} is not at head {h}: tries again'}[to]
     if place == 'O3':
         if to == 'O4':
             return f"head {h} -> {ring.head} won: claim {claim} is w{w}'s; slot {i} in its hand"
-        return exchanged('head', ring.head, h, paper.next_of(ring, h), after, before, 'goes on with {}')
+        return exchanged('head', ring.head, h, paper.next_of(ring, h), after, before, 'goes on with {}', lap_and_slot(ring, ring.head))
     if place == 'O4':
         return f'reads {after.value} out of slot {i}'
     if place == 'O5':
@@ -79,9 +89,9 @@ def sentence(w, before, after, was, ring, claim):
             return f'tail is {ring.tail}, not {h}: tries again'
         return f'tail is {ring.tail}, as head: empty' if after.answer == ('Empty',) else f'tail is {ring.tail}, marked, else as head: closed'
     if place in ('len1', 'is_full1'):
-        return f'reads tail, {ring.tail}'
+        return f'reads tail {decoded(ring, ring.tail)}'
     if place in ('len2', 'is_empty1'):
-        return f'reads head, {ring.head}'
+        return f'reads head {decoded(ring, ring.head)}'
     if place == 'len3':
         return f'tail is {ring.tail}, not {t}: tries again' if to == 'len1' else f'tail is still {ring.tail}: len {after.answer[1]}'
     if place == 'is_empty2':
@@ -104,7 +114,7 @@ def because(causes):
 
 
 def line(place, w, stood, text, cause=''):
-    start = f'{place:6}  ' + f'w{w}'.ljust(4) + stood.ljust(3) + ' ' + text
+    start = f'{place:6}  ' + f'w{w}'.ljust(4) + stood.ljust(9) + ' ' + text
     if cause:
         start = (start + '  ').ljust(CAUSE_END - len(cause)) + cause
     return start[:WIDE]
@@ -136,11 +146,12 @@ class Life:
     """Which entries belong to an item's life: those of the call that pushes it, and from its claim of head on those of the call that hands it out."""
 
     def __init__(self, item):
-        self.item, self.workers, self.claims = item, set(), {}
+        self.item, self.workers, self.claims, self.is_pushed = item, set(), {}, False
 
     def has(self, w, code, given, before, after, claim):
         if code < 2 and given == self.item:
             self.workers.add(w)
+            self.is_pushed = True
         end, number = claim or (None, None)
         if end == 'tail':
             self.claims[number] = before.item
@@ -150,6 +161,11 @@ class Life:
         if not busy(after):
             self.workers.discard(w)
         return it
+
+
+def unmet(life):
+    """What is said of an item that is followed and that no call pushes."""
+    return [] if life.item is None or life.is_pushed else [f'followed: no push of {life.item}']
 
 
 def waits(machine, made):
@@ -166,7 +182,7 @@ def waits(machine, made):
 def ends(machine, made, differed, failed):
     standing = [f'busy: w{w} at {name_of(worker.place)}' + (f', slot {paper.index(machine.ring, worker.h if worker.place[0] == "O" else worker.t)} in its hand' if worker.place in IN_HAND else '')
                 for w, worker in enumerate(machine.workers) if busy(worker)]
-    return (standing or ['busy: nobody']) + waits(machine, made) + [f'lost: {differed} exchanges because the words differed, {failed} by the schedule']
+    return (standing or ['busy: nobody']) + waits(machine, made) + [f'exchanges lost: {differed} because the words differed, {failed} by the schedule']
 
 
 def explained(numbers, edition=1, bits=64, lent=False, follow=None):
@@ -199,4 +215,4 @@ def explained(numbers, edition=1, bits=64, lent=False, follow=None):
         if follow is None or it:
             lines.append(told)
         machine = after
-    return lines + ends(machine, claims.made, differed, failed), refusal != 0
+    return lines + unmet(life) + ends(machine, claims.made, differed, failed), refusal != 0

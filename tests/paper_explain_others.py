@@ -7,7 +7,7 @@ from typing import NamedTuple
 import paper_single
 import paper_unbounded
 from paper_entries import CALLS, busy
-from paper_explain import REFUSED, SHORT, WIDE, line, refused
+from paper_explain import REFUSED, SHORT, WIDE, line, refused, unmet
 from paper_single import CLOSED, LOCKED, PUSHED
 from paper_unbounded import LAST_SLOT, SLOTS, marked, offset, onward, position
 
@@ -52,7 +52,7 @@ class Single:
         return f'claims of pushes ahead of pops: {self.puts - self.takes}'
 
     def lost(self, differed, failed):
-        return f'lost: {differed} exchanges because the words differed'
+        return f'exchanges lost: {differed} because the words differed'
 
     def won(self, w, before, after, was, state):
         """The claims of an exchange that was won."""
@@ -127,7 +127,7 @@ class Unbounded:
         return f'claims of tail ahead of head: {tails - heads}'
 
     def lost(self, differed, failed):
-        return f'lost: {differed} exchanges because the words differed, {failed} by the schedule'
+        return f'exchanges lost: {differed} because the words differed, {failed} by the schedule'
 
     def claimed(self, end, w, before, after, held, to, found):
         """The exchange of U7 or V4."""
@@ -235,11 +235,12 @@ class Life:
     """Which entries belong to an item's life: those of the call that pushes it, and from its claim to take it on those of the call that hands it out."""
 
     def __init__(self, item):
-        self.item, self.workers, self.claims = item, set(), {}
+        self.item, self.workers, self.claims, self.is_pushed = item, set(), {}, False
 
     def begins(self, w, code, given):
         if code < 2 and given == self.item:
             self.workers.add(w)
+            self.is_pushed = True
 
     def has(self, w, before, after, told):
         """An act's."""
@@ -301,4 +302,4 @@ def explained(numbers, queue, follow=None):
         if follow is None or it:
             lines.append(said)
         machine = later
-    return lines + ends(queue, machine, losses), refusal != 0
+    return lines + unmet(life) + ends(queue, machine, losses), refusal != 0

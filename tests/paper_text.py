@@ -14,11 +14,35 @@ TOO_LARGE = 'a number that does not fit 64 bits'
 MISSING = ('the capacity is missing', 'the number of workers is missing')
 
 
+# docs/GUIDE.md, "Status and errors": what a program says besides, of a mark without --many, of a tape's first byte, of workers where the capacity should be.
+HINTS = {
+    'replay': ('; several schedules are read with --many', '; a tape is read with --tape', '; a schedule without one is of another --queue'),
+    'walk': ('; several schedules are read with --many', '; tape read prints a tape as a schedule', '; walk has the ring alone, which has one'),
+    'tape': ('; a tape has one schedule', '; this is a tape, and tape read prints it', '; a tape has one, which other queues do not use: capacity 1'),
+}
+
+
 class Fault(Exception):
     """A line and a column, from 1, and what is wrong there."""
 
     def __init__(self, line, column, what):
         self.place, self.what = (line, column), what
+
+    def told(self, program, name, text, many):
+        """The line that a program says of it."""
+        line, column = self.place
+        lines = text.split(b'\n')
+        begins = lines[line - 1][column - 1:column]
+        mark, tape, no_capacity = HINTS[program]
+        hint = ''
+        if column == 1 and (self.what == NO_NUMBER or self.what.startswith('expected: ')):
+            if begins == b'%' and not many and (line < len(lines) or self.what == NO_NUMBER):
+                hint = mark
+            elif begins in (b'\1', b'\x81') and line == 1:
+                hint = tape
+            elif begins == b'w' and self.what == 'expected: capacity and a number':
+                hint = no_capacity
+        return f'{program}: {name}: line {line}, column {column}: {self.what}{hint}\n'
 
 
 def number_of(word, line, column):

@@ -25,9 +25,10 @@ class Help(NamedTuple):
 
 def read(text):
     lines = text.rstrip('\n').split('\n')
-    usage = lines[:lines.index('')]
+    end = lines.index('')
+    usage = re.sub(r'\n +', ' ', '\n'.join(lines[:end])).split('\n')  # what is further in goes on the line above
     blocks = []
-    for line in lines[len(usage) + 1:]:
+    for line in lines[end + 1:]:
         term = re.fullmatch(r'  (\S.*?)(?: {2,}(\S.*))?', line)
         if not line:
             blocks.append('')

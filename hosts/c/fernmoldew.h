@@ -1,8 +1,17 @@
 /* fernmoldew.h: the proved bounded queue, the one-slot queue, and tapes of schedules, linked into a program of yours.
  *
  * What no proof speaks of, and you must see to: the slices of a call must not overlap, each must be as long as is
- * said, two calls on the same words must not run at once, and nobody else may write the words between two calls.
- * Everything else is refused with a number, and a refused call changes no word.
+ * said and aligned as its type is (words at 8 bytes, a tape anywhere), two calls on the same words must not run at once,
+ * and nobody else may write the words between two calls. Everything else is refused with a number, and a refused call
+ * changes no word. NULL is taken where the length is 0.
+ *
+ * Calls on different words may run at once, in any threads: the library has no data of its own, asks for no memory, and
+ * takes less than FERN_STACK_BYTES of stack. Words are in the machine's byte order: lent as they are, they go to a
+ * machine of the same order; a tape goes to any.
+ *
+ * The meter counts acts. At FERN_METER_LAST every act is refused with FERN_METER_FULL, so a call under way never ends,
+ * and while one is, contents is refused. Before that, begin no more calls, let those under way end, take the contents,
+ * make the ring afresh and push them again.
  *
  * The ring and its workers' records are words in your memory, three arrays of uint64_t that you keep and lend with
  * each call:
@@ -14,7 +23,8 @@
  *
  * A step is an entry of two words: `first` is 16 times the worker's number plus a code (FERN_PUSH .. FERN_ACT_LOSE),
  * `second` is the item of a push or a force_push, else 0. A call is begun by one entry and then goes on by one atomic
- * action with each FERN_ACT; the worker's record says where it stands. README.md of this folder shows a whole call.
+ * action with each FERN_ACT; the worker's record says where it stands. hosts/README.md shows a whole call, and where
+ * it stops: beside a worker who has a slot in hand.
  *
  * Words that stand for no ring and records (a wrong length, a code that there is none of, a word that is not used
  * and not 0, another layout number) are refusal FERN_BROKEN, as are those of a broken ring.
@@ -48,8 +58,14 @@ enum {
     FERN_SLOT_RECORD = 3,
     FERN_SLOT_WORKERS = 16, /* the most workers of a one-slot queue, and how many records it has */
     FERN_SLOT_RECORDS = FERN_SLOT_RECORD * FERN_SLOT_WORKERS,
-    FERN_SLOT_LAYOUT = 2 /* the layout number of a one-slot queue */
+    FERN_SLOT_LAYOUT = 2,          /* the layout number of a one-slot queue */
+    FERN_MOST_ACTS_ALONE = 7,      /* of a call on a ring, nobody else acting and no slot in another hand */
+    FERN_SLOT_MOST_ACTS_ALONE = 4, /* of a call on a one-slot queue */
+    FERN_STACK_BYTES = 65536       /* the most stack that a call takes */
 };
+
+/* The last number of the meter: no act after it. */
+#define FERN_METER_LAST UINT64_C(4294967295)
 
 /* A tape's variant: the byte with which it begins. */
 enum fern_tape_variant {
@@ -275,9 +291,10 @@ struct fern_reply fern_tape_write(uint64_t variant, uint64_t capacity, uint64_t 
 struct fern_reply fern_tape_read(const uint8_t *tape, size_t tape_bytes, uint64_t *about, size_t about_words,
                                  uint64_t *schedule, size_t schedule_words);
 
-/* An entry's first word. */
+/* An entry's first word. A worker's number of which a word can't hold it becomes the last one of which it can: no queue
+ * has either, and the entry is refused with FERN_NO_SUCH_WORKER. */
 static inline uint64_t fern_entry(uint64_t worker, enum fern_call call) {
-    return 16 * worker + (uint64_t)call;
+    return 16 * (worker <= UINT64_MAX / 16 ? worker : UINT64_MAX / 16) + (uint64_t)call;
 }
 
 /* Whether a worker has a call under way; a record of either queue. */

@@ -40,6 +40,7 @@ pub mod tally;
 pub mod turns;
 pub mod walk;
 pub mod walks;
+pub mod window;
 
 use std::ops::{Deref, DerefMut};
 

@@ -6,6 +6,7 @@ use crate::causes::{Causes, Watch};
 use crate::coroutine::Coroutine;
 use crate::facts::Refusal;
 use crate::plain::Account;
+use crate::window::Window;
 use crate::queue::{Making, Queue};
 use crate::source::{items_dropped, Seen, Source};
 use crate::stage::{self, Action, Pending, Said, Word};
@@ -55,6 +56,7 @@ pub struct Machine {
     watch: Watch,
     because: Option<Causes>,
     plain: Account,
+    window: Window,
     pub tally: Tally,
 }
 
@@ -74,6 +76,7 @@ impl Machine {
             watch: Watch::new(workers),
             because: None,
             plain: Account::new(making, workers),
+            window: Window::new(making, workers),
             tally: Tally::new(making.queue()),
         }
     }
@@ -113,6 +116,11 @@ impl Machine {
     /// The causes that there would be if a busy worker went back without an exchange.
     pub fn would_be(&self, worker: usize) -> Option<Causes> {
         self.workers[worker].busy.map(|busy| self.watch.causes(worker, busy.call))
+    }
+
+    /// Whether the entries so far keep the window of sixteen-bit words.
+    pub fn window(&self) -> &Window {
+        &self.window
     }
 
     /// The plain queue along the entries so far.
@@ -171,6 +179,7 @@ impl Machine {
         let worker = first / 16;
         self.because = None;
         self.plain.next();
+        self.window.next();
         let done = match Entry::decode(self.kind, first % 16, second) {
             None => Err(9),
             Some(_) if self.worker(worker).is_none() => Err(3),
@@ -223,7 +232,12 @@ impl Machine {
         self.settle(worker, call, seen);
         let Worker { busy, state, .. } = &self.workers[worker];
         let answer = busy.is_none().then_some(*state);
-        self.plain.act(worker, pending.action, met, answer);
+        self.window.act(worker, place, self.workers[worker].state.kind);
+        if self.window.is_left() {
+            self.plain.beyond(answer.is_some());
+        } else {
+            self.plain.act(worker, pending.action, met, answer);
+        }
         self.count_back(worker, place, causes);
         Ok(())
     }

@@ -160,6 +160,8 @@ pub struct Account {
     no_of_empty: u64,
     /// The last entry's answer is named here, if it ended a call.
     at: Option<String>,
+    /// The window of sixteen-bit words was left: nothing is said of the plain queue any more.
+    beyond: bool,
     fault: Option<Fault>,
 }
 
@@ -189,6 +191,7 @@ impl Account {
             answers: 0,
             no_of_empty: 0,
             at: None,
+            beyond: false,
             fault: None,
         }
     }
@@ -247,6 +250,12 @@ impl Account {
             self.answered(worker, under, now, answer);
             self.calls[worker] = None;
         }
+    }
+
+    /// Takes in an act after which the window was left, whether it ended its call or not.
+    pub fn beyond(&mut self, ends: bool) {
+        self.beyond = true;
+        self.at = ends.then(|| "-".into());
     }
 
     /// Of the unbounded queue: which pops have claimed a block's last slot and not stored head's index yet, and that head's index stands at a block's end, for
@@ -355,7 +364,7 @@ impl Account {
 
     /// What `Drop` meets must be what waits.
     pub fn left(&mut self, items: &[u64]) {
-        if self.plain.items != items {
+        if !self.beyond && self.plain.items != items {
             self.wrong(format!("the contents are {items:?}; in the plain queue wait {:?}", self.plain.items));
         }
     }

@@ -179,6 +179,9 @@ fn run_entries(machine: &mut Machine, schedule: &Schedule, show: Show, out: &mut
                 let _ = write!(out, " at={moment}");
             }
             out.push('\n');
+            if show.moments && machine.window().leaves() {
+                let _ = writeln!(out, "left the window at entry {place}");
+            }
         }
         if refusal != 0 {
             return (place, refusal);

@@ -13,36 +13,48 @@ def is_taken(name):
     return name.endswith((TAPE, TEXT))
 
 
-def below(place, troubled, aside):
-    """Every tape and schedule below it, in the order of their names; a file that is named itself is taken whatever its name."""
+def entries_of(folder, found):
+    """What a folder has, the last name first, each with whether it is a folder itself. Of records only those whose tape or schedule is gone are of use here: each is
+    told as the file that is not there, and with no entry."""
+    try:
+        with os.scandir(folder) as entries:
+            all_of = sorted([(entry.name, entry.is_dir(follow_symlinks=False), entry.path) for entry in entries], reverse=True)
+    except OSError as why:
+        found.troubled(folder, why)
+        return []
+    there = {name for name, is_folder, _ in all_of if not is_folder}
+    for name, is_folder, path in reversed(all_of):
+        file = name[:-len(RECORD)]
+        if name.endswith(RECORD) and not is_folder and is_taken(file) and file not in there:
+            found.without_file(path[:-len(RECORD)])
+    return [(name, is_folder, path) for name, is_folder, path in all_of if is_folder or not name.endswith(RECORD)]
+
+
+def below(place, found):
+    """Every tape and schedule below it, in the order of their names; a file that is named itself is taken whatever its name, and if it is not there."""
     if not os.path.isdir(place):
         yield place
         return
-    try:
-        with os.scandir(place) as found:
-            entries = [(entry.name, entry) for entry in found if not entry.name.endswith(RECORD) or entry.is_dir(follow_symlinks=False)]
-    except OSError as why:
-        troubled(place, why)
-        return
-    entries.sort()
-    for name, entry in entries:
-        if entry.is_dir(follow_symlinks=False):
-            yield from below(entry.path, troubled, aside)
+    waiting = entries_of(place, found)  # folders may be deeper than calls
+    while waiting:
+        name, is_folder, path = waiting.pop()
+        if is_folder:
+            waiting += entries_of(path, found)
         elif is_taken(name):
-            yield entry.path
+            yield path
         else:
-            aside(entry.path)
+            found.left_aside(path)
 
 
 def seen_of(path):
     """Sizes and times of a file and its record, by which a change is known."""
-    def about(name):
+    def about(name, follow):
         try:
-            told = os.stat(name)
+            told = os.stat(name, follow_symlinks=follow)
         except OSError:
             return [0, 0]
         return [told.st_size, told.st_mtime_ns]
-    return about(path) + about(path + RECORD)
+    return about(path, True) + about(path + RECORD, False)
 
 
 # What a file holds
@@ -108,11 +120,27 @@ def is_tape(path, data):
     return data[:1] in (b'\x01', b'\x81')
 
 
-MARK = re.compile(rb'^%$', re.MULTILINE)
+# A mark between schedules is a line with % alone, as replay --many reads it: blanks may follow, a carriage return among them.
+MARK = re.compile(rb'\n%[ \t\r\v\f]*\n')
+MARK_BEGUN = re.compile(rb'\n%[ \t\r\v\f]*')
+PIECE = 1 << 18
 
 
-def words_for(path, data):
-    """What replay is told of a file that begins so: that it is a tape, or has several schedules."""
-    if is_tape(path, data):
+def has_mark(fd):
+    """Whether there is a mark anywhere, read piece by piece."""
+    at, line = 0, b'\n'  # of the line that is not at its end yet: all that a mark can have
+    while piece := os.pread(fd, PIECE, at):
+        at += len(piece)
+        text = line + piece
+        if MARK.search(text):
+            return True
+        begun = text[max(text.rfind(b'\n'), 0):]
+        line = begun if begun == b'\n' else b'\n%' if MARK_BEGUN.fullmatch(begun) else b''
+    return line == b'\n%'
+
+
+def words_for(path, fd):
+    """What replay is told of a file: that it is a tape, or has several schedules."""
+    if is_tape(path, os.pread(fd, 1, 0)):
         return ['--tape']
-    return ['--many'] if MARK.search(data) else []
+    return ['--many'] if has_mark(fd) else []

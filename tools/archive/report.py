@@ -5,7 +5,7 @@ import os
 import time
 from collections import Counter
 
-from runs import DIFFERS, RAN, REFUSED, UNREADABLE
+from runs import DIFFERS, GONE, RAN, REFUSED, UNREADABLE
 
 MEANINGS = {
     1: 'capacity is 0 or above 1,024', 2: 'workers are 0 or too many', 3: 'there is no such worker', 4: 'the worker is busy',
@@ -14,6 +14,8 @@ MEANINGS = {
     14: 'a code that its tag does not allow', 15: 'bytes after the end', 18: 'the edition is neither 1 nor 2', 23: 'all blocks are taken',
 }
 DONE, REFUSED_SOME, NOT_READ = 0, 1, 2
+RESULTS = RAN, REFUSED, DIFFERS, UNREADABLE, GONE
+RECORDS = 'same', 'other', 'none', 'written', None
 
 
 class Counts:
@@ -21,6 +23,7 @@ class Counts:
         self.results = Counter()
         self.refusals = Counter()
         self.records = Counter()
+        self.refused_anew = 0  # and not as their records have it
         self.aside = 0
 
     def add(self, result, number, record, times=1):
@@ -28,27 +31,31 @@ class Counts:
         self.records[record] += times
         if result == REFUSED:
             self.refusals[number] += times
+            self.refused_anew += times * (record != 'same')
 
     def add_told(self, told):
-        """A line of JSON, as this program tells it, taken apart."""
-        self.add(told['result'], told.get('refused', 0), told.get('record'))
+        """A line of JSON, as this program tells it, taken apart; a ValueError, KeyError or TypeError if it is none."""
+        result, number, record = told['result'], told.get('refused', 0), told.get('record')
+        if result not in RESULTS or record not in RECORDS or type(number) is not int or not isinstance(told['file'], str) or (result == REFUSED) > (number > 0):
+            raise ValueError
+        self.add(result, number, record)
 
     @property
     def files(self):
-        return self.results.total()
+        return sum(self.results.values()) - self.results[GONE]
 
     @property
     def status(self):
         if self.results[UNREADABLE]:
             return NOT_READ
-        return REFUSED_SOME if self.results[REFUSED] or self.results[DIFFERS] else DONE
+        return REFUSED_SOME if self.refused_anew or self.results[DIFFERS] or self.results[GONE] else DONE
 
     def table(self):
         rows = [('files', self.files), ('ran to their end', self.results[RAN]), ('refused', self.results[REFUSED])]
         rows += [(f'  {number:2} {MEANINGS.get(number, "")}', times) for number, times in sorted(self.refusals.items())]
         rows += [('differ from their record', self.results[DIFFERS]), ('cannot be read', self.results[UNREADABLE])]
-        rows += [(name, times) for name, times in (('have no record', self.records['none']), ('recorded now', self.records['written']),
-                                                   ('left aside, by their names', self.aside)) if times]
+        rows += [(name, times) for name, times in (('records without a file', self.results[GONE]), ('have no record', self.records['none']),
+                                                   ('recorded now', self.records['written']), ('left aside, by their names', self.aside)) if times]
         wide = max(len(name) for name, _ in rows)
         return ''.join(f'{name:{wide}}  {times:>10,}\n' for name, times in rows)
 
@@ -68,9 +75,13 @@ def say(text):
 
 
 def told_of(line):
-    """A line of JSON of what differs or cannot be read, as it is told while the archive is replayed."""
+    """A line of JSON of what did not run to its end as recorded, as it is told while the archive is replayed."""
     told = json.loads(line)
     name = shown(told['file'])
+    if told['result'] == GONE:
+        return f'{name}: is not there, and its record is\n'
+    if told['result'] == REFUSED:
+        return f'{name}: refused {told["refused"]}{" as recorded" * (told["record"] == "same")}: {MEANINGS.get(told["refused"], "see docs/GUIDE.md")}\n'
     if told['result'] == DIFFERS:
         sides = ('nothing' if told[side] is None else shown(told[side]) for side in ('recorded', 'now'))
         return '{}: differs at line {}: recorded {}: now {}\n'.format(name, told['line'], *sides)

@@ -4,6 +4,7 @@ A tape is no input of `replay --many`, and a process for each tape is what an ar
 runs among others, as a text; whatever is not beyond doubt, here or to replay, gets a process and is judged by replay alone.
 """
 
+import errno
 import io
 import json
 import os
@@ -18,7 +19,7 @@ import files
 TEXT_MOST, FILES_MOST, ALONE = 1 << 20, 500, 1 << 18
 PIECE = 1 << 16
 
-RAN, REFUSED, DIFFERS, UNREADABLE = 'ran', 'refused', 'differs', 'unreadable'
+RAN, REFUSED, DIFFERS, UNREADABLE, GONE = 'ran', 'refused', 'differs', 'unreadable', 'gone'
 REFUSED_LINE = re.compile(rb'^(?:made |\d+ |(?: *\d+  -   )?refused )([1-9]\d*)\b', re.MULTILINE)
 REFUSED_TAPE = re.compile(rb'refused (\d+) ')
 
@@ -42,6 +43,11 @@ def unreadable(path, said):
     return result_of(path, UNREADABLE, 0, files.seen_of(path), said=said)
 
 
+def gone(path):
+    """A record whose file is not there."""
+    return result_of(path, GONE, 0, files.seen_of(path))
+
+
 class Told:
     """The results of some files, put together: how often each is counted, all lines of JSON, and those that are worth telling while the archive is replayed."""
 
@@ -50,7 +56,7 @@ class Told:
         for counted, line in results:
             self.counted[counted] = self.counted.get(counted, 0) + 1
             lines.append(line)
-            if counted[0] in (DIFFERS, UNREADABLE):
+            if counted[0] != RAN:
                 self.worth.append(line)
         self.lines = ''.join(lines).encode()
 
@@ -144,12 +150,19 @@ def write_all(fd, data):
 
 # Records
 
+OPENED = os.O_RDONLY | os.O_NONBLOCK | os.O_NOFOLLOW  # a record that is a link is not followed
+
+
 def record_of(path):
     """What was recorded, and its size and time; None where there is no record."""
     try:
-        fd = os.open(path + files.RECORD, os.O_RDONLY | os.O_NONBLOCK)
+        fd = os.open(path + files.RECORD, OPENED)
     except FileNotFoundError:
         return None, (0, 0)
+    except OSError as why:
+        if why.errno == errno.ELOOP:
+            raise OSError(errno.ELOOP, 'a link, which is not followed') from None
+        raise
     try:
         about = os.fstat(fd)
         if not stat.S_ISREG(about.st_mode):
@@ -238,7 +251,7 @@ class Beside:
 def is_recorded(path, output):
     """What there is to know of the record if it is this one; None: it is not, or there is a doubt."""
     try:
-        fd = os.open(path + files.RECORD, os.O_RDONLY | os.O_NONBLOCK)
+        fd = os.open(path + files.RECORD, OPENED)
     except OSError:
         return None
     try:
@@ -345,7 +358,10 @@ class Runs:
     def alone_on(self, path, given):
         about = os.fstat(given)
         seen = about.st_size, about.st_mtime_ns
-        words = files.words_for(path, os.pread(given, ALONE, 0))
+        try:
+            words = files.words_for(path, given)
+        except OSError as why:
+            return unreadable(path, why.strerror)
         try:
             beside = Beside(path, seen, self.asked.record)
         except OSError as why:

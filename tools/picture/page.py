@@ -17,7 +17,8 @@ def said_of(run):
     part = f'{run.count:,} entr{"y" if run.count == 1 else "ies"}'
     if run.acts and len(run.acts) != run.count:
         part = f'entries {run.first} to {run.last} of {run.count:,}'
-    return '; '.join([run.what, part, *([run.ending] if run.ending else [])])
+    left = [] if run.left is None else [f'left the window at entry {run.left}']
+    return '; '.join([run.what, part, *left, *([run.ending] if run.ending else [])])
 
 
 # Samples of what is drawn, each 28 by 20, and what they mean

@@ -9,6 +9,7 @@ from typing import NamedTuple, Optional
 from queues import IDLE, READINGS, stand_of
 
 MOST = 20_000  # entries of one picture
+LEFT = 'left the window at entry '
 UNPROVED = 'built from the sources, not proved on this machine: '
 REFUSALS = {
     1: 'a capacity of 0 or above 1,024', 2: 'too many workers, or none', 3: 'no such worker', 4: 'a call begun by a busy worker',
@@ -93,6 +94,7 @@ class Run:
     slots: dict = field(default_factory=dict)  # before the drawn part
     changes: list = field(default_factory=list)  # entry, slot, stamp, value
     refusal: Optional[tuple] = None  # entry or None, number
+    left: Optional[int] = None  # the entry that left the window of sixteen-bit words: from there on no item is followed
     lines: dict = field(default_factory=dict)
     ending: str = ''
     workers: int = 0
@@ -102,15 +104,16 @@ class Replay:
     """replay, started on one input as often as is asked."""
 
     def __init__(self, starter, queue_words, file, given):
-        self.starter, self.words, self.file, self.given = starter, queue_words, file, given
+        self.starter, self.words, self.file, self.given = starter, queue_words, None if given else file, given  # what is given is read so, and has a name at the most
+        self.name, self.is_named = file or 'standard input', file is not None
         self.noted = None  # the starter's word on what is not proved
 
     def started(self, *options):
-        words = [*self.starter, *options, *self.words, *([self.file] if self.file else [])]
+        words = [*self.starter, *options, *self.words, *(['--', self.file] if self.file else [])]
         if self.given:
             self.given.seek(0)
         try:
-            return subprocess.Popen(words, stdin=self.given or subprocess.DEVNULL, stdout=subprocess.PIPE, stderr=subprocess.PIPE, text=True, errors='replace')
+            return subprocess.Popen(words, stdin=self.given or subprocess.DEVNULL, stdout=subprocess.PIPE, stderr=subprocess.PIPE, text=True, errors='surrogateescape')
         except OSError as wrong:
             raise Told(f'{self.starter[-1]}: {wrong.strerror}')
 
@@ -123,17 +126,21 @@ class Replay:
             started.terminate()
             raise
         lines = []
-        for line in said.splitlines():
+        for line in said.split('\n')[:-1]:
             if line.startswith(UNPROVED):
                 self.noted = line
+            elif lines and lines[-1].startswith('replay: ') and not line.startswith('replay: '):
+                lines[-1] += '\n' + line  # of a name that has two
             else:
                 lines.append(line)
         if started.returncode not in (0, 1) or not out:
             said = lines[-1] if lines else f'replay ended with status {started.returncode}'
             if said.startswith('replay: '):
                 said = said[len('replay: '):]
-            elif self.file:
-                said = f'{self.file}: {said}'
+                if self.given and said.startswith('standard input: '):
+                    said = f'{self.name}: {said[len("standard input: "):]}'
+            elif self.is_named:
+                said = f'{self.name}: {said}'
             raise Told(said, 1 if started.returncode == 1 else 2)
         return out.splitlines(), started.returncode
 
@@ -166,7 +173,7 @@ def lines_to_show(replay, first, last):
 
 def run_of(replay, queue, options, first, last):
     """The run from entry FIRST to LAST, or to its end."""
-    name = ''.join(letter if letter.isprintable() else '?' for letter in replay.file or 'standard input')
+    name = ''.join(letter if letter.isprintable() else '?' for letter in replay.name)
     quiet, _ = replay.all('--quiet')
     words = quiet[1].split()
     ended, refused = int(words[0]), int(words[1])
@@ -208,6 +215,8 @@ def fold(run, reading, lines, back):
     entry = -1
     for line in lines:
         words = line.split()
+        if line.startswith(LEFT):
+            run.left = int(words[-1])
         if not words or not words[0].isdigit():
             continue
         entry = int(words[0])
@@ -247,10 +256,13 @@ def fold(run, reading, lines, back):
                         run.changes.append((entry, change.slot, *now))
             for end, item in reading.claims(before, after):
                 if end == 'tail':
-                    lives.append(Life(tails, item, worker, entry))
+                    if run.left is None:
+                        lives.append(Life(tails, item, worker, entry))
                     tails += 1
                 else:
                     heads += 1
+                    if run.left is not None or not lives:
+                        continue
                     life = lives.popleft()
                     life.taker, life.ended = worker, entry
                     items[worker] = call.item or life.item

@@ -53,8 +53,17 @@ fn next(narrow: bool, ring: [u64; 8], word: u64) -> u64 {
     in_width(narrow, std::num::wrapping_add_u64(begun, ring[1]))
 }
 
+// The lap that a word is of.
+fn lap_of(ring: [u64; 8], word: u64) -> u64 {
+    let lap = ring[1];
+    if lap == 0 {
+        return 0;
+    }
+    word / lap
+}
+
 // The numbers of the table's letters: a, b the words that the worker has then; c, d the claim at tail, at head; e the word that it had, f the one after that, g the one a
-// lap before, i its item; h head, j the word after g; k, l, s the slots of h, a and e; o tail as it was, t tail; w the worker.
+// lap before, i its item; h head, j the word after g; k, l, p, s the slots of h, a, t and e; m, n, q the laps of a, h and t; o tail as it was, t tail; w the worker.
 fn numbers_of(e: Entered, c: Claims) -> [u64; 23] {
     let ring = e.ring;
     let was = e.ring_before;
@@ -65,6 +74,10 @@ fn numbers_of(e: Entered, c: Claims) -> [u64; 23] {
     let j = next(e.narrow, ring, g);
     let k = slot_of(ring, ring[4]);
     let l = slot_of(ring, after[1]);
+    let m = lap_of(ring, after[1]);
+    let n = lap_of(ring, ring[4]);
+    let p = slot_of(ring, ring[5]);
+    let q = lap_of(ring, ring[5]);
     let s = slot_of(ring, before[1]);
     [
         after[1],
@@ -79,11 +92,11 @@ fn numbers_of(e: Entered, c: Claims) -> [u64; 23] {
         j,
         k,
         l,
-        0,
-        0,
+        m,
+        n,
         was[5],
-        0,
-        0,
+        p,
+        q,
         0,
         s,
         ring[5],
@@ -98,10 +111,22 @@ const FAILED: u64 = 39;
 
 const LOST: u64 = 40;
 
-fn is_close_lost(e: Entered) -> bool {
+// As the answer is called.
+const CLOSED: u64 = 3;
+
+// F7 that stores over a mark.
+pub fn is_close_lost(e: Entered) -> bool {
     let ring = e.ring;
     let was = e.ring_before;
-    is_marked(ring, was[5]) && !is_marked(ring, ring[5])
+    let before = e.before;
+    before[0] == 29 && is_marked(ring, was[5]) && !is_marked(ring, ring[5])
+}
+
+// len1 or full1 that loads a marked tail.
+fn is_closed_read(e: Entered) -> bool {
+    let ring = e.ring;
+    let before = e.before;
+    (before[0] == 34 || before[0] == 36) && is_marked(ring, ring[5])
 }
 
 // What an act leads to: a place, an answer, an exchange lost by the schedule, or a close that is lost.
@@ -111,8 +136,11 @@ fn led_to(e: Entered) -> u64 {
     if before[4] != after[4] {
         return FAILED;
     }
-    if before[0] == 29 && is_close_lost(e) {
+    if is_close_lost(e) {
         return LOST;
+    }
+    if is_closed_read(e) {
+        return CLOSED;
     }
     after[0]
 }
@@ -139,8 +167,8 @@ pub fn place(out: &mut [u8], at: usize, code: u64) -> usize {
 }
 
 fn sentence(out: &mut [u8], at: usize, key: &[u8], numbers: &[u64]) -> usize {
-    let table = b"P1>closed reads tail, #t, marked: closed, #a not pushed|\
-        P1 reads tail, #a: slot #l|\
+    let table = b"P1>closed reads tail #t: lap #q, slot #p, closed; #a not pushed|\
+        P1 reads tail #a: lap #m, slot #l|\
         P2>P3 slot #s is free for tail #e|\
         P2>P6 slot #s has the last lap's item: full?|\
         P2>F6 slot #s has the last lap's item: displaces it?|\
@@ -148,7 +176,7 @@ fn sentence(out: &mut [u8], at: usize, key: &[u8], numbers: &[u64]) -> usize {
         P3>P4 tail #e -> #t won: claim #c is w#w's; slot #s in its hand|\
         P3>closed tail is #t, marked: lost; closed, #a not pushed|\
         P3>failed tail #e -> #f failed by the schedule; goes on with #e|\
-        P3 tail is #a, not #e: lost; goes on with #a|\
+        P3 tail is #a, not #e: lost; goes on with lap #m, slot #l|\
         P4 writes #i into slot #s|\
         P5 slot #s ready to be popped: pushed|\
         P6>full head is #h, a lap behind tail #e: full, #a not pushed|\
@@ -160,20 +188,21 @@ fn sentence(out: &mut [u8], at: usize, key: &[u8], numbers: &[u64]) -> usize {
         F7 tail #o -> #t: claim #c is w#w's|\
         F8 takes #b out of slot #s, writes #i|\
         F9 slot #s ready to be popped: displaced #a|\
-        O1 reads head, #h: slot #k|\
+        O1 reads head #h: lap #n, slot #k|\
         O2>O3 slot #s has an item for head #e|\
         O2>O6 slot #s has none for head #e: empty?|\
         O2 slot #s is not at head #e: tries again|\
         O3>O4 head #e -> #h won: claim #d is w#w's; slot #s in its hand|\
         O3>failed head #e -> #f failed by the schedule; goes on with #e|\
-        O3 head is #a, not #e: lost; goes on with #a|\
+        O3 head is #a, not #e: lost; goes on with lap #m, slot #l|\
         O4 reads #b out of slot #s|\
         O5 slot #s free for the next lap: popped #a|\
         O6>empty tail is #t, as head: empty|\
         O6>closed tail is #t, marked, else as head: closed|\
         O6 tail is #t, not #e: tries again|\
-        len1,full1 reads tail, #t|\
-        len2,empty1 reads head, #h|\
+        len1>closed,full1>closed reads tail #t: lap #q, slot #p, closed|\
+        len1,full1 reads tail #t: lap #q, slot #p|\
+        len2,empty1 reads head #h: lap #n, slot #k|\
         len3>len tail is still #t: len #a|\
         len3 tail is #t, not #e: tries again|\
         empty2>yes tail is #t, head was #e: yes|\

@@ -38,8 +38,14 @@ fn run(o: Options) -> u8 {
     if o.help {
         return replay_many::status_of(b"replay", replay_many::DONE, replay_options::help());
     }
-    if o.wrong != 0 {
-        text_options::complain(b"replay", o.wrong);
+    if o.version {
+        return replay_many::status_of(
+            b"replay",
+            replay_many::DONE,
+            text_options::version(b"replay"),
+        );
+    }
+    if o.wrong {
         return replay_many::UNREADABLE;
     }
     if o.file != 0 {
@@ -50,6 +56,6 @@ fn run(o: Options) -> u8 {
 
 fn main() {
     let o = replay_options::read();
-    let starter = replay_input::starter::asking(o.tells);
+    let starter = replay_input::starter::asking(o.tells_on);
     replay_input::starter::hears_status(starter, run(o));
 }

@@ -97,6 +97,8 @@ pub fn play(
         return Played {
             at: replay_words::tell(fd, o.many, begun, before(o), out, at),
             refused: false,
+            refusal: 0,
+            place: 0,
         };
     }
     if o.explain {

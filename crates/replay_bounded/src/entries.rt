@@ -148,7 +148,7 @@ fn steps(
             because = replay_bounded_lines::because::after(because, e);
         }
         if o.moments {
-            answers = replay_bounded_lines::moments::after(answers, e);
+            answers = replay_bounded_lines::moments::after(answers, e, o.narrow);
         }
         at = line_unless(o, out, at, e, summary, because, answers);
         place = replay_survey::pieces::next_place(place, refusal);

@@ -67,6 +67,8 @@ fn all(
             out,
         );
     }
+    let run = replay_survey::pieces::ended(fd, o.many, p, g.run, bytes);
+    g.run = run;
     g
 }
 
@@ -107,10 +109,7 @@ fn finish(
     let q = tell_slots(out, p, head, slots);
     let t = contents(out, q, head, slots, records);
     let u = replay_bounded_lines::tell_counts(o, out, t, summary, because);
-    Played {
-        at: replay_survey::pieces::end(out, u, o.many),
-        refused: run.refusal != 0,
-    }
+    replay_survey::pieces::played(run, replay_survey::pieces::end(out, u, o.many))
 }
 
 fn play_on(

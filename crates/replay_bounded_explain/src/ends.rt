@@ -66,7 +66,7 @@ fn lost(out: &mut [u8], at: usize, c: Counts) -> usize {
     text_output::form(
         out,
         at,
-        b"lost: # exchanges because the words differed, # by the schedule\n",
+        b"exchanges lost: # because the words differed, # by the schedule\n",
         &[c.differed, c.failed],
     )
 }

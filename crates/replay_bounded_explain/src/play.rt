@@ -67,6 +67,8 @@ fn all(
             out,
         );
     }
+    let run = replay_survey::pieces::ended(fd, o.many, p, g.run, bytes);
+    g.run = run;
     g
 }
 
@@ -75,6 +77,7 @@ fn tell_end(
     g: Going,
     o: Asked,
     made: bool,
+    met: bool,
     head: &[u64],
     slots: &[u64],
     records: &[u64],
@@ -87,24 +90,23 @@ fn tell_end(
     if run.whole {
         return text_explain::words::refused(out, run.at, o.colours, run.place, run.refusal, 0);
     }
-    crate::ends::tell(out, run.at, head, slots, records, g.counts)
+    let p = text_explain::words::unmet_if(out, run.at, o.follows && !met, o.item);
+    crate::ends::tell(out, p, head, slots, records, g.counts)
 }
 
 fn finish(
     g: Going,
     o: Asked,
     made: bool,
+    met: bool,
     head: &[u64],
     slots: &[u64],
     records: &[u64],
     out: &mut [u8],
 ) -> Played {
     let run = g.run;
-    let p = tell_end(g, o, made, head, slots, records, out);
-    Played {
-        at: pieces::end(out, p, o.many),
-        refused: run.refusal != 0,
-    }
+    let p = tell_end(g, o, made, met, head, slots, records, out);
+    replay_survey::pieces::played(run, pieces::end(out, p, o.many))
 }
 
 // On a ring that was made, or refused by this number.
@@ -137,7 +139,8 @@ fn run_made(
         &mut list,
         out,
     );
-    finish(g, o, refusal == 0, head, slots, records, out)
+    let met = notes::is_met(&seen);
+    finish(g, o, refusal == 0, met, head, slots, records, out)
 }
 
 fn play_on(

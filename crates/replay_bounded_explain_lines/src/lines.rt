@@ -109,6 +109,9 @@ fn colour_of(e: Entered, causes: Causes) -> u8 {
     if e.first % 16 < 8 {
         return columns::PLAIN;
     }
+    if bounded_text_explain::acts::is_close_lost(e) {
+        return columns::CLOSE_LOST;
+    }
     if notes::is_tail_claim(before[0], after[0]) || notes::is_head_claim(before[0], after[0]) {
         return columns::CLAIM;
     }

@@ -38,7 +38,10 @@ const WORKERS: u64 = 64;
 
 const SLOTS: u64 = 1024;
 
-pub const NOTES: usize = 1280;
+// Last, whether it was followed at all.
+const MET: usize = 1280;
+
+pub const NOTES: usize = 1281;
 
 fn at_worker(w: u64, field: u64) -> usize {
     if w < WORKERS {
@@ -297,12 +300,17 @@ fn takes_up(notes: &[u64], e: Entered, item: u64) -> bool {
     is_head_claim(before[0], after[0]) && get(notes, at_slot(slot_in(e))) != 0
 }
 
+pub fn is_met(notes: &[u64]) -> bool {
+    get(notes, MET) != 0
+}
+
 // Whether an entry that was accepted belongs to the life of this item.
 pub fn is_of(notes: &mut [u64], e: Entered, item: u64) -> bool {
     let w = at_worker(e.first / 16, FOLLOWED);
     let after = e.after;
     let taken = takes_up(notes, e, item);
     put_if(taken, notes, w, 1);
+    put_if(taken, notes, MET, 1);
     put_if(is_write(e), notes, at_slot(slot_in(e)), has_item(e, item));
     let it = get(notes, w) != 0;
     put_if(after[0] < 11, notes, w, 0);

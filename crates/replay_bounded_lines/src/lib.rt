@@ -75,8 +75,16 @@ fn moment_if(asked: bool, out: &mut [u8], at: usize, a: Answers) -> usize {
     at
 }
 
+// left the window at entry N, behind the line of that entry
+fn window_if(asked: bool, out: &mut [u8], at: usize, a: Answers, place: u64) -> usize {
+    if asked {
+        return replay_bounded_window::tell(out, at, a.window, place);
+    }
+    at
+}
+
 // PLACE R h=H t=T m=M wN=S, and what is asked beside it
-pub fn line(
+fn own_line(
     o: Options,
     out: &mut [u8],
     at: usize,
@@ -98,6 +106,20 @@ pub fn line(
     let u = moment_if(o.moments, out, t, answers);
     let v = text_output::byte(out, u, b'\n');
     text_output::settle(out, v)
+}
+
+// The line of an entry, and the one behind it, if there is one.
+pub fn line(
+    o: Options,
+    out: &mut [u8],
+    at: usize,
+    e: Entered,
+    summary: Summary,
+    because: Because,
+    answers: Answers,
+) -> usize {
+    let p = own_line(o, out, at, e, summary, because, answers);
+    window_if(o.moments, out, p, answers, e.place)
 }
 
 // PLACE R h=H t=T m=M, of the whole

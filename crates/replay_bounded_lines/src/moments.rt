@@ -2,6 +2,7 @@
 use crate::Entered;
 use bounded_moments::Moment;
 use bounded_moments::Moments;
+use replay_bounded_window::Window;
 
 // Of the entry just run: it is an act that ends its call, and the moment of the answer.
 pub struct Ended {
@@ -12,6 +13,8 @@ pub struct Ended {
 pub struct Answers {
     pub moments: Moments,
     pub latest: Ended,
+    // beyond it no answer has a moment
+    pub window: Window,
 }
 
 fn not_ended() -> Ended {
@@ -26,28 +29,31 @@ pub fn none(capacity: u64) -> Answers {
     Answers {
         moments: bounded_moments::start(capacity),
         latest: not_ended(),
+        window: replay_bounded_window::start(),
     }
 }
 
-fn refused(a: Answers) -> Answers {
+fn refused(a: Answers, window: Window) -> Answers {
     let moments = a.moments;
     Answers {
         moments: moments,
         latest: not_ended(),
+        window: window,
     }
 }
 
-fn begun(a: Answers) -> Answers {
+fn begun(a: Answers, window: Window) -> Answers {
     let moments = a.moments;
     let kept = bounded_moments::begun(moments);
     Answers {
         moments: kept,
         latest: not_ended(),
+        window: window,
     }
 }
 
 // One more act of worker w, from record to record.
-fn acted(a: Answers, w: u64, before: [u64; 5], after: [u64; 5]) -> Answers {
+fn acted(a: Answers, window: Window, w: u64, before: [u64; 5], after: [u64; 5]) -> Answers {
     let moments = a.moments;
     let stood = bounded_codes::place_in(before[0], before[1], before[2]);
     let stands = bounded_codes::place_in(after[0], after[1], after[2]);
@@ -60,17 +66,29 @@ fn acted(a: Answers, w: u64, before: [u64; 5], after: [u64; 5]) -> Answers {
             ends: named.ends,
             moment: moment,
         },
+        window: window,
     }
 }
 
-pub fn after(a: Answers, e: Entered) -> Answers {
+// At sixteen bits or not.
+pub fn after(a: Answers, e: Entered, narrow: bool) -> Answers {
     let before = e.before;
     let after = e.after;
     let kind = crate::kind_of(e);
+    let ring = e.ring;
+    let window = replay_bounded_window::after(
+        a.window,
+        narrow,
+        ring,
+        e.first,
+        e.refusal,
+        before,
+        after,
+    );
     match kind {
-        crate::REFUSED => refused(a),
-        crate::BEGUN => begun(a),
-        _ => acted(a, e.first / 16, before, after),
+        crate::REFUSED => refused(a, window),
+        crate::BEGUN => begun(a, window),
+        _ => acted(a, window, e.first / 16, before, after),
     }
 }
 
@@ -95,13 +113,15 @@ fn row_of(m: Moment) -> Row {
     }
 }
 
-// at=J or at=J+; an answer whose moment is still to come there is none (`Answered` of bounded_demands)
+// at=J or at=J+; an answer whose moment is still to come there is none (`Answered` of bounded_demands); at=- beyond the window
 pub fn tell(out: &mut [u8], at: usize, a: Answers) -> usize {
     let e = a.latest;
+    let left = replay_bounded_window::is_left(a.window);
     if !e.ends {
         return at;
     }
     let moment = e.moment;
     let r = row_of(moment);
-    text_output::nth(out, at, b" at=#| at=#+| at=none|", r.row, &[r.place])
+    let row = if left { 3 } else { r.row };
+    text_output::nth(out, at, b" at=#| at=#+| at=none| at=-|", row, &[r.place])
 }

@@ -1,7 +1,8 @@
 // The bytes of a schedule, which is a text or a tape. They are read twice, first to see whether every number is one and how many there are,
 // so that what can't be read is known before anything runs, in a fixed amount of memory. What can't be read twice is kept in a
-// file that has no name.
+// file that has no name. The second reading is held to the first by the sum of the bytes.
 use text_numbers::Scan;
+use text_sums::Sum;
 use text_words::line::Words;
 use text_words::reading::Piece;
 
@@ -27,6 +28,10 @@ pub struct Reading {
     pub event: u64,
     pub is_tape: bool,
     pub tape: tape_pieces::Piece,
+    // of a text: of the bytes so far
+    pub sum: Sum,
+    // of a reading that is not the first: what that one came to
+    pub due: Sum,
 }
 
 pub fn to_offset(n: u64) -> i64 {
@@ -37,8 +42,8 @@ pub fn to_offset(n: u64) -> i64 {
     }
 }
 
-// Of a text from this offset and line on, or of a tape; so many numbers, none or one, are put before it.
-pub fn start(is_tape: bool, offset: u64, line: u64, before: usize) -> Reading {
+// Of a text from this offset and line on, whose bytes before that have this sum, or of a tape; so many numbers, none or one, are put before it.
+pub fn start(is_tape: bool, offset: u64, line: u64, before: usize, sum: Sum) -> Reading {
     Reading {
         scan: text_numbers::start(line),
         words: text_words::line::start(before),
@@ -47,21 +52,28 @@ pub fn start(is_tape: bool, offset: u64, line: u64, before: usize) -> Reading {
         event: text_numbers::NOTHING,
         is_tape: is_tape,
         tape: tape_pieces::start(),
+        sum: sum,
+        due: text_sums::start(),
     }
 }
 
-fn after(piece: Piece, offset: u64, event: u64) -> Reading {
+// What a reading has come to.
+pub fn sum_of(r: Reading) -> Sum {
+    let tape = r.tape;
+    if r.is_tape { tape.sum } else { r.sum }
+}
+
+fn after(r: Reading, piece: Piece, offset: u64, sum: Sum) -> Reading {
     let scan = piece.scan;
     let words = piece.words;
-    Reading {
-        scan: scan,
-        words: words,
-        offset: offset,
-        count: piece.count,
-        event: event,
-        is_tape: false,
-        tape: tape_pieces::start(),
-    }
+    let mut after = r;
+    after.scan = scan;
+    after.words = words;
+    after.offset = offset;
+    after.count = piece.count;
+    after.event = piece.event;
+    after.sum = sum;
+    after
 }
 
 // The reading as it was, with the numbers that are now there and what ended it.
@@ -80,7 +92,7 @@ fn ended(r: Reading, many: bool, list: &mut [u64], left: usize) -> Reading {
     if piece.event == text_numbers::NOTHING && words.left == 0 {
         return stopped(r, piece.count, END);
     }
-    after(piece, r.offset, piece.event)
+    after(r, piece, r.offset, r.sum)
 }
 
 fn event_of(state: u64) -> u64 {
@@ -93,17 +105,11 @@ fn event_of(state: u64) -> u64 {
 }
 
 fn with_piece(r: Reading, p: tape_pieces::Piece, count: usize) -> Reading {
-    let scan = r.scan;
-    let words = r.words;
-    Reading {
-        scan: scan,
-        words: words,
-        offset: r.offset,
-        count: count,
-        event: event_of(p.state),
-        is_tape: true,
-        tape: p,
-    }
+    let mut after = r;
+    after.count = count;
+    after.event = event_of(p.state);
+    after.tape = p;
+    after
 }
 
 fn put(list: &mut [u64], i: usize, number: u64) {
@@ -152,10 +158,17 @@ fn tape_turn(fd: i32, r: Reading, bytes: &mut [u8], list: &mut [u64], left: usiz
     with_piece(r, p, p.count)
 }
 
+fn with_first(sum: Sum, bytes: &[u8], n: usize) -> Sum {
+    if n <= bytes.len() {
+        return text_sums::with_bytes(sum, &bytes[..n]);
+    }
+    sum
+}
+
 fn text_read(r: Reading, many: bool, bytes: &[u8], list: &mut [u64], left: usize) -> Reading {
     let piece = text_words::reading::read_piece(r.scan, r.words, many, bytes, list, left);
     let offset = std::num::wrapping_add_u64(r.offset, piece.used as u64);
-    after(piece, offset, piece.event)
+    after(r, piece, offset, with_first(r.sum, bytes, piece.used))
 }
 
 // How many acts of a row that was read have found no room yet.
@@ -222,10 +235,12 @@ pub fn carry(list: &mut [u64], count: usize) -> usize {
     0
 }
 
-// Of a schedule that is read to be run: so many numbers, none or one, stand in the list before its first.
-pub fn begun(is_tape: bool, offset: u64, line: u64, before: usize) -> Reading {
-    let mut r = start(is_tape, offset, line, before);
+// Of a schedule that is read again, to be run or told: so many numbers, none or one, stand in the list before its first. The first reading began with this sum,
+// and came to what is due.
+pub fn begun(is_tape: bool, offset: u64, line: u64, before: usize, sum: Sum, due: Sum) -> Reading {
+    let mut r = start(is_tape, offset, line, before, sum);
     r.count = before;
+    r.due = due;
     r
 }
 
@@ -243,12 +258,93 @@ pub fn goes_on(event: u64, refusal: u64) -> bool {
     false
 }
 
+// Beside LOST, the places of a text that is not written to its end: bytes were read again and are not what they were; they could not be read again, and errno says why.
+pub const CHANGED: usize = text_output::LOST - 1;
+
+pub const UNREAD: usize = text_output::LOST - 2;
+
+pub fn is_lost(at: usize) -> bool {
+    UNREAD <= at
+}
+
 // The same where text is written that goes on at this place: no further once it is lost.
 pub fn tells_on(event: u64, refusal: u64, at: usize) -> bool {
-    if at == text_output::LOST {
+    if is_lost(at) {
         return false;
     }
     goes_on(event, refusal)
+}
+
+// Bytes that are read for their sum alone: where the next ones stand, and what ended it.
+struct Rest {
+    sum: Sum,
+    offset: u64,
+    event: u64,
+}
+
+fn rest_from(r: Reading) -> Rest {
+    let sum = sum_of(r);
+    Rest {
+        sum: sum,
+        offset: if r.is_tape { sum.count } else { r.offset },
+        event: r.event,
+    }
+}
+
+// Of n bytes so many as are due; where nothing else follows this schedule all of them.
+fn of_due(n: usize, many: bool, sum: Sum, due: Sum) -> usize {
+    if many && sum.count <= due.count {
+        if due.count - sum.count < n as u64 {
+            return (due.count - sum.count) as usize;
+        }
+    }
+    n
+}
+
+fn rest_turn(fd: i32, many: bool, r: Rest, due: Sum, bytes: &mut [u8]) -> Rest {
+    let mut after = r;
+    let got = libc::pread(fd, bytes, to_offset(r.offset));
+    if got < 0 {
+        after.event = FAILED;
+        return after;
+    }
+    let n = of_due(io::count(got, bytes), many, r.sum, due);
+    if n == 0 {
+        after.event = END;
+        return after;
+    }
+    let sum = with_first(r.sum, bytes, n);
+    after.sum = sum;
+    after.offset = std::num::wrapping_add_u64(r.offset, n as u64);
+    after
+}
+
+// To the end, of a reading that stands anywhere.
+fn rest_of(fd: i32, many: bool, r: Reading, bytes: &mut [u8]) -> Rest {
+    let mut rest = rest_from(r);
+    let mut turns = u64::MAX;
+    while turns > 0 && rest.event == text_numbers::NOTHING {
+        turns -= 1;
+        rest = rest_turn(fd, many, rest, r.due, bytes);
+    }
+    rest
+}
+
+// Where text goes on, at this place or nowhere, after a reading that is not the first. What it has left, where the run was refused or nothing was run, is read for its
+// sum: so what is told is of the bytes that the first reading judged.
+pub fn checked(fd: i32, many: bool, r: Reading, bytes: &mut [u8], at: usize) -> usize {
+    if is_lost(at) {
+        return at;
+    }
+    let rest = rest_of(fd, many, r, bytes);
+    if rest.event == FAILED {
+        return UNREAD;
+    }
+    if text_sums::is_same(rest.sum, r.due) {
+        at
+    } else {
+        CHANGED
+    }
 }
 
 // How a copy goes on.

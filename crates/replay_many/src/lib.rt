@@ -1,5 +1,6 @@
 // Schedules one after another: where the next begins, where the text to be written goes on, and a program's status.
 use replay_survey::Survey;
+use text_sums::Sum;
 
 // The program's status.
 pub const DONE: u8 = 0;
@@ -24,6 +25,8 @@ pub struct Next {
     pub line: u64,
     pub at: usize,
     pub status: u8,
+    // of the bytes before it
+    pub sum: Sum,
 }
 
 pub fn first() -> Next {
@@ -33,6 +36,7 @@ pub fn first() -> Next {
         line: 1,
         at: 0,
         status: DONE,
+        sum: text_sums::start(),
     }
 }
 
@@ -43,6 +47,7 @@ pub fn stop(status: u8) -> Next {
         line: 0,
         at: 0,
         status: status,
+        sum: text_sums::start(),
     }
 }
 
@@ -64,6 +69,7 @@ pub fn after(s: Survey, at: usize, status: u8) -> Next {
         line: scan.line,
         at: at,
         status: status,
+        sum: replay_input::source::sum_of(r),
     }
 }
 
@@ -72,16 +78,37 @@ pub fn worse(status: u8, refused: bool) -> u8 {
 }
 
 // A mark at the very end begins no further schedule.
-pub fn unless_at_end(fd: i32, n: Next) -> Next {
+pub fn unless_at_end(program: &[u8], name: &[u8], fd: i32, n: Next) -> Next {
     let mut byte = [0u8; 1];
     let mut m = n;
     if n.more {
         let got = libc::pread(fd, &mut byte, replay_input::source::to_offset(n.offset));
+        if got < 0 {
+            replay_input::say::fail(program, name);
+            return stop(UNREADABLE);
+        }
         if got == 0 {
             m.more = false;
         }
     }
     m
+}
+
+// Whether the schedules that were run, to the last, are those that were looked through before.
+fn is_as_looked(n: Next, looked: Next) -> bool {
+    if n.status == UNREADABLE || n.at == text_output::LOST {
+        return true;
+    }
+    text_sums::is_same(n.sum, looked.sum)
+}
+
+// As `written`, of schedules that were looked through before.
+pub fn written_as_looked(program: &[u8], name: &[u8], n: Next, looked: Next, out: &[u8]) -> u8 {
+    if is_as_looked(n, looked) {
+        return written(program, n, out);
+    }
+    replay_input::say::changed(program, name);
+    UNREADABLE
 }
 
 // The rest of the text; answers the status.

@@ -164,10 +164,7 @@ fn finish(g: Going, o: Asked, out: &mut [u8]) -> Played {
     let q = single_text::text::value(out, p, m);
     let t = contents(out, q, m);
     let u = tell_summary(s, o.summary, out, t);
-    Played {
-        at: replay_survey::pieces::end(out, u, o.many),
-        refused: run.refusal != 0,
-    }
+    replay_survey::pieces::played(run, replay_survey::pieces::end(out, u, o.many))
 }
 
 fn all(
@@ -187,6 +184,8 @@ fn all(
         p = replay_survey::pieces::next(fd, o.many, p, g.run, bytes, list);
         g = run_piece(g, o, replay_survey::pieces::entries(p, list), out);
     }
+    let run = replay_survey::pieces::ended(fd, o.many, p, g.run, bytes);
+    g.run = run;
     g
 }
 

@@ -3,6 +3,7 @@ pub mod pieces;
 
 use queue_entries::Finding;
 use replay_input::source::Reading;
+use text_sums::Sum;
 
 pub struct Survey {
     pub reading: Reading,
@@ -27,10 +28,12 @@ pub struct Whole {
     pub workers: u64,
 }
 
-// A schedule that was run: where the text to be written goes on, and whether it was refused.
+// A schedule that was run: where the text to be written goes on, and whether it was refused; by which number, and at which place.
 pub struct Played {
     pub at: usize,
     pub refused: bool,
+    pub refusal: u64,
+    pub place: u64,
 }
 
 // The k-th entry among those after so many pairs.
@@ -118,7 +121,7 @@ fn survey_in(fd: i32, many: bool, begin: Survey, bytes: &mut [u8], list: &mut [u
     s
 }
 
-// Of the schedule that begins at this offset and line; so many numbers, each 1, are put before it: none or one.
+// Of the schedule that begins at this offset and line, before which the bytes have this sum; so many numbers, each 1, are put before it: none or one.
 pub fn surveyed(
     fd: i32,
     many: bool,
@@ -127,11 +130,12 @@ pub fn surveyed(
     is_tape: bool,
     offset: u64,
     line: u64,
+    sum: Sum,
 ) -> Survey {
     let mut bytes = [0u8; replay_input::source::BYTES];
     let mut list = [1u64; replay_input::source::NUMBERS];
     let begin = Survey {
-        reading: replay_input::source::start(is_tape, offset, line, before),
+        reading: replay_input::source::start(is_tape, offset, line, before, sum),
         barred: barred,
         pairs: 0,
         left: before,
@@ -148,8 +152,10 @@ fn numbers(s: Survey) -> u64 {
 }
 
 // Says what is wrong, and answers whether nothing is.
-pub fn is_sound(s: Survey, name: &[u8]) -> bool {
-    replay_input::say::is_sound(b"replay", name, s.reading, numbers(s))
+pub fn is_sound(s: Survey, fd: i32, many: bool, name: &[u8]) -> bool {
+    let hints =
+        b"|; several schedules are read with --many|; a tape is read with --tape|; a schedule without one is of another --queue|";
+    replay_input::say::is_sound(b"replay", name, fd, many, s.reading, numbers(s), hints)
 }
 
 fn of_whole(s: Survey, refusal: u64, place: u64) -> Whole {

@@ -1,4 +1,5 @@
 // A schedule that is read to be run, piece by piece, and how far the run is.
+use crate::Played;
 use crate::Whole;
 use replay_input::source::Reading;
 
@@ -102,6 +103,13 @@ pub fn goes_on(p: Pieces, r: Run) -> bool {
     replay_input::source::tells_on(reading.event, r.refusal, r.at)
 }
 
+// After the last piece: the run as it is, whose text goes on nowhere if the bytes were not those that were surveyed.
+pub fn ended(fd: i32, many: bool, p: Pieces, r: Run, bytes: &mut [u8]) -> Run {
+    let mut after = r;
+    after.at = replay_input::source::checked(fd, many, p.reading, bytes, r.at);
+    after
+}
+
 pub fn next_place(place: u64, refusal: u64) -> u64 {
     if refusal == 0 {
         return std::num::wrapping_add_u64(place, 1);
@@ -112,6 +120,16 @@ pub fn next_place(place: u64, refusal: u64) -> u64 {
 // Whether the whole is reported at the end: where there was no line for each entry.
 pub fn is_reported(r: Run, quiet: bool) -> bool {
     quiet || r.whole
+}
+
+// A run that is over, whose text goes on at this place.
+pub fn played(r: Run, at: usize) -> Played {
+    Played {
+        at: at,
+        refused: r.refusal != 0,
+        refusal: r.refusal,
+        place: r.place,
+    }
 }
 
 // What follows the output of one of many.

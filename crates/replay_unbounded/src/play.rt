@@ -103,10 +103,7 @@ fn finish(g: Going, o: Options, out: &mut [u8]) -> Played {
     let p = tell_whole(run, o.quiet, m, out);
     let q = unbounded_text::machine::blocks(out, p, m);
     let t = contents(out, q, m);
-    Played {
-        at: replay_survey::pieces::end(out, t, o.many),
-        refused: run.refusal != 0,
-    }
+    replay_survey::pieces::played(run, replay_survey::pieces::end(out, t, o.many))
 }
 
 fn all(
@@ -126,6 +123,8 @@ fn all(
         p = replay_survey::pieces::next(fd, o.many, p, g.run, bytes, list);
         g = run_piece(g, o.quiet, replay_survey::pieces::entries(p, list), out);
     }
+    let run = replay_survey::pieces::ended(fd, o.many, p, g.run, bytes);
+    g.run = run;
     g
 }
 

@@ -120,10 +120,7 @@ fn make(o: Asked, whole: Whole, out: &mut [u8], at: usize) -> Going {
 fn finish(g: Going, o: Asked, out: &mut [u8]) -> Played {
     let r = g.run;
     let at = ends::tell(out, o, r, g.machine, g.notes);
-    Played {
-        at: replay_survey::pieces::end(out, at, o.many),
-        refused: r.refusal != 0,
-    }
+    replay_survey::pieces::played(r, replay_survey::pieces::end(out, at, o.many))
 }
 
 fn all(
@@ -144,6 +141,8 @@ fn all(
         p = replay_survey::pieces::next(fd, o.many, p, g.run, bytes, list);
         g = steps(g, o, replay_survey::pieces::entries(p, list), slots, out);
     }
+    let run = replay_survey::pieces::ended(fd, o.many, p, g.run, bytes);
+    g.run = run;
     g
 }
 

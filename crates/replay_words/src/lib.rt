@@ -135,7 +135,8 @@ fn all(
         turns -= 1;
         g = turn(fd, many, before, g, bytes, list, out);
     }
-    let told = g.told;
+    let mut told = g.told;
+    told.at = replay_input::source::checked(fd, many, g.reading, bytes, told.at);
     told
 }
 

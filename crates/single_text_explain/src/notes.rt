@@ -17,6 +17,8 @@ pub struct Notes {
     pub lost: u64,
     // the slot has the item that is followed
     pub held: bool,
+    // and was met at all
+    pub met: bool,
     // of each worker 1 where its call is of that item's life
     pub workers: [u64; queue_entries::WORKERS],
 }
@@ -27,6 +29,7 @@ pub fn none() -> Notes {
         takes: 0,
         lost: 0,
         held: false,
+        met: false,
         workers: [0; queue_entries::WORKERS],
     }
 }
@@ -132,6 +135,7 @@ pub fn noted(n: Notes, e: Entered, item: u64) -> Notes {
         takes: up_if(n.takes, is_taken(e)),
         lost: up_if(n.lost, is_lost(e)),
         held: held_after(n, e, item),
+        met: n.met || is_of(n, e, item),
         workers: workers_after(n, e, item),
     }
 }

@@ -2,6 +2,7 @@
 mod asked;
 
 use asked::Asked;
+use replay_input::starter::Starter;
 use tapes_numbers::Variant;
 
 fn variant_of(a: Asked) -> Variant {
@@ -12,13 +13,13 @@ fn variant_of(a: Asked) -> Variant {
     }
 }
 
-fn write(starter: i32, a: Asked, fd: i32, name: &[u8]) -> u8 {
+fn write(starter: Starter, a: Asked, fd: i32, name: &[u8]) -> u8 {
     let mut tape = io::buffer();
     let n = os::arg(a.to, &mut tape);
     tape_writes::run(starter, fd, name, variant_of(a), &tape[..n])
 }
 
-fn run_from(starter: i32, a: Asked, fd: i32, name: &[u8]) -> u8 {
+fn run_from(starter: Starter, a: Asked, fd: i32, name: &[u8]) -> u8 {
     if a.act == asked::WRITE {
         write(starter, a, fd, name)
     } else {
@@ -26,7 +27,7 @@ fn run_from(starter: i32, a: Asked, fd: i32, name: &[u8]) -> u8 {
     }
 }
 
-fn run_file(starter: i32, a: Asked, name: &[u8]) -> u8 {
+fn run_file(starter: Starter, a: Asked, name: &[u8]) -> u8 {
     if tape_files::files::is_standard(name) {
         return run_from(starter, a, libc::STDIN_FILENO, b"standard input");
     }
@@ -40,16 +41,22 @@ fn run_file(starter: i32, a: Asked, name: &[u8]) -> u8 {
     status
 }
 
-// 0: done. 1: the tape or the schedule is refused. 2: anything else.
-fn status_of(starter: i32, a: Asked) -> u8 {
-    if a.wrong {
-        asked::usage();
-        return 2;
+fn told(whole: bool) -> u8 {
+    if replay_input::say::is_written(b"tape", whole) {
+        return 0;
     }
-    if a.act == asked::HELP {
-        if replay_input::say::is_written(b"tape", asked::help()) {
-            return 0;
-        }
+    2
+}
+
+// 0: done. 1: the tape or the schedule is refused. 2: anything else.
+fn status_of(starter: Starter, a: Asked) -> u8 {
+    if a.help {
+        return told(asked::help());
+    }
+    if a.version {
+        return told(text_options::version(b"tape"));
+    }
+    if a.wrong {
         return 2;
     }
     let mut name = io::buffer();
@@ -59,6 +66,6 @@ fn status_of(starter: i32, a: Asked) -> u8 {
 
 fn main() {
     let a = asked::read();
-    let starter = replay_input::starter::asking(a.tell);
+    let starter = replay_input::starter::asking(a.tells_on);
     replay_input::starter::hears_status(starter, status_of(starter, a));
 }

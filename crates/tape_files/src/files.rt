@@ -1,6 +1,7 @@
 // A file appears whole or not at all: what is written is kept under another name beside it, or for standard output under none, until
 // all of it is there.
 ghost use Rattle.libc.specs.Io.{Ended};
+use replay_input::starter::Starter;
 
 pub fn is_standard(name: &[u8]) -> bool {
     check::same(name, b"-")
@@ -58,7 +59,7 @@ pub fn beside(name: &[u8], path: &mut [u8]) -> usize {
 }
 
 // A descriptor to write to; negative: there is none, and that is said.
-pub fn sink(starter: i32, name: &[u8], path: &[u8]) -> i32 {
+pub fn sink(starter: Starter, name: &[u8], path: &[u8]) -> i32 {
     if is_standard(name) {
         return replay_input::spare::nameless(b"tape");
     }
@@ -97,7 +98,7 @@ fn to_output(fd: i32) -> bool {
 }
 
 // A starter that was ended, even so that it could hand nothing on, has ended the program too.
-fn replaced(starter: i32, name: &[u8], path: &[u8]) -> bool {
+fn replaced(starter: Starter, name: &[u8], path: &[u8]) -> bool {
     if replay_input::starter::is_gone(starter) {
         crate::say::abandoned(name);
         return false;
@@ -109,7 +110,7 @@ fn replaced(starter: i32, name: &[u8], path: &[u8]) -> bool {
     false
 }
 
-fn renamed(starter: i32, name: &[u8], path: &[u8], fd: i32) -> bool {
+fn renamed(starter: Starter, name: &[u8], path: &[u8], fd: i32) -> bool {
     let lasts = libc::fsync(fd) == 0;
     if lasts {} else {
         replay_input::say::fail(b"tape", name);
@@ -123,7 +124,7 @@ fn renamed(starter: i32, name: &[u8], path: &[u8], fd: i32) -> bool {
 }
 
 // What was written becomes the file.
-fn commit(starter: i32, name: &[u8], path: &[u8], fd: i32) -> bool {
+fn commit(starter: Starter, name: &[u8], path: &[u8], fd: i32) -> bool {
     if is_standard(name) {
         return to_output(fd);
     }
@@ -139,7 +140,7 @@ fn discard(name: &[u8], path: &[u8], fd: i32) {
 }
 
 // Where the status is 0, what was written becomes the file; otherwise it is gone. Answers the status, or 2.
-pub fn finish(starter: i32, status: u8, name: &[u8], path: &[u8], fd: i32) -> u8 {
+pub fn finish(starter: Starter, status: u8, name: &[u8], path: &[u8], fd: i32) -> u8 {
     if status == 0 {
         if commit(starter, name, path, fd) {
             return 0;

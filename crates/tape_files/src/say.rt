@@ -10,21 +10,16 @@ fn said(text: &[u8]) {
     io::write_all(libc::STDERR_FILENO, text);
 }
 
-// tape: NAME: WHAT
-fn unwritten(name: &[u8], what: &[u8]) {
-    let mut text = [0u8; 4608];
-    let o = text_output::text(&mut text, 0, b"tape: ");
-    let p = text_output::text(&mut text, o, name);
-    let q = text_output::text(&mut text, p, what);
-    error(&text, q);
-}
-
 pub fn special(name: &[u8]) {
-    unwritten(name, b": a link or a device; - writes to standard output\n");
+    replay_input::say::of_name(
+        b"tape",
+        name,
+        b": a link or a device; - writes to standard output\n",
+    );
 }
 
 pub fn abandoned(name: &[u8]) {
-    unwritten(name, b": as it was, since the starter was ended\n");
+    replay_input::say::of_name(b"tape", name, b": as it was, since the starter was ended\n");
 }
 
 // refused N at WHERE PLACE: and what it means.

@@ -9,6 +9,7 @@ ghost use Rattle.tape_pieces.specs.Stretches.{passed};
 use tapes_fields::Field;
 use tapes_fields::Head;
 use tapes_numbers::Variant;
+use text_sums::Sum;
 
 // A window, and the words of as many entries as it can have.
 pub const WINDOW: usize = 65536;
@@ -40,9 +41,11 @@ pub struct Piece {
     // how many bytes are left in the window, and which byte of the tape its first one is
     pub have: usize,
     pub base: u64,
+    // of all bytes that were read
+    pub sum: Sum,
 }
 
-fn begun(v: Variant, capacity: u64, workers: u64) -> Piece {
+fn begun(v: Variant, capacity: u64, workers: u64, sum: Sum) -> Piece {
     Piece {
         state: NEW,
         variant: v,
@@ -53,11 +56,12 @@ fn begun(v: Variant, capacity: u64, workers: u64) -> Piece {
         byte: 0,
         have: 0,
         base: 0,
+        sum: sum,
     }
 }
 
 pub fn start() -> Piece {
-    begun(Variant::BigEndian, 0, 0)
+    begun(Variant::BigEndian, 0, 0, text_sums::start())
 }
 
 pub fn goes_on(p: Piece) -> bool {
@@ -278,9 +282,29 @@ fn first(fd: i32, before: Piece, f: Filled, window: &mut [u8], words: &mut [u64]
     match h {
         Head::Fault(number) => refused(before, number, 0),
         Head::Makes(v, capacity, workers) => {
-            later(fd, begun(v, capacity, workers), f, window, 7, words)
+            later(
+                fd,
+                begun(v, capacity, workers, before.sum),
+                f,
+                window,
+                7,
+                words,
+            )
         }
     }
+}
+
+// With the bytes that are new in the window.
+fn summed(before: Piece, window: &[u8], have: usize) -> Piece {
+    let mut p = before;
+    let from = p.have;
+    if from <= have {
+        if have <= window.len() {
+            let sum = text_sums::with_bytes(p.sum, &window[from..have]);
+            p.sum = sum;
+        }
+    }
+    p
 }
 
 // The next piece: its words stand in the buffer; both buffers are as long as said above, or longer.
@@ -292,9 +316,10 @@ pub fn next(fd: i32, p: Piece, window: &mut [u8], words: &mut [u64]) -> Piece {
     if f.failed {
         return failed(p);
     }
-    if p.state == NEW {
-        first(fd, p, f, window, words)
+    let q = summed(p, window, f.have);
+    if q.state == NEW {
+        first(fd, q, f, window, words)
     } else {
-        later(fd, p, f, window, 0, words)
+        later(fd, q, f, window, 0, words)
     }
 }

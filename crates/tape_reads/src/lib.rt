@@ -1,5 +1,6 @@
 // A tape piece by piece, as the text of its schedule that replay reads, in numbers or in words.
 use tape_pieces::Piece;
+use text_sums::Sum;
 
 // Beside the states of a piece: its text could not be written, and that was said.
 const STUCK: u64 = 5;
@@ -70,8 +71,11 @@ fn put_head(to: i32, p: Piece, out: &mut [u8]) -> bool {
     put(to, out, n)
 }
 
-// The first line, and those of the first piece.
+// The first line, and those of the first piece, if there is one.
 fn put_first(to: i32, p: Piece, words: &[u64], out: &mut [u8]) -> bool {
+    if p.state == tape_pieces::REFUSED || p.state == tape_pieces::FAILED {
+        return true;
+    }
     if put_head(to, p, out) {
         return put_some(to, words, p.count, out);
     }
@@ -136,10 +140,13 @@ fn status_of(p: Piece, name: &[u8]) -> u8 {
     }
 }
 
-fn told_in_words(from: i32) -> u8 {
+fn told_in_words(from: i32, name: &[u8], due: Sum) -> u8 {
     let mut out = io::large_buffer();
-    let begun = replay_input::source::begun(true, 0, 1, 0);
+    let begun = replay_input::source::begun(true, 0, 1, 0, text_sums::start(), due);
     let p = replay_words::tell(from, false, begun, 0, &mut out, 0);
+    if replay_input::say::is_read(b"tape", name, p) {} else {
+        return 2;
+    }
     let at = text_output::flush(&out, p);
     if replay_input::say::is_written(b"tape", at != text_output::LOST) {
         0
@@ -148,16 +155,29 @@ fn told_in_words(from: i32) -> u8 {
     }
 }
 
+// Of a tape that was judged before and came to this sum.
+fn status_again(p: Piece, name: &[u8], due: Sum) -> u8 {
+    if p.state == tape_pieces::FAILED || p.state == STUCK {
+        return status_of(p, name);
+    }
+    if text_sums::is_same(p.sum, due) {
+        return status_of(p, name);
+    }
+    replay_input::say::changed(b"tape", name);
+    2
+}
+
 // Read once to judge it, and once more to write its text, so that nothing is written of a tape that is refused.
 fn judged_first(from: i32, name: &[u8], words: bool) -> u8 {
-    let status = status_of(read(from, NOWHERE), name);
+    let judged = read(from, NOWHERE);
+    let status = status_of(judged, name);
     if status != 0 {
         return status;
     }
     if words {
-        return told_in_words(from);
+        return told_in_words(from, name, judged.sum);
     }
-    status_of(read(from, libc::STDOUT_FILENO), name)
+    status_again(read(from, libc::STDOUT_FILENO), name, judged.sum)
 }
 
 // The text to standard output; answers the status.

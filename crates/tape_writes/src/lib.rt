@@ -1,5 +1,6 @@
 // The numbers of a schedule, read piece by piece as replay reads them, and their tape.
 use replay_input::source::Reading;
+use replay_input::starter::Starter;
 use tapes::Writing;
 use tapes_numbers::Variant;
 
@@ -28,7 +29,7 @@ struct Work {
 
 fn start() -> Work {
     Work {
-        reading: replay_input::source::start(false, 0, 1, 0),
+        reading: replay_input::source::start(false, 0, 1, 0, text_sums::start()),
         left: 0,
         begun: false,
         capacity: 0,
@@ -211,11 +212,17 @@ fn numbers_of(w: Work) -> u64 {
 }
 
 // Says what is wrong with the text, or what is refused.
-fn status_of(w: Work, name: &[u8]) -> u8 {
+fn is_sound(w: Work, from: i32, name: &[u8]) -> bool {
+    let hints =
+        b"|; a tape has one schedule|; this is a tape, and tape read prints it|; a tape has one, which other queues do not use: capacity 1|";
+    replay_input::say::is_sound(b"tape", name, from, false, w.reading, numbers_of(w), hints)
+}
+
+fn status_of(w: Work, from: i32, name: &[u8]) -> u8 {
     if w.stuck {
         return 2;
     }
-    if replay_input::say::is_sound(b"tape", name, w.reading, numbers_of(w)) {} else {
+    if is_sound(w, from, name) {} else {
         return 2;
     }
     if w.left == 1 {
@@ -229,17 +236,17 @@ fn status_of(w: Work, name: &[u8]) -> u8 {
     0
 }
 
-fn write_to(starter: i32, from: i32, name: &[u8], v: Variant, tape: &[u8], path: &[u8]) -> u8 {
+fn write_to(starter: Starter, from: i32, name: &[u8], v: Variant, tape: &[u8], path: &[u8]) -> u8 {
     let to = tape_files::files::sink(starter, tape, path);
     if to < 0 {
         return 2;
     }
     let w = worked(from, v, to);
-    tape_files::files::finish(starter, status_of(w, name), tape, path, to)
+    tape_files::files::finish(starter, status_of(w, from, name), tape, path, to)
 }
 
 fn write_from(
-    starter: i32,
+    starter: Starter,
     from: i32,
     name: &[u8],
     v: Variant,
@@ -254,7 +261,7 @@ fn write_from(
 }
 
 // A schedule's text and the name of its tape; answers the status.
-pub fn run(starter: i32, from: i32, name: &[u8], v: Variant, tape: &[u8]) -> u8 {
+pub fn run(starter: Starter, from: i32, name: &[u8], v: Variant, tape: &[u8]) -> u8 {
     let kept = replay_input::source::kept(b"tape", from, name);
     if kept < 0 {
         return 2;

@@ -40,9 +40,12 @@ pub fn worker(line: &mut [u8], at: usize, w: u64) -> usize {
     to_column(line, p, std::num::wrapping_add_usize(at, 6))
 }
 
-// One more space behind a place whose column of three begins here.
+// The longest name of a place, isclosed1, leaves all behind it in their column.
+const PLACE: usize = 9;
+
+// One more space behind a place whose column begins here.
 pub fn behind_place(line: &mut [u8], at: usize, from: usize) -> usize {
-    let p = to_column(line, at, std::num::wrapping_add_usize(from, 3));
+    let p = to_column(line, at, std::num::wrapping_add_usize(from, PLACE));
     text_output::byte(line, p, b' ')
 }
 
@@ -77,6 +80,8 @@ pub fn text_of(out: &mut [u8], at: usize, text: &[u8], n: usize) -> usize {
 pub const PLAIN: u8 = 0;
 
 pub const REFUSED: u8 = 31;
+
+pub const CLOSE_LOST: u8 = 31;
 
 pub const CLAIM: u8 = 32;
 

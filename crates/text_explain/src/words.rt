@@ -12,7 +12,8 @@ pub fn begin(line: &mut [u8], at: usize, first: u64, second: u64) -> usize {
     )
 }
 
-fn why_refused(line: &mut [u8], at: usize, refusal: u64, w: u64) -> usize {
+// Why it is refused, of an entry of worker w.
+pub fn why(line: &mut [u8], at: usize, refusal: u64, w: u64) -> usize {
     let table = b"3 there is no worker #a|\
         4 worker #a is busy|\
         5 worker #a is idle|\
@@ -29,7 +30,7 @@ fn why_refused(line: &mut [u8], at: usize, refusal: u64, w: u64) -> usize {
 fn refused_line(line: &mut [u8], place: u64, refusal: u64, w: u64) -> usize {
     let p = columns::number(line, place);
     let q = text_output::form(line, p, b"  -   refused #: ", &[refusal]);
-    why_refused(line, q, refusal, w)
+    why(line, q, refusal, w)
 }
 
 // The line of an entry of worker w that was refused, or of a schedule of which nothing is run.
@@ -63,6 +64,14 @@ pub fn made(
         columns::REFUSED
     };
     columns::put(out, at, &line, n, colours, of)
+}
+
+// Of an item that is followed, where no line was of its life.
+pub fn unmet_if(out: &mut [u8], at: usize, it: bool, item: u64) -> usize {
+    if it {
+        return text_output::form(out, at, b"followed: no push of #\n", &[item]);
+    }
+    at
 }
 
 // Of the workers at the end of a run, where none had a line of its own.

@@ -56,7 +56,7 @@ pub fn rest(out: &mut [u8], at: usize, items: &[u64], t: Told, n: Notes) -> usiz
     text_output::form(
         out,
         p,
-        b"lost: # exchanges because the words differed, # by the schedule\n",
+        b"exchanges lost: # because the words differed, # by the schedule\n",
         &[n.differed, n.failed],
     )
 }

@@ -7,7 +7,9 @@ pub struct Notes {
     pub heads: u64,
     pub differed: u64,
     pub failed: u64,
-    // of each worker 1 where its call is of the life of the item that is followed
+    // the item that is followed was met
+    pub met: bool,
+    // of each worker 1 where its call is of its life
     pub workers: [u64; queue_entries::WORKERS],
 }
 
@@ -17,6 +19,7 @@ pub fn none() -> Notes {
         heads: 0,
         differed: 0,
         failed: 0,
+        met: false,
         workers: [0; queue_entries::WORKERS],
     }
 }
@@ -147,6 +150,7 @@ pub fn noted(n: Notes, e: Entered, is_of: bool) -> Notes {
         heads: up_if(n.heads, is_head_claim(e)),
         differed: up_if(n.differed, is_differed(e)),
         failed: up_if(n.failed, is_failed(e)),
+        met: n.met || is_of,
         workers: workers_after(n, e, is_of),
     }
 }

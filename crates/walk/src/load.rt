@@ -11,6 +11,8 @@ pub struct Loaded {
     pub refusal: u64,
     // the entry's place
     pub place: u64,
+    // where text goes on: as it was told, or nowhere, where the schedule was not what it was
+    pub at: usize,
 }
 
 fn stands(m: [u64; WORDS], made: bool, refusal: u64, place: u64) -> Loaded {
@@ -19,6 +21,7 @@ fn stands(m: [u64; WORDS], made: bool, refusal: u64, place: u64) -> Loaded {
         made: made,
         refusal: refusal,
         place: place,
+        at: 0,
     }
 }
 
@@ -77,6 +80,7 @@ fn all(
     many: bool,
     begun: Reading,
     whole: Whole,
+    at: usize,
     bytes: &mut [u8],
     list: &mut [u64],
 ) -> Loaded {
@@ -88,12 +92,13 @@ fn all(
         reading = replay_input::source::next(fd, many, reading, bytes, list);
         loaded = pairs(loaded, edition, whole, list, reading.count);
     }
+    loaded.at = replay_input::source::checked(fd, many, reading, bytes, at);
     loaded
 }
 
 // Read piece by piece and run to its end or to its first refusal.
-pub fn load(edition: u64, fd: i32, many: bool, begun: Reading, whole: Whole) -> Loaded {
+pub fn load(edition: u64, fd: i32, many: bool, begun: Reading, whole: Whole, at: usize) -> Loaded {
     let mut bytes = [0u8; replay_input::source::BYTES];
     let mut list = [1u64; replay_input::source::NUMBERS];
-    all(edition, fd, many, begun, whole, &mut bytes, &mut list)
+    all(edition, fd, many, begun, whole, at, &mut bytes, &mut list)
 }

@@ -38,8 +38,10 @@ fn run(o: Options) -> u8 {
     if o.help {
         return replay_many::status_of(b"walk", replay_many::DONE, walk_options::help());
     }
-    if o.wrong != 0 {
-        text_options::complain(b"walk", o.wrong);
+    if o.version {
+        return replay_many::status_of(b"walk", replay_many::DONE, text_options::version(b"walk"));
+    }
+    if o.wrong {
         return replay_many::UNREADABLE;
     }
     if o.file != 0 {
@@ -50,6 +52,6 @@ fn run(o: Options) -> u8 {
 
 fn main() {
     let o = walk_options::read();
-    let starter = replay_input::starter::asking(o.tells);
+    let starter = replay_input::starter::asking(o.tells_on);
     replay_input::starter::hears_status(starter, run(o));
 }

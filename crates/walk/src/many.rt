@@ -5,32 +5,35 @@ use replay_many::UNREADABLE;
 use replay_survey::Played;
 use replay_survey::Survey;
 use replay_survey::Whole;
+use text_sums::Sum;
 use walk_options::Options;
 use walk_play::tell::Asked;
 
 fn surveyed(o: Options, fd: i32, from: Next) -> Survey {
-    replay_survey::surveyed(fd, o.many, 0, 16, false, from.offset, from.line)
+    replay_survey::surveyed(fd, o.many, 0, 16, false, from.offset, from.line, from.sum)
 }
 
 fn numbers(s: Survey) -> u64 {
     if s.pairs == 0 { s.left as u64 } else { 2 }
 }
 
-fn is_sound(s: Survey, name: &[u8]) -> bool {
-    replay_input::say::is_sound(b"walk", name, s.reading, numbers(s))
+fn is_sound(s: Survey, fd: i32, many: bool, name: &[u8]) -> bool {
+    let hints =
+        b"|; several schedules are read with --many|; tape read prints a tape as a schedule|; walk has the ring alone, which has one|";
+    replay_input::say::is_sound(b"walk", name, fd, many, s.reading, numbers(s), hints)
 }
 
 // Read once, and not run.
 fn look(o: Options, fd: i32, name: &[u8], from: Next) -> Next {
     let s = surveyed(o, fd, from);
-    if is_sound(s, name) {
+    if is_sound(s, fd, o.many, name) {
         replay_many::after(s, 0, from.status)
     } else {
         replay_many::stop(UNREADABLE)
     }
 }
 
-fn asked(o: Options, fd: i32) -> Asked {
+fn asked(o: Options, fd: i32, due: Sum) -> Asked {
     Asked {
         depth: o.depth,
         list: o.list,
@@ -38,19 +41,30 @@ fn asked(o: Options, fd: i32) -> Asked {
         explain: o.explain != 0,
         ending: o.ending,
         fd: fd,
+        due: due,
     }
 }
 
 fn play(o: Options, fd: i32, begun: Reading, whole: Whole, out: &mut [u8], at: usize) -> Played {
-    let l = crate::load::load(o.edition, fd, o.many, begun, whole);
+    let l = crate::load::load(o.edition, fd, o.many, begun, whole, at);
+    if replay_input::source::is_lost(l.at) {
+        return Played {
+            at: l.at,
+            refused: false,
+            refusal: 0,
+            place: 0,
+        };
+    }
     if l.refusal != 0 {
         return Played {
-            at: walk_play::refused::tell(out, at, o.many, l.refusal, &[l.place]),
+            at: walk_play::refused::tell(out, l.at, o.many, l.refusal, &[l.place]),
             refused: true,
+            refusal: l.refusal,
+            place: l.place,
         };
     }
     let m = l.words;
-    walk_play::tell::walk(out, at, asked(o, fd), m)
+    walk_play::tell::walk(out, l.at, asked(o, fd, begun.due), m)
 }
 
 fn mark(out: &mut [u8], at: usize, many: bool) -> usize {
@@ -63,48 +77,62 @@ fn mark(out: &mut [u8], at: usize, many: bool) -> usize {
 
 fn one(o: Options, fd: i32, name: &[u8], from: Next, out: &mut [u8]) -> Next {
     let s = surveyed(o, fd, from);
-    if is_sound(s, name) {} else {
+    if is_sound(s, fd, o.many, name) {} else {
         return replay_many::stop(UNREADABLE);
     }
-    let begun = replay_input::source::begun(false, from.offset, from.line, 0);
+    let begun = replay_input::source::begun(
+        false,
+        from.offset,
+        from.line,
+        0,
+        from.sum,
+        replay_input::source::sum_of(s.reading),
+    );
     let p = play(o, fd, begun, replay_survey::refused_whole(s), out, from.at);
+    if replay_input::say::is_read(b"walk", name, p.at) {} else {
+        return replay_many::stop(UNREADABLE);
+    }
     let at = mark(out, p.at, o.many);
     replay_many::after(s, at, replay_many::worse(from.status, p.refused))
 }
 
 // Of many, each is read before the first is run, so that nothing is written where one cannot be read.
-fn look_in(o: Options, fd: i32, name: &[u8]) -> u8 {
+fn look_in(o: Options, fd: i32, name: &[u8]) -> Next {
     let mut n = replay_many::first();
     let mut turns = u64::MAX;
     while turns > 0 && n.more {
         n = look(o, fd, name, n);
-        n = replay_many::unless_at_end(fd, n);
+        n = replay_many::unless_at_end(b"walk", name, fd, n);
         turns -= 1;
     }
-    n.status
+    n
 }
 
-fn written(n: Next, out: &[u8]) -> u8 {
-    replay_many::written(b"walk", n, out)
-}
-
-fn run_in(o: Options, fd: i32, name: &[u8], out: &mut [u8]) -> u8 {
+fn run_in(o: Options, fd: i32, name: &[u8], out: &mut [u8]) -> Next {
     let mut n = replay_many::first();
     let mut turns = u64::MAX;
     while turns > 0 && n.more {
         n = one(o, fd, name, n, out);
-        n = replay_many::unless_at_end(fd, n);
+        n = replay_many::unless_at_end(b"walk", name, fd, n);
         turns -= 1;
     }
-    written(n, out)
+    n
+}
+
+fn run_looked(o: Options, fd: i32, name: &[u8], out: &mut [u8]) -> u8 {
+    let looked = look_in(o, fd, name);
+    if looked.status == UNREADABLE {
+        return UNREADABLE;
+    }
+    let n = run_in(o, fd, name, out);
+    replay_many::written_as_looked(b"walk", name, n, looked, out)
 }
 
 pub fn run_all(o: Options, fd: i32, name: &[u8]) -> u8 {
-    if o.many {
-        if look_in(o, fd, name) == UNREADABLE {
-            return UNREADABLE;
-        }
-    }
     let mut out = io::large_buffer();
-    run_in(o, fd, name, &mut out)
+    if o.many {
+        return run_looked(o, fd, name, &mut out);
+    }
+    let n = run_in(o, fd, name, &mut out);
+    replay_many::written(b"walk", n, &out)
 }

@@ -3,13 +3,15 @@
 mod end;
 
 use bounded_text_words::WORDS;
+use text_sums::Sum;
 use text_words::writing::Written;
 
-// Which ending is asked for, from 1, 0: all of them; and the file of the schedule that was run, to be told again.
+// Which ending is asked for, from 1, 0: all of them; and the file of the schedule that was run, to be told again, with the sum of its bytes.
 pub struct Asked {
     pub depth: u64,
     pub ending: u64,
     pub fd: i32,
+    pub due: Sum,
 }
 
 // Where the text goes on, and whether there is the ending that was asked for.
@@ -89,15 +91,15 @@ fn way(out: &mut [u8], at: usize, acts: &[u8]) -> usize {
 }
 
 // The schedule that was run, from its making on.
-fn schedule(out: &mut [u8], at: usize, fd: i32) -> usize {
-    let begun = replay_input::source::begun(false, 0, 1, 0);
-    replay_words::lines(fd, false, begun, 0, out, at)
+fn schedule(out: &mut [u8], at: usize, o: Asked) -> usize {
+    let begun = replay_input::source::begun(false, 0, 1, 0, text_sums::start(), o.due);
+    replay_words::lines(o.fd, false, begun, 0, out, at)
 }
 
 fn told_of(
     out: &mut [u8],
     at: usize,
-    fd: i32,
+    o: Asked,
     m: [u64; WORDS],
     acts: &[u8],
     table: &[u64],
@@ -106,21 +108,21 @@ fn told_of(
     let p = heading(out, at, table, row);
     let q = end::lines(out, p, table, row, walk_ways::left(m, acts));
     let r = edition(out, q, m[bounded_text_words::EDITION]);
-    let s = schedule(out, text_output::settle(out, r), fd);
+    let s = schedule(out, text_output::settle(out, r), o);
     way(out, s, acts)
 }
 
 fn ending(
     out: &mut [u8],
     at: usize,
-    fd: i32,
+    o: Asked,
     m: [u64; WORDS],
     list: &[u8],
     table: &[u64],
     row: usize,
 ) -> usize {
     let place = walk_ends::number(table, row, walk_ends::PLACE) as usize;
-    told_of(out, at, fd, m, walk_lists::acts_at(list, place), table, row)
+    told_of(out, at, o, m, walk_lists::acts_at(list, place), table, row)
 }
 
 fn and_mark(out: &mut [u8], at: usize) -> usize {
@@ -131,7 +133,7 @@ fn and_mark(out: &mut [u8], at: usize) -> usize {
 fn endings(
     out: &mut [u8],
     at: usize,
-    fd: i32,
+    o: Asked,
     m: [u64; WORDS],
     list: &[u8],
     table: &[u64],
@@ -140,7 +142,7 @@ fn endings(
     let mut p = at;
     let mut i = 0;
     while i < n {
-        p = ending(out, p, fd, m, list, table, i);
+        p = ending(out, p, o, m, list, table, i);
         p = and_mark(out, p);
         i += 1;
     }
@@ -178,7 +180,7 @@ fn one(
     if o.ending <= n as u64 {
         if 0 < o.ending {
             let row = (o.ending - 1) as usize;
-            return told(ending(out, at, o.fd, m, list, table, row), true);
+            return told(ending(out, at, o, m, list, table, row), true);
         }
     }
     missing(o.ending, n as u64);
@@ -201,5 +203,5 @@ pub fn tell(
         return one(out, at, o, m, list, &table, n);
     }
     let p = header(out, at, o.depth, sequences, ways);
-    told(endings(out, p, o.fd, m, list, &table, n), true)
+    told(endings(out, p, o, m, list, &table, n), true)
 }

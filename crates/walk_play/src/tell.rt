@@ -3,6 +3,7 @@ use bounded_text_words::WORDS;
 use bounded_walks::Sized;
 use queue_entries::Told;
 use replay_survey::Played;
+use text_sums::Sum;
 
 // The longest list, in bytes.
 const BUFFER: usize = 4194304;
@@ -11,16 +12,19 @@ pub struct Asked {
     pub depth: u64,
     pub list: bool,
     pub many: bool,
-    // in words (walk_explain): every ending, 0, or this one; and the file of the schedule that was run
+    // in words (walk_explain): every ending, 0, or this one; and the file of the schedule that was run, with the sum of its bytes
     pub explain: bool,
     pub ending: u64,
     pub fd: i32,
+    pub due: Sum,
 }
 
 fn played(at: usize, refused: bool) -> Played {
     Played {
         at: at,
         refused: refused,
+        refusal: 0,
+        place: 0,
     }
 }
 
@@ -53,10 +57,12 @@ fn explained(
     sequences: u64,
     list: &[u8],
 ) -> Played {
+    let due = o.due;
     let asked = walk_explain::Asked {
         depth: o.depth,
         ending: o.ending,
         fd: o.fd,
+        due: due,
     };
     let t = walk_explain::tell(out, at, asked, m, sequences, list);
     played(t.at, t.found == false)

@@ -12,6 +12,7 @@ use Rattle.replay_survey.proofs.pieces.goes_on.Reads as goes-on-reads
 use Rattle.replay_survey.proofs.pieces.next.Reads as next-reads
 use Rattle.replay_survey.proofs.pieces.start.Reads as start-reads
 use Rattle.replay_unbounded_explain.proofs.steps.Reads as steps-reads
+use Rattle.replay_survey.proofs.pieces.ended.Reads as ended-reads
 
 abbrev Inv-loop : tie.InvT-loop
 Inv-loop o fd bytes₀ list₀ slots₀ out₀ g₀ p₀ turns₀ bytes list slots out g p turns =
@@ -49,6 +50,9 @@ loop-again c =
     let l = c .before .before .before .before .before .before .before .before .before .before .before .before .before .before .before .before .before .before .before .loop .inv in
     (omega (arith, l .0), (omega (arith, l .1 .0), (omega (arith, l .1 .1 .0), omega (arith, l .1 .1 .1))))
 
+ended-requires : tie.Need-ended-requires Inv-loop μ-loop
+ended-requires c κs = search needs
+
 same-length : tie.Need-same-length Inv-loop μ-loop
 same-length c = search needs
 
@@ -63,21 +67,6 @@ same-length-4 c = search needs
 
 returns : tie.Need-returns Inv-loop μ-loop
 returns c = search needs
-
-same-length-5 : tie.Need-same-length-5 Inv-loop μ-loop
-same-length-5 c = search needs
-
-same-length-6 : tie.Need-same-length-6 Inv-loop μ-loop
-same-length-6 c = search needs
-
-same-length-7 : tie.Need-same-length-7 Inv-loop μ-loop
-same-length-7 c = search needs
-
-same-length-8 : tie.Need-same-length-8 Inv-loop μ-loop
-same-length-8 c = search needs
-
-returns-2 : tie.Need-returns-2 Inv-loop μ-loop
-returns-2 c = search needs
 
 pub all-spec : {M : Type 1} → statement M
 all-spec =
@@ -94,13 +83,9 @@ all-spec =
     steps-requires
     loop-less
     loop-again
+    ended-requires
     same-length
     same-length-2
     same-length-3
     same-length-4
-    returns
-    same-length-5
-    same-length-6
-    same-length-7
-    same-length-8
-    returns-2)
+    returns)

@@ -5,6 +5,7 @@ use Rattle.replay_words.proofs.all.Statement.{statement}
 use Rattle.replay_words.proofs.all.Tie as tie
 use Rattle.replay_words.proofs.all.Reads as reads
 use Rattle.replay_words.proofs.all.Lts as lts
+use Rattle.replay_input.proofs.source.checked.Reads as checked-reads
 use Rattle.replay_words.proofs.begun_at.Reads as begun-at-reads
 use Rattle.replay_words.proofs.goes_on.Reads as goes-on-reads
 use Rattle.replay_words.proofs.turn.Reads as turn-reads
@@ -43,6 +44,10 @@ loop-less c = search needs
 loop-again : tie.Need-loop-again Inv-loop μ-loop
 loop-again c = search needs
 
+-- src/lib.rt:139:15
+checked-requires : tie.Need-checked-requires Inv-loop μ-loop
+checked-requires c κs = search needs
+
 -- src/lib.rt:122:1
 same-length : tie.Need-same-length Inv-loop μ-loop
 same-length c = search needs
@@ -72,6 +77,7 @@ all-spec =
     turn-requires
     loop-less
     loop-again
+    checked-requires
     same-length
     same-length-2
     same-length-3

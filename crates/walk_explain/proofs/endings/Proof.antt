@@ -10,10 +10,10 @@ use Rattle.walk_explain.proofs.ending.Reads as ending-reads
 use Rattle.walk_explain.proofs.and_mark.Reads as and-mark-reads
 
 abbrev Inv-loop : tie.InvT-loop
-Inv-loop out₀ at fd m list table n p₀ i₀ out p i = length out ≡ length out₀
+Inv-loop out₀ at o m list table n p₀ i₀ out p i = length out ≡ length out₀
 
 abbrev μ-loop : tie.MeasureT-loop
-μ-loop out₀ at fd m list table n p₀ i₀ out p i = n - i
+μ-loop out₀ at o m list table n p₀ i₀ out p i = n - i
 
 loop-holds : tie.Need-loop-holds Inv-loop μ-loop
 loop-holds c = search needs

@@ -23,7 +23,7 @@ use Rattle.replay_survey.proofs.pieces.next_place.Reads as next-place-reads
 
 abbrev Inv-loop : tie.InvT-loop
 Inv-loop o head₀ slots₀ records₀ list out₀ r summary₀ because₀ answers₀ place₀ refusal₀ at₀ bits n i₀ head slots records out summary because answers place refusal at i =
-    ((brokenLent (meteredIn (words head slots records)) (recordsIn records) ≡ false) × (stand (words head slots records) ≡ true))
+    ((brokenLent (meteredIn (words head slots records)) (recordsIn records) ≡ false) × (stand (words head slots records) ≡ true) × (n < 18446744073709551616))
     × ((length head ≡ length head₀) × ((length slots ≡ length slots₀) × ((length records ≡ length records₀) × ((length out ≡ length out₀) × (2 * n ≤ length list)))))
 
 abbrev μ-loop : tie.MeasureT-loop
@@ -35,7 +35,7 @@ width-requires c κs = search needs
 
 -- src/lib.rt:105:5
 loop-holds : tie.Need-loop-holds Inv-loop μ-loop
-loop-holds c = ((search needs, search needs), (search needs, (search needs, (search needs, (search needs, search needs)))))
+loop-holds c = ((search needs, search needs, search needs), (search needs, (search needs, (search needs, (search needs, search needs)))))
 
 -- src/lib.rt:106:26
 mul-first : tie.Need-mul-first Inv-loop μ-loop
@@ -67,7 +67,7 @@ shared-slice-read-second c = search needs
 
 -- src/lib.rt:108:9
 add-i : tie.Need-add-i Inv-loop μ-loop
-add-i c = search needs
+add-i c = omega (arith, c .before .before .before .loop-test .taken, c .before .before .before .before .loop .inv .0 .2)
 
 -- src/lib.rt:109:13
 ring-in-requires : tie.Need-ring-in-requires Inv-loop μ-loop
@@ -116,7 +116,7 @@ loop-again : tie.Need-loop-again Inv-loop μ-loop
 loop-again c =
     let d = c .before .before .before .before .before .before .before .before .before .before .before .before .before .before .before .before .before in
     let l = d .before .before .before .before .before .before .before .before .before .before .before .before .loop .inv in (
-      d .turn .ensures .1,
+      (d .turn .ensures .1 .0, d .turn .ensures .1 .1, l .0 .2),
       (omega (arith, l .1 .0), (omega (arith, l .1 .1 .0), (omega (arith, l .1 .1 .1 .0), (omega (arith, l .1 .1 .1 .1 .0), l .1 .1 .1 .1 .1)))),
     )
 

@@ -10,12 +10,13 @@ use Rattle.replay_input.proofs.source.goes_on.Reads as goes-on-reads
 use Rattle.replay_input.proofs.source.next.Reads as next-reads
 use Rattle.walk.proofs.load.nothing.Reads as nothing-reads
 use Rattle.walk.proofs.load.pairs.Reads as pairs-reads
+use Rattle.replay_input.proofs.source.checked.Reads as checked-reads
 
 abbrev Inv-loop : tie.InvT-loop
-Inv-loop edition fd many whole bytes₀ list₀ loaded₀ reading₀ turns₀ bytes list loaded reading turns = (length bytes ≡ length bytes₀) × (length list ≡ length list₀)
+Inv-loop edition fd many whole at bytes₀ list₀ loaded₀ reading₀ turns₀ bytes list loaded reading turns = (length bytes ≡ length bytes₀) × (length list ≡ length list₀)
 
 abbrev μ-loop : tie.MeasureT-loop
-μ-loop edition fd many whole bytes₀ list₀ loaded₀ reading₀ turns₀ bytes list loaded reading turns = turns
+μ-loop edition fd many whole at bytes₀ list₀ loaded₀ reading₀ turns₀ bytes list loaded reading turns = turns
 
 -- src/lib.rt:90:9
 nothing-requires : tie.Need-nothing-requires Inv-loop μ-loop
@@ -50,6 +51,9 @@ loop-again : tie.Need-loop-again Inv-loop μ-loop
 loop-again c = let l = c .before .before .before .before .before .before .before .before .before .before .before .before .loop .inv in (omega (arith, l .0), omega (arith, l .1))
 
 -- src/lib.rt:81:1
+checked-requires : tie.Need-checked-requires Inv-loop μ-loop
+checked-requires c κs = search needs
+
 same-length : tie.Need-same-length Inv-loop μ-loop
 same-length c = search needs
 
@@ -60,18 +64,6 @@ same-length-2 c = search needs
 -- src/lib.rt:81:1
 returns : tie.Need-returns Inv-loop μ-loop
 returns c = search needs
-
--- src/lib.rt:81:1
-same-length-3 : tie.Need-same-length-3 Inv-loop μ-loop
-same-length-3 c = search needs
-
--- src/lib.rt:81:1
-same-length-4 : tie.Need-same-length-4 Inv-loop μ-loop
-same-length-4 c = search needs
-
--- src/lib.rt:81:1
-returns-2 : tie.Need-returns-2 Inv-loop μ-loop
-returns-2 c = search needs
 
 pub all-spec : {M : Type 1} → statement M
 all-spec =
@@ -87,9 +79,7 @@ all-spec =
     pairs-requires
     loop-less
     loop-again
+    checked-requires
     same-length
     same-length-2
-    returns
-    same-length-3
-    same-length-4
-    returns-2)
+    returns)
