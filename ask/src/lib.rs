@@ -1,0 +1,6 @@
+//! What the programs `explore` and `possible` share: the machine, the words of a text, and manners. The machine is the proved library's (hosts/rust); there is no second one.
+
+pub mod json;
+pub mod machine;
+pub mod manners;
+pub mod words;
