@@ -33,8 +33,12 @@ enum Narrow {
 
 impl Layout {
     fn new(world: &World) -> Layout {
-        let active = (0..world.workers()).filter(|worker| world.is_active(*worker)).map(|worker| (worker, 2)).collect();
-        Layout { changes: 3, active, shared: 4 }
+        let active = |bits| (0..world.workers()).filter(|worker| world.is_active(*worker)).map(|worker| (worker, bits)).collect();
+        let usual = Layout { changes: 4, active: active(5), shared: 12 };
+        if usual.bits() <= u64::BITS {
+            return usual;
+        }
+        Layout { changes: 3, active: active(2), shared: 4 }
     }
 
     fn noted(&self) -> u32 {
@@ -109,6 +113,8 @@ struct Successor<W> {
 }
 
 const BATCH: usize = 256;
+/// How far ahead places are fetched.
+const AHEAD: usize = 16;
 
 impl<W: Word> Search<W> {
     fn new(layout: Layout, reduced: bool) -> Search<W> {
@@ -209,7 +215,7 @@ impl<W: Word> Search<W> {
                     let changes = (word >> changes_shift).low() & changes_mask;
                     if successor.changes < changes {
                         *place = successor.key << noted | colour | W::of(successor.changes) << changes_shift | bit;
-                    } else if successor.changes == changes {
+                    } else if successor.changes == changes && word & bit == W::ZERO {
                         *place = word | bit;
                     }
                 }
@@ -262,7 +268,6 @@ impl<W: Word> Search<W> {
 
     /// Brings what is noted of states into `found`, from a place on.
     fn settle(&mut self, from: usize, closes: bool) {
-        const AHEAD: usize = 16;
         let noted = self.layout.noted();
         for at in from..self.found.len() {
             if let Some(ahead) = self.found.get(at + AHEAD) {
@@ -285,17 +290,24 @@ impl<W: Word> Search<W> {
         let layer_end = layers[layers.len() - 1];
         let mut search = Search { table: Table::new(layout.noted(), found.len()), layout, fields, found: Vec::with_capacity(found.len()), layers, tried, endings, reduced };
         let (changes, workers) = ((1u64 << old.changes) - 1, ((1u128 << old.active.len()) - 1) as u64);
-        for (at, word) in found.into_iter().enumerate() {
+        for word in found {
             let mut key = V::ZERO;
             for (from, to) in old_fields.iter().zip(&search.fields) {
                 key = key | V::of((((word >> old.noted()) & from.mask) >> from.shift).low()) << to.shift;
             }
             let colour = word.low() & 3;
             let note = search.note((word >> COLOUR).low() & changes, (word >> (COLOUR + old.changes)).low() & workers);
-            let whole = key << search.layout.noted() | note | V::of(colour);
-            search.found.push(whole);
+            search.found.push(key << search.layout.noted() | note | V::of(colour));
+        }
+        let noted = search.layout.noted();
+        for at in 0..search.found.len() {
+            if let Some(ahead) = search.found.get(at + AHEAD) {
+                search.table.prefetch((*ahead >> noted).hash_of());
+            }
+            let word = search.found[at];
+            let key = word >> noted;
             let (part, place) = search.table.find(key, key.hash_of());
-            *place = if at < layer_end { key << search.layout.noted() | V::of(CLOSED) } else { whole };
+            *place = if at < layer_end { key << noted | V::of(CLOSED) } else { word };
             search.table.filled(part);
         }
         search

@@ -110,7 +110,10 @@ pub struct World {
     /// Answers in a row: those before, and the last.
     answers: Vec<(u32, Answer)>,
     answer_numbers: HashMap<(u32, Place), u32>,
-    taken: HashMap<(u32, Place, [u64; 2]), Option<Left>>,
+    places: Vec<Place>,
+    place_numbers: HashMap<Place, u32>,
+    /// Acts that the library has taken, plain and with an exchange that fails, from shared words and a place to others: workers share them, whatever was answered.
+    taken: [Memo; 2],
     /// How many steps the library has taken.
     pub steps: u64,
     alone: Vec<u64>,
@@ -129,7 +132,9 @@ impl World {
             workers: vec![],
             answers: vec![(0, Answer::Nothing)],
             answer_numbers: HashMap::new(),
-            taken: HashMap::new(),
+            places: vec![],
+            place_numbers: HashMap::new(),
+            taken: [Memo::new(), Memo::new()],
             steps: 0,
             alone: alone_places(queue)?,
         };
@@ -240,24 +245,23 @@ impl World {
     fn follow(&mut self, worker: usize, shared: u32, part: u32, losing: bool) -> Option<Next> {
         let before = self.workers[worker].parts[part as usize];
         let mut after = before;
-        let entry = if is_busy(before.place) {
-            if losing {
-                fernmoldew::losing_entry(0)
-            } else {
-                fernmoldew::act_entry(0)
+        let shared = if is_busy(before.place) {
+            let (shared, place) = self.act(shared, before.place, losing)?;
+            after.place = place;
+            if !is_busy(place) {
+                after.answers = self.with_answer(before.answers, place);
             }
+            shared
         } else {
             if losing {
                 return None;
             }
+            let call = self.call_next(worker, part)?;
+            let (shared, place) = self.step(shared, before.place, call.entry(0))?;
+            after.place = place;
             after.begun += 1;
-            self.call_next(worker, part)?.entry(0)
+            shared
         };
-        let (shared, place) = self.step(shared, before.place, entry)?;
-        after.place = place;
-        if is_busy(before.place) && !is_busy(place) {
-            after.answers = self.with_answer(before.answers, place);
-        }
         let Worker { parts, numbers, .. } = &mut self.workers[worker];
         let part = *numbers.entry(after).or_insert_with(|| {
             parts.push(after);
@@ -278,20 +282,40 @@ impl World {
         number
     }
 
+    fn place_number(&mut self, place: Place) -> u32 {
+        let places = &mut self.places;
+        *self.place_numbers.entry(place).or_insert_with(|| {
+            places.push(place);
+            places.len() as u32 - 1
+        })
+    }
+
+    /// An act of a worker that stands there.
+    fn act(&mut self, shared: u32, place: Place, losing: bool) -> Option<Left> {
+        let key = key_of(shared, self.place_number(place));
+        let known = self.taken[usize::from(losing)].get(key);
+        if known == NONE {
+            return None;
+        }
+        if known != UNKNOWN {
+            let Next { shared, part } = next_of(known);
+            return Some((shared, self.places[part as usize]));
+        }
+        let left = self.step(shared, place, if losing { fernmoldew::losing_entry(0) } else { fernmoldew::act_entry(0) });
+        let value = left.map_or(NONE, |(shared, place)| key_of(shared, self.place_number(place)));
+        self.taken[usize::from(losing)].put(key, value);
+        left
+    }
+
     /// One entry of a worker that stands there, taken by the library.
     fn step(&mut self, shared: u32, place: Place, entry: [u64; 2]) -> Option<Left> {
-        if let Some(known) = self.taken.get(&(shared, place, entry)) {
-            return *known;
-        }
         self.machine.put(&self.shared[shared as usize], &[place]);
         self.steps += 1;
-        let left = match self.machine.step(entry) {
+        match self.machine.step(entry) {
             Ok(()) => Some((self.shared_number(self.machine.shared()), self.machine.place(0))),
             Err(Refusal::NoWeakExchange) => None,
             Err(refusal) => panic!("an entry of a machine that was reached: {refusal}"),
-        };
-        self.taken.insert((shared, place, entry), left);
-        left
+        }
     }
 
     /// The number of what a worker's calls have answered.
