@@ -3,4 +3,5 @@
 pub mod json;
 pub mod machine;
 pub mod manners;
+pub mod possible;
 pub mod words;
