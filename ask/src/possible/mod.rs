@@ -214,7 +214,7 @@ fn part_in_words(log: &Log, part: &Part) -> String {
         let line = format!("    {worker:w0$}  {name:w1$}   {lines:w2$}   {answer:w3$}", w0 = widths[0], w1 = widths[1], w2 = widths[2], w3 = widths[3]);
         match &part.row {
             Some(row) if row.at == *call => {
-                let _ = writeln!(said, "{line}   <- {}", row.why);
+                let _ = writeln!(said, "{line}    <- {}", row.why);
             }
             _ => {
                 let _ = writeln!(said, "{}", line.trim_end());

@@ -1,4 +1,5 @@
-//! A smallest part: answers that are impossible together whatever all other calls answered, of which none can be left out.
+//! A smallest part: answers that are impossible together whatever all other calls answered, of which none can be left out. Where a row shows it, the row is what is to be shown: without any
+//! of these no row is. Where none does, the search decides: without any of these the log is possible.
 
 use super::log::Log;
 use super::rows::{self, Shown};
@@ -16,7 +17,7 @@ pub struct Part {
 }
 
 /// So much is spent on it: calls gone through and states seen, of all tries together and of one.
-const WORK: u64 = 30_000_000;
+const WORK: u64 = 10_000_000;
 const STATES: u64 = 200_000;
 
 /// From a log that is impossible: by a row, or by the search.
@@ -37,8 +38,12 @@ pub fn of(log: &Log, question: Question, row: Option<Shown>) -> Part {
             known[*at as usize] = true;
         }
         let part = log.knowing(|at| known[at]);
+        *work += log.calls.len() as u64;
+        if row.is_some() {
+            return Some(rows::shown(&part, question.rules(log)).is_some());
+        }
         let (decided, states) = decide(&part, Question { states: STATES, ..question });
-        *work += states + log.calls.len() as u64;
+        *work += states;
         match decided {
             Decided::Impossible(_) => Some(true),
             Decided::Possible(_) => Some(false),

@@ -97,22 +97,21 @@ struct Items {
     unknown: u32,
 }
 
-/// The row that is shown by the earliest answer; none is shown.
+/// The row that is shown by the fewest answers, of these the earliest; none is shown.
 pub fn shown(log: &Log, rules: Rules) -> Option<Shown> {
     let mut found: Option<Shown> = None;
     let mut take = |shown: Option<Shown>| {
         if let Some(shown) = shown {
-            if found.as_ref().is_none_or(|other| log.calls[shown.at as usize].end < log.calls[other.at as usize].end) {
+            let rank = |shown: &Shown| (shown.by.len(), log.calls[shown.at as usize].end);
+            if found.as_ref().is_none_or(|other| rank(&shown) < rank(other)) {
                 found = Some(shown);
             }
         }
     };
     take(from_nowhere_or_twice(log));
     take(closed(log, rules));
-    let counts = Counts::of(log);
-    take(counted(log, rules, &counts));
-    drop(counts);
     take(by_item(log));
+    take(counted(log, rules, &Counts::of(log)));
     found
 }
 
@@ -298,50 +297,55 @@ fn by_item(log: &Log) -> Option<Shown> {
         into.returned() && (is_in(into) || way.out.is_some())
     }).collect();
     gone_in.sort_unstable_by_key(|way| log.calls[way.into as usize].end);
-    let mut found: Option<Shown> = None;
-    let earlier = |found: &Option<Shown>, at: u32| found.as_ref().is_none_or(|found| log.calls[at as usize].end < log.calls[found.at as usize].end);
-    // what stays longest of those that went in before a moment
+    let mut found: Option<(bool, Shown)> = None;
+    // one whose way out is known, and the earliest
+    let better = |found: &Option<(bool, Shown)>, stays: &Way, at: u32| {
+        found.as_ref().is_none_or(|(unknown, other)| (stays.out.is_none(), log.calls[at as usize].end) < (*unknown, log.calls[other.at as usize].end))
+    };
+    // what stays longest of those that went in before a moment: of those whose way out is known, and of the others
     let mut next = 0;
-    let mut longest: Option<Way> = None;
+    let mut longest: [Option<Way>; 2] = [None; 2];
     let mut way_of: HashMap<u32, Way> = HashMap::with_capacity(ways.len());
     for way in &ways {
         way_of.insert(way.into, *way);
     }
     for (at, call) in log.calls.iter().enumerate() {
         while let Some(way) = gone_in.get(next).filter(|way| log.calls[way.into as usize].end < call.begin) {
+            let longest = &mut longest[way.out.is_none() as usize];
             if longest.is_none_or(|longest| items.leaves(log, *way) > items.leaves(log, longest)) {
-                longest = Some(*way);
+                *longest = Some(*way);
             }
             next += 1;
         }
-        let Some(stays) = longest else { continue };
-        let leaves = items.leaves(log, stays);
-        let item = log.calls[stays.into as usize].item().expect("it hands in");
+        // the first that shows it: fewer answers tell of a way out that is known
+        let stays_past = |end: u32| longest.iter().flatten().find(|way| end < items.leaves(log, **way)).copied();
         // overtaken: this call hands in what went out before the other was come for
         if let Some(out) = way_of.get(&(at as u32)).and_then(|way| way.out) {
             let last = &log.calls[out as usize];
-            if last.end < leaves && earlier(&found, out) {
+            if let Some(stays) = stays_past(last.end).filter(|stays| better(&found, stays, out)) {
+                let item = log.calls[stays.into as usize].item().expect("it hands in");
                 let other = call.item().expect("it hands in");
                 let mut by = way_known(log, stays, last.end);
                 by.push(out);
                 refused_of(log, other, &mut by);
                 let never = if stays.out.is_some() { format!("before anyone came for {item}") } else { format!("and nothing took {item} out") };
-                found = Some(Shown { row: 3, at: out, by, why: format!("{item} was in from {} on, before {other} was handed in at {}; {other} went out {never}", log.to(stays.into as usize), log.from(at)) });
+                found = Some((stays.out.is_none(), Shown { row: 3, at: out, by, why: format!("{item} was in from {} on, before {other} was handed in at {}; {other} went out {never}", log.to(stays.into as usize), log.from(at)) }));
             }
         }
         // empty beside it
         let empty = matches!((call.call, call.answer), (Call::Pop, Some(Answer::Empty | Answer::PopClosed)) | (Call::IsEmpty, Some(Answer::Yes)));
-        if empty && call.end < leaves && earlier(&found, at as u32) {
+        if let Some(stays) = stays_past(call.end).filter(|stays| empty && better(&found, stays, at as u32)) {
+            let item = log.calls[stays.into as usize].item().expect("it hands in");
             let mut by = way_known(log, stays, call.end);
             by.push(at as u32);
             let why = match stays.out {
                 Some(out) => format!("{item} was in from {} on, and nobody came for it before {}", log.to(stays.into as usize), log.from(out as usize)),
                 None => format!("{item} was in from {} on, and nothing took it out", log.to(stays.into as usize)),
             };
-            found = Some(Shown { row: 4, at: at as u32, by, why });
+            found = Some((stays.out.is_none(), Shown { row: 4, at: at as u32, by, why }));
         }
     }
-    found
+    found.map(|(_, shown)| shown)
 }
 
 /// Answers that show that an item was in up to an event: that of its way out; else that it went in, and of all who could have taken it before the event what they did.

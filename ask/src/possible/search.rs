@@ -158,7 +158,13 @@ pub struct Search<'a> {
     order: Vec<Placed>,
     pub states: u64,
     furthest: u32,
+    /// What is tried next is drawn now and then, once a search has come no further for long.
+    draw: u64,
 }
+
+/// A search that comes no further for so many states goes back this many events and tries in another order; each time longer and further.
+const PATIENCE: u64 = 3_000;
+const BACK: u32 = 64;
 
 fn spread(number: u64) -> u128 {
     let mut mixed = number;
@@ -258,6 +264,7 @@ impl<'a> Search<'a> {
             order: vec![],
             states: 0,
             furthest: 0,
+            draw: 0,
         }
     }
 
@@ -710,23 +717,50 @@ impl<'a> Search<'a> {
         mixed(base ^ part ^ (items as u128) << 100)
     }
 
-    /// The order in which what can be done is tried: the call that must answer first, pops and closes next, then what goes in, by its likely order.
-    fn score(&self, call: u32, forced: u32, forced_can: bool, halved: bool) -> (u32, i64) {
+    /// Whether more must wait, or fewer, before a call can answer: 1, -1, or 0 where that is not it.
+    fn wants(&self, forced: u32) -> i32 {
+        let op = &self.ops[forced as usize];
+        let waiting = self.waiting();
+        match op.answer {
+            Told::Len => (op.value > waiting as u64) as i32 - (op.value < waiting as u64) as i32,
+            Told::Full | Told::Displaced if waiting < self.capacity => 1,
+            Told::Yes if op.code == 5 => 1,
+            Told::No if op.code == 5 => -1,
+            Told::Yes if op.code == 4 => -1,
+            Told::No if op.code == 4 => 1,
+            Told::Empty | Told::PopClosed | Told::Pushed | Told::Displaced => -1,
+            Told::Popped if waiting > 0 => -1,
+            Told::Popped => 1,
+            _ => 0,
+        }
+    }
+
+    /// The order in which what can be done is tried: the call that must answer, then what brings it nearer; of what goes in the likely order first, of the others who must answer first.
+    fn score(&self, call: u32, forced: u32, forced_can: bool, wants: i32, halved: bool) -> (u32, i64) {
         let op = &self.ops[call as usize];
         let goes_in = op.code < 2;
         let forced_goes_in = self.ops[forced as usize].code < 2;
         let class = if halved {
-            4
+            5
         } else if self.half == call || call == forced && !goes_in {
             0
         } else if goes_in && (forced_goes_in && forced_can || call == forced) {
             1
+        } else if wants > 0 && !goes_in || wants < 0 && goes_in {
+            4
         } else if !goes_in {
             2
         } else {
             3
         };
         (class, if goes_in { op.guess } else { op.end as i64 })
+    }
+
+    fn drawn(&mut self) -> u64 {
+        self.draw ^= self.draw << 13;
+        self.draw ^= self.draw >> 7;
+        self.draw ^= self.draw << 17;
+        self.draw
     }
 
     /// What need not be tried. Of two that could go in now, the one that is earlier in all ways goes first. Where nobody looks at the count, what must answer and can goes before what does
@@ -782,7 +816,23 @@ impl<'a> Search<'a> {
         let mut refuted = Keys::new();
         let mut stack: Vec<Frame> = vec![];
         let Some(mut forced) = self.advance() else { return Found::Order(self.in_order()) };
+        let (mut come_to, mut since, mut patience, mut back) = (0, 0, PATIENCE, BACK);
         loop {
+            if self.furthest > come_to {
+                (come_to, since, patience, back) = (self.furthest, self.states, PATIENCE, BACK);
+                self.draw = 0;
+            } else if self.states - since > patience {
+                // nothing is taken as refuted by it
+                let until = come_to.saturating_sub(back);
+                let keep = stack.partition_point(|frame| frame.at < until);
+                if let Some(frame) = stack.get(keep).copied() {
+                    self.go_back(&frame);
+                    stack.truncate(keep);
+                    forced = self.log.events[frame.at as usize].call() as u32;
+                }
+                (since, patience, back) = (self.states, patience + patience / 2, back.saturating_mul(2));
+                self.draw = self.states | 1;
+            }
             let base = self.base();
             let waiting = self.waiting();
             let mut frame = Frame { steps: 0, halves: 0, hash: self.hash, words: self.words, missed: self.missed, at: self.at, head: self.head, tail: self.queue.len() as u32, order: self.order.len() as u32, lowest: self.lowest, latest: self.latest, half: self.half, read: 0, closed: self.closed, missing: false };
@@ -823,13 +873,17 @@ impl<'a> Search<'a> {
                     self.ended(forced, at);
                 } else {
                     let forced_can = frame.steps >> self.ops[forced as usize].worker & 1 == 1;
+                    let wants = if forced_can { 0 } else { self.wants(forced) };
                     let (mut best, mut least) = ((0, false), (u32::MAX, i64::MAX));
                     for (mask, halved) in [(frame.steps, false), (frame.halves, true)] {
                         let mut mask = mask;
                         while mask != 0 {
                             let worker = mask.trailing_zeros() as usize;
                             mask &= mask - 1;
-                            let score = self.score(self.current[worker], forced, forced_can, halved);
+                            let mut score = self.score(self.current[worker], forced, forced_can, wants, halved);
+                            if self.draw != 0 && self.drawn() % 8 == 0 {
+                                score.0 = (self.draw >> 20) as u32 % 6;
+                            }
                             if score < least {
                                 (best, least) = ((worker, halved), score);
                             }
