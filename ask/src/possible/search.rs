@@ -163,8 +163,8 @@ pub struct Search<'a> {
 }
 
 /// A search that comes no further for so many states goes back this many events and tries in another order; each time longer and further.
-const PATIENCE: u64 = 3_000;
-const BACK: u32 = 64;
+const PATIENCE: u64 = 1_000;
+const BACK: u32 = 16;
 
 fn spread(number: u64) -> u128 {
     let mut mixed = number;
@@ -746,7 +746,7 @@ impl<'a> Search<'a> {
             0
         } else if goes_in && (forced_goes_in && forced_can || call == forced) {
             1
-        } else if wants > 0 && !goes_in || wants < 0 && goes_in {
+        } else if wants > 0 && !goes_in || wants < 0 && goes_in && op.answer != Told::Displaced {
             4
         } else if !goes_in {
             2
