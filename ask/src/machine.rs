@@ -23,6 +23,11 @@ pub fn is_busy(place: Place) -> bool {
     place[0] > LAST_ANSWER
 }
 
+/// What a worker's last call answered that stands there; none of a call under way. Codes of answers are the same in both queues.
+pub fn answer_at([code, first, second]: Place) -> Option<Answer> {
+    Workers::from_words(vec![code, first, second, 0, 0]).get(0).answer()
+}
+
 /// A queue and its workers.
 #[derive(Clone, Debug)]
 pub struct Machine {
@@ -100,10 +105,7 @@ impl Machine {
 
     /// What a worker's last call answered; none while it is busy.
     pub fn answer(&self, worker: usize) -> Option<Answer> {
-        match &self.held {
-            Held::Ring(_, workers) => workers.get(worker).answer(),
-            Held::OneSlot(slot) => slot.answer(worker),
-        }
+        answer_at(self.place(worker))
     }
 
     /// The words that all workers share: of the ring head, tail and the slots that are used, of the one-slot queue state and value. The meter is none of them.

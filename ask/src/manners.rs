@@ -5,6 +5,8 @@ use std::fs::File;
 use std::io::{self, ErrorKind, Read, Write};
 use std::process::ExitCode;
 
+/// Refused: an answer, and told without the program's name.
+pub const REFUSED: u8 = 1;
 /// Cannot be read, or not all can be written.
 pub const UNREADABLE: u8 = 2;
 /// Not complete; not decided.
@@ -41,8 +43,9 @@ pub fn run(name: &str, program: impl FnOnce(Vec<OsString>) -> Result<u8, Told>) 
         Ok(status) => ExitCode::from(status),
         Err(told) => {
             if !told.line.is_empty() {
+                let begin = if told.line.starts_with("refused ") || told.line.starts_with("not complete") { String::new() } else { format!("{name}: ") };
                 // standard error itself may be closed
-                let _ = writeln!(io::stderr(), "{name}: {}", told.line);
+                let _ = writeln!(io::stderr(), "{begin}{}", told.line);
             }
             ExitCode::from(told.status)
         }

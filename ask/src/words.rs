@@ -221,6 +221,12 @@ pub fn schedule_in_words(head: Head, entries: &[[u64; 2]]) -> String {
         out.push_str(&format!("capacity {capacity}\n"));
     }
     out.push_str(&format!("workers {}\n", head.workers));
+    out + &entries_in_words(entries)
+}
+
+/// Its entries alone.
+pub fn entries_in_words(entries: &[[u64; 2]]) -> String {
+    let mut out = String::new();
     let mut at = 0;
     while at < entries.len() {
         let [first, item] = entries[at];

@@ -15,10 +15,15 @@ static uint64_t step(uint64_t worker, enum fern_call call, uint64_t item) {
     return fern_ring_step(LENT, fern_entry(worker, call), item);
 }
 
-/* A whole call: at most seven acts. */
+/* A whole call: at most seven acts, as long as no slot is in another hand. */
 static void whole(uint64_t worker, enum fern_call call, uint64_t item) {
-    int acts = alone(step, records[worker], worker, call, item);
-    expect(acts > 0 && acts <= 7, "a call ends within seven acts");
+    expect(alone(step, FERN_MOST_ACTS_ALONE, records[worker], worker, call, item) > 0, "a call ends within seven acts");
+}
+
+/* A call that was begun, to its end: nobody it waits for has a slot in hand. */
+static void to_its_end(uint64_t worker) {
+    while (fern_busy(records[worker]) && step(worker, FERN_ACT, 0) == FERN_ACCEPTED)
+        ;
 }
 
 int main(void) {
@@ -61,6 +66,20 @@ int main(void) {
     }
     whole(JUDGE, FERN_POP, 0);
     say("judge", records[JUDGE]);
+
+    /* A reader has claimed a slot and has not let go: the judge cannot have an answer before it does. */
+    step(READER_A, FERN_PUSH, 2960);
+    for (int i = 0; i < 3; i++)
+        step(READER_A, FERN_ACT, 0);
+    expect(alone(step, FERN_MOST_ACTS_ALONE, records[JUDGE], JUDGE, FERN_POP, 0) == STILL_UNDER_WAY, "a pop waits for the slot that is in hand");
+    printf("judge: still under way after %d acts, beside a slot in hand\n", FERN_MOST_ACTS_ALONE);
+    to_its_end(READER_A);
+    to_its_end(JUDGE);
+    say("judge", records[JUDGE]);
+
+    /* No queue has a worker of such a number, and it is no other worker's. */
+    refusal = step(UINT64_C(1) << 60, FERN_PUSH, 2970);
+    printf("a push of worker 2^60: refusal %" PRIu64 ", %s\n", refusal, fern_refusal_says(refusal));
 
     /* A whole call as a schedule. */
     const uint64_t schedule[] = {fern_entry(READER_A, FERN_PUSH), 2990, fern_entry(READER_A, FERN_ACT), 0, fern_entry(READER_A, FERN_ACT), 0, fern_entry(READER_A, FERN_ACT), 0, fern_entry(READER_A, FERN_ACT), 0, fern_entry(READER_A, FERN_ACT), 0};

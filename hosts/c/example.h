@@ -20,15 +20,20 @@ static void expect(bool right, const char *what) {
 /* One entry of an example's queue. */
 typedef uint64_t stepping(uint64_t worker, enum fern_call call, uint64_t item);
 
-/* One call of the worker with this record to its end, nobody else acting meanwhile: how many acts, or none where something is refused. */
-static int alone(stepping *step, const uint64_t *record, uint64_t worker, enum fern_call call, uint64_t item) {
+enum { STILL_UNDER_WAY = -1 };
+
+/* One call of the worker with this record, nobody else acting meanwhile, in at most so many acts: how many it took, or none where something is refused. One that has not ended then waits for another worker, who has a slot in
+ * hand: it would act in vain to the end of the meter, and is left where it is. */
+static int alone(stepping *step, int most, const uint64_t *record, uint64_t worker, enum fern_call call, uint64_t item) {
     int acts = 0;
     uint64_t refusal = step(worker, call, item);
-    while (refusal == FERN_ACCEPTED && fern_busy(record)) {
+    while (refusal == FERN_ACCEPTED && fern_busy(record) && acts < most) {
         refusal = step(worker, FERN_ACT, 0);
         acts++;
     }
-    return refusal == FERN_ACCEPTED ? acts : 0;
+    if (refusal != FERN_ACCEPTED)
+        return 0;
+    return fern_busy(record) ? STILL_UNDER_WAY : acts;
 }
 
 static void say(const char *who, const uint64_t record[FERN_SLOT_RECORD]) {

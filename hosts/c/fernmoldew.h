@@ -48,8 +48,14 @@ enum {
     FERN_SLOT_RECORD = 3,
     FERN_SLOT_WORKERS = 16, /* the most workers of a one-slot queue, and how many records it has */
     FERN_SLOT_RECORDS = FERN_SLOT_RECORD * FERN_SLOT_WORKERS,
-    FERN_SLOT_LAYOUT = 2 /* the layout number of a one-slot queue */
+    FERN_SLOT_LAYOUT = 2,          /* the layout number of a one-slot queue */
+    FERN_MOST_ACTS_ALONE = 7,      /* of a call on a ring, nobody else acting and no slot in another hand */
+    FERN_SLOT_MOST_ACTS_ALONE = 4, /* of a call on a one-slot queue */
+    FERN_STACK_BYTES = 65536       /* the most stack that a call takes */
 };
+
+/* The last number of the meter: no act after it. */
+#define FERN_METER_LAST UINT64_C(4294967295)
 
 /* A tape's variant: the byte with which it begins. */
 enum fern_tape_variant {
@@ -275,9 +281,10 @@ struct fern_reply fern_tape_write(uint64_t variant, uint64_t capacity, uint64_t 
 struct fern_reply fern_tape_read(const uint8_t *tape, size_t tape_bytes, uint64_t *about, size_t about_words,
                                  uint64_t *schedule, size_t schedule_words);
 
-/* An entry's first word. */
+/* An entry's first word. A worker's number of which a word can't hold it becomes the last one of which it can: no queue
+ * has either, and the entry is refused with FERN_NO_SUCH_WORKER. */
 static inline uint64_t fern_entry(uint64_t worker, enum fern_call call) {
-    return 16 * worker + (uint64_t)call;
+    return 16 * (worker <= UINT64_MAX / 16 ? worker : UINT64_MAX / 16) + (uint64_t)call;
 }
 
 /* Whether a worker has a call under way; a record of either queue. */

@@ -17,8 +17,7 @@ static uint64_t step(uint64_t worker, enum fern_call call, uint64_t item) {
 
 /* A whole call: at most four acts, as long as the slot is in no hand. */
 static void whole(uint64_t worker, enum fern_call call, uint64_t item) {
-    int acts = alone(step, records[worker], worker, call, item);
-    expect(acts > 0 && acts <= 4, "a call ends within four acts");
+    expect(alone(step, FERN_SLOT_MOST_ACTS_ALONE, records[worker], worker, call, item) > 0, "a call ends within four acts");
 }
 
 int main(void) {

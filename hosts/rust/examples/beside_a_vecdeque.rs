@@ -65,7 +65,7 @@ fn main() -> Result<(), Box<dyn Error>> {
             };
             let worker = random(4) as usize;
             let (ours, theirs) = (ring.call(&mut workers, worker, call)?, bench.call(call));
-            if ours != theirs {
+            if ours != Some(theirs) {
                 return Err(format!("capacity {capacity}, call {turn}, {call:?}: the proved queue answers {ours:?}, the bench's {theirs:?}").into());
             }
             calls += 1;

@@ -1,14 +1,14 @@
 //! The bounded queue of concurrent-queue 2.5.0, proved, and stepped one atomic action at a time.
 //!
 //! Each worker has a call under way or is idle. [`Ring::begin`] begins a call, [`Ring::act`] does the one atomic action that comes next in it, in
-//! whatever order you choose among the workers; [`Ring::call`] does a whole call with nobody acting meanwhile. A refused call of this library changes nothing.
+//! whatever order you choose among the workers; [`Ring::call`] does a whole call with nobody acting meanwhile, where no other worker has a slot in hand. A refused call of this library changes nothing.
 //!
 //! ```
 //! use fernmoldew::{Answer, Call, Edition, Ring, Workers};
 //!
 //! let mut workers = Workers::new(2);
 //! let mut ring = Ring::new(4, Edition::Source, &mut workers)?;
-//! assert_eq!(ring.call(&mut workers, 0, Call::Push(2950))?, Answer::Pushed);
+//! assert_eq!(ring.call(&mut workers, 0, Call::Push(2950))?, Some(Answer::Pushed));
 //! // worker 1 pops, action by action
 //! ring.begin(&mut workers, 1, Call::Pop)?;
 //! let mut acts = 0;
@@ -30,7 +30,7 @@ use std::fmt;
 
 mod one_slot;
 
-pub use one_slot::{OneSlot, ONE_SLOT_HEAD_WORDS, ONE_SLOT_RECORDS_WORDS, ONE_SLOT_RECORD_WORDS};
+pub use one_slot::{OneSlot, ONE_SLOT_HEAD_WORDS, ONE_SLOT_MOST_ACTS_ALONE, ONE_SLOT_RECORDS_WORDS, ONE_SLOT_RECORD_WORDS};
 
 #[repr(C)]
 struct Reply {
@@ -53,6 +53,9 @@ extern "C" {
 pub const HEAD_WORDS: usize = 8;
 pub const SLOT_WORDS: usize = 2048;
 pub const RECORD_WORDS: usize = 5;
+
+/// The most acts that a call on a ring needs with nobody else acting, where no other worker has a slot in hand.
+pub const MOST_ACTS_ALONE: usize = 7;
 
 /// Why something was refused. This library answers 1 to 18; the others are those of walks and of the unbounded queue.
 #[derive(Clone, Copy, Debug, PartialEq, Eq, Hash, PartialOrd, Ord)]
@@ -223,19 +226,35 @@ impl Call {
     }
 
     /// The entry of a schedule with which a worker begins this call.
+    ///
+    /// ```
+    /// use fernmoldew::{Call, Edition, Refusal, Ring, Workers};
+    ///
+    /// assert_eq!(Call::Push(7).entry(2), [32, 7]);
+    /// // a number that no worker has is never another worker's, however large it is
+    /// let mut workers = Workers::new(1);
+    /// let mut ring = Ring::new(1, Edition::Source, &mut workers)?;
+    /// assert_eq!(ring.begin(&mut workers, 1 << 60, Call::Push(7)), Err(Refusal::NoSuchWorker));
+    /// # Ok::<(), Refusal>(())
+    /// ```
     pub fn entry(self, worker: usize) -> [u64; 2] {
         let (code, item) = self.words();
-        [16 * worker as u64 + code, item]
+        [first_word(worker, code), item]
     }
+}
+
+/// 16 times the worker's number, plus the code. A number of which a word can't hold that becomes the last one of which it can: no queue has either, and the library refuses it.
+fn first_word(worker: usize, code: u64) -> u64 {
+    16 * (worker as u64).min(u64::MAX / 16) + code
 }
 
 /// The entries of a schedule for an act of a worker, and for one whose weak exchange fails.
 pub fn act_entry(worker: usize) -> [u64; 2] {
-    [16 * worker as u64 + 8, 0]
+    [first_word(worker, 8), 0]
 }
 
 pub fn losing_entry(worker: usize) -> [u64; 2] {
-    [16 * worker as u64 + 9, 0]
+    [first_word(worker, 9), 0]
 }
 
 /// What a call answered.
@@ -339,8 +358,8 @@ impl Workers {
     /// # Panics
     /// Where there is no such worker.
     pub fn get(&self, worker: usize) -> Worker {
-        let at = RECORD_WORDS * worker;
-        Worker { words: self.words[at..at + RECORD_WORDS].try_into().expect("five words") }
+        let record = self.words.chunks_exact(RECORD_WORDS).nth(worker).expect("there is no such worker");
+        Worker { words: record.try_into().expect("five words") }
     }
 
     pub fn iter(&self) -> impl Iterator<Item = Worker> + '_ {
@@ -416,15 +435,35 @@ impl Ring {
         self.step(workers, first, second)
     }
 
-    /// A whole call, nobody else acting meanwhile.
-    pub fn call(&mut self, workers: &mut Workers, worker: usize, call: Call) -> Result<Answer, Refusal> {
+    /// A whole call, nobody else acting meanwhile. It ends within seven acts unless another worker has a slot in hand; then it is left under way, and there is no answer: let that worker act, and go on with [`Ring::act`].
+    ///
+    /// ```
+    /// use fernmoldew::{Answer, Call, Edition, Ring, Workers};
+    ///
+    /// let mut workers = Workers::new(2);
+    /// let mut ring = Ring::new(1, Edition::Source, &mut workers)?;
+    /// // worker 0 pushes, and has claimed the slot and not let go yet
+    /// ring.begin(&mut workers, 0, Call::Push(7))?;
+    /// (0..3).try_for_each(|_| ring.act(&mut workers, 0))?;
+    /// assert_eq!(ring.call(&mut workers, 1, Call::Pop)?, None);
+    /// while workers.get(0).busy() {
+    ///     ring.act(&mut workers, 0)?;
+    /// }
+    /// while workers.get(1).busy() {
+    ///     ring.act(&mut workers, 1)?;
+    /// }
+    /// assert_eq!(workers.get(1).answer(), Some(Answer::Popped(7)));
+    /// # Ok::<(), fernmoldew::Refusal>(())
+    /// ```
+    pub fn call(&mut self, workers: &mut Workers, worker: usize, call: Call) -> Result<Option<Answer>, Refusal> {
         self.begin(workers, worker, call)?;
-        loop {
+        for _ in 0..MOST_ACTS_ALONE {
             self.act(workers, worker)?;
-            if let Some(answer) = workers.get(worker).answer() {
-                return Ok(answer);
+            if !workers.get(worker).busy() {
+                break;
             }
         }
+        Ok(workers.get(worker).answer())
     }
 
     /// The items in the order in which they would be popped. Nothing is removed.

@@ -13,6 +13,9 @@ pub const ONE_SLOT_HEAD_WORDS: usize = 5;
 pub const ONE_SLOT_RECORD_WORDS: usize = 3;
 pub const ONE_SLOT_RECORDS_WORDS: usize = 48;
 
+/// The most acts that a call on a one-slot queue needs with nobody else acting, where no other worker has the slot in hand.
+pub const ONE_SLOT_MOST_ACTS_ALONE: usize = 4;
+
 /// The torque station's one-slot queue (`single.rs` of concurrent-queue) with its workers' records, stepped one atomic action at a time.
 ///
 /// ```
@@ -91,10 +94,10 @@ impl OneSlot {
         self.step(first, second)
     }
 
-    /// A whole call, nobody else acting meanwhile. It ends within four acts unless another worker has the slot in hand; then it is left under way, and there is no answer.
+    /// A whole call, nobody else acting meanwhile. It ends within four acts unless another worker has the slot in hand; then it is left under way, and there is no answer: let that worker act, and go on with [`OneSlot::act`].
     pub fn call(&mut self, worker: usize, call: Call) -> Result<Option<Answer>, Refusal> {
         self.begin(worker, call)?;
-        for _ in 0..4 {
+        for _ in 0..ONE_SLOT_MOST_ACTS_ALONE {
             self.act(worker)?;
             if !self.busy(worker) {
                 break;
@@ -104,7 +107,7 @@ impl OneSlot {
     }
 
     fn record(&self, worker: usize) -> &[u64] {
-        &self.records[ONE_SLOT_RECORD_WORDS * worker..][..ONE_SLOT_RECORD_WORDS]
+        self.records.chunks_exact(ONE_SLOT_RECORD_WORDS).nth(worker).expect("there is no such record")
     }
 
     /// Whether a worker has a call under way.
