@@ -4,6 +4,7 @@ pub mod interrupts;
 pub mod json;
 pub mod machine;
 pub mod manners;
+pub mod possible;
 pub mod scenario;
 pub mod search;
 pub mod table;

@@ -1,8 +1,8 @@
 //! possible: whether a log can have happened.
 
-use ask::manners;
+use ask::{manners, possible};
 use std::process::ExitCode;
 
 fn main() -> ExitCode {
-    manners::run("possible", |_| Err(manners::told("not written yet")))
+    manners::run("possible", possible::program)
 }
