@@ -1,4 +1,4 @@
-/* bounded.rs of concurrent-queue 2.5.0 for spin: push and pop by document 01's table, an act an atomic step, weak exchanges that may fail. It counts states as explore does: dead variables are set
+/* bounded.rs of concurrent-queue 2.5.0 for spin: push and pop by document 01's tables, an act an atomic step, weak exchanges that may fail. It counts states as explore does: dead variables are set
  * to 0, a call that is not begun stands at B0, one that has ended keeps its answer. CAP and PROCS are put before it by bench/beside-spin. */
 #if CAP == 1
 #define MARK 2
