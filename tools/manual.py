@@ -27,17 +27,25 @@ def read(text):
     lines = text.rstrip('\n').split('\n')
     usage = lines[:lines.index('')]
     blocks = []
+    is_example = False
     for line in lines[len(usage) + 1:]:
         term = re.fullmatch(r'  (\S.*?)(?: {2,}(\S.*))?', line)
+        is_example = is_example and line.startswith('   ')
         if not line:
             blocks.append('')
         elif term:
             if not (blocks and isinstance(blocks[-1], list)):
                 blocks.append([])
             blocks[-1].append((term[1], term[2] or ''))
-        elif line.startswith(' '):
+        elif line.startswith(' ') and not is_example and isinstance(blocks[-1], list):
             name, said = blocks[-1][-1]
             blocks[-1][-1] = name, f'{said} {line.strip()}'.strip()
+        elif line.startswith(' '):
+            # lines further in that follow no term are shown as they stand
+            if not is_example:
+                blocks.append([])
+            is_example = True
+            blocks[-1].append((line.strip(), ''))
         elif blocks and isinstance(blocks[-1], str) and blocks[-1] and not line.startswith('Status: '):
             blocks[-1] += ' ' + line
         else:
