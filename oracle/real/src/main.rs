@@ -10,14 +10,17 @@ extern crate self as crossbeam_utils;
 mod sync;
 
 #[allow(dead_code, clippy::all)]
-#[path = "../../src/bounded.rs"]
-mod bounded;
+mod bounded {
+    include!("../../src/bounded.rs");
+}
 #[allow(dead_code, clippy::all)]
-#[path = "../../src/single.rs"]
-mod single;
+mod single {
+    include!("../../src/single.rs");
+}
 #[allow(dead_code, clippy::all)]
-#[path = "../../src/unbounded.rs"]
-mod unbounded;
+mod unbounded {
+    include!("../../src/unbounded.rs");
+}
 
 use std::cell::UnsafeCell;
 use std::io::{self, BufWriter, Write};
@@ -243,7 +246,11 @@ unsafe impl Sync for Book {}
 impl Book {
     fn new(room: usize) -> Book {
         let blank = Entry { code: 0, item: 0, from: 0, to: 0, answer: Answer::None };
-        Book { entries: (0..room).map(|_| UnsafeCell::new(blank)).collect(), begun: AtomicUsize::new(0), done: AtomicUsize::new(0) }
+        Book {
+            entries: (0..room).map(|_| UnsafeCell::new(blank)).collect(),
+            begun: AtomicUsize::new(0),
+            done: AtomicUsize::new(0),
+        }
     }
 
     /// A call, between two times.
@@ -300,7 +307,8 @@ fn main() {
     }));
     let share = (calls / workers) as usize;
     let most = if words[0] == "unbounded" { calls as usize } else { capacity };
-    let books: Arc<Vec<Book>> = Arc::new((0..workers).map(|worker| Book::new(share + if worker == 0 { most + 2 } else { 0 })).collect());
+    let books: Arc<Vec<Book>> =
+        Arc::new((0..workers).map(|worker| Book::new(share + if worker == 0 { most + 2 } else { 0 })).collect());
     let barrier = Arc::new(Barrier::new(workers as usize));
     let clock = Instant::now();
     for worker in 0..workers {
@@ -360,7 +368,10 @@ fn written(queue: &str, capacity: usize, books: &[Book]) -> io::Result<()> {
         let done = book.done.load(Ordering::Acquire);
         for at in 0..book.begun.load(Ordering::Acquire) {
             // SAFETY: a count covers what is read.
-            let (code, item, from) = unsafe { let entry = book.entries[at].get(); ((*entry).code, (*entry).item, (*entry).from) };
+            let (code, item, from) = unsafe {
+                let entry = book.entries[at].get();
+                ((*entry).code, (*entry).item, (*entry).from)
+            };
             write!(out, "w{worker} {}", CALLS[code])?;
             if code < 2 {
                 write!(out, " {item}")?;
