@@ -12,7 +12,7 @@ from pathlib import Path
 from typing import NamedTuple
 
 HOME = Path(__file__).resolve().parent.parent
-PROGRAMS = ('archive', 'picture', 'replay', 'tape', 'walk')
+PROGRAMS = ('archive', 'explore', 'picture', 'possible', 'replay', 'tape', 'walk')
 
 
 class Help(NamedTuple):

@@ -1,7 +1,7 @@
 //! real QUEUE CAPACITY WORKERS CALLS SEED MIX [SLIP]: so many calls by so many threads on the unmodified source, with the standard library's atomics, as a log with two times of one clock.
 //!
 //! QUEUE is bounded, single or unbounded; MIX is a row of MIXES; SLIP the number, from 0, of a slip that is planted in a copy of bounded.rs. At its end worker 0 pops until nothing waits, so
-//! that what was lost is missed. Threads that come no further for so long are given up: their calls have no answer.
+//! that what was lost is missed. `real slips` names the slips. Threads that come no further for so long are given up: their calls have no answer.
 
 extern crate alloc;
 // The sources import `CachePadded` from this crate; ours stands below.
@@ -212,6 +212,7 @@ impl Queue for unbounded::Unbounded<u64> {
     }
 }
 
+include!("slips.rs");
 include!(concat!(env!("OUT_DIR"), "/slips.rs"));
 
 const CALLS: [&str; 8] = ["push", "force_push", "pop", "len", "is_empty", "is_full", "close", "is_closed"];
@@ -295,6 +296,12 @@ const PATIENCE: Duration = Duration::from_secs(5);
 
 fn main() {
     let words: Vec<String> = env::args().skip(1).collect();
+    if words.first().is_some_and(|word| word == "slips") {
+        for (name, _, _) in SLIPS {
+            println!("{name}");
+        }
+        return;
+    }
     let number = |at: usize| words[at].parse::<u64>().expect("a number");
     let (capacity, workers, calls, seed) = (number(1) as usize, number(2), number(3), number(4));
     let (_, weights, closes) = MIXES.into_iter().find(|mix| mix.0 == words[5]).expect("a mix");

@@ -1,4 +1,5 @@
 // Slips in bounded.rs that threads can meet, each to be found by a log that is impossible: its name, what the source has there, and what stands in its place.
+// Between two actions that have changed places the thread gives way, or too few runs of a few seconds would meet it.
 const SLIPS: [(&str, &str, &str); 5] = [
     (
         "a push's exchange is a store",
@@ -33,6 +34,7 @@ const SLIPS: [(&str, &str, &str); 5] = [
                         });
                         slot.stamp.store(tail + 1, Ordering::Release);",
         "                        slot.stamp.store(tail + 1, Ordering::Release);
+                        busy_wait();
                         slot.value.with_mut(|slot| unsafe {
                             slot.write(MaybeUninit::new(value));
                         });",
@@ -46,6 +48,7 @@ const SLIPS: [(&str, &str, &str); 5] = [
                             .store(head.wrapping_add(self.one_lap), Ordering::Release);",
         "                        slot.stamp
                             .store(head.wrapping_add(self.one_lap), Ordering::Release);
+                        busy_wait();
                         let value = slot
                             .value
                             .with_mut(|slot| unsafe { slot.read().assume_init() });",
