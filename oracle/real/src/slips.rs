@@ -1,5 +1,5 @@
 // Slips in bounded.rs that threads can meet, each to be found by a log that is impossible: its name, what the source has there, and what stands in its place.
-// Between two actions that have changed places the thread gives way, or too few runs of a few seconds would meet it.
+// In three of them the thread gives way between the two actions that matter, or too few runs of a few seconds would meet it.
 const SLIPS: [(&str, &str, &str); 5] = [
     (
         "a push's exchange is a store",
@@ -53,5 +53,15 @@ const SLIPS: [(&str, &str, &str); 5] = [
                             .value
                             .with_mut(|slot| unsafe { slot.read().assume_init() });",
     ),
-    ("len's tail is not loaded again", "if self.tail.load(Ordering::SeqCst) == tail {", "if true {"),
+    (
+        "len's tail is not loaded again",
+        "            let head = self.head.load(Ordering::SeqCst);
+
+            // If the tail didn't change, we've got consistent values to work with.
+            if self.tail.load(Ordering::SeqCst) == tail {",
+        "            busy_wait();
+            let head = self.head.load(Ordering::SeqCst);
+
+            if true {",
+    ),
 ];
