@@ -16,7 +16,10 @@ fn main() {
     let mut queues = String::from("fn slipped(slip: usize, capacity: usize) -> Box<dyn Queue> {\n    match slip {\n");
     for (number, (name, old, new)) in SLIPS.iter().enumerate() {
         assert_eq!(source.matches(old).count(), 1, "{name}: {old}");
-        modules += &format!("#[allow(dead_code, unused, clippy::all)]\nmod slip_{number} {{\n{}\n}}\n", source.replace(old, new));
+        modules += &format!(
+            "#[allow(dead_code, unused, clippy::all)]\nmod slip_{number} {{\n{}\n}}\n",
+            source.replace(old, new)
+        );
         modules += &format!("bounded!(slip_{number});\n");
         queues += &format!("        {number} => Box::new(slip_{number}::Bounded::new(capacity)),\n");
     }

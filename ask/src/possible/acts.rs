@@ -43,7 +43,8 @@ pub fn search(log: &Log, rule: Rule, limit: u64) -> Found {
         place_of[at] = calls[call.worker as usize].len() as u32;
         calls[call.worker as usize].push(at as u32);
     }
-    let fresh = State { shared: machine.shared(), places: vec![FRESH; log.workers], begun: vec![0; log.workers], at: 0 };
+    let fresh =
+        State { shared: machine.shared(), places: vec![FRESH; log.workers], begun: vec![0; log.workers], at: 0 };
     // how each state on the way was come to: the state before it, and the entry
     let mut ways: Vec<(u32, Option<[u64; 2]>)> = vec![];
     let mut seen: HashSet<Vec<u64>> = HashSet::new();
@@ -53,7 +54,8 @@ pub fn search(log: &Log, rule: Rule, limit: u64) -> Found {
         while let Some(event) = log.events.get(state.at as usize) {
             let worker = log.calls[event.call()].worker as usize;
             let begun = state.begun[worker];
-            let ended = begun > place_of[event.call()] + 1 || begun == place_of[event.call()] + 1 && !is_busy(state.places[worker]);
+            let ended = begun > place_of[event.call()] + 1
+                || begun == place_of[event.call()] + 1 && !is_busy(state.places[worker]);
             if event.is_answer() && !ended {
                 break;
             }
@@ -74,7 +76,9 @@ pub fn search(log: &Log, rule: Rule, limit: u64) -> Found {
             let entries: Vec<[u64; 2]> = if is_busy(state.places[worker]) {
                 vec![losing_entry(worker), act_entry(worker)]
             } else {
-                let next = calls[worker].get(state.begun[worker] as usize).filter(|at| log.calls[**at as usize].begin < state.at);
+                let next = calls[worker]
+                    .get(state.begun[worker] as usize)
+                    .filter(|at| log.calls[**at as usize].begin < state.at);
                 next.map(|at| log.calls[*at as usize].call.entry(worker)).into_iter().collect()
             };
             for entry in entries {

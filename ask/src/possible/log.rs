@@ -124,7 +124,9 @@ const ITEM: &str = "expected: an item, which is a number";
 fn answer(line: &mut Line, call: Call) -> Result<Option<Answer>, Fault> {
     let (expected, can): (&str, &[&str]) = match call {
         Call::Push(_) => ("expected: what a push answers: pushed, full, closed or ?", &["pushed", "full", "closed"]),
-        Call::ForcePush(_) => ("expected: what a force_push answers: pushed, displaced, closed or ?", &["pushed", "displaced", "closed"]),
+        Call::ForcePush(_) => {
+            ("expected: what a force_push answers: pushed, displaced, closed or ?", &["pushed", "displaced", "closed"])
+        }
         Call::Pop => ("expected: what a pop answers: popped, empty, closed or ?", &["popped", "empty", "closed"]),
         Call::Len => ("expected: what a len answers: len and a number, or ?", &["len"]),
         Call::IsEmpty => ("expected: what an is_empty answers: yes, no or ?", &["yes", "no"]),
@@ -192,7 +194,14 @@ pub fn read(text: &str, one_slot: bool) -> Result<Log, Fault> {
     if workers == 0 || workers > most {
         return fault_of_head("workers", most);
     }
-    let mut reader = Reader { workers: workers as usize, calls: vec![], events: vec![], under_way: vec![None; workers as usize], stamps: vec![], timed: None };
+    let mut reader = Reader {
+        workers: workers as usize,
+        calls: vec![],
+        events: vec![],
+        under_way: vec![None; workers as usize],
+        stamps: vec![],
+        timed: None,
+    };
     for mut line in lines.filter(|line| !line.is_done()) {
         reader.line(&mut line)?;
     }
@@ -255,7 +264,10 @@ impl Reader {
         } else {
             line.ends()?;
             if let Some(under_way) = self.under_way[worker as usize] {
-                let what = format!("expected: what the call of line {} answered, before worker {worker} calls again", self.calls[under_way as usize].lines.0);
+                let what = format!(
+                    "expected: what the call of line {} answered, before worker {worker} calls again",
+                    self.calls[under_way as usize].lines.0
+                );
                 return Err(Fault { what, ..at });
             }
             self.under_way[worker as usize] = Some(begin as u32);
@@ -267,7 +279,8 @@ impl Reader {
     }
 
     fn answer(&mut self, line: &mut Line, worker: usize) -> Result<(), Fault> {
-        const ANSWERS: [&str; 10] = ["pushed", "full", "closed", "displaced", "popped", "empty", "len", "yes", "no", "?"];
+        const ANSWERS: [&str; 10] =
+            ["pushed", "full", "closed", "displaced", "popped", "empty", "len", "yes", "no", "?"];
         if !line.peek().is_some_and(|word| ANSWERS.contains(&word)) {
             return Err(line.fault(WHAT));
         }
@@ -297,7 +310,10 @@ fn in_order(calls: Vec<Seen>, stamps: Vec<(u64, Option<u64>)>, workers: usize) -
         if let Some(before) = last[worker] {
             let (_, ended) = stamps[before as usize];
             if ended.is_none_or(|ended| ended > stamps[*at as usize].0) {
-                let what = format!("expected: a call after that of line {}, which worker {worker} has under way", calls[before as usize].lines.0);
+                let what = format!(
+                    "expected: a call after that of line {}, which worker {worker} has under way",
+                    calls[before as usize].lines.0
+                );
                 return Err(Fault { line: calls[*at as usize].lines.0 as usize, column: 1, what });
             }
         }
@@ -311,7 +327,9 @@ fn in_order(calls: Vec<Seen>, stamps: Vec<(u64, Option<u64>)>, workers: usize) -
     let mut events = Vec::with_capacity(sorted.len() + ends.len());
     let mut ends = ends.into_iter().peekable();
     for at in 0..=sorted.len() {
-        while let Some(end) = ends.next_if(|end| at == sorted.len() || stamps[*end as usize].1.expect("it ended") < stamps[at].0) {
+        while let Some(end) =
+            ends.next_if(|end| at == sorted.len() || stamps[*end as usize].1.expect("it ended") < stamps[at].0)
+        {
             sorted[end as usize].end = events.len() as u32;
             events.push(Event::answer(end as usize));
         }

@@ -65,7 +65,10 @@ pub fn decide(log: &Log, question: Question) -> (Decided, u64) {
             // never seen: the machine itself decides
             Err(_) => by_acts(log, question.rule, question.states).unwrap_or(Decided::Open(log.calls.len() as u32 - 1)),
         },
-        Found::None if search::apart(log, question.rule) && log.calls.len() <= FEW => by_acts(log, question.rule, ACTS.min(question.states)).unwrap_or(Decided::Impossible(Why { row: None, acts: None })),
+        Found::None if search::apart(log, question.rule) && log.calls.len() <= FEW => {
+            by_acts(log, question.rule, ACTS.min(question.states))
+                .unwrap_or(Decided::Impossible(Why { row: None, acts: None }))
+        }
         Found::None => Decided::Impossible(Why { row: None, acts: None }),
         Found::Limit(call) => Decided::Open(call),
     };
@@ -115,7 +118,9 @@ pub fn program(arguments: Vec<OsString>) -> Result<u8, Told> {
                 single = match name.to_str() {
                     Some("bounded") => false,
                     Some("single") => true,
-                    Some("unbounded") => return Err(manners::told("--queue unbounded: not yet; its words cannot be linked")),
+                    Some("unbounded") => {
+                        return Err(manners::told("--queue unbounded: not yet; its words cannot be linked"))
+                    }
                     _ => return Err(manners::no_use(&name)),
                 };
             }
@@ -138,7 +143,8 @@ pub fn program(arguments: Vec<OsString>) -> Result<u8, Told> {
     let file = file.filter(|file| file != "-");
     let rule = if single { Rule::OneSlot } else { edition.unwrap_or(Rule::Source) };
     let text = manners::input(file.as_deref())?;
-    let log = log::read(&text, single).map_err(|fault| manners::told(format!("{}: {fault}", manners::name_of(file.as_deref()))))?;
+    let log = log::read(&text, single)
+        .map_err(|fault| manners::told(format!("{}: {fault}", manners::name_of(file.as_deref()))))?;
     drop(text);
     let question = Question { rule, states };
     let (decided, states) = decide(&log, question);
@@ -148,7 +154,14 @@ pub fn program(arguments: Vec<OsString>) -> Result<u8, Told> {
                 return Err(manners::told("its own schedule does not give these answers: a fault of this program"));
             }
             let words = schedule_in_words(&log, rule, &entries);
-            (0, if as_json { format!("{{\"possible\": true, \"states\": {states}, \"schedule\": {}}}\n", json::text(&words)) } else { words })
+            (
+                0,
+                if as_json {
+                    format!("{{\"possible\": true, \"states\": {states}, \"schedule\": {}}}\n", json::text(&words))
+                } else {
+                    words
+                },
+            )
         }
         Decided::Impossible(why) => {
             let part = part::of(&log, question, why.row);
@@ -156,7 +169,18 @@ pub fn program(arguments: Vec<OsString>) -> Result<u8, Told> {
         }
         Decided::Open(call) => {
             let line = log.calls[call as usize].lines.1.max(log.calls[call as usize].lines.0);
-            (manners::NOT_COMPLETE, if as_json { format!("{{\"possible\": null, \"states\": {states}, \"line\": {line}}}\n") } else { format!("not decided: {} states seen, and the answer of line {line} come to, of {} calls\n", states.min(question.states), log.calls.len()) })
+            let states = states.min(question.states);
+            (
+                manners::NOT_COMPLETE,
+                if as_json {
+                    format!("{{\"possible\": null, \"states\": {states}, \"line\": {line}}}\n")
+                } else {
+                    format!(
+                        "not decided: {states} states seen, and the answer of line {line} come to, of {} calls\n",
+                        log.calls.len()
+                    )
+                },
+            )
         }
     };
     manners::output(&said)?;
@@ -175,7 +199,10 @@ fn schedule_in_words(log: &Log, rule: Rule, entries: &[[u64; 2]]) -> String {
         options.push_str(" --lent");
     }
     let head = Head { capacity: (rule != Rule::OneSlot).then_some(log.capacity), workers: log.workers as u64 };
-    format!("# possible: ./replay{options} runs this to the answers of the log\n{}", words::schedule_in_words(head, entries))
+    format!(
+        "# possible: ./replay{options} runs this to the answers of the log\n{}",
+        words::schedule_in_words(head, entries)
+    )
 }
 
 /// Lines, or the line and its times.
@@ -200,18 +227,46 @@ fn states_in_words((plain, acts): (u64, Option<u64>)) -> String {
 
 fn part_in_words(log: &Log, part: &Part) -> String {
     let mut said = String::from("impossible: no schedule gives these answers\n");
-    said.push_str(if part.smallest { "by these answers alone:\n" } else { "by these answers alone (perhaps by fewer):\n" });
+    said.push_str(if part.smallest {
+        "by these answers alone:\n"
+    } else {
+        "by these answers alone (perhaps by fewer):\n"
+    });
     let culprit = part.row.as_ref().map(|row| row.at);
     // of many the last ones are said, and the one at fault is among them
     let hidden = part.calls.len().saturating_sub(LINES);
-    let shown: Vec<u32> = part.calls.iter().copied().enumerate().filter(|(at, call)| *at >= hidden || Some(*call) == culprit).map(|(_, call)| call).collect();
+    let shown: Vec<u32> = part
+        .calls
+        .iter()
+        .copied()
+        .enumerate()
+        .filter(|(at, call)| *at >= hidden || Some(*call) == culprit)
+        .map(|(_, call)| call)
+        .collect();
     if shown.len() < part.calls.len() {
         let _ = writeln!(said, "    .. {} more, which --json lists", part.calls.len() - shown.len());
     }
-    let cells: Vec<[String; 4]> = shown.iter().map(|call| [format!("w{}", log.calls[*call as usize].worker), words::call_in_words(log.calls[*call as usize].call), seen_at(log, *call), answer_in_words(log, *call)]).collect();
-    let widths: Vec<usize> = (0..4).map(|column| cells.iter().map(|cells| cells[column].len()).max().unwrap_or(0)).collect();
+    let cells: Vec<[String; 4]> = shown
+        .iter()
+        .map(|call| {
+            [
+                format!("w{}", log.calls[*call as usize].worker),
+                words::call_in_words(log.calls[*call as usize].call),
+                seen_at(log, *call),
+                answer_in_words(log, *call),
+            ]
+        })
+        .collect();
+    let widths: Vec<usize> =
+        (0..4).map(|column| cells.iter().map(|cells| cells[column].len()).max().unwrap_or(0)).collect();
     for (call, [worker, name, lines, answer]) in shown.iter().zip(&cells) {
-        let line = format!("    {worker:w0$}  {name:w1$}   {lines:w2$}   {answer:w3$}", w0 = widths[0], w1 = widths[1], w2 = widths[2], w3 = widths[3]);
+        let line = format!(
+            "    {worker:w0$}  {name:w1$}   {lines:w2$}   {answer:w3$}",
+            w0 = widths[0],
+            w1 = widths[1],
+            w2 = widths[2],
+            w3 = widths[3]
+        );
         match &part.row {
             Some(row) if row.at == *call => {
                 let _ = writeln!(said, "{line}    <- {}", row.why);
@@ -235,12 +290,23 @@ fn part_in_words(log: &Log, part: &Part) -> String {
 fn part_as_json(log: &Log, part: &Part) -> String {
     let answers = part.calls.iter().map(|at| {
         let call = &log.calls[*at as usize];
-        format!("{{\"worker\": {}, \"call\": {}, \"lines\": [{}, {}], \"answer\": {}}}", call.worker, json::text(&words::call_in_words(call.call)), call.lines.0, call.lines.1, json::text(&answer_in_words(log, *at)))
+        format!(
+            "{{\"worker\": {}, \"call\": {}, \"lines\": [{}, {}], \"answer\": {}}}",
+            call.worker,
+            json::text(&words::call_in_words(call.call)),
+            call.lines.0,
+            call.lines.1,
+            json::text(&answer_in_words(log, *at))
+        )
     });
     let answers = json::list(answers);
     let (row, why) = match &part.row {
         Some(row) => (row.row.to_string(), row.why.clone()),
         None => ("null".into(), states_in_words(part.states)),
     };
-    format!("{{\"possible\": false, \"answers\": {answers}, \"smallest\": {}, \"row\": {row}, \"why\": {}}}\n", part.smallest, json::text(&why))
+    format!(
+        "{{\"possible\": false, \"answers\": {answers}, \"smallest\": {}, \"row\": {row}, \"why\": {}}}\n",
+        part.smallest,
+        json::text(&why)
+    )
 }

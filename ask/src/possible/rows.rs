@@ -47,7 +47,12 @@ fn may_hand_out(call: &Seen) -> bool {
 impl Counts {
     fn of(log: &Log) -> Counts {
         let room = log.events.len() + 1;
-        let mut counts = Counts { begun_in: Vec::with_capacity(room), sure_in: Vec::with_capacity(room), begun_out: Vec::with_capacity(room), sure_out: Vec::with_capacity(room) };
+        let mut counts = Counts {
+            begun_in: Vec::with_capacity(room),
+            sure_in: Vec::with_capacity(room),
+            begun_out: Vec::with_capacity(room),
+            sure_out: Vec::with_capacity(room),
+        };
         let mut now = [0; 4];
         counts.push(now);
         for event in log.events.iter() {
@@ -101,7 +106,9 @@ struct Items {
 pub fn shown(log: &Log, rules: Rules) -> Option<Shown> {
     let mut found: Option<Shown> = None;
     let mut take = |shown: Option<Shown>| {
-        if let Some(shown) = shown {
+        if let Some(mut shown) = shown {
+            shown.by.sort_unstable();
+            shown.by.dedup();
             let rank = |shown: &Shown| (shown.by.len(), log.calls[shown.at as usize].end);
             if found.as_ref().is_none_or(|other| rank(&shown) < rank(other)) {
                 found = Some(shown);
@@ -132,19 +139,37 @@ fn from_nowhere_or_twice(log: &Log) -> Option<Shown> {
         *out += 1;
         let (begun, out) = (*begun, *out);
         let own = (call.item() == Some(item)) as u32;
-        let refused = |kept: &mut Vec<u32>| kept.extend(log.known().into_iter().filter(|other| {
-            let other = &log.calls[*other as usize];
-            other.item() == Some(item) && other.refused() && other.begin < call.end
-        }));
+        let refused = |kept: &mut Vec<u32>| {
+            kept.extend(log.known().into_iter().filter(|other| {
+                let other = &log.calls[*other as usize];
+                other.item() == Some(item) && other.refused() && other.begin < call.end
+            }))
+        };
         if begun == own {
             let mut by = vec![at as u32];
             refused(&mut by);
-            return Some(Shown { row: 1, at: at as u32, by, why: format!("nobody had begun to hand in {item} by then") });
+            return Some(Shown {
+                row: 1,
+                at: at as u32,
+                by,
+                why: format!("nobody had begun to hand in {item} by then"),
+            });
         }
         if out > begun {
-            let mut by: Vec<u32> = log.known().into_iter().filter(|other| log.calls[*other as usize].out() == Some(item) && log.calls[*other as usize].end <= call.end).collect();
+            let mut by: Vec<u32> = log
+                .known()
+                .into_iter()
+                .filter(|other| {
+                    log.calls[*other as usize].out() == Some(item) && log.calls[*other as usize].end <= call.end
+                })
+                .collect();
             refused(&mut by);
-            return Some(Shown { row: 2, at: at as u32, by, why: format!("{item} was handed out {out} times by then, and handed in {begun} times at most") });
+            return Some(Shown {
+                row: 2,
+                at: at as u32,
+                by,
+                why: format!("{item} was handed out {out} times by then, and handed in {begun} times at most"),
+            });
         }
     }
     None
@@ -171,15 +196,27 @@ fn closed(log: &Log, rules: Rules) -> Option<Shown> {
             (_, Some(Answer::Closed(_) | Answer::PopClosed)) => (true, false),
             (Call::IsClosed, Some(answer)) => (answer == Answer::Yes, answer == Answer::No),
             (Call::Close, Some(answer)) => (answer == Answer::No, answer == Answer::Yes),
-            (Call::Push(_) | Call::ForcePush(_), Some(Answer::Pushed | Answer::Displaced(_))) | (_, Some(Answer::Empty)) => (false, true),
+            (Call::Push(_) | Call::ForcePush(_), Some(Answer::Pushed | Answer::Displaced(_)))
+            | (_, Some(Answer::Empty)) => (false, true),
             _ => (false, false),
         };
         if says_closed && begun.iter().flatten().all(|close| *close == at) {
             let other = if call.call == Call::Close { "no other close" } else { "no close" };
             return Some(Shown { row: 6, at, by: vec![at], why: format!("{other} had begun by then") });
         }
-        if let (true, true, Some(close)) = (rules.close_holds, says_open, answered.filter(|close| log.calls[*close as usize].end < call.begin)) {
-            return Some(Shown { row: 6, at, by: vec![at], why: format!("w{}'s close had answered by {}, before this call began", log.calls[close as usize].worker, log.to(close as usize)) });
+        if let (true, true, Some(close)) =
+            (rules.close_holds, says_open, answered.filter(|close| log.calls[*close as usize].end < call.begin))
+        {
+            return Some(Shown {
+                row: 6,
+                at,
+                by: vec![at],
+                why: format!(
+                    "w{}'s close had answered by {}, before this call began",
+                    log.calls[close as usize].worker,
+                    log.to(close as usize)
+                ),
+            });
         }
         if call.call == Call::Close && answered.is_none() {
             answered = Some(at);
@@ -198,14 +235,37 @@ fn counted(log: &Log, rules: Rules, counts: &Counts) -> Option<Shown> {
             continue;
         }
         let (least, most) = (counts.least(call), counts.most(call));
-        let certainly = || format!("{least} were certainly in throughout: {} had gone in before {}, and {} can have gone out by {}", counts.sure_in[call.begin as usize], log.from(at), counts.sure_in[call.begin as usize] as i64 - least, log.to(at));
-        let at_most = || format!("{most} can have been in at most: {} were begun to be handed in by {}, and {} had gone out before {}", most + counts.sure_out[call.begin as usize] as i64, log.to(at), counts.sure_out[call.begin as usize], log.from(at));
+        let certainly = || {
+            format!(
+                "{least} were certainly in throughout: {} had gone in before {}, and {} can have gone out by {}",
+                counts.sure_in[call.begin as usize],
+                log.from(at),
+                counts.sure_in[call.begin as usize] as i64 - least,
+                log.to(at)
+            )
+        };
+        let at_most = || {
+            format!(
+                "{most} can have been in at most: {} were begun to be handed in by {}, and {} had gone out before {}",
+                most + counts.sure_out[call.begin as usize] as i64,
+                log.to(at),
+                counts.sure_out[call.begin as usize],
+                log.from(at)
+            )
+        };
         // the row; by how many in at least, or at most, it is shown
         let (row, is_least, bound) = match (call.call, answer) {
             (Call::Pop, Answer::Empty | Answer::PopClosed) | (Call::IsEmpty, Answer::Yes) if least > 0 => (4, true, 1),
-            (_, Answer::Full(_) | Answer::Displaced(_)) | (Call::IsFull, Answer::Yes) if most < capacity => (5, false, capacity - 1),
+            (_, Answer::Full(_) | Answer::Displaced(_)) | (Call::IsFull, Answer::Yes) if most < capacity => {
+                (5, false, capacity - 1)
+            }
             (_, Answer::Len(count)) if count as i128 > capacity as i128 => {
-                best = Some(Shown { row: 7, at: at as u32, by: vec![at as u32], why: format!("the capacity is {capacity}") });
+                best = Some(Shown {
+                    row: 7,
+                    at: at as u32,
+                    by: vec![at as u32],
+                    why: format!("the capacity is {capacity}"),
+                });
                 continue;
             }
             (_, Answer::Len(count)) if (count as i64) < least => (7, true, count as i64 + 1),
@@ -214,7 +274,11 @@ fn counted(log: &Log, rules: Rules, counts: &Counts) -> Option<Shown> {
             (Call::IsEmpty, Answer::No) if most < 1 => (8, false, 0),
             _ => continue,
         };
-        let (by, why) = if is_least { (in_throughout(log, call, bound), certainly()) } else { (never_so_many(log, call, bound), at_most()) };
+        let (by, why) = if is_least {
+            (in_throughout(log, call, bound), certainly())
+        } else {
+            (never_so_many(log, call, bound), at_most())
+        };
         let mut by = by;
         by.push(at as u32);
         best = Some(Shown { row, at: at as u32, by, why });
@@ -226,16 +290,30 @@ fn counted(log: &Log, rules: Rules, counts: &Counts) -> Option<Shown> {
 fn in_throughout(log: &Log, call: &Seen, bound: i64) -> Vec<u32> {
     let mut by = vec![];
     let mut taken = 0;
-    for (at, other) in log.calls.iter().enumerate().filter(|(_, other)| other.begin < call.end && other.begin != call.begin) {
+    for (at, other) in
+        log.calls.iter().enumerate().filter(|(_, other)| other.begin < call.end && other.begin != call.begin)
+    {
         match other.call {
-            Call::Pop | Call::ForcePush(_) if other.answer.is_some() && !may_hand_out(other) && !(is_in(other) && other.end < call.begin) => by.push(at as u32),
+            Call::Pop | Call::ForcePush(_)
+                if other.answer.is_some() && !may_hand_out(other) && !(is_in(other) && other.end < call.begin) =>
+            {
+                by.push(at as u32)
+            }
             Call::Pop | Call::ForcePush(_) if may_hand_out(other) => taken += 1,
             _ => {}
         }
     }
     // one more that goes in than goes out, and so on; a displacing one that ended before goes in and out
     let mut wanted = bound + taken;
-    for (at, other) in log.calls.iter().enumerate().filter(|(_, other)| is_in(other) && other.end < call.begin).collect::<Vec<_>>().into_iter().rev() {
+    for (at, other) in log
+        .calls
+        .iter()
+        .enumerate()
+        .filter(|(_, other)| is_in(other) && other.end < call.begin)
+        .collect::<Vec<_>>()
+        .into_iter()
+        .rev()
+    {
         let none_out = matches!(other.call, Call::ForcePush(_)) && !may_hand_out(other);
         if wanted > 0 || none_out {
             by.push(at as u32);
@@ -247,11 +325,18 @@ fn in_throughout(log: &Log, call: &Seen, bound: i64) -> Vec<u32> {
 
 /// Answers by which never more than so many are in during a call: of those handed in by others as many are known to be refused, or gone out before.
 fn never_so_many(log: &Log, call: &Seen, bound: i64) -> Vec<u32> {
-    let begun = log.calls.iter().filter(|other| other.item().is_some() && other.begin < call.end && other.begin != call.begin).count() as i64;
+    let begun = log
+        .calls
+        .iter()
+        .filter(|other| other.item().is_some() && other.begin < call.end && other.begin != call.begin)
+        .count() as i64;
     let mut wanted = begun - bound;
     let mut by = vec![];
-    for (at, other) in log.calls.iter().enumerate().filter(|(_, other)| other.begin < call.end && other.begin != call.begin) {
-        if wanted > 0 && (other.item().is_some() && other.refused() || other.out().is_some() && other.end < call.begin) {
+    for (at, other) in
+        log.calls.iter().enumerate().filter(|(_, other)| other.begin < call.end && other.begin != call.begin)
+    {
+        if wanted > 0 && (other.item().is_some() && other.refused() || other.out().is_some() && other.end < call.begin)
+        {
             by.push(at as u32);
             wanted -= 1;
         }
@@ -292,15 +377,21 @@ fn by_item(log: &Log) -> Option<Shown> {
     let mut ways: Vec<Way> = items.ways.values().filter(|ways| ways.len() == 1).map(|ways| ways[0]).collect();
     ways.sort_unstable_by_key(|way| way.into);
     // in the order of their answers: those that certainly went in
-    let mut gone_in: Vec<Way> = ways.iter().copied().filter(|way| {
-        let into = &log.calls[way.into as usize];
-        into.returned() && (is_in(into) || way.out.is_some())
-    }).collect();
+    let mut gone_in: Vec<Way> = ways
+        .iter()
+        .copied()
+        .filter(|way| {
+            let into = &log.calls[way.into as usize];
+            into.returned() && (is_in(into) || way.out.is_some())
+        })
+        .collect();
     gone_in.sort_unstable_by_key(|way| log.calls[way.into as usize].end);
     let mut found: Option<(bool, Shown)> = None;
     // one whose way out is known, and the earliest
     let better = |found: &Option<(bool, Shown)>, stays: &Way, at: u32| {
-        found.as_ref().is_none_or(|(unknown, other)| (stays.out.is_none(), log.calls[at as usize].end) < (*unknown, log.calls[other.at as usize].end))
+        found.as_ref().is_none_or(|(unknown, other)| {
+            (stays.out.is_none(), log.calls[at as usize].end) < (*unknown, log.calls[other.at as usize].end)
+        })
     };
     // what stays longest of those that went in before a moment: of those whose way out is known, and of the others
     let mut next = 0;
@@ -328,18 +419,41 @@ fn by_item(log: &Log) -> Option<Shown> {
                 let mut by = way_known(log, stays, last.end);
                 by.push(out);
                 refused_of(log, other, &mut by);
-                let never = if stays.out.is_some() { format!("before anyone came for {item}") } else { format!("and nothing took {item} out") };
-                found = Some((stays.out.is_none(), Shown { row: 3, at: out, by, why: format!("{item} was in from {} on, before {other} was handed in at {}; {other} went out {never}", log.to(stays.into as usize), log.from(at)) }));
+                let never = if stays.out.is_some() {
+                    format!("before anyone came for {item}")
+                } else {
+                    format!("and nothing took {item} out")
+                };
+                found = Some((
+                    stays.out.is_none(),
+                    Shown {
+                        row: 3,
+                        at: out,
+                        by,
+                        why: format!(
+                            "{item} was in from {} on, before {other} was handed in at {}; {other} went out {never}",
+                            log.to(stays.into as usize),
+                            log.from(at)
+                        ),
+                    },
+                ));
             }
         }
         // empty beside it
-        let empty = matches!((call.call, call.answer), (Call::Pop, Some(Answer::Empty | Answer::PopClosed)) | (Call::IsEmpty, Some(Answer::Yes)));
+        let empty = matches!(
+            (call.call, call.answer),
+            (Call::Pop, Some(Answer::Empty | Answer::PopClosed)) | (Call::IsEmpty, Some(Answer::Yes))
+        );
         if let Some(stays) = stays_past(call.end).filter(|stays| empty && better(&found, stays, at as u32)) {
             let item = log.calls[stays.into as usize].item().expect("it hands in");
             let mut by = way_known(log, stays, call.end);
             by.push(at as u32);
             let why = match stays.out {
-                Some(out) => format!("{item} was in from {} on, and nobody came for it before {}", log.to(stays.into as usize), log.from(out as usize)),
+                Some(out) => format!(
+                    "{item} was in from {} on, and nobody came for it before {}",
+                    log.to(stays.into as usize),
+                    log.from(out as usize)
+                ),
                 None => format!("{item} was in from {} on, and nothing took it out", log.to(stays.into as usize)),
             };
             found = Some((stays.out.is_none(), Shown { row: 4, at: at as u32, by, why }));
@@ -353,7 +467,9 @@ fn way_known(log: &Log, way: Way, until: u32) -> Vec<u32> {
     let mut by = match way.out {
         Some(out) => vec![out],
         None => {
-            let takers = log.calls.iter().enumerate().filter(|(_, call)| call.begin < until && matches!(call.call, Call::Pop | Call::ForcePush(_)) && call.answer.is_some());
+            let takers = log.calls.iter().enumerate().filter(|(_, call)| {
+                call.begin < until && matches!(call.call, Call::Pop | Call::ForcePush(_)) && call.answer.is_some()
+            });
             let mut by: Vec<u32> = takers.map(|(at, _)| at as u32).collect();
             if !by.contains(&way.into) {
                 by.push(way.into);
@@ -367,5 +483,11 @@ fn way_known(log: &Log, way: Way, until: u32) -> Vec<u32> {
 
 /// Calls that were refused with this item: were it not known, they might have handed it in.
 fn refused_of(log: &Log, item: u64, by: &mut Vec<u32>) {
-    by.extend(log.calls.iter().enumerate().filter(|(_, call)| call.item() == Some(item) && call.refused()).map(|(at, _)| at as u32));
+    by.extend(
+        log.calls
+            .iter()
+            .enumerate()
+            .filter(|(_, call)| call.item() == Some(item) && call.refused())
+            .map(|(at, _)| at as u32),
+    );
 }

@@ -56,7 +56,8 @@ pub fn of(log: &Log, rule: Rule, order: &[Placed]) -> Result<Vec<[u64; 2]>, Stri
             }
         }
         let ended = !machine.busy(worker);
-        if ended != (*stage == Stage::Whole) || ended && call.answer.is_some() && machine.answer(worker) != call.answer {
+        if ended != (*stage == Stage::Whole) || ended && call.answer.is_some() && machine.answer(worker) != call.answer
+        {
             return Err(format!("the call of line {} answers {:?}", call.lines.0, machine.answer(worker)));
         }
     }
@@ -94,5 +95,8 @@ pub fn gives(log: &Log, rule: Rule, entries: &[[u64; 2]]) -> bool {
             }
         }
     }
-    (0..log.workers).all(|worker| next[worker] == calls[worker].len() && calls[worker].last().is_none_or(|at| !log.calls[*at as usize].returned() || !machine.busy(worker)))
+    (0..log.workers).all(|worker| {
+        next[worker] == calls[worker].len()
+            && calls[worker].last().is_none_or(|at| !log.calls[*at as usize].returned() || !machine.busy(worker))
+    })
 }

@@ -203,10 +203,15 @@ fn told(answer: Option<Answer>) -> (Told, u64) {
 pub fn apart(log: &Log, rule: Rule) -> bool {
     let any = |is: &dyn Fn(&super::log::Seen) -> bool| log.calls.iter().any(is);
     match rule {
-        Rule::OneSlot => any(&|call| matches!(call.call, Call::Push(_)) && matches!(call.answer, Some(Answer::Full(_)) | None)) && any(&|call| call.call == Call::Pop),
+        Rule::OneSlot => {
+            any(&|call| matches!(call.call, Call::Push(_)) && matches!(call.answer, Some(Answer::Full(_)) | None))
+                && any(&|call| call.call == Call::Pop)
+        }
         _ => {
-            any(&|call| matches!(call.call, Call::ForcePush(_)) && matches!(call.answer, Some(Answer::Displaced(_)) | None))
-                && (any(&|call| matches!(call.call, Call::Len | Call::IsEmpty | Call::IsFull) && call.answer.is_some()) || rule == Rule::Source && any(&|call| call.call == Call::Close))
+            any(&|call| {
+                matches!(call.call, Call::ForcePush(_)) && matches!(call.answer, Some(Answer::Displaced(_)) | None)
+            }) && (any(&|call| matches!(call.call, Call::Len | Call::IsEmpty | Call::IsFull) && call.answer.is_some())
+                || rule == Rule::Source && any(&|call| call.call == Call::Close))
         }
     }
 }
@@ -229,7 +234,21 @@ impl<'a> Search<'a> {
                 chained |= before.end > seen.begin;
             }
             last[worker] = at as u32;
-            ops.push(Op { worker: seen.worker, code: code as u8, answer, ordered: false, item, value, begin: seen.begin, end: seen.end, out_begin: 0, out_end: NEVER, rank: 0, guess: i64::MAX / 4, next: NONE });
+            ops.push(Op {
+                worker: seen.worker,
+                code: code as u8,
+                answer,
+                ordered: false,
+                item,
+                value,
+                begin: seen.begin,
+                end: seen.end,
+                out_begin: 0,
+                out_end: NEVER,
+                rank: 0,
+                guess: i64::MAX / 4,
+                next: NONE,
+            });
         }
         let mut powers = vec![1u128];
         for at in 0..log.capacity as usize {
@@ -334,11 +353,20 @@ impl<'a> Search<'a> {
         for list in left.values_mut() {
             list.sort_by_key(|at| std::cmp::Reverse(middle(&self.ops[*at as usize])));
         }
-        let mut ins: Vec<u32> = (0..self.ops.len() as u32).filter(|at| self.ops[*at as usize].code < 2 && matches!(self.ops[*at as usize].answer, Told::Pushed | Told::Displaced) && repeats(&self.ops[*at as usize].item)).collect();
+        let mut ins: Vec<u32> = (0..self.ops.len() as u32)
+            .filter(|at| {
+                self.ops[*at as usize].code < 2
+                    && matches!(self.ops[*at as usize].answer, Told::Pushed | Told::Displaced)
+                    && repeats(&self.ops[*at as usize].item)
+            })
+            .collect();
         ins.sort_by_key(|at| middle(&self.ops[*at as usize]));
         let repeated = !ins.is_empty();
         for at in ins {
-            let end = left.get_mut(&self.ops[at as usize].item).and_then(|list| list.pop()).map_or(NEVER, |out| self.ops[out as usize].end);
+            let end = left
+                .get_mut(&self.ops[at as usize].item)
+                .and_then(|list| list.pop())
+                .map_or(NEVER, |out| self.ops[out as usize].end);
             guesses.push((end, at));
         }
         if repeated {
@@ -356,7 +384,10 @@ impl<'a> Search<'a> {
                 if done[last] {
                     break;
                 }
-                let by = outs.get(&self.ops[last].item).copied().filter(|by| self.ops[*by as usize].code == 1 && self.ops[*by as usize].rank > 0);
+                let by = outs
+                    .get(&self.ops[last].item)
+                    .copied()
+                    .filter(|by| self.ops[*by as usize].code == 1 && self.ops[*by as usize].rank > 0);
                 match by {
                     Some(by) if chain.len() < 4096 && by as usize != last => chain.push(by),
                     _ => {
@@ -472,7 +503,9 @@ impl<'a> Search<'a> {
             return false;
         }
         let mut at = self.lowest as usize;
-        while at < self.by_rank.len() && (self.placed[self.by_rank[at] as usize] || self.ops[self.by_rank[at] as usize].rank == op.rank) {
+        while at < self.by_rank.len()
+            && (self.placed[self.by_rank[at] as usize] || self.ops[self.by_rank[at] as usize].rank == op.rank)
+        {
             at += 1;
         }
         at == self.by_rank.len() || self.ops[self.by_rank[at] as usize].out_end >= op.out_begin
@@ -502,8 +535,20 @@ impl<'a> Search<'a> {
                 Step::No => displace(),
                 step => step,
             },
-            (2, Told::Popped) => if waiting > 0 && self.front() == op.value { Step::Take } else { Step::No },
-            (2, Told::Unknown) => if waiting > 0 { Step::Take } else { Step::No },
+            (2, Told::Popped) => {
+                if waiting > 0 && self.front() == op.value {
+                    Step::Take
+                } else {
+                    Step::No
+                }
+            }
+            (2, Told::Unknown) => {
+                if waiting > 0 {
+                    Step::Take
+                } else {
+                    Step::No
+                }
+            }
             (2, Told::Empty) => look(waiting == 0 && !self.closed && (one_slot || !held)),
             (2, Told::PopClosed) => look(waiting == 0 && self.closed && (one_slot || !held)),
             (3, Told::Len) => look(op.value == waiting as u64),
@@ -511,7 +556,13 @@ impl<'a> Search<'a> {
             (4, Told::No) => look(waiting != 0),
             (5, Told::Yes) => look(waiting == self.capacity),
             (5, Told::No) => look(waiting != self.capacity),
-            (6, Told::Yes) | (6, Told::Unknown) => if self.closed { Step::No } else { Step::Close },
+            (6, Told::Yes) | (6, Told::Unknown) => {
+                if self.closed {
+                    Step::No
+                } else {
+                    Step::Close
+                }
+            }
             (6, Told::No) | (7, Told::Yes) => look(self.closed),
             (7, Told::No) => look(!self.closed),
             (3..=5 | 7, Told::Unknown) => Step::Look,
@@ -521,7 +572,10 @@ impl<'a> Search<'a> {
 
     /// Whether a force_push can displace now: it is full and open, with the right one in front; or it was when it took its word, and neither end has moved.
     fn has_word(&self, op: &Op) -> bool {
-        let now = !self.closed && self.waiting() == self.capacity && self.half == NONE && (op.answer == Told::Unknown || self.front() == op.value);
+        let now = !self.closed
+            && self.waiting() == self.capacity
+            && self.half == NONE
+            && (op.answer == Told::Unknown || self.front() == op.value);
         now || self.words >> op.worker & 1 == 1
     }
 
@@ -573,7 +627,13 @@ impl<'a> Search<'a> {
                 self.missed |= 1 << worker;
                 self.missed_at.insert(call, self.order.len() as u32);
             }
-            if self.apart && op.code == 1 && self.rule != Rule::OneSlot && matches!(op.answer, Told::Displaced | Told::Unknown) && self.half == NONE && self.has_word(&op) {
+            if self.apart
+                && op.code == 1
+                && self.rule != Rule::OneSlot
+                && matches!(op.answer, Told::Displaced | Told::Unknown)
+                && self.half == NONE
+                && self.has_word(&op)
+            {
                 self.words |= 1 << worker;
             }
             return;
@@ -661,7 +721,10 @@ impl<'a> Search<'a> {
 
     /// Whether no call was found since then that could have answered while the other stands half.
     fn none_missed_since(&self, place: usize) -> bool {
-        !(0..self.current.len()).any(|worker| self.missed >> worker & 1 == 1 && self.missed_at.get(&self.current[worker]).is_some_and(|at| *at as usize > place))
+        !(0..self.current.len()).any(|worker| {
+            self.missed >> worker & 1 == 1
+                && self.missed_at.get(&self.current[worker]).is_some_and(|at| *at as usize > place)
+        })
     }
 
     /// Goes on to the next answer whose call has not taken its step; its call.
@@ -707,13 +770,21 @@ impl<'a> Search<'a> {
     /// All of the state but for the items that wait.
     fn base(&self) -> u128 {
         let words = if self.closed { self.words } else { 0 };
-        let flags = spread(self.missed ^ 0x1111_0000_0000_0000).rotate_left(17) ^ spread(words ^ 0x2222_0000_0000_0000).rotate_left(29) ^ spread((self.half as u64) << 1 | self.closed as u64).rotate_left(43);
-        mixed(self.hash ^ flags ^ spread(self.at as u64 ^ 0x5555_0000_0000_0000).rotate_left(61) ^ spread(self.waiting() as u64 ^ 0x7777_0000_0000_0000).rotate_left(37))
+        let flags = spread(self.missed ^ 0x1111_0000_0000_0000).rotate_left(17)
+            ^ spread(words ^ 0x2222_0000_0000_0000).rotate_left(29)
+            ^ spread((self.half as u64) << 1 | self.closed as u64).rotate_left(43);
+        mixed(
+            self.hash
+                ^ flags
+                ^ spread(self.at as u64 ^ 0x5555_0000_0000_0000).rotate_left(61)
+                ^ spread(self.waiting() as u64 ^ 0x7777_0000_0000_0000).rotate_left(37),
+        )
     }
 
     /// The state as far as so many items that wait.
     fn key(&self, base: u128, items: u32) -> u128 {
-        let part = self.sums[(self.head + items) as usize].wrapping_sub(self.sums[self.head as usize].wrapping_mul(self.powers[items as usize]));
+        let part = self.sums[(self.head + items) as usize]
+            .wrapping_sub(self.sums[self.head as usize].wrapping_mul(self.powers[items as usize]));
         mixed(base ^ part ^ (items as u128) << 100)
     }
 
@@ -773,17 +844,23 @@ impl<'a> Search<'a> {
         let calls = |mask: u64| (0..64usize).filter(move |worker| mask >> worker & 1 == 1);
         for worker in calls(steps) {
             let late = &self.ops[self.current[worker] as usize];
-            if late.ordered && calls(steps & !(1 << worker)).any(|other| {
-                let soon = &self.ops[self.current[other] as usize];
-                soon.ordered && soon.end < late.end && soon.out_end <= late.out_end && soon.out_begin <= late.out_begin
-            }) {
+            if late.ordered
+                && calls(steps & !(1 << worker)).any(|other| {
+                    let soon = &self.ops[self.current[other] as usize];
+                    soon.ordered
+                        && soon.end < late.end
+                        && soon.out_end <= late.out_end
+                        && soon.out_begin <= late.out_begin
+                })
+            {
                 left &= !(1 << worker);
             }
         }
         let must = &self.ops[forced as usize];
         let moves = |op: &Op| op.answer == Told::Pushed || op.answer == Told::Popped;
         if steps >> must.worker & 1 == 1 && moves(must) && !self.closed {
-            let quiet = (0..self.current.len()).all(|worker| !self.began(self.current[worker]) || moves(&self.ops[self.current[worker] as usize]));
+            let quiet = (0..self.current.len())
+                .all(|worker| !self.began(self.current[worker]) || moves(&self.ops[self.current[worker] as usize]));
             if quiet {
                 for worker in calls(left) {
                     if self.ops[self.current[worker] as usize].answer != must.answer {
@@ -835,7 +912,23 @@ impl<'a> Search<'a> {
             }
             let base = self.base();
             let waiting = self.waiting();
-            let mut frame = Frame { steps: 0, halves: 0, hash: self.hash, words: self.words, missed: self.missed, at: self.at, head: self.head, tail: self.queue.len() as u32, order: self.order.len() as u32, lowest: self.lowest, latest: self.latest, half: self.half, read: 0, closed: self.closed, missing: false };
+            let mut frame = Frame {
+                steps: 0,
+                halves: 0,
+                hash: self.hash,
+                words: self.words,
+                missed: self.missed,
+                at: self.at,
+                head: self.head,
+                tail: self.queue.len() as u32,
+                order: self.order.len() as u32,
+                lowest: self.lowest,
+                latest: self.latest,
+                half: self.half,
+                read: 0,
+                closed: self.closed,
+                missing: false,
+            };
             match refuted.depths(base, waiting).find(|items| *items <= waiting && refuted.has(self.key(base, *items))) {
                 Some(items) => frame.read = self.head + items,
                 None => {
@@ -964,12 +1057,18 @@ impl Keys {
 
     /// A depth as it is kept.
     fn depth(&self, items: u32, waiting: u32) -> u32 {
-        if items >= WHOLE { waiting } else { items }
+        if items >= WHOLE {
+            waiting
+        } else {
+            items
+        }
     }
 
     fn depths(&self, base: u128, waiting: u32) -> impl Iterator<Item = u32> {
         let mask = self.depths[Keys::bucket(base)];
-        (0..=WHOLE).filter(move |depth| mask >> depth & 1 == 1).map(move |depth| if depth == WHOLE { waiting } else { depth })
+        (0..=WHOLE)
+            .filter(move |depth| mask >> depth & 1 == 1)
+            .map(move |depth| if depth == WHOLE { waiting } else { depth })
     }
 
     fn place(&self, key: u128) -> (usize, bool) {

@@ -1,7 +1,7 @@
 //! real QUEUE CAPACITY WORKERS CALLS SEED MIX [SLIP]: so many calls by so many threads on the unmodified source, with the standard library's atomics, as a log with two times of one clock.
 //!
 //! QUEUE is bounded, single or unbounded; MIX is a row of MIXES; SLIP the number, from 0, of a slip that is planted in a copy of bounded.rs. At its end worker 0 pops until nothing waits, so
-//! that what was lost is missed. Threads that come no further for so long are given up: their calls have no answer.
+//! that what was lost is missed. `real slips` names the slips. Threads that come no further for so long are given up: their calls have no answer.
 
 extern crate alloc;
 // The sources import `CachePadded` from this crate; ours stands below.
@@ -10,14 +10,17 @@ extern crate self as crossbeam_utils;
 mod sync;
 
 #[allow(dead_code, clippy::all)]
-#[path = "../../src/bounded.rs"]
-mod bounded;
+mod bounded {
+    include!("../../src/bounded.rs");
+}
 #[allow(dead_code, clippy::all)]
-#[path = "../../src/single.rs"]
-mod single;
+mod single {
+    include!("../../src/single.rs");
+}
 #[allow(dead_code, clippy::all)]
-#[path = "../../src/unbounded.rs"]
-mod unbounded;
+mod unbounded {
+    include!("../../src/unbounded.rs");
+}
 
 use std::cell::UnsafeCell;
 use std::io::{self, BufWriter, Write};
@@ -209,6 +212,7 @@ impl Queue for unbounded::Unbounded<u64> {
     }
 }
 
+include!("slips.rs");
 include!(concat!(env!("OUT_DIR"), "/slips.rs"));
 
 const CALLS: [&str; 8] = ["push", "force_push", "pop", "len", "is_empty", "is_full", "close", "is_closed"];
@@ -243,7 +247,11 @@ unsafe impl Sync for Book {}
 impl Book {
     fn new(room: usize) -> Book {
         let blank = Entry { code: 0, item: 0, from: 0, to: 0, answer: Answer::None };
-        Book { entries: (0..room).map(|_| UnsafeCell::new(blank)).collect(), begun: AtomicUsize::new(0), done: AtomicUsize::new(0) }
+        Book {
+            entries: (0..room).map(|_| UnsafeCell::new(blank)).collect(),
+            begun: AtomicUsize::new(0),
+            done: AtomicUsize::new(0),
+        }
     }
 
     /// A call, between two times.
@@ -288,6 +296,12 @@ const PATIENCE: Duration = Duration::from_secs(5);
 
 fn main() {
     let words: Vec<String> = env::args().skip(1).collect();
+    if words.first().is_some_and(|word| word == "slips") {
+        for (name, _, _) in SLIPS {
+            println!("{name}");
+        }
+        return;
+    }
     let number = |at: usize| words[at].parse::<u64>().expect("a number");
     let (capacity, workers, calls, seed) = (number(1) as usize, number(2), number(3), number(4));
     let (_, weights, closes) = MIXES.into_iter().find(|mix| mix.0 == words[5]).expect("a mix");
@@ -300,7 +314,8 @@ fn main() {
     }));
     let share = (calls / workers) as usize;
     let most = if words[0] == "unbounded" { calls as usize } else { capacity };
-    let books: Arc<Vec<Book>> = Arc::new((0..workers).map(|worker| Book::new(share + if worker == 0 { most + 2 } else { 0 })).collect());
+    let books: Arc<Vec<Book>> =
+        Arc::new((0..workers).map(|worker| Book::new(share + if worker == 0 { most + 2 } else { 0 })).collect());
     let barrier = Arc::new(Barrier::new(workers as usize));
     let clock = Instant::now();
     for worker in 0..workers {
@@ -360,7 +375,10 @@ fn written(queue: &str, capacity: usize, books: &[Book]) -> io::Result<()> {
         let done = book.done.load(Ordering::Acquire);
         for at in 0..book.begun.load(Ordering::Acquire) {
             // SAFETY: a count covers what is read.
-            let (code, item, from) = unsafe { let entry = book.entries[at].get(); ((*entry).code, (*entry).item, (*entry).from) };
+            let (code, item, from) = unsafe {
+                let entry = book.entries[at].get();
+                ((*entry).code, (*entry).item, (*entry).from)
+            };
             write!(out, "w{worker} {}", CALLS[code])?;
             if code < 2 {
                 write!(out, " {item}")?;
