@@ -12,7 +12,7 @@ from pathlib import Path
 from typing import NamedTuple
 
 HOME = Path(__file__).resolve().parent.parent
-PROGRAMS = ('archive', 'picture', 'replay', 'tape', 'walk')
+PROGRAMS = ('archive', 'explore', 'picture', 'possible', 'replay', 'tape', 'walk')
 
 
 class Help(NamedTuple):
@@ -28,17 +28,25 @@ def read(text):
     end = lines.index('')
     usage = re.sub(r'\n +', ' ', '\n'.join(lines[:end])).split('\n')  # what is further in goes on the line above
     blocks = []
+    is_example = False
     for line in lines[end + 1:]:
         term = re.fullmatch(r'  (\S.*?)(?: {2,}(\S.*))?', line)
+        is_example = is_example and line.startswith('   ')
         if not line:
             blocks.append('')
         elif term:
             if not (blocks and isinstance(blocks[-1], list)):
                 blocks.append([])
             blocks[-1].append((term[1], term[2] or ''))
-        elif line.startswith(' '):
+        elif line.startswith(' ') and not is_example and isinstance(blocks[-1], list):
             name, said = blocks[-1][-1]
             blocks[-1][-1] = name, f'{said} {line.strip()}'.strip()
+        elif line.startswith(' '):
+            # lines further in that follow no term are shown as they stand
+            if not is_example:
+                blocks.append([])
+            is_example = True
+            blocks[-1].append((line.strip(), ''))
         elif blocks and isinstance(blocks[-1], str) and blocks[-1] and not line.startswith('Status: '):
             blocks[-1] += ' ' + line
         else:
