@@ -5,4 +5,5 @@ pub mod Rows
 pub mod Book
 pub mod Whole
 pub mod Acts
+pub mod Times
 pub mod Shown

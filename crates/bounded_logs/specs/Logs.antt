@@ -1,0 +1,59 @@
+-- What a log of the ring never shows.
+use Prim.Native.Nat.{ℕ}
+use mathlib.Core.Bool.{true}
+use mathlib.Core.List.{List, []}
+use lib.Dec.{eqb}
+use Rattle.queue_plain.specs.Plain.{Reply}
+use Rattle.queue_logs.specs.Logs.{Log, logOf, Seen, NeverShown}
+use Rattle.bounded_places.specs.declared.Place.{Place}
+use Rattle.bounded_places.specs.declared.Place.the-variants.{Idle, P1, P2, P3, P4, P5, P6, F6, F7, F8, F9, O1, O2, O3, O4, O5, O6, Len1, Len2, Len3, Empty1, Empty2, Full1, Full2, Close1, IsClosed1}
+use Rattle.bounded_machine.specs.declared.Event.{Event}
+use Rattle.bounded_machine.specs.Machine.{freshWith}
+use Rattle.bounded_demands.specs.Notions.{Definition, AllowedWith, KeepsWindow}
+use Rattle.bounded_demands.specs.Stories.{storyOf, changeOf, actor, replyOf}
+
+-- What an act answers that leads here: none but at a call's end.
+abbrev pub saidAt : Place → List Reply
+saidAt (Idle a) = replyOf a
+saidAt (P1 k x) = []
+saidAt (P2 k t x) = []
+saidAt (P3 k t x) = []
+saidAt (P4 t x) = []
+saidAt (P5 t) = []
+saidAt (P6 t x) = []
+saidAt (F6 t x) = []
+saidAt (F7 t x) = []
+saidAt (F8 t x) = []
+saidAt (F9 t old) = []
+saidAt O1 = []
+saidAt (O2 h) = []
+saidAt (O3 h) = []
+saidAt (O4 h) = []
+saidAt (O5 h v) = []
+saidAt (O6 h) = []
+saidAt Len1 = []
+saidAt (Len2 t) = []
+saidAt (Len3 t h) = []
+saidAt Empty1 = []
+saidAt (Empty2 h) = []
+saidAt Full1 = []
+saidAt (Full2 t) = []
+saidAt Close1 = []
+saidAt IsClosed1 = []
+
+abbrev pub said : Event → List Reply
+said e = saidAt (e .after)
+
+-- The log of a schedule.
+abbrev pub ringLog : Definition → ℕ → ℕ → ℕ → List ℕ → Log
+ringLog d capacity workers edition s = logOf actor (changeOf edition) said capacity (storyOf d capacity workers edition s)
+
+abbrev pub ShowsNone : Definition → Type 0
+ShowsNone d =
+    (capacity workers edition : ℕ) → AllowedWith (d .records) capacity workers edition → (s : List ℕ) (seen : Log) → Seen (ringLog d capacity workers edition s) seen
+    → NeverShown capacity (eqb edition 2) true seen
+
+abbrev pub ShowsNoneInWindow : Definition → Type 0
+ShowsNoneInWindow d =
+    (capacity workers edition : ℕ) → AllowedWith (d .records) capacity workers edition → (s : List ℕ) → KeepsWindow d (freshWith (d .records) capacity workers edition) [] s
+    → (seen : Log) → Seen (ringLog d capacity workers edition s) seen → NeverShown capacity (eqb edition 2) true seen
