@@ -39,11 +39,11 @@ use Rattle.bounded_machine.specs.Run.{runAt}
 use Rattle.bounded_machine.specs.History.{eventsOf, movedOf}
 use Rattle.bounded_machine.proofs.Kept.{few-workers}
 use Rattle.bounded_causes.specs.Causes.{standOf, claimsTail, claimsHead}
-use Rattle.bounded_demands.specs.Notions.{withRecords, AllowedWith, machineAfter, InWidestWindow, KeepsWidestWindow}
+use Rattle.bounded_demands.specs.Notions.{withRecords, AllowedWith, machineAfter, widestLength, InWidestWindow, KeepsWidestWindow}
 use Rattle.bounded_demands.specs.Stories.{Story, storyOf, known, queueAt, changeOf, actor, replyOf}
 use Rattle.bounded_demands.specs.Demands.{Answered, Meant}
 use Rattle.bounded_demands.proofs.Refusals.{ring-queue}
-use Rattle.bounded_logs.specs.Logs.{said, saidAt, ringLog, ShowsNone, ShowsNoneInWindow}
+use Rattle.bounded_logs.specs.Logs.{said, saidAt, ringLog, ShowsNone, ShowsNoneWithin, ShowsNoneInWindow}
 use Rattle.bounded_proof_invariant.proofs.Ring.{Shared}
 use Rattle.bounded_proof_each_act.proofs.Sight.{Age}
 use Rattle.bounded_proof_demand2.proofs.Turns.{Turned, began, did, turned, stood}
@@ -397,12 +397,15 @@ never-in bits records c workers ed a s keeps =
     both : _
     both = both-after bits records c workers ed a s keeps
 
+-- the widest window, and document 02's
+pub shows-none-in-widest : (bits : Width) (records : ℕ) → ShowsNoneWithin widestLength (withRecords records bits)
+shows-none-in-widest bits records c workers ed a s keeps seen late =
+    never-late (ringLog (withRecords records bits) c workers ed s) seen late c (eqb ed 2) true (never-in bits records c workers ed a s keeps)
+
 pub shows-none-in-window : (bits : Width) (records : ℕ) → ShowsNoneInWindow (withRecords records bits)
-shows-none-in-window bits records c workers ed a s keeps seen late =
-    never-late (ringLog (withRecords records bits) c workers ed s) seen late c (eqb ed 2) true
-    (never-in bits records c workers ed a s (widens (withRecords records bits) (freshWith records c workers ed) [] s keeps))
+shows-none-in-window bits records c workers ed a s keeps =
+    shows-none-in-widest bits records c workers ed a s (widens (withRecords records bits) (freshWith records c workers ed) [] s keeps)
 
 -- of 64 bits every schedule
 pub shows-none : (records : ℕ) → ShowsNone (withRecords records SixtyFour)
-shows-none records c workers ed a s seen late =
-    never-late (ringLog (withRecords records SixtyFour) c workers ed s) seen late c (eqb ed 2) true (never-in SixtyFour records c workers ed a s (always records c workers ed a s))
+shows-none records c workers ed a s = shows-none-in-widest SixtyFour records c workers ed a s (always records c workers ed a s)

@@ -6,4 +6,5 @@ pub mod Book
 pub mod Whole
 pub mod Acts
 pub mod Times
+pub mod Few
 pub mod Shown
