@@ -24,6 +24,7 @@ use Rattle.queue_logs.proofs.Times.{Working, TimeBy, Answering, Along, along-fi
 use Rattle.queue_logs.proofs.Late.{never-late}
 use Rattle.bounded_words.specs.declared.Width.{Width}
 use Rattle.bounded_words.specs.declared.Width.the-variants.{SixtyFour}
+use Rattle.bounded_words.specs.Words.{markOf}
 use Rattle.bounded_places.specs.declared.Answer.{Answer}
 use Rattle.bounded_places.specs.declared.Answer.the-variants.{Nothing, Pushed, Full, Closed, Displaced, Popped, Empty, PopClosed, Len, Yes, No}
 use Rattle.bounded_places.specs.declared.Place.{Place}
@@ -45,7 +46,8 @@ use Rattle.bounded_demands.specs.Demands.{Answered, Meant}
 use Rattle.bounded_demands.proofs.Refusals.{ring-queue}
 use Rattle.bounded_logs.specs.Logs.{said, saidAt, ringLog, ShowsNone, ShowsNoneWithin, ShowsNoneInWindow}
 use Rattle.bounded_proof_invariant.proofs.Ring.{Shared}
-use Rattle.bounded_proof_each_act.proofs.Sight.{Age}
+use Rattle.bounded_proof_each_act.proofs.Sight.{Age, look, Recent}
+use Rattle.bounded_proof_demand2.proofs.Pictured.{Base}
 use Rattle.bounded_proof_demand2.proofs.Turns.{Turned, began, did, turned, stood}
 use Rattle.bounded_proof_demand2.proofs.Reached.{base-of, fresh-record, recent-in}
 use Rattle.bounded_proof_demand2.proofs.Always.{always, widens}
@@ -257,8 +259,8 @@ module _ (c ed : ℕ) where
             asked = queueAt c ed (a .moment) st;
             items = refl;
             closed = refl;
-            full = λ h. omega (arith, eqb-true _ _ h, room);
-            room = λ h q. eqb-false _ _ h (q ∙ sym room);
+            full = λ h. omega (arith, eqb-true (length (queueAt c ed (a .moment) st .items)) (queueAt c ed (a .moment) st .capacity) h, room);
+            room = λ h q. eqb-false (length (queueAt c ed (a .moment) st .items)) (queueAt c ed (a .moment) st .capacity) h (q ∙ sym room);
             says = ap (headR r) (a .plain ∙ is);
           }
 
@@ -272,7 +274,7 @@ module _ (bits : Width) (records c workers ed : ℕ) (a : AllowedWith records c 
   abbrev So : Machine → Story → Type 0
   So = Tells bits records c workers ed a
 
-  abbrev base : _
+  abbrev base : Base bits c (n bits records c workers ed a) workers
   base = base-of bits records c workers ed a
 
   abbrev busyOf : Machine → ℕ → Bool
@@ -328,7 +330,7 @@ module _ (bits : Width) (records c workers ed : ℕ) (a : AllowedWith records c 
       now : Machine
       now = acted bits m w (stood m w) lose
 
-      young : _
+      young : Recent c (markOf c) laps (o .reached .ring) (o .reached .pictured .ages w) (look c (stood m w))
       young = recent-in bits c laps workers base m (o .h) (o .reached) (subst (InWidestWindow bits m) (o .acts) window) w
 
       done : Event
@@ -394,7 +396,8 @@ never-in bits records c workers ed a s keeps =
     let t = both .0 .answers earlier later e (z .0) split (z .1) in
     answering c ed earlier e (z .0) r more (z .2) (t .0) (t .1))
   where
-    both : _
+    both : Tells bits records c workers ed a (machineAfter (withRecords records bits) c workers ed s) (storyOf (withRecords records bits) c workers ed s)
+        × Kept bits records c workers ed a (machineAfter (withRecords records bits) c workers ed s) (storyOf (withRecords records bits) c workers ed s)
     both = both-after bits records c workers ed a s keeps
 
 -- the widest window, and document 02's

@@ -15,9 +15,9 @@ use Rattle.bounded_proof_logs_host.specs.Hosted.{HostedShowsNone}
 
 pub lent-shows-none : LentShowsNone item11
 lent-shows-none ys capacity edition made doings = (
-      lent-mixed ys capacity edition made doings .0,
-      shows-none (length ys) capacity (length ys) edition (allowed ys capacity edition made) (allTakenLent item11 (makeLent ys capacity edition) doings),
-    )
+  lent-mixed ys capacity edition made doings .0,
+  shows-none (length ys) capacity (length ys) edition (allowed ys capacity edition made) (allTakenLent item11 (makeLent ys capacity edition) doings),
+)
 
 pub hosted-shows-none : HostedShowsNone face
 hosted-shows-none w capacity edition made doings =
