@@ -31,12 +31,12 @@ allBelow (suc n) t = cond (t n) (allBelow n t) false
 below : (n : ℕ) (t : ℕ → Bool) → allBelow n t ≡ true → (x : ℕ) → x < n → t x ≡ true
 unfolding allBelow
 below zero t h x l = absurd (omega (arith, l))
-below (suc n) t h x l = go (t n) refl h (ltb x n) refl
+below (suc n) t h x l = go (λ r less. below n t r x less) (t n) refl h (ltb x n) refl
   where
-    go : (b : Bool) → t n ≡ b → cond b (allBelow n t) false ≡ true → (s : Bool) → ltb x n ≡ s → t x ≡ true
-    go true e h true q = below n t h x (ltb-true x n q)
-    go true e h false q = let z : x ≡ n = omega (arith, l, ltb-false x n q) in ap t z ∙ e
-    go false e h s q = absurd (true≢false (sym h))
+    go : (allBelow n t ≡ true → x < n → t x ≡ true) → (b : Bool) → t n ≡ b → cond b (allBelow n t) false ≡ true → (s : Bool) → ltb x n ≡ s → t x ≡ true
+    go more true e h true q = more h (ltb-true x n q)
+    go more true e h false q = let z : x ≡ n = omega (arith, l, ltb-false x n q) in ap t z ∙ e
+    go more false e h s q = absurd (true≢false (sym h))
 
 isClose : List Call → Bool
 isClose [] = false
@@ -59,7 +59,9 @@ rows-shown =
             out = refl;
             later =
                 λ x i ne h.
-                absurd (omega (arith, h, eqb-true _ 0 (below 4 (λ z. eqb (weigh (only 0) (handedIn (trialLog popOfNone .line z))) 0) refl x i)));
+                let none : weigh (only 0) (handedIn (trialLog popOfNone .line x)) ≡ 0 =
+                eqb-true (weigh (only 0) (handedIn (trialLog popOfNone .line x))) 0 (below 4 (λ z. eqb (weigh (only 0) (handedIn (trialLog popOfNone .line z))) 0) refl x i) in
+                absurd (omega (arith, h, none));
           };
       twice = omega arith;
       overtaken =
