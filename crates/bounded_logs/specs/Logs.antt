@@ -15,7 +15,7 @@ use Rattle.bounded_places.specs.declared.Place.the-variants.{Idle, P1, P2, P3, 
 use Rattle.bounded_places.specs.declared.Worker.{Worker}
 use Rattle.bounded_machine.specs.declared.Event.{Event}
 use Rattle.bounded_machine.specs.Machine.{freshWith}
-use Rattle.bounded_demands.specs.Notions.{Definition, withRecords, AllowedWith, windowLength, KeepsWindowOf}
+use Rattle.bounded_demands.specs.Notions.{Face, Definition, withRecords, AllowedWith, Asking, leftByAll, takenByAll, windowLength, KeepsWindowOf, KeepsWindow}
 use Rattle.bounded_demands.specs.Demands.{AsOneSchedule}
 use Rattle.bounded_demands.specs.Lending.{Lending, Doing, heldIn, leftLent, allTakenLent}
 use Rattle.bounded_demands.specs.Stories.{storyOf, changeOf, actor, replyOf}
@@ -72,7 +72,22 @@ ShowsNoneWithin many d =
 abbrev pub ShowsNoneInWindow : Definition → Type 0
 ShowsNoneInWindow = ShowsNoneWithin windowLength
 
--- Lent ring and records: a making, and then steps and schedules in any mixture, are one schedule of the entries that were accepted. Refused ones are in no log.
+-- The machine that holds its records: a making, and then step, begin, act and run of a face in any mixture, are one schedule of the entries that were accepted. Refused ones are in no log. Of sixteen
+-- bits, if the accepted entries keep the window.
+abbrev pub MixedShowsNone : {M D R : Type 0} → Face M D R → Definition → Type 0
+MixedShowsNone f d =
+    (capacity workers edition : ℕ) → f .refusal (f .make capacity workers edition) ≡ 0 → (askings : List Asking)
+    → AsOneSchedule d capacity workers edition (f .wide (leftByAll f (f .left (f .make capacity workers edition)) askings)) (takenByAll f (f .left (f .make capacity workers edition)) askings)
+    × ShowsNoneOf d capacity workers edition (takenByAll f (f .left (f .make capacity workers edition)) askings)
+
+abbrev pub MixedShowsNoneInWindow : {M D R : Type 0} → Face M D R → Definition → Type 0
+MixedShowsNoneInWindow f d =
+    (capacity workers edition : ℕ) → f .refusal (f .make capacity workers edition) ≡ 0 → (askings : List Asking)
+    → AsOneSchedule d capacity workers edition (f .wide (leftByAll f (f .left (f .make capacity workers edition)) askings)) (takenByAll f (f .left (f .make capacity workers edition)) askings)
+    × (KeepsWindow d (freshWith (d .records) capacity workers edition) [] (takenByAll f (f .left (f .make capacity workers edition)) askings)
+    → ShowsNoneOf d capacity workers edition (takenByAll f (f .left (f .make capacity workers edition)) askings))
+
+-- Lent ring and records: likewise, of steps and schedules.
 abbrev pub LentShowsNone : Lending → Type 0
 LentShowsNone d =
     (ys : List Worker) (capacity edition : ℕ) → d .make ys capacity edition .answer ≡ 0 → (doings : List Doing)

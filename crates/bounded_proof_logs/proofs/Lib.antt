@@ -1,2 +1,2 @@
-pub mod Within
+pub mod Under
 pub mod Ring

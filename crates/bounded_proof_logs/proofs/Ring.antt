@@ -1,9 +1,9 @@
 -- What no log of the ring shows: by what every reached machine and its story have behind them, kept along every schedule that keeps the window.
-use Prim.Native.Nat.{ℕ, _+_, _≤_, _<_}
+use Prim.Native.Nat.{ℕ, _<_}
 use native.Mathlib.Omega.{arith}
 use mathlib.Core.Bool.{Bool, true, false, cond, not, true≢false}
 use mathlib.Core.List.{List, [], _∷_, _++_, map}
-use mathlib.Core.Logic.{_≢_, _⊎_, inl, inr}
+use mathlib.Core.Logic.{_≢_, inl}
 use mathlib.Core.Path.{_≡_, refl, sym, ap, _∙_, subst}
 use lib.Dec.{eqb}
 use lib.ListN.{length, take}
@@ -13,14 +13,15 @@ use Rattle.queue_entries.specs.Entries.{entryOf}
 use Rattle.queue_entries.specs.declared.Call.{Call}
 use Rattle.queue_entries.specs.declared.Call.the-variants as call
 use Rattle.queue_entries.specs.declared.Entry.{Entry}
-use Rattle.queue_plain.specs.Plain.{Reply, Queue, answerOf, fullOf}
+use Rattle.queue_plain.specs.Plain.{Reply, answerOf}
 use Rattle.queue_plain.specs.Plain as plain
 use Rattle.queue_plain.specs.Story.{Begun, Does, itemsOf, begunIn, elementsBy, actsIn}
 use Rattle.queue_plain.proofs.Stories.{acts-story, capacity-is}
 use Rattle.queue_schedules.proofs.Histories.{entries-lead-while}
-use Rattle.queue_logs.specs.Logs.{NeverShown, weigh, ended}
+use Rattle.queue_logs.specs.Logs.{NeverShown, ended}
 use Rattle.queue_logs.proofs.Account.{AskedOf}
-use Rattle.queue_logs.proofs.Times.{Working, TimeBy, Answering, Along, along-first, along-begun, along-act, never-along}
+use Rattle.queue_logs.proofs.Working.{same-reply, no-reply}
+use Rattle.queue_logs.proofs.Times.{TimeBy, Answering, answering, Along, along-first, along-begun, along-act, never-along}
 use Rattle.queue_logs.proofs.Late.{never-late}
 use Rattle.bounded_words.specs.declared.Width.{Width}
 use Rattle.bounded_words.specs.declared.Width.the-variants.{SixtyFour}
@@ -52,14 +53,11 @@ use Rattle.bounded_proof_demand2.proofs.Turns.{Turned, began, did, turned, stoo
 use Rattle.bounded_proof_demand2.proofs.Reached.{base-of, fresh-record, recent-in}
 use Rattle.bounded_proof_demand2.proofs.Always.{always, widens}
 use Rattle.bounded_proof_plain.proofs.Work.{task, Due}
-use Rattle.bounded_proof_plain.proofs.Told.{Told, told-begun, told-act, went, same-event, stood-else, act}
+use Rattle.bounded_proof_plain.proofs.Told.{told-begun, told-act, went, same-event, stood-else, act}
 use Rattle.bounded_proof_plain.proofs.Plain.{n, Tells, told-first}
-use Rattle.bounded_proof_logs.proofs.Within.{Within, within-at}
+use Rattle.bounded_proof_logs.proofs.Under.{working-at}
 
 -- ---- what a place tells of the log
-
-no-reply : {P : Type 0} {r : Reply} {more : List Reply} → [] ≡ r ∷ more → P
-no-reply e = absurd (true≢false (sym (ap ended e)))
 
 -- Where an act leads to that answers.
 said-idle : (p : Place) (r : Reply) (more : List Reply) → saidAt p ≡ r ∷ more → (x : Answer) × (p ≡ Idle x) × (replyOf x ≡ r ∷ more)
@@ -227,42 +225,28 @@ module _ (c n ed : ℕ) (st : Story) (s : Shared) (age : Age) (w : ℕ) (x : Lis
   taken-first Close1 h o = absurd (true≢false (sym h))
   taken-first IsClosed1 h o = absurd (true≢false (sym h))
 
-headR : Reply → List Reply → Reply
-headR d [] = d
-headR d (r ∷ l) = r
-
 -- ---- an answer, of `Answered` and `Meant`
 module _ (c ed : ℕ) where
   abbrev Answers : Story → Event → Reply → Type 0
   Answers = Answering actor (changeOf ed) said (eqb ed 2) true c (λ (st : Story). 0) c
 
-  answering : (st : Story) (e : Event) (x : Answer) (r : Reply) (more : List Reply) → replyOf x ≡ r ∷ more → Answered c ed st e x → Meant c ed st e x → Answers st e r
-  unfolding headR
-  answering st e x r more is a m =
+  asks : (st : Story) (e : Event) (x : Answer) (r : Reply) (more : List Reply) → replyOf x ≡ r ∷ more → (a : Answered c ed st e x) → AskedOf c 0 (queueAt c ed (a .moment) st) (a .call) r
+  asks st e x r more is a =
+      let q = queueAt c ed (a .moment) st in
+      let room : q .capacity ≡ c = capacity-is actor (changeOf ed) c (take (a .moment) st) in
       record {
-        call = a .call;
-        calls = a .its;
-        put =
-            m .put ∙ ap (plain.meaningOf (plain.putBy (itemsOf (known c ed st .each (e .worker) .calls)))) is
-            ∙ ap (λ (l : List Call). plain.putBy (itemsOf l) r) (a .its);
-        took = m .took ∙ ap (plain.meaningOf plain.takenBy) is;
-        moment = λ u. (a .moment, a .begun, a .inside, asks);
-        shut = λ q. m .closed (a .its ∙ ap (λ (z : Call). z ∷ []) q);
+        asked = q;
+        items = refl;
+        closed = refl;
+        full = λ h. omega (arith, eqb-true (length (q .items)) (q .capacity) h, room);
+        room = λ h z. eqb-false (length (q .items)) (q .capacity) h (z ∙ sym room);
+        says = same-reply (answerOf q (a .call)) r [] more (a .plain ∙ is);
       }
-    where
-      room : queueAt c ed (a .moment) st .capacity ≡ c
-      room = capacity-is actor (changeOf ed) c (take (a .moment) st)
 
-      asks : AskedOf c 0 (queueAt c ed (a .moment) st) (a .call) r
-      asks =
-          record {
-            asked = queueAt c ed (a .moment) st;
-            items = refl;
-            closed = refl;
-            full = λ h. omega (arith, eqb-true (length (queueAt c ed (a .moment) st .items)) (queueAt c ed (a .moment) st .capacity) h, room);
-            room = λ h q. eqb-false (length (queueAt c ed (a .moment) st .items)) (queueAt c ed (a .moment) st .capacity) h (q ∙ sym room);
-            says = ap (headR r) (a .plain ∙ is);
-          }
+  says : (st : Story) (e : Event) (x : Answer) (r : Reply) (more : List Reply) → replyOf x ≡ r ∷ more → Answered c ed st e x → Meant c ed st e x → Answers st e r
+  says st e x r more is a m =
+      answering actor (changeOf ed) said (eqb ed 2) true c (λ (z : Story). 0) c st e (a .call) r more (replyOf x) is (a .its) (m .put) (m .took) (m .closed)
+      (λ u. (a .moment, a .begun, a .inside, asks st e x r more is a))
 
   ends-so : (st : Story) (e : Event) (x : Answer) → Answered c ed st e x → ended (replyOf x) ≡ true
   ends-so st e x a = ap ended (sym (a .plain))
@@ -287,15 +271,7 @@ module _ (bits : Width) (records c workers ed : ℕ) (a : AllowedWith records c 
   time-of : (m : Machine) (st : Story) → So m st → TimeBy actor (changeOf ed) said (eqb ed 2) true c (λ (z : Story). 0) c (busyOf m) st
   time-of m st o =
       record {
-        working =
-            λ w h.
-            let t = within-at c laps ed st (o .reached .ring) (o .reached .pictured .ages w) w (stood m w) h (o .dues w) in
-            record {
-              call = t .call;
-              calls = t .work .its;
-              put-most = λ f. omega (arith, ap (weigh f) (t .work .puts), t .put-most f);
-              took-most = λ f small. omega (arith, ap (weigh f) (t .work .takes), t .took-most f small);
-            };
+        working = λ w h. working-at c laps ed st (o .reached .ring) (o .reached .pictured .ages w) w (stood m w) h (o .dues w);
         fits = omega (arith, o .shelf .long, o .reached .pictured .inv .high);
         holds = inl refl;
       }
@@ -394,7 +370,7 @@ never-in bits records c workers ed a s keeps =
     (λ earlier later e r more split is.
     let z = said-idle (e .after) r more is in
     let t = both .0 .answers earlier later e (z .0) split (z .1) in
-    answering c ed earlier e (z .0) r more (z .2) (t .0) (t .1))
+    says c ed earlier e (z .0) r more (z .2) (t .0) (t .1))
   where
     both : Tells bits records c workers ed a (machineAfter (withRecords records bits) c workers ed s) (storyOf (withRecords records bits) c workers ed s)
         × Kept bits records c workers ed a (machineAfter (withRecords records bits) c workers ed s) (storyOf (withRecords records bits) c workers ed s)

@@ -1,10 +1,9 @@
 -- Each row is shown by the log of its schedule: by computing.
-use Prim.Native.Nat.{ℕ, zero, suc, _<_, _≤_}
+use Prim.Native.Nat.{ℕ, zero, suc, _<_}
 use native.Mathlib.Omega.{arith}
 use mathlib.Core.Bool.{Bool, true, false, cond, true≢false}
-use mathlib.Core.List.{List, [], _∷_, _++_}
-use mathlib.Core.Logic.{_≢_}
-use mathlib.Core.Path.{_≡_, refl, sym, ap, _∙_, subst}
+use mathlib.Core.List.{List, [], _∷_}
+use mathlib.Core.Path.{_≡_, refl, sym, ap, _∙_}
 use lib.Dec.{eqb, ltb}
 use borrow.Author.Tests.{ltb-true, ltb-false, eqb-true}
 use Rattle.queue_entries.specs.Schedules.{runBy, historyBy}
@@ -13,7 +12,7 @@ use Rattle.queue_entries.specs.Limits.{all}
 use Rattle.queue_entries.specs.declared.Call.{Call}
 use Rattle.queue_entries.specs.declared.Call.the-variants as call
 use Rattle.queue_plain.specs.Story.{itemsOf, knownFrom, followedFrom}
-use Rattle.queue_logs.specs.Logs.{Line, Log, Seen, NeverShown, total, weigh, only, any, handedIn, before, says-empty, push-full-said, push-closed-said, is-closed-no, too-many, too-few, pushed-into, is-full-no}
+use Rattle.queue_logs.specs.Logs.{Log, Seen, NeverShown, total, weigh, only, any, handedIn, says-empty, push-full-said, push-closed-said, is-closed-no, too-many, too-few, pushed-into, is-full-no}
 use Rattle.bounded_words.specs.Words.{doubled, markOf, markedOf, unmarkedOf, plus, minus, withMark, nextOf, same, onePast, lapBehind, lapBehindOnePast}
 use Rattle.bounded_acts.specs.Acts.{forcedTail, goes, losing, exchangeOf, afterTail, tailTo, headTo, stampTo, valueTo, countOf}
 use Rattle.bounded_machine.specs.Machine.{emptySlots, stamped, freshSlots, idlers, freshWith, refused, accepted}

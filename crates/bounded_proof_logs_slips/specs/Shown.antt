@@ -1,6 +1,5 @@
 -- Of each row a wrong table, and a short schedule whose log shows it. Lines of a log are named by where their call began: entry 0, 6, ..
-use Prim.Native.Nat.{ℕ}
-use mathlib.Core.List.{List, _++_}
+use mathlib.Core.List.{_++_}
 use Rattle.queue_logs.specs.Logs.{Log, any, FromNowhere, Twice, Overtaken, EmptyBeside, FullBeside, ClosedNever, OpenAfter, WrongCount, RoomBeside, SomeBeside}
 use Rattle.bounded_demands.specs.Notions.{acts}
 use Rattle.bounded_logs.specs.Logs.{ringLog, ShowsNone}

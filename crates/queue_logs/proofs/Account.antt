@@ -8,7 +8,7 @@ use lib.ListN.{length}
 use Rattle.queue_entries.specs.declared.Call.{Call}
 use Rattle.queue_entries.specs.declared.Call.the-variants as call
 use Rattle.queue_plain.specs.Plain.{Queue, Reply, Pushed, Empty, EmptyAndClosed, Yes, No, Full, Closed, Displaced, Popped, Count, answerOf, fullOf}
-use Rattle.queue_logs.specs.Logs.{Line, Log, total, weigh, any, ended, handedIn, handedOut, takes, mayTake}
+use Rattle.queue_logs.specs.Logs.{Log, total, weigh, any, ended, handedIn, handedOut, takes, mayTake}
 
 -- Answers that no row reads: is_empty's no, where it is not to be read.
 abbrev pub unreadOf : Bool → Reply → Bool

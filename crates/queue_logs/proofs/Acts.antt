@@ -14,11 +14,12 @@ use Rattle.queue_entries.specs.declared.Call.the-variants.{Push, ForcePush, Pop
 use Rattle.queue_plain.specs.Plain.{Queue, Reply, Yes, answerOf, takenBy, givenBack, putBy, fullOf, frontOf, yesIf}
 use Rattle.queue_plain.specs.Plain as plain
 use Rattle.queue_plain.specs.Story.{Element, Begun, Does, Story, Change, Doing, Known, fresh, beginning, doingWith, itemsOf, knownWith, knownFrom, known, queueAt, followedFrom}
-use Rattle.queue_plain.proofs.Stories.{followed-end}
-use Rattle.queue_logs.specs.Logs.{Line, NeverShown, weigh, any, ended, unless, taker, begins, answers, lineWith, logOf}
+use Rattle.queue_plain.proofs.Stories.{followed-end, take-whole}
+use Rattle.queue_logs.specs.Logs.{Line, NeverShown, weigh, any, ended, unless, taker, begins, answers, logOf}
 use Rattle.queue_logs.proofs.Account.{AskedOf, unread}
-use Rattle.queue_logs.proofs.Book.{Book, its, inNow, outNow, bookWith, bookFrom, Fact, Along, Asked, Kept, upd-same, upd-else}
-use Rattle.queue_logs.proofs.Whole.{start, step, kept-start, line-is, heldThen, queueThen, putsThen, Holds, shows-none}
+use Rattle.queue_logs.proofs.Working.{same-call, split-at}
+use Rattle.queue_logs.proofs.Book.{Book, inNow, outNow, bookWith, bookFrom, Fact, Along, Asked, Kept, upd-same, upd-else}
+use Rattle.queue_logs.proofs.Whole.{start, step, kept-start, heldThen, queueThen, putsThen, Holds, shows-none}
 
 -- what an answer means that a plain queue gives to this call: its item is in unless it is given back
 pub put-is : (q : Queue) (c : Call) → putBy (itemsOf (c ∷ [])) (answerOf q c) ≡ unless (givenBack (answerOf q c)) (itemsOf (c ∷ []))
@@ -92,18 +93,6 @@ take-front : {A : Type 0} (n : ℕ) (a b : List A) → n ≤ length a → take n
 take-front zero a b h = refl
 take-front (suc n) [] b h = absurd (omega (arith, h))
 take-front (suc n) (x ∷ a) b h = ap (λ (z : List _). x ∷ z) (take-front n a b (omega (arith, h)))
-
-take-all : {A : Type 0} (a : List A) → take (length a) a ≡ a
-take-all [] = refl
-take-all (x ∷ a) = ap (λ (z : List _). x ∷ z) (take-all a)
-
-headOf : Call → List Call → Call
-headOf d [] = d
-headOf d (c ∷ l) = c
-
-same-call : (c d : Call) → c ∷ [] ≡ d ∷ [] → c ≡ d
-unfolding headOf
-same-call c d e = ap (headOf c) e
 
 module _ {E : Type 0} (worker : E → ℕ) (change : E → Change) (answered : E → List Reply) (stays sees : Bool) (limit : ℕ) (held : Story E → ℕ) (capacity : ℕ) where
   abbrev pub before : Story E → Known
@@ -367,7 +356,7 @@ module _ {E : Type 0} (worker : E → ℕ) (change : E → Change) (answered : E
       front-is n h = ap (take n) split ∙ take-front n earlier (Does e ∷ later) h
 
       all-is : take (o .known .count) s ≡ earlier
-      all-is = ap (λ (n : ℕ). take n s) count-here ∙ front-is (length earlier) (omega arith) ∙ take-all earlier
+      all-is = ap (λ (n : ℕ). take n s) count-here ∙ front-is (length earlier) (omega arith) ∙ take-whole earlier
 
       held-is : (n : ℕ) → n ≤ length earlier → heldS n ≡ held (take n earlier)
       held-is n h = ap held (front-is n h)
@@ -490,11 +479,6 @@ module _ {E : Type 0} (worker : E → ℕ) (change : E → Change) (answered : E
 
       first : Stands []
       first = record { keeps = none-kept; currents = none-yet; opens = none-open }
-
-      split-at : (n : ℕ) (l : Story E) → l ≡ take n l ++ drop n l
-      split-at zero l = refl
-      split-at (suc n) [] = refl
-      split-at (suc n) (x ∷ l) = ap (λ (z : Story E). x ∷ z) (split-at n l)
 
       -- and room that is held
       module _ (roomy : 0 < limit) (holds : (earlier later : Story E) → s ≡ earlier ++ later → HeldBy earlier) where

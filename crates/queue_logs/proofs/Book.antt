@@ -1,21 +1,22 @@
 -- The account of a story, kept element by element.
-use Prim.Native.Nat.{ℕ, zero, suc, _+_, _≤_, _<_}
+use Prim.Native.Nat.{ℕ, suc, _+_, _≤_, _<_}
 use native.Mathlib.Omega.{arith}
 use native.Mathlib.Decide.{ℕ-discrete}
 use mathlib.Core.Bool.{Bool, true, false, cond, true≢false}
-use mathlib.Core.List.{List, [], _∷_, _++_, append-nil, append-assoc}
+use mathlib.Core.List.{List, [], _∷_, _++_, append-assoc}
 use mathlib.Core.Logic.{_≢_}
 use mathlib.Core.Path.{_≡_, refl, sym, ap, _∙_, subst}
-use lib.Dec.{eqb, ltb}
+use lib.Dec.{eqb}
 use lib.ListN.{length, take, drop}
-use borrow.Author.Tests.{eq-eqb, ne-eqb, eqb-true, eqb-false}
+use borrow.Author.Tests.{eq-eqb, ne-eqb}
 use Rattle.queue_entries.specs.declared.Call.{Call}
 use Rattle.queue_entries.specs.declared.Call.the-variants.{Push, ForcePush, Pop, Len, IsEmpty, IsFull, Close, IsClosed}
 use Rattle.queue_plain.specs.Plain.{Queue, Reply, Yes, takenBy, givenBack, meaningOf}
-use Rattle.queue_plain.specs.Story.{Element, Begun, Does, Story, Change, Known, fresh, itemsOf, knownWith, followedFrom}
-use Rattle.queue_logs.specs.Logs.{Line, Log, total, weigh, any, ended, unless, handedIn, handedOut, mayTake, taker, nobody, begins, answers, lineWith, logOf}
+use Rattle.queue_plain.specs.Story.{Element, Begun, Does, Story, Change, Known, itemsOf, knownWith}
+use Rattle.queue_logs.specs.Logs.{Line, total, weigh, any, ended, unless, handedIn, handedOut, mayTake, taker, nobody, begins, answers, lineWith}
 use Rattle.queue_logs.proofs.Account.{AskedOf, unread}
-use Rattle.queue_logs.proofs.Sums.{total-le, total-same, total-but, weigh-append, weigh-none}
+use Rattle.queue_logs.proofs.Sums.{total-same, total-but, weigh-append, weigh-none}
+use Rattle.queue_logs.proofs.Working.{same-call, same-reply}
 
 abbrev pub upd : {A : Type 0} → ℕ → A → (ℕ → A) → ℕ → A
 upd b a f x = cond (eqb x b) a (f x)
@@ -45,25 +46,9 @@ total-grows f g b d n l =
     even x true = refl
     even x false = refl
 
-headC : Call → List Call → Call
-headC d [] = d
-headC d (c ∷ l) = c
-
-headR : Reply → List Reply → Reply
-headR d [] = d
-headR d (r ∷ l) = r
-
 headN : ℕ → List ℕ → ℕ
 headN d [] = d
 headN d (x ∷ l) = x
-
-same-call : (c d : Call) → c ∷ [] ≡ d ∷ [] → c ≡ d
-unfolding headC
-same-call c d e = ap (headC c) e
-
-same-reply : (r q : Reply) (l k : List Reply) → r ∷ l ≡ q ∷ k → r ≡ q
-unfolding headR
-same-reply r q l k e = ap (headR r) e
 
 same-item : (r q : ℕ) (l k : List ℕ) → r ∷ l ≡ q ∷ k → r ≡ q
 unfolding headN

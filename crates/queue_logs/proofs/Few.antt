@@ -2,12 +2,12 @@
 use Prim.Native.Nat.{ℕ, zero, suc, _+_, _≤_}
 use native.Mathlib.Omega.{arith}
 use mathlib.Core.Bool.{Bool, true, false, cond}
-use mathlib.Core.List.{List, [], _∷_, _++_}
+use mathlib.Core.List.{List, [], _∷_}
 use lib.Dec.{eqb}
 use lib.ListN.{length, take, drop, length-append}
 use Rattle.queue_entries.specs.declared.Call.{Call}
 use Rattle.queue_entries.specs.declared.Call.the-variants.{Push, ForcePush, Pop, Len, IsEmpty, IsFull, Close, IsClosed}
-use Rattle.queue_plain.specs.Story.{Element, Begun, Does, Story, Change, Doing, Known, fresh, beginning, doingWith, itemsOf, knownWith, knownFrom, known}
+use Rattle.queue_plain.specs.Story.{Begun, Does, Story, Change, Doing, Known, fresh, beginning, doingWith, itemsOf, knownWith, knownFrom, known}
 
 -- a call comes with one item at most
 one-item : (c : Call) → length (itemsOf (c ∷ [])) ≤ 1

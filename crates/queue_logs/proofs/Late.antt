@@ -1,15 +1,15 @@
 -- What a log never shows, one seen late never shows.
-use Prim.Native.Nat.{ℕ, _+_, _≤_, _<_}
+use Prim.Native.Nat.{ℕ, _≤_, _<_}
 use native.Mathlib.Omega.{arith}
 use mathlib.Core.Bool.{Bool, true, false, cond, true≢false}
-use mathlib.Core.List.{List, [], _∷_}
+use mathlib.Core.List.{List}
 use mathlib.Core.Path.{_≡_, refl, sym, ap, _∙_, subst}
 use lib.Dec.{eqb, ltb}
 use borrow.Author.Tests.{lt-ltb, ltb-true}
 use Rattle.queue_entries.specs.declared.Call.{Call}
 use Rattle.queue_plain.specs.Plain.{Reply, meaningOf, takenBy, givenBack}
 use Rattle.queue_plain.specs.Story.{itemsOf}
-use Rattle.queue_logs.specs.Logs.{Line, Log, Seen, total, weigh, only, any, ended, handedIn, handedOut, mayTake, taker, before, sureIn, sureOut, mayIn, mayOut, Says, SaysEmpty, says-empty, says-empty-closed, says-is-empty, SaysFull, push-full-said, displaces-said, is-full-said, SaysClosed, push-closed-said, force-closed-said, pop-closed-said, is-closed-said, close-no-said, SaysOpen, pushed-said, forced-said, displaces-open, empty-said, is-closed-no, close-yes-said, FromNowhere, Twice, Overtaken, EmptyBeside, FullBeside, ClosedNever, OpenAfter, WrongCount, too-many, beyond, too-few, SaysRoom, pushed-into, forced-into, is-full-no, RoomBeside, SomeBeside, NeverShown, unless}
+use Rattle.queue_logs.specs.Logs.{Log, Seen, total, weigh, only, any, ended, handedIn, handedOut, mayTake, taker, before, sureIn, sureOut, mayIn, mayOut, Says, SaysEmpty, says-empty, says-empty-closed, says-is-empty, SaysFull, push-full-said, displaces-said, is-full-said, SaysClosed, push-closed-said, force-closed-said, pop-closed-said, is-closed-said, close-no-said, SaysOpen, pushed-said, forced-said, displaces-open, empty-said, is-closed-no, close-yes-said, FromNowhere, Twice, Overtaken, EmptyBeside, FullBeside, ClosedNever, OpenAfter, WrongCount, too-many, beyond, too-few, SaysRoom, pushed-into, forced-into, is-full-no, RoomBeside, SomeBeside, NeverShown, unless}
 use Rattle.queue_logs.proofs.Sums.{total-le}
 
 -- so it is where begins stand no later and answers no earlier

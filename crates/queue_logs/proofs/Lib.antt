@@ -1,5 +1,6 @@
 pub mod Sums
 pub mod Late
+pub mod Working
 pub mod Account
 pub mod Rows
 pub mod Book

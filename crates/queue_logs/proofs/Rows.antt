@@ -2,7 +2,7 @@
 use Prim.Native.Nat.{ℕ, zero, suc, _+_, _≤_, _<_}
 use native.Mathlib.Omega.{arith}
 use mathlib.Core.Bool.{Bool, true, false, cond, not, true≢false}
-use mathlib.Core.List.{List, [], _∷_, _++_, append-nil}
+use mathlib.Core.List.{List, [], _∷_, _++_}
 use mathlib.Core.Logic.{_≢_, _⊎_, inl, inr}
 use mathlib.Core.Path.{_≡_, refl, sym, ap, _∙_, subst}
 use lib.Dec.{eqb, ltb}
@@ -14,7 +14,7 @@ use Rattle.queue_plain.specs.Plain.{Queue, Reply, answerOf, takenBy, givenBack,
 use Rattle.queue_plain.specs.Story.{itemsOf}
 use Rattle.queue_plain.specs.Plain as plain
 use Rattle.queue_plain.proofs.Answers.{none-of}
-use Rattle.queue_logs.specs.Logs.{Line, Log, total, weigh, only, any, ended, handedIn, handedOut, mayTake, before, sureIn, sureOut, mayIn, mayOut, Says, SaysEmpty, says-empty, says-empty-closed, says-is-empty, SaysFull, push-full-said, displaces-said, is-full-said, SaysClosed, push-closed-said, force-closed-said, pop-closed-said, is-closed-said, close-no-said, SaysOpen, pushed-said, forced-said, displaces-open, empty-said, is-closed-no, close-yes-said, FullBeside, ClosedNever, OpenAfter, WrongCount, too-many, beyond, too-few, SaysRoom, pushed-into, forced-into, is-full-no, RoomBeside, SomeBeside, NeverShown, unless, FromNowhere, Twice, Overtaken, EmptyBeside}
+use Rattle.queue_logs.specs.Logs.{Line, Log, weigh, only, any, ended, handedIn, handedOut, mayTake, before, sureIn, sureOut, mayIn, mayOut, SaysEmpty, says-empty, says-empty-closed, says-is-empty, SaysFull, push-full-said, displaces-said, is-full-said, SaysClosed, push-closed-said, force-closed-said, pop-closed-said, is-closed-said, close-no-said, SaysOpen, pushed-said, forced-said, displaces-open, empty-said, is-closed-no, close-yes-said, FullBeside, ClosedNever, OpenAfter, WrongCount, too-many, beyond, too-few, SaysRoom, pushed-into, forced-into, is-full-no, RoomBeside, SomeBeside, NeverShown, unless, FromNowhere, Twice, Overtaken, EmptyBeside}
 use Rattle.queue_logs.proofs.Sums.{total-le, total-lt, total-some, weigh-append, weigh-one, weigh-none, weigh-first, only-own, weigh-any, weigh-front, total-but}
 use Rattle.queue_logs.proofs.Account.{Account, AskedOf}
 

@@ -1,15 +1,15 @@
 -- Each row is shown by some log: by computing.
-use Prim.Native.Nat.{ℕ, zero, suc, _+_, _≤_, _<_}
+use Prim.Native.Nat.{ℕ, zero, suc, _≤_, _<_}
 use native.Mathlib.Omega.{arith}
 use mathlib.Core.Bool.{Bool, true, false, cond}
 use mathlib.Core.List.{List, [], _∷_}
 use mathlib.Core.Logic.{_≢_}
-use mathlib.Core.Path.{_≡_, refl, ap}
+use mathlib.Core.Path.{_≡_, refl}
 use lib.Dec.{eqb}
 use lib.ListN.{length, getD}
 use Rattle.queue_entries.specs.declared.Call.{Call}
-use Rattle.queue_entries.specs.declared.Call.the-variants.{Push, ForcePush, Pop, Len, IsEmpty, IsFull, Close, IsClosed}
-use Rattle.queue_plain.specs.Plain.{Reply, Pushed, Empty, EmptyAndClosed, Yes, No, Full, Closed, Displaced, Popped, Count}
+use Rattle.queue_entries.specs.declared.Call.the-variants.{Push, Pop, Len, IsEmpty, Close, IsClosed}
+use Rattle.queue_plain.specs.Plain.{Reply, Pushed, Empty, Yes, No, Full, Popped, Count}
 use Rattle.queue_plain.specs.Story.{itemsOf}
 use Rattle.queue_logs.specs.Logs.{Line, Log, nobody, total, weigh, only, any, handedIn, before, FromNowhere, Twice, Overtaken, EmptyBeside, says-empty, FullBeside, push-full-said, ClosedNever, is-closed-said, OpenAfter, pushed-said, WrongCount, too-many, too-few, RoomBeside, pushed-into, SomeBeside}
 

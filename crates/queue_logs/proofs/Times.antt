@@ -11,12 +11,13 @@ use lib.ListN.{length, take}
 use borrow.Author.Tests.{eq-eqb, ne-eqb}
 use Rattle.queue_entries.specs.declared.Call.{Call}
 use Rattle.queue_entries.specs.declared.Call.the-variants.{Close}
-use Rattle.queue_plain.specs.Plain.{Reply, Yes, putBy, takenBy}
-use Rattle.queue_plain.specs.Story.{Element, Begun, Does, Story, Change, Doing, Known, fresh, doingWith, itemsOf, knownWith, known, queueAt, followedFrom}
-use Rattle.queue_plain.proofs.Stories.{followed-end, known-act, each-own, queue-act}
+use Rattle.queue_plain.specs.Plain.{Reply, Yes, putBy, takenBy, meaningOf}
+use Rattle.queue_plain.specs.Story.{Element, Begun, Does, Story, Change, Doing, Known, fresh, doingWith, itemsOf, known, queueAt, followedFrom}
+use Rattle.queue_plain.proofs.Stories.{followed-end, known-act, each-own}
 use Rattle.queue_logs.specs.Logs.{NeverShown, weigh, any, ended, taker, logOf}
 use Rattle.queue_logs.proofs.Account.{AskedOf, unread}
-use Rattle.queue_logs.proofs.Acts.{busyWith, busyIn, putsWith, takesWith, HeldBy, Accounted, never}
+use Rattle.queue_logs.proofs.Working.{Working, same-call}
+use Rattle.queue_logs.proofs.Acts.{busyWith, busyIn, Accounted, never}
 
 -- ---- lists
 
@@ -89,16 +90,9 @@ module _ {E : Type 0} (worker : E → ℕ) (change : E → Change) (answered : E
   abbrev busyAt : ℕ → Story E → Bool
   busyAt = busyIn worker change answered stays sees limit held capacity
 
-  -- A call under way: it has put in at most its item, and taken out at most one, if it is a pop or a force_push.
-  pub record Working (s : Story E) (w : ℕ) : Type 0 where
-    pub call : Call
-    pub calls : after s .each w .calls ≡ call ∷ []
-    pub put-most : (f : ℕ → ℕ) → weigh f (after s .each w .puts) ≤ weigh f (itemsOf (call ∷ []))
-    pub took-most : (f : ℕ → ℕ) → ((v : ℕ) → f v ≤ 1) → weigh f (after s .each w .takes) ≤ taker (call ∷ [])
-
   -- At a time at which these workers are busy.
   pub record TimeBy (busy : ℕ → Bool) (s : Story E) : Type 0 where
-    pub working : (w : ℕ) → busy w ≡ true → Working s w
+    pub working : (w : ℕ) → busy w ≡ true → Working worker change capacity s w
     pub fits : length (after s .queue .items) + held s ≤ limit
     pub holds : (held s ≡ 0) ⊎ ((w : ℕ) × (busy w ≡ true) × (held s ≤ weigh any (after s .each w .takes)))
 
@@ -122,21 +116,30 @@ module _ {E : Type 0} (worker : E → ℕ) (change : E → Change) (answered : E
         → (n : ℕ) × (after s .each (worker e) .begun < n) × (n ≤ length s) × AskedOf limit (held (take n s)) (queueAt worker change capacity n s) call r
     pub shut : call ≡ Close → after (s ++ Does e ∷ []) .queue .closed ≡ true
 
+  -- by what its replies mean
+  pub answering : (s : Story E) (e : E) (c : Call) (r : Reply) (more replies : List Reply) → replies ≡ r ∷ more → after s .each (worker e) .calls ≡ c ∷ []
+      → after (s ++ Does e ∷ []) .each (worker e) .puts ≡ meaningOf (putBy (itemsOf (after s .each (worker e) .calls))) replies
+      → after (s ++ Does e ∷ []) .each (worker e) .takes ≡ meaningOf takenBy replies
+      → (after s .each (worker e) .calls ≡ Close ∷ [] → after (s ++ Does e ∷ []) .queue .closed ≡ true)
+      → (unread sees c r ≡ false → (n : ℕ) × (after s .each (worker e) .begun < n) × (n ≤ length s) × AskedOf limit (held (take n s)) (queueAt worker change capacity n s) c r)
+      → Answering s e r
+  answering s e c r more replies is its put took shut moment =
+      record {
+        call = c;
+        calls = its;
+        put = put ∙ ap (meaningOf (putBy (itemsOf (after s .each (worker e) .calls)))) is ∙ ap (λ (l : List Call). putBy (itemsOf l) r) its;
+        took = took ∙ ap (meaningOf takenBy) is;
+        moment = moment;
+        shut = λ q. shut (its ∙ ap (λ (z : Call). z ∷ []) q);
+      }
+
   -- ---- so that it is accounted for
   module _ (s : Story E) (e : E) (was : Time s) (now : Time (s ++ Does e ∷ [])) (a : Acting s e) (said : (r : Reply) (more : List Reply) → answered e ≡ r ∷ more → Answering s e r) where
     own : after (s ++ Does e ∷ []) .each (worker e) ≡ doingWith (change e) (after s .queue) (after s .each (worker e))
     own = each-own worker change capacity s e
 
-    mine : Working s (worker e)
+    mine : Working worker change capacity s (worker e)
     mine = was .working (worker e) (a .under-way)
-
-    headC : Call → List Call → Call
-    headC d [] = d
-    headC d (c ∷ l) = c
-
-    same-call : (c d : Call) → c ∷ [] ≡ d ∷ [] → c ≡ d
-    unfolding headC
-    same-call c d q = ap (headC c) q
 
     busy-yet : answered e ≡ [] → busyAt (worker e) (s ++ Does e ∷ []) ≡ true
     busy-yet q =

@@ -6,17 +6,15 @@ use mathlib.Core.Bool.{Bool, true, false, cond, true≢false}
 use mathlib.Core.List.{List, [], _∷_, _++_, append-nil, append-assoc}
 use mathlib.Core.Logic.{_≢_, _⊎_, inl, inr}
 use mathlib.Core.Path.{_≡_, refl, sym, ap, _∙_, subst}
-use lib.Dec.{eqb, ltb}
-use lib.ListN.{length, take, drop}
+use lib.ListN.{length, take}
 use Rattle.queue_entries.specs.declared.Call.{Call}
-use Rattle.queue_entries.specs.declared.Call.the-variants.{Close}
-use Rattle.queue_plain.specs.Plain.{Queue, Reply, Yes, answerOf, takenBy, givenBack, meaningOf}
-use Rattle.queue_plain.specs.Story.{Element, Begun, Does, Story, Change, Known, fresh, itemsOf, knownWith, followedFrom}
-use Rattle.queue_logs.specs.Logs.{Line, Log, NeverShown, total, weigh, any, ended, unless, handedIn, handedOut, mayTake, taker, nobody, begins, answers, lineWith, logOf}
-use Rattle.queue_logs.proofs.Sums.{total-le, total-same, weigh-append, weigh-none, weigh-one}
+use Rattle.queue_plain.specs.Plain.{Queue, Reply, takenBy, givenBack, meaningOf}
+use Rattle.queue_plain.specs.Story.{Element, Begun, Does, Story, Change, fresh, itemsOf, followedFrom}
+use Rattle.queue_logs.specs.Logs.{Line, Log, NeverShown, total, weigh, any, ended, unless, handedOut, nobody, begins, answers, lineWith, logOf}
+use Rattle.queue_logs.proofs.Sums.{weigh-append, weigh-none, weigh-one}
 use Rattle.queue_logs.proofs.Account.{Account}
 use Rattle.queue_logs.proofs.Rows.{never-shown}
-use Rattle.queue_logs.proofs.Book.{Book, its, inNow, outNow, bookWith, bookFrom, Fact, Along, Asked, Right, Kept, kept-act, kept-begin, kept-on, upd-same, upd-else}
+use Rattle.queue_logs.proofs.Book.{Book, its, inNow, outNow, bookWith, bookFrom, Fact, Along, Asked, Kept, kept-act, kept-begin, kept-on, upd-same, upd-else}
 
 -- What stays as a story goes on.
 pub record Later (o u : Book) : Type 0 where

@@ -2,13 +2,13 @@
 use Prim.Native.Nat.{ℕ, zero, suc, _+_, _≤_, _<_}
 use mathlib.Core.Bool.{Bool, true, false, cond}
 use mathlib.Core.List.{List, [], _∷_}
-use mathlib.Core.Logic.{_≢_, _⊎_}
+use mathlib.Core.Logic.{_≢_}
 use mathlib.Core.Path.{_≡_}
 use lib.Dec.{eqb, ltb}
 use lib.ListN.{length}
 use Rattle.queue_entries.specs.declared.Call.{Call}
 use Rattle.queue_entries.specs.declared.Call.the-variants as call
-use Rattle.queue_plain.specs.Plain.{Reply, Pushed, Empty, EmptyAndClosed, Yes, No, Full, Closed, Displaced, Popped, Count, meaningOf, takenBy, givenBack}
+use Rattle.queue_plain.specs.Plain.{Reply, Pushed, Empty, EmptyAndClosed, Yes, No, Full, Closed, Displaced, Count, meaningOf, takenBy, givenBack}
 use Rattle.queue_plain.specs.Story.{Element, Begun, Does, Story, Change, Known, fresh, itemsOf, followedFrom}
 
 -- One call of it.

@@ -37,6 +37,10 @@ said e = saidAt (e .after)
 abbrev pub singleLog : Definition → ℕ → List ℕ → Log
 singleLog d workers s = logOf actor changeOf said 1 (storyOf d workers s)
 
--- Every number of workers, every schedule, every log seen of it; of capacity 1, and closed stays closed. (A push that answers Full beside a pop under way shows no row: that pop has not answered.)
+-- Every log seen of this schedule shows none of the rows; of capacity 1, and closed stays closed. (A push that answers Full beside a pop under way shows no row: that pop has not answered.)
+abbrev pub ShowsNoneOf : Definition → ℕ → List ℕ → Type 0
+ShowsNoneOf d workers s = (seen : Log) → Seen (singleLog d workers s) seen → NeverShown 1 true true seen
+
+-- Every number of workers, every schedule.
 abbrev pub ShowsNone : Definition → Type 0
-ShowsNone d = (workers : ℕ) → Allowed workers → (s : List ℕ) (seen : Log) → Seen (singleLog d workers s) seen → NeverShown 1 true true seen
+ShowsNone d = (workers : ℕ) → Allowed workers → (s : List ℕ) → ShowsNoneOf d workers s

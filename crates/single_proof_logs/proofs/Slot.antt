@@ -1,5 +1,5 @@
 -- What no log of the one-slot queue shows: by what every reached machine and its story have behind them, kept along every schedule.
-use Prim.Native.Nat.{ℕ, zero, suc, _+_, _-_, _≤_, _<_}
+use Prim.Native.Nat.{ℕ, zero, suc, _+_, _-_, _≤_}
 use native.Mathlib.Omega.{arith}
 use mathlib.Core.Bool.{Bool, true, false, cond, not, true≢false}
 use mathlib.Core.List.{List, [], _∷_, _++_, map, append-assoc}
@@ -16,13 +16,13 @@ use Rattle.queue_plain.specs.Plain.{Reply, Queue, answerOf, fullOf}
 use Rattle.queue_plain.specs.Plain as plain
 use Rattle.queue_plain.specs.Story.{Begun, Does, Doing, itemsOf, begunIn, elementsBy, actsIn, knownFrom, followedFrom}
 use Rattle.queue_plain.proofs.Stories.{capacity-is, each-own, known-count, queue-now}
-use Rattle.queue_plain.proofs.Answers.{none-of}
 use Rattle.queue_schedules.proofs.Histories.{entries-lead}
 use Rattle.queue_schedules.proofs.Splits.{no-split}
-use Rattle.queue_logs.specs.Logs.{NeverShown, weigh, any, ended, taker}
+use Rattle.queue_logs.specs.Logs.{NeverShown, weigh, any, ended}
 use Rattle.queue_logs.specs.Logs as logs
 use Rattle.queue_logs.proofs.Account.{AskedOf}
-use Rattle.queue_logs.proofs.Times.{Working, TimeBy, Answering, Along, along-first, along-begun, along-act, never-along}
+use Rattle.queue_logs.proofs.Working.{Working, nothing, entered, took, swapped, same-call, same-reply, no-reply, split-at}
+use Rattle.queue_logs.proofs.Times.{TimeBy, Answering, answering, Along, along-first, along-begun, along-act, never-along}
 use Rattle.queue_logs.proofs.Late.{never-late}
 use Rattle.single_places.specs.declared.Answer.{Answer}
 use Rattle.single_places.specs.declared.Answer.the-variants.{Yes, No}
@@ -48,9 +48,6 @@ use Rattle.single_proof_demand2.proofs.Hands.{pop-in-progress}
 use Rattle.single_proof_plain.proofs.Work.{Work, Due, moment-own}
 use Rattle.single_proof_plain.proofs.Slot.{room-some}
 use Rattle.single_proof_plain.proofs.Told.{Told, Bits, bits, told-act, told-begun}
-
-no-reply : {P : Type 0} {r : Reply} {more : List Reply} → [] ≡ r ∷ more → P
-no-reply e = absurd (true≢false (sym (ap ended e)))
 
 -- Where an act leads to that answers.
 said-idle : (p : Place) (r : Reply) (more : List Reply) → saidAt p ≡ r ∷ more → (x : Answer) × (p ≡ Idle x) × (replyOf x ≡ r ∷ more)
@@ -120,70 +117,41 @@ busy-begun call.IsFull = refl
 busy-begun call.Close = refl
 busy-begun call.IsClosed = refl
 
-headC : Call → List Call → Call
-headC d [] = d
-headC d (c ∷ l) = c
-
-same-call : (c d : Call) → c ∷ [] ≡ d ∷ [] → c ≡ d
-unfolding headC
-same-call c d q = ap (headC c) q
-
-headR : Reply → List Reply → Reply
-headR d [] = d
-headR d (r ∷ l) = r
-
 -- ---- what a call under way has put in and taken out
 module _ (st : Story) (v w : ℕ) where
-  pub record Within : Type 0 where
-    pub call : Call
-    pub put : List ℕ
-    pub took : List ℕ
-    pub work : Work st w call put took
-    pub put-most : (f : ℕ → ℕ) → weigh f put ≤ weigh f (itemsOf (call ∷ []))
-    pub took-most : (f : ℕ → ℕ) → ((u : ℕ) → f u ≤ 1) → weigh f took ≤ taker (call ∷ [])
+  abbrev Busy : Type 0
+  Busy = Working actor changeOf 1 st w
 
-  nothing : (c : Call) → Work st w c [] [] → Within
-  unfolding weigh
-  nothing c o = record { call = c; put = []; took = []; work = o; put-most = λ f. omega arith; took-most = λ f small. omega arith }
+  still : (c : Call) → Work st w c [] [] → Busy
+  still c o = nothing actor changeOf 1 st w c o
 
-  entered : (c : Call) → Work st w c (itemsOf (c ∷ [])) [] → Within
-  unfolding weigh
-  entered c o = record { call = c; put = itemsOf (c ∷ []); took = []; work = o; put-most = λ f. omega arith; took-most = λ f small. omega arith }
+  in-now : (c : Call) → Work st w c (itemsOf (c ∷ [])) [] → Busy
+  in-now c o = entered actor changeOf 1 st w c (itemsOf (c ∷ [])) refl o
 
-  swapping : (x u : ℕ) → Work st w (call.ForcePush x) (itemsOf (call.ForcePush x ∷ [])) (u ∷ []) → Within
-  unfolding weigh
-  swapping x u o =
-      record {
-        call = call.ForcePush x;
-        put = itemsOf (call.ForcePush x ∷ []);
-        took = u ∷ [];
-        work = o;
-        put-most = λ f. omega arith;
-        took-most = λ f small. omega (arith, small u);
-      }
+  both-done : (x u : ℕ) → Work st w (call.ForcePush x) (itemsOf (call.ForcePush x ∷ [])) (u ∷ []) → Busy
+  both-done x u o = swapped actor changeOf 1 st w (call.ForcePush x) (itemsOf (call.ForcePush x ∷ [])) u refl refl o
 
-  taking : (u : ℕ) → Work st w call.Pop [] (u ∷ []) → Within
-  unfolding weigh
-  taking u o = record { call = call.Pop; put = []; took = u ∷ []; work = o; put-most = λ f. omega arith; took-most = λ f small. omega (arith, small u) }
+  out-now : (u : ℕ) → Work st w call.Pop [] (u ∷ []) → Busy
+  out-now u o = took actor changeOf 1 st w call.Pop u refl o
 
-  within-at : (p : Place) → viewOf p .busy ≡ true → Due st v w p → Within
-  within-at (Idle a) h o = absurd (true≢false (sym h))
-  within-at (A1 x) h o = nothing (call.Push x) o
-  within-at (A2 x) h o = entered (call.Push x) (o .work)
-  within-at A3 h o = entered (call.Push (o .0)) (o .1 .work)
-  within-at (B1 z x) h o = nothing (call.ForcePush x) o
-  within-at (B2 x) h o = entered (call.ForcePush x) (o .work)
-  within-at B3 h o = entered (call.ForcePush (o .0)) (o .1 .work)
-  within-at (B4 x) h o = swapping x v (o .work)
-  within-at (B5 old) h o = swapping (o .0) old (o .1 .work)
-  within-at (C1 z) h o = nothing call.Pop o
-  within-at C2 h o = taking v (o .work)
-  within-at (C3 u) h o = taking u (o .work)
-  within-at Len1 h o = nothing call.Len o
-  within-at Empty1 h o = nothing call.IsEmpty o
-  within-at Full1 h o = nothing call.IsFull o
-  within-at Close1 h o = nothing call.Close o
-  within-at IsClosed1 h o = nothing call.IsClosed o
+  working-at : (p : Place) → viewOf p .busy ≡ true → Due st v w p → Busy
+  working-at (Idle a) h o = absurd (true≢false (sym h))
+  working-at (A1 x) h o = still (call.Push x) o
+  working-at (A2 x) h o = in-now (call.Push x) (o .work)
+  working-at A3 h o = in-now (call.Push (o .0)) (o .1 .work)
+  working-at (B1 z x) h o = still (call.ForcePush x) o
+  working-at (B2 x) h o = in-now (call.ForcePush x) (o .work)
+  working-at B3 h o = in-now (call.ForcePush (o .0)) (o .1 .work)
+  working-at (B4 x) h o = both-done x v (o .work)
+  working-at (B5 old) h o = both-done (o .0) old (o .1 .work)
+  working-at (C1 z) h o = still call.Pop o
+  working-at C2 h o = out-now v (o .work)
+  working-at (C3 u) h o = out-now u (o .work)
+  working-at Len1 h o = still call.Len o
+  working-at Empty1 h o = still call.IsEmpty o
+  working-at Full1 h o = still call.IsFull o
+  working-at Close1 h o = still call.Close o
+  working-at IsClosed1 h o = still call.IsClosed o
 
   -- a call takes out before it puts in, or in one act
   taken-first : (p : Place) → isRead (accessOf p) ≡ true → Due st v w p → known st .each w .puts ≡ cond (eqb (length (itemOf (accessOf p))) 1) (itemsOf (known st .each w .calls)) []
@@ -245,34 +213,25 @@ module _ (room : ℕ) (q : Queue) (one : q .capacity ≡ 1) where
   asked-room call.Close fits h e = eqb-false (length (q .items)) (q .capacity) h (e ∙ sym one)
   asked-room call.IsClosed fits h e = eqb-false (length (q .items)) (q .capacity) h (e ∙ sym one)
 
-answering : (st : Story) (e : Event) (x : Answer) (r : Reply) (more : List Reply) → replyOf x ≡ r ∷ more → Answered st e x → Meant st e x
-    → ((n : ℕ) → n ≤ length st → length (queueAt n st .items) + roomTaken (take n st) ≤ 1) → Answering actor changeOf said true true 1 roomTaken 1 st e r
-unfolding headR
-answering st e x r more is a m fits =
-    record {
-      call = a .call;
-      calls = a .its;
-      put =
-          m .put ∙ ap (plain.meaningOf (plain.putBy (itemsOf (known st .each (e .worker) .calls)))) is
-          ∙ ap (λ (l : List Call). plain.putBy (itemsOf l) r) (a .its);
-      took = m .took ∙ ap (plain.meaningOf plain.takenBy) is;
-      moment = λ u. (a .moment, a .begun, a .inside, asks);
-      shut = λ q. m .closed (a .its ∙ ap (λ (z : Call). z ∷ []) q);
-    }
-  where
-    one : queueAt (a .moment) st .capacity ≡ 1
-    one = capacity-is actor changeOf 1 (take (a .moment) st)
+module _ (st : Story) (e : Event) (x : Answer) (r : Reply) (more : List Reply) (is : replyOf x ≡ r ∷ more) (a : Answered st e x)
+    (fits : (n : ℕ) → n ≤ length st → length (queueAt n st .items) + roomTaken (take n st) ≤ 1) where
+  asks : AskedOf 1 (roomTaken (take (a .moment) st)) (queueAt (a .moment) st) (a .call) r
+  asks =
+      let room = roomTaken (take (a .moment) st) in
+      let q = queueAt (a .moment) st in
+      let one : q .capacity ≡ 1 = capacity-is actor changeOf 1 (take (a .moment) st) in
+      record {
+        asked = askedAt (a .moment) st (a .call);
+        items = asked-items room q (a .call) .0;
+        closed = asked-items room q (a .call) .1;
+        full = asked-full room q one (a .call);
+        room = asked-room room q one (a .call) (fits (a .moment) (a .inside));
+        says = same-reply (answerOf (askedAt (a .moment) st (a .call)) (a .call)) r [] more (a .plain ∙ is);
+      }
 
-    asks : AskedOf 1 (roomTaken (take (a .moment) st)) (queueAt (a .moment) st) (a .call) r
-    asks =
-        record {
-          asked = askedAt (a .moment) st (a .call);
-          items = asked-items (roomTaken (take (a .moment) st)) (queueAt (a .moment) st) (a .call) .0;
-          closed = asked-items (roomTaken (take (a .moment) st)) (queueAt (a .moment) st) (a .call) .1;
-          full = asked-full (roomTaken (take (a .moment) st)) (queueAt (a .moment) st) one (a .call);
-          room = asked-room (roomTaken (take (a .moment) st)) (queueAt (a .moment) st) one (a .call) (fits (a .moment) (a .inside));
-          says = ap (headR r) (a .plain ∙ is);
-        }
+  says : Meant st e x → Answering actor changeOf said true true 1 roomTaken 1 st e r
+  says m =
+      answering actor changeOf said true true 1 roomTaken 1 st e (a .call) r more (replyOf x) is (a .its) (m .put) (m .took) (m .closed) (λ u. (a .moment, a .begun, a .inside, asks))
 
 -- ---- along every schedule
 module _ (workers : ℕ) where
@@ -291,15 +250,7 @@ module _ (workers : ℕ) where
   time-of : (m : Machine) (st : Story) → Told workers m st → TimeBy actor changeOf said true true 1 roomTaken 1 (busyOf m) st
   time-of m st o =
       record {
-        working =
-            λ w h.
-            let t = within-at st (m .single .value) w (stood m w) h (o .dues w) in
-            record {
-              call = t .call;
-              calls = t .work .its;
-              put-most = λ f. omega (arith, ap (weigh f) (t .work .puts), t .put-most f);
-              took-most = λ f small. omega (arith, ap (weigh f) (t .work .takes), t .took-most f small);
-            };
+        working = λ w h. working-at st (m .single .value) w (stood m w) h (o .dues w);
         fits = omega (arith, at .scene .long, at .scene .room, room-most (at .l) (at .b));
         holds = go (roomTaken st) refl;
       }
@@ -399,11 +350,6 @@ module _ (workers : ℕ) where
   both-after : Allowed workers → (s : List ℕ) → Told workers (machineAfter source workers s) (storyOf source workers s) × Kept (machineAfter source workers s) (storyOf source workers s)
   both-after a s = entries-lead single-queue (elementsBy eventsOf) (λ (m : Machine) (st : Story). Told workers m st × Kept m st) one-entry s (freshOf workers) [] 0 (first-both a)
 
-  split-at : (n : ℕ) (l : Story) → l ≡ take n l ++ drop n l
-  split-at zero l = refl
-  split-at (suc n) [] = refl
-  split-at (suc n) (x ∷ l) = ap (λ (z : Story). x ∷ z) (split-at n l)
-
   -- the tight log
   never-in : Allowed workers → (s : List ℕ) → NeverShown 1 true true (singleLog source workers s)
   never-in a s =
@@ -411,8 +357,9 @@ module _ (workers : ℕ) where
       (λ earlier later e r more split is.
       let z = said-idle (e .after) r more is in
       let t = both .0 .answers earlier later e (z .0) split (z .1) in
-      answering earlier e (z .0) r more (z .2) (t .0) (t .1)
-      (λ n i. both .1 .times (take n earlier) (drop n earlier ++ Does e ∷ later) (split ∙ ap (λ (l : Story). l ++ Does e ∷ later) (split-at n earlier) ∙ append-assoc (take n earlier) (drop n earlier) (Does e ∷ later)) .fits))
+      says earlier e (z .0) r more (z .2) (t .0)
+      (λ n i. both .1 .times (take n earlier) (drop n earlier ++ Does e ∷ later) (split ∙ ap (λ (l : Story). l ++ Does e ∷ later) (split-at n earlier) ∙ append-assoc (take n earlier) (drop n earlier) (Does e ∷ later)) .fits)
+      (t .1))
     where
       both : Told workers (machineAfter source workers s) (storyOf source workers s) × Kept (machineAfter source workers s) (storyOf source workers s)
       both = both-after a s

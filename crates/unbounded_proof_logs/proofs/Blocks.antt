@@ -1,29 +1,28 @@
 -- What no log of the unbounded queue shows: by what every reached machine and its story have behind them, kept along every schedule.
-use Prim.Native.Nat.{ℕ, zero, suc, _+_, _≤_, _<_}
+use Prim.Native.Nat.{ℕ, _+_, _<_}
 use native.Mathlib.Omega.{arith}
 use mathlib.Core.Bool.{Bool, true, false, cond, not, true≢false}
-use mathlib.Core.List.{List, [], _∷_, _++_, append-assoc}
+use mathlib.Core.List.{List, [], _∷_, _++_}
 use mathlib.Core.Logic.{_≢_, _⊎_, inl, inr}
 use mathlib.Core.Path.{_≡_, refl, sym, ap, _∙_, subst}
 use lib.Dec.{eqb}
-use lib.ListN.{length, take, drop, length-append}
+use lib.ListN.{length, take, length-append}
 use borrow.Author.Tests.{eqb-true}
 use Rattle.queue_entries.specs.Entries.{entryOf}
 use Rattle.queue_entries.specs.declared.Call.{Call}
 use Rattle.queue_entries.specs.declared.Call.the-variants as call
 use Rattle.queue_entries.specs.declared.Entry.{Entry}
-use Rattle.queue_entries.specs.declared.Order.the-variants.{Begin, Act}
-use Rattle.queue_entries.specs.declared.Entry.the-variants.{Asks}
-use Rattle.queue_plain.specs.Plain.{Reply, Queue, answerOf, fullOf}
+use Rattle.queue_plain.specs.Plain.{Reply, answerOf}
 use Rattle.queue_plain.specs.Plain as plain
 use Rattle.queue_plain.specs.Story.{Begun, Does, itemsOf, elementsBy, actsIn, knownFrom, followedFrom}
 use Rattle.queue_plain.specs.Story as stories
 use Rattle.queue_schedules.proofs.Histories.{entries-lead}
 use Rattle.queue_schedules.proofs.Splits.{no-split}
-use Rattle.queue_logs.specs.Logs.{Log, NeverShown, weigh, any, ended, taker}
+use Rattle.queue_logs.specs.Logs.{NeverShown, ended}
 use Rattle.queue_logs.proofs.Account.{AskedOf, unread}
 use Rattle.queue_logs.proofs.Few.{few-items, few-first}
-use Rattle.queue_logs.proofs.Times.{Working, TimeBy, Answering, Along, along-first, along-begun, along-act, never-along}
+use Rattle.queue_logs.proofs.Working.{Working, nothing, entered, took, same-reply, no-reply}
+use Rattle.queue_logs.proofs.Times.{TimeBy, Answering, answering, Along, along-first, along-begun, along-act, never-along}
 use Rattle.queue_logs.proofs.Late.{never-late}
 use Rattle.unbounded_words.specs.declared.Index.{Index}
 use Rattle.unbounded_words.specs.Words.{sizes, markedOf}
@@ -39,7 +38,7 @@ use Rattle.unbounded_acts.specs.Acts.{actOf, leave}
 use Rattle.unbounded_machine.specs.declared.Machine.{Machine}
 use Rattle.unbounded_machine.specs.declared.Event.{Event}
 use Rattle.unbounded_machine.specs.Machine.{freshOf, blockAt, slotAt}
-use Rattle.unbounded_machine.specs.Turn.{begun, stored, turnWith, actedAt, blockUsed, slotUsed}
+use Rattle.unbounded_machine.specs.Turn.{begun, turnWith, actedAt, blockUsed, slotUsed}
 use Rattle.unbounded_machine.specs.History.{event, eventsOf}
 use Rattle.unbounded_demands.proofs.Refusals.{unbounded-queue}
 use Rattle.unbounded_demands.specs.Notions.{Allowed, machineAfter, takersOf, Sign, Plain, Exchange7, Exchange4, Pops, Pushes, HandsOut, signOf, popsTo, takesBy, itemBy}
@@ -47,14 +46,11 @@ use Rattle.unbounded_demands.specs.Notions as notions
 use Rattle.unbounded_demands.specs.Stories.{Story, storyOf, Task, Rests, Starts, Tries, Given, Enters, Entered, Frees, Takes, LoadsHead, Counts, LooksAtTail, taskOf, closes, changeOf, actor, known, queueAt, replyOf}
 use Rattle.unbounded_demands.specs.Demands.{Answered, AtBlocksEnd, Meant}
 use Rattle.unbounded_logs.specs.Logs.{said, saidAt, unboundedLog, ShowsNone}
-use Rattle.unbounded_proof_demand2.proofs.Turns.{Turned, began, used, took, stood, turned}
+use Rattle.unbounded_proof_demand2.proofs.Turns.{Turned, began, used, took as took-block, stood, turned}
 use Rattle.unbounded_proof_demand2.proofs.Demand2.{table, fresh-stood, fresh-reached}
 use Rattle.unbounded_proof_plain.proofs.Steps.{stored-stood, stored-else, begun-stood, begun-else}
 use Rattle.unbounded_proof_plain.proofs.Work.{Work, FreesBy, Due}
 use Rattle.unbounded_proof_plain.proofs.Told.{Told, told-kept}
-
-no-reply : {P : Type 0} {r : Reply} {more : List Reply} → [] ≡ r ∷ more → P
-no-reply e = absurd (true≢false (sym (ap ended e)))
 
 -- Where an act leads to that answers.
 said-idle : (p : Place) (r : Reply) (more : List Reply) → saidAt (taskOf p) ≡ r ∷ more → (x : Answer) × (p ≡ Idle x) × (replyOf x ≡ r ∷ more)
@@ -242,10 +238,6 @@ busy-begun call.IsFull = refl
 busy-begun call.Close = refl
 busy-begun call.IsClosed = refl
 
-headR : Reply → List Reply → Reply
-headR d [] = d
-headR d (r ∷ l) = r
-
 -- a close's act on an open queue answers yes
 close-yes : (e : Ends) (k : ℕ) (g : Block) (s : Slot) (lose : Bool) → markedOf (e .tail) ≡ false → actOf sizes e k g s Close1 lose .place ≡ Idle Yes
 unfolding leave
@@ -253,30 +245,19 @@ close-yes e k g s lose h = rw h
 
 -- ---- what a call under way has put in and taken out
 module _ (st : Story) (i : Index) (w : ℕ) where
-  pub record Within : Type 0 where
-    pub call : Call
-    pub put : List ℕ
-    pub took : List ℕ
-    pub work : Work st w call put took
-    pub put-most : (f : ℕ → ℕ) → weigh f put ≤ weigh f (itemsOf (call ∷ []))
-    pub took-most : (f : ℕ → ℕ) → ((u : ℕ) → f u ≤ 1) → weigh f took ≤ taker (call ∷ [])
+  abbrev Under : Type 0
+  Under = Working actor changeOf 0 st w
 
-  nothing : (c : Call) → Work st w c [] [] → Within
-  unfolding weigh
-  nothing c o = record { call = c; put = []; took = []; work = o; put-most = λ f. omega arith; took-most = λ f small. omega arith }
+  still : (c : Call) → Work st w c [] [] → Under
+  still c o = nothing actor changeOf 0 st w c o
 
-  entered : (c : Call) → Work st w c (itemsOf (c ∷ [])) [] → Within
-  unfolding weigh
-  entered c o = record { call = c; put = itemsOf (c ∷ []); took = []; work = o; put-most = λ f. omega arith; took-most = λ f small. omega arith }
+  in-now : (c : Call) → Work st w c (itemsOf (c ∷ [])) [] → Under
+  in-now c o = entered actor changeOf 0 st w c (itemsOf (c ∷ [])) refl o
 
-  taking : (u : ℕ) → Work st w call.Pop [] (u ∷ []) → Within
-  unfolding weigh
-  taking u o = record { call = call.Pop; put = []; took = u ∷ []; work = o; put-most = λ f. omega arith; took-most = λ f small. omega (arith, small u) }
-
-  frees : (a : Answer) → FreesBy st w a → Within
+  frees : (a : Answer) → FreesBy st w a → Under
   frees Nothing o = absurd o
-  frees Pushed o = entered (o .1 .call) (o .1 .decided .work)
-  frees (Closed x) o = nothing (o .call) (o .decided .work)
+  frees Pushed o = in-now (o .1 .call) (o .1 .decided .work)
+  frees (Closed x) o = still (o .call) (o .decided .work)
   frees (Popped v) o = absurd o
   frees Empty o = absurd o
   frees PopClosed o = absurd o
@@ -339,19 +320,19 @@ module _ (st : Story) (i : Index) (w : ℕ) where
   busy-task Close1 h = tt
   busy-task IsClosed1 h = tt
 
-  within : (k : Task) → Busy k → Due st i w k → Within
+  working : (k : Task) → Busy k → Due st i w k → Under
   unfolding Busy
-  within (Rests a) b o = absurd b
-  within (Starts c) b o = nothing c o
-  within (Tries x) b o = nothing (o .call) (o .work)
-  within (Given t x) b o = nothing (o .0 .call) (o .0 .work)
-  within (Enters x) b o = entered (o .call) (o .decided .work)
-  within Entered b o = entered (o .1 .call) (o .1 .decided .work)
-  within (Frees a) b o = frees a o
-  within Takes b o = taking (o .v) (o .decided .work)
-  within (LoadsHead t) b o = nothing call.Len (o .0)
-  within (Counts t h) b o = nothing call.Len (o .0)
-  within (LooksAtTail h) b o = nothing call.IsEmpty (o .0)
+  working (Rests a) b o = absurd b
+  working (Starts c) b o = still c o
+  working (Tries x) b o = still (o .call) (o .work)
+  working (Given t x) b o = still (o .0 .call) (o .0 .work)
+  working (Enters x) b o = in-now (o .call) (o .decided .work)
+  working Entered b o = in-now (o .1 .call) (o .1 .decided .work)
+  working (Frees a) b o = frees a o
+  working Takes b o = took actor changeOf 0 st w call.Pop (o .v) refl (o .decided .work)
+  working (LoadsHead t) b o = still call.Len (o .0)
+  working (Counts t h) b o = still call.Len (o .0)
+  working (LooksAtTail h) b o = still call.IsEmpty (o .0)
 
   -- a call that takes out puts nothing in
   taken-first : (s : Sign) (p : Place) (x : List ℕ) → takesBy s (signOf p) ≡ true → Due st i w (taskOf p) → known st .each w .puts ≡ cond (eqb (length (itemBy s (signOf p))) 1) x []
@@ -364,45 +345,31 @@ module _ (st : Story) (i : Index) (w : ℕ) where
 
 -- ---- an answer, of `Answered` or `AtBlocksEnd`, and `Meant`
 module _ (limit : ℕ) where
-  answering : (st : Story) (e : Event) (x : Answer) (r : Reply) (more : List Reply) → replyOf x ≡ r ∷ more → Answered st e x ⊎ AtBlocksEnd st e x → Meant st e x → length st < limit
-      → Answering actor changeOf said true false limit (λ (z : Story). 0) 0 st e r
-  unfolding headR
-  answering st e x r more is (inl a) m short =
+  abbrev Answers : Story → Event → Reply → Type 0
+  Answers = Answering actor changeOf said true false limit (λ (z : Story). 0) 0
+
+  asks : (st : Story) (e : Event) (x : Answer) (r : Reply) (more : List Reply) → replyOf x ≡ r ∷ more → length st < limit → (a : Answered st e x)
+      → AskedOf limit 0 (stories.queueAt actor changeOf 0 (a .moment) st) (a .call) r
+  asks st e x r more is short a =
+      let q = queueAt (a .moment) st in
       record {
-        call = a .call;
-        calls = a .its;
-        put =
-            m .put ∙ ap (plain.meaningOf (plain.putBy (itemsOf (known st .each (e .worker) .calls)))) is
-            ∙ ap (λ (l : List Call). plain.putBy (itemsOf l) r) (a .its);
-        took = m .took ∙ ap (plain.meaningOf plain.takenBy) is;
-        moment = λ u. (a .moment, a .begun, a .inside, asks);
-        shut = λ q. m .closed (a .its ∙ ap (λ (z : Call). z ∷ []) q);
+        asked = q;
+        items = refl;
+        closed = refl;
+        full = λ h. absurd (omega (arith, eqb-true (length (q .items)) (length (q .items) + 1) h));
+        room = λ h z. absurd (omega (arith, z, short, few-items actor changeOf 0 (take (a .moment) st), few-first (a .moment) st));
+        says = same-reply (answerOf q (a .call)) r [] more (a .plain ∙ is);
       }
-    where
-      asks : AskedOf limit 0 (stories.queueAt actor changeOf 0 (a .moment) st) (a .call) r
-      asks =
-          record {
-            asked = queueAt (a .moment) st;
-            items = refl;
-            closed = refl;
-            full = λ h. absurd (omega (arith, eqb-true (length (queueAt (a .moment) st .items)) (length (queueAt (a .moment) st .items) + 1) h));
-            room = λ h q. absurd (omega (arith, q, short, few-items actor changeOf 0 (take (a .moment) st), few-first (a .moment) st));
-            says = ap (headR r) (a .plain ∙ is);
-          }
-  answering st e x r more is (inr a) m short =
-      record {
-        call = call.IsEmpty;
-        calls = a .its;
-        put =
-            m .put ∙ ap (plain.meaningOf (plain.putBy (itemsOf (known st .each (e .worker) .calls)))) is
-            ∙ ap (λ (l : List Call). plain.putBy (itemsOf l) r) (a .its);
-        took = m .took ∙ ap (plain.meaningOf plain.takenBy) is;
-        moment =
-            λ u.
-            let no : r ≡ plain.No = ap (headR r) (sym is ∙ ap replyOf (a .says-no)) in
-            absurd (true≢false (sym (ap (unread false call.IsEmpty) no) ∙ u));
-        shut = λ q. m .closed (a .its ∙ ap (λ (z : Call). z ∷ []) q);
-      }
+
+  says : (st : Story) (e : Event) (x : Answer) (r : Reply) (more : List Reply) → replyOf x ≡ r ∷ more → length st < limit → Answered st e x ⊎ AtBlocksEnd st e x → Meant st e x → Answers st e r
+  says st e x r more is short (inl a) m =
+      answering actor changeOf said true false limit (λ (z : Story). 0) 0 st e (a .call) r more (replyOf x) is (a .its) (m .put) (m .took) (m .closed)
+      (λ u. (a .moment, a .begun, a .inside, asks st e x r more is short a))
+  -- a no of is_empty, which is not read
+  says st e x r more is short (inr a) m =
+      let no : r ≡ plain.No = same-reply r plain.No more [] (sym is ∙ ap replyOf (a .says-no)) in
+      answering actor changeOf said true false limit (λ (z : Story). 0) 0 st e call.IsEmpty r more (replyOf x) is (a .its) (m .put) (m .took) (m .closed)
+      (λ u. absurd (true≢false (sym (ap (unread false call.IsEmpty) no) ∙ u)))
 
 -- ---- along every schedule
 module _ (workers : ℕ) (a : Allowed workers) (limit : ℕ) where
@@ -418,15 +385,7 @@ module _ (workers : ℕ) (a : Allowed workers) (limit : ℕ) where
   time-of : (m : Machine) (st : Story) → So m st → length st < limit → TimeBy actor changeOf said true false limit (λ (z : Story). 0) 0 (busyOf m) st
   time-of m st o short =
       record {
-        working =
-            λ w h.
-            let t = within st (m .ends .tail) w (taskOf (stood m w)) (busy-task st (m .ends .tail) w (stood m w) h) (o .dues w) in
-            record {
-              call = t .call;
-              calls = t .work .its;
-              put-most = λ f. omega (arith, ap (weigh f) (t .work .puts), t .put-most f);
-              took-most = λ f small. omega (arith, ap (weigh f) (t .work .takes), t .took-most f small);
-            };
+        working = λ w h. working st (m .ends .tail) w (taskOf (stood m w)) (busy-task st (m .ends .tail) w (stood m w) h) (o .dues w);
         fits = omega (arith, short, few-items actor changeOf 0 st);
         holds = inl refl;
       }
@@ -481,8 +440,8 @@ module _ (workers : ℕ) (a : Allowed workers) (limit : ℕ) where
             stored-stood m w (m .slots) i j _ row ∙ ap (λ (p : Place). actOf sizes (m .ends) i (blockAt (m .blocks) i) (slotAt sizes (m .slots) i j) p lose .place) at
             ∙ close-yes (m .ends) i (blockAt (m .blocks) i) (slotAt sizes (m .slots) i j) lose open-yet),
       )
-  both-kept m st en next o k (took w asked lose b t f) =
-      let new = told-kept workers (a .worker-most) m st en next o (took w asked lose b t f) in (
+  both-kept m st en next o k (took-block w asked lose b t f) =
+      let new = told-kept workers (a .worker-most) m st en next o (took-block w asked lose b t f) in (
         new,
         act-kept m st o k w (b .busy) next new (λ v far. stored-else m w _ _ 0 _ v far)
             (λ at open-yet. absurd (true≢false (sym t ∙ ap (λ (p : Place). viewOf sizes p .takes) at))),
@@ -527,7 +486,7 @@ module _ (workers : ℕ) (a : Allowed workers) (limit : ℕ) where
       (λ earlier later e r more split is.
       let z = said-idle (e .after) r more is in
       let t = both .0 .answers earlier later e (z .0) split (z .1) in
-      answering limit earlier e (z .0) r more (z .2) (t .0) (t .1) (omega (arith, short, ap length split, length-append earlier (Does e ∷ later))))
+      says limit earlier e (z .0) r more (z .2) (omega (arith, short, ap length split, length-append earlier (Does e ∷ later))) (t .0) (t .1))
     where
       both : So (machineAfter table workers s) (storyOf table workers s) × Kept (machineAfter table workers s) (storyOf table workers s)
       both = both-after s
