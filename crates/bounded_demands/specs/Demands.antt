@@ -70,7 +70,7 @@ use Rattle.bounded_sequences.specs.Sequences.{walkOf}
 use Rattle.bounded_walks.specs.declared.Sized.{Sized}
 use Rattle.bounded_walks.specs.declared.Sized.the-variants.{Sequences}
 use Rattle.bounded_walks.specs.Walks.{sizeOf}
-use Rattle.bounded_demands.specs.Notions.{Tried, entriesOf, Face, Definition, ofWidth, Allowed, machineAfter, actsOf, Acts, acts, InHand, HandsOut, Reads, Truth, itemAt, itemsOf, tailersOf, takersOf, LatestIn, ItemIn, WrittenIn, CallClaim, tally, talliedBy, readsIn, waiting, stock, unreadBy, lesser, Exchanges, lostIn, struck, Fifo, Words, Plain, since, turnLength, windowLength, widestLength, KeepsWindow, KeepsWindowOf, KeepsWidestWindow, KeepsPrompt, rounds, sleepingPush, sleepingPop, valueAt, queueAnswer, LenAnswers, mostOf, OtherHand, passed, ownActs, LetsGo, has, ClosesYes, NoClaims, ClaimsOn, withRecords, AllowedWith, Asking, leftByAll, takenByAll, Promises, freshIn, pushingIn, stockedIn, sixtyFour, atTheEnd}
+use Rattle.bounded_demands.specs.Notions.{Tried, entriesOf, Face, Definition, ofWidth, Allowed, machineAfter, actsOf, Acts, acts, InHand, HandsOut, Reads, Truth, itemAt, itemsOf, tailersOf, takersOf, LatestIn, ItemIn, WrittenIn, CallClaim, tally, talliedBy, readsIn, waiting, stock, unreadBy, lesser, Exchanges, lostIn, struck, Fifo, Words, Plain, since, turnLength, windowLength, widestLength, KeepsWindow, KeepsWindowOf, KeepsWidestWindow, KeepsPrompt, rounds, sleepingPush, sleepingPop, valueAt, queueAnswer, LenAnswers, mostOf, mostBeside, OtherHand, OtherHandAt, slotNeeded, passed, ownActs, LetsGo, has, ClosesYes, NoClaims, ClaimsOn, withRecords, AllowedWith, Asking, leftByAll, takenByAll, Promises, freshIn, pushingIn, stockedIn, sixtyFour, atTheEnd}
 use Rattle.bounded_walks.specs.Walks.{sizeRefusal}
 use Rattle.bounded_walks.specs.declared.Sized.the-variants as sized
 use Rattle.queue_entries.specs.declared.Told.the-variants as answer
@@ -84,7 +84,7 @@ use Rattle.bounded_demands.specs.Stories.{Story, storyOf, oneStep, OnlyS
 use Rattle.bounded_demands.specs.Lending.{Lending, Promise, promised, holding, holds-did, holds-ran, steps, heldIn, actsLent, refusalOf, stepByStep, Doing, leftLent, allTakenLent, stepOn, runOn, freshLent, pushingLent, stockedLent, noneLent, spentLent}
 use Rattle.bounded_demands.specs.Foretold.{foretold, Telling, toldBy, toldIn, tellings, asForetold}
 use Rattle.bounded_demands.specs.Eight.{closedF, caseF}
-use Rattle.bounded_demands.specs.Attained.{Case, seenBy, seenIn, attained, exactly}
+use Rattle.bounded_demands.specs.Attained.{Case, seenBy, seenIn, attained, exactly, seenBeside, attainedBeside, exactlyBeside}
 use Rattle.bounded_demands.specs.Walkings.{WalkFace, item10, Walking, walkings, walked}
 use Rattle.bounded_demands.specs.Shelves.{Shelf, shelving, stockAtMost, fullest}
 use Rattle.bounded_demands.specs.Notions.{goesBack, WayBack, watches, causesIn, Caused, otherHand, deed, DoneSince, LatestBy, Tells, Alone, goingsBack}
@@ -498,6 +498,29 @@ pub record Demand3 (d : Definition) (m : Machine) (h : List Event) : Type 0 wher
   pub lets-go : HandLetsGo d m
   pub as-run : PassedAsRun d m
 
+-- Whom a call waits for: the call of worker w needs a slot, and another worker has that slot in hand.
+pub record WaitsFor (m : Machine) (w : ℕ) : Type 0 where
+  pub slot : ℕ
+  pub needed : slotNeeded (fixedOn (m .ring)) (endsOn (m .ring)) (placeOf (m .workers) w) ≡ slot ∷ []
+  pub hand : OtherHandAt m w slot
+
+-- A call that alone is scheduled, with eight acts left on the meter, has ended after so many acts; or another worker has in hand the very slot that the present word of the call's own end
+-- points to, and then it is a push, a force_push or a pop. So len, is_empty, is_full, close and is_closed wait for nobody, and nobody waits for a slot that it does not need.
+abbrev pub WaitsAt : Definition → Machine → Type 0
+WaitsAt d m =
+    (w : ℕ) → m .meter + 8 ≤ meterMost
+    → places.viewOf (placeOf (d .run m 0 (acts w (mostBeside (placeOf (m .workers) w))) .machine .workers) w) .busy ≡ true → WaitsFor m w
+
+-- Of every machine that a schedule reaches; at any width, one that keeps the widest window.
+abbrev pub WaitsForItsSlot : Definition → Type 0
+WaitsForItsSlot d =
+    (capacity workers edition : ℕ) → AllowedWith (d .records) capacity workers edition → (s : List ℕ) → WaitsAt d (machineAfter d capacity workers edition s)
+
+abbrev pub WaitsForItsSlotInWindow : Definition → Type 0
+WaitsForItsSlotInWindow d =
+    (capacity workers edition : ℕ) → AllowedWith (d .records) capacity workers edition → (s : List ℕ) → KeepsWidestWindow d (freshWith (d .records) capacity workers edition) [] s
+    → WaitsAt d (machineAfter d capacity workers edition s)
+
 abbrev pub ScheduledAlone : Definition → Type 0
 ScheduledAlone d =
     (capacity workers edition : ℕ) → AllowedWith (d .records) capacity workers edition → (s : List ℕ)
@@ -510,6 +533,10 @@ Attained = map seenIn attained ≡ map (λ (c : Case). exactly (c .place) (c .nu
 -- The same by any table of what an act does at each place, in any edition, so that it can be said of both widths and of a table with a slip.
 abbrev pub AttainedBy : Table → ℕ → Type 0
 AttainedBy table edition = map (seenBy table edition) attained ≡ map (λ (c : Case). exactly (c .place) (c .number)) attained
+
+-- Beside another's hand push's seven and force_push's eight are attained; the other numbers of `mostBeside` are those of `Attained`.
+abbrev pub AttainedBeside : Table → ℕ → Type 0
+AttainedBeside table edition = map (seenBeside table edition) attainedBeside ≡ map (λ (c : Case). exactlyBeside (c .place) (c .number)) attainedBeside
 
 -- In words: seven acts at most, and three with a slot in hand. It is met by `mostOf`.
 abbrev pub AtMost : (Place → ℕ) → Type 0

@@ -694,6 +694,33 @@ mostOf IsClosed1 = 1
 abbrev pub OtherHand : Machine → ℕ → Type 0
 OtherHand m w = (v : ℕ) × (v ≢ w) × (t : Stamp) × InHand (placeOf (m .workers) v) t
 
+-- Another worker has slot i in hand.
+abbrev pub OtherHandAt : Machine → ℕ → ℕ → Type 0
+OtherHandAt m w i = (v : ℕ) × (v ≢ w) × (t : Stamp) × InHand (placeOf (m .workers) v) t × (indexOf (fixedOn (m .ring)) t ≡ i)
+
+-- The slot that the present word of an end points to.
+abbrev pub slotAtEnd : Fixed → Ends → Moved → List ℕ
+slotAtEnd f e Neither = []
+slotAtEnd f e Tail = indexOf f (e .tail) ∷ []
+slotAtEnd f e Head = indexOf f (e .head) ∷ []
+
+-- The slot that a call needs: in push, force_push and pop, with none in hand, the one at its own end. Every other call needs none.
+abbrev pub slotNeeded : Fixed → Ends → Place → List ℕ
+slotNeeded f e p = cond (viewOf p .stand .stamps) (cond (viewOf p .stand .hand) [] (slotAtEnd f e (viewOf p .stand .end))) []
+
+-- A word of tail that is out of date, beside a hand on the slot that it points to: P2, where the stamp is loaded, goes to P6 or F6, and these back to P1.
+abbrev pub byTail : Moved → ℕ
+byTail Neither = 0
+byTail Tail = 1
+byTail Head = 0
+
+abbrev pub roundMore : Place → ℕ
+roundMore p = cond (viewOf p .stand .stamps) (cond (eqb (viewOf p .stand .far) 2) (byTail (viewOf p .stand .end)) 0) 0
+
+-- Most acts to the end while others have other slots in hand: push at most 7, force_push 8, all other calls as before.
+abbrev pub mostBeside : Place → ℕ
+mostBeside p = mostOf p + roundMore p
+
 -- Entries one after another, refused ones passed over.
 unfoldable pub passed : Definition → Machine → List ℕ → Machine
 passed d m [] = m

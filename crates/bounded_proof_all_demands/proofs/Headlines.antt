@@ -9,7 +9,7 @@ use Rattle.bounded_stock.specs.Stock.{talliedOf}
 use Rattle.bounded_sixteen_bits.specs.SixteenBits.{narrowed}
 use Rattle.bounded_demands.specs.Notions.{sixtyFour, sixteen, promisesOf, pushingIn, atTheEnd, withRecords, ofWidth, document01, stock, windowLength, widestLength, cutTo}
 use Rattle.bounded_orders.specs.Orders.{recordsMost}
-use Rattle.bounded_demands.specs.Demands.{Demand1, OnlyOneCount, UnderEverySchedule, NothingWraps, ActByAct, WholeSchedules, LenTrue, ScheduledAlone, Attained, AsForetold, StockUnderEverySchedule, MostStock, StockAttained, TallyAsSaid, TalliedUnderEverySchedule, EndsTold, LossesUnderEverySchedule, CountsAside, CloseHolds, OnceClosedAnywhere, ClosedIsLast, CaseF, WithinTheWindow, WithinWindowOf, NoWider, NoWiderAnywhere, PromptKeeps, AloneKeeps, RoundsClaim, NotIdle, WindowLengths, SameNumbers, NumbersFit, AsHeld, OnlyTheActing, LentUnbroken, OnlyOneLent, LentThroughout, SixtyFourRecords, LentDemand1, LentEachNumber, LentMixed, Mixed, MixedInWindow, OnlyOneMeets, EachNumber, AttainedBy, AtMost, AsForetoldBy, EnumsBothWays}
+use Rattle.bounded_demands.specs.Demands.{Demand1, OnlyOneCount, UnderEverySchedule, NothingWraps, ActByAct, WholeSchedules, LenTrue, ScheduledAlone, WaitsForItsSlot, WaitsForItsSlotInWindow, Attained, AttainedBeside, AsForetold, StockUnderEverySchedule, MostStock, StockAttained, TallyAsSaid, TalliedUnderEverySchedule, EndsTold, LossesUnderEverySchedule, CountsAside, CloseHolds, OnceClosedAnywhere, ClosedIsLast, CaseF, WithinTheWindow, WithinWindowOf, NoWider, NoWiderAnywhere, PromptKeeps, AloneKeeps, RoundsClaim, NotIdle, WindowLengths, SameNumbers, NumbersFit, AsHeld, OnlyTheActing, LentUnbroken, OnlyOneLent, LentThroughout, SixtyFourRecords, LentDemand1, LentEachNumber, LentMixed, Mixed, MixedInWindow, OnlyOneMeets, EachNumber, AttainedBy, AtMost, AsForetoldBy, EnumsBothWays}
 use Rattle.bounded_demands.specs.Eight.{EightRuns}
 use Rattle.bounded_demands.specs.Lending.{item11, promised}
 use Rattle.bounded_demands.proofs.Refusals.{demand1, only-one-count}
@@ -18,7 +18,7 @@ use Rattle.bounded_demands.proofs.EachNumber.{only-one-meets, each-number, each
 use Rattle.bounded_demands.proofs.Answers.{enums-both-ways}
 use Rattle.bounded_demands.proofs.Window.{window-lengths}
 use Rattle.bounded_demands.proofs.Fit.{numbers-fit}
-use Rattle.bounded_demands.proofs.Attained.{numbers-attained, attained-by, at-most}
+use Rattle.bounded_demands.proofs.Attained.{numbers-attained, attained-by, attained-beside, at-most}
 use Rattle.bounded_demands.proofs.Foretold.{as-foretold, as-foretold-by}
 use Rattle.bounded_demands.proofs.Shelves.{most-stock}
 use Rattle.bounded_demands.proofs.CaseF.{case-f}
@@ -38,6 +38,7 @@ use Rattle.bounded_proof_demand2.proofs.Losses.{ends-told, losses}
 use Rattle.bounded_proof_demand2.proofs.Aside.{counts-aside}
 use Rattle.bounded_proof_demand2.proofs.Closing.{close-holds, once-closed-anywhere, closed-is-last}
 use Rattle.bounded_proof_demand3.proofs.Demand3.{demand3, within-the-window}
+use Rattle.bounded_proof_demand3.proofs.Waits.{waits-for-its-slot, waits-in-window}
 use Rattle.bounded_proof_lent.proofs.Padded.{as-held, sixty-four-records}
 use Rattle.bounded_proof_lent.proofs.Acting.{only-the-acting, only-one-lent}
 use Rattle.bounded_proof_lent.proofs.Throughout.{lent-throughout, lent-unbroken-still}
@@ -100,6 +101,13 @@ pub demand-3-exact :
     AtMost mostOf × AttainedBy (actOf SixtyFour) 2 × AttainedBy (actOf Sixteen) 1 × AttainedBy (actOf Sixteen) 2
     × AsForetoldBy SixtyFour (actOf SixtyFour) 2 × AsForetoldBy Sixteen (actOf Sixteen) 1 × AsForetoldBy Sixteen (actOf Sixteen) 2
 demand-3-exact = (at-most, attained-by .0, attained-by .1, attained-by .2, as-foretold-by .0, as-foretold-by .1, as-foretold-by .2)
+
+-- Whom a call waits for: alone it ends, unless another worker has in hand the very slot that its own end points to; held, lent, and at sixteen bits within the window. The numbers are attained.
+pub waiting :
+    WaitsForItsSlot document01 × WaitsForItsSlot (withRecords recordsMost SixtyFour) × WaitsForItsSlotInWindow (ofWidth Sixteen)
+    × AttainedBeside (actOf SixtyFour) 1 × AttainedBeside (actOf SixtyFour) 2 × AttainedBeside (actOf Sixteen) 1 × AttainedBeside (actOf Sixteen) 2
+waiting =
+    (waits-for-its-slot workersMost, waits-for-its-slot recordsMost, waits-in-window Sixteen workersMost, attained-beside .0, attained-beside .1, attained-beside .2, attained-beside .3)
 
 -- The eight runs on paper.
 pub on-paper : EightRuns
