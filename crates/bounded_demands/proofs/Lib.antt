@@ -13,3 +13,4 @@ pub mod Mixtures
 pub mod EachNumber
 pub mod Fit
 pub mod Answers
+pub mod Own

@@ -11,6 +11,7 @@ use Rattle.queue_entries.specs.declared.Call.{Call}
 use Rattle.queue_entries.specs.declared.Call.the-variants.{Close}
 use Rattle.queue_entries.specs.declared.Told.{Told}
 use Rattle.queue_entries.specs.Told.{told}
+use Rattle.queue_entries.specs.declared.Order.{Order}
 use Rattle.queue_entries.specs.declared.Order.the-variants.{Act}
 use Rattle.queue_entries.specs.declared.Entry.the-variants.{Unreadable, Asks}
 use Rattle.queue_entries.specs.Entries.{entryOf}
@@ -70,7 +71,7 @@ use Rattle.bounded_sequences.specs.Sequences.{walkOf}
 use Rattle.bounded_walks.specs.declared.Sized.{Sized}
 use Rattle.bounded_walks.specs.declared.Sized.the-variants.{Sequences}
 use Rattle.bounded_walks.specs.Walks.{sizeOf}
-use Rattle.bounded_demands.specs.Notions.{Tried, entriesOf, Face, Definition, ofWidth, Allowed, machineAfter, actsOf, Acts, acts, InHand, HandsOut, Reads, Truth, itemAt, itemsOf, tailersOf, takersOf, LatestIn, ItemIn, WrittenIn, CallClaim, tally, talliedBy, readsIn, waiting, stock, unreadBy, lesser, Exchanges, lostIn, struck, Fifo, Words, Plain, since, turnLength, windowLength, widestLength, KeepsWindow, KeepsWindowOf, KeepsWidestWindow, KeepsPrompt, rounds, sleepingPush, sleepingPop, valueAt, queueAnswer, LenAnswers, mostOf, mostBeside, OtherHand, OtherHandAt, slotNeeded, passed, ownActs, LetsGo, has, ClosesYes, NoClaims, ClaimsOn, withRecords, AllowedWith, Asking, leftByAll, takenByAll, Promises, freshIn, pushingIn, stockedIn, sixtyFour, atTheEnd}
+use Rattle.bounded_demands.specs.Notions.{Tried, entriesOf, Face, Definition, ofWidth, Allowed, machineAfter, actsOf, Acts, acts, InHand, HandsOut, Reads, Truth, itemAt, itemsOf, tailersOf, takersOf, LatestIn, ItemIn, WrittenIn, CallClaim, tally, talliedBy, readsIn, waiting, stock, unreadBy, lesser, Exchanges, lostIn, struck, Fifo, Words, Plain, since, turnLength, windowLength, widestLength, KeepsWindow, KeepsWindowOf, KeepsWidestWindow, KeepsPrompt, rounds, sleepingPush, sleepingPop, valueAt, queueAnswer, LenAnswers, mostOf, mostBeside, OtherHand, OtherHandAt, slotNeeded, lentOthers, passed, ownActs, LetsGo, has, ClosesYes, NoClaims, ClaimsOn, withRecords, AllowedWith, Asking, leftByAll, takenByAll, Promises, freshIn, pushingIn, stockedIn, sixtyFour, atTheEnd}
 use Rattle.bounded_walks.specs.Walks.{sizeRefusal}
 use Rattle.bounded_walks.specs.declared.Sized.the-variants as sized
 use Rattle.queue_entries.specs.declared.Told.the-variants as answer
@@ -653,6 +654,19 @@ CountsAside d =
     (m : Machine) (first second : ℕ)
     → (d .turn m first second .refusal ≡ d .turn (struck m) first second .refusal)
     × (struck (d .turn m first second .machine) ≡ struck (d .turn (struck m) first second .machine))
+
+-- ==== A step reads no other worker's record (refusal 6 aside, which the faces judge before it): with other records beside it, it is refused alike and leaves the same ring, the same meter and
+-- the same record of its own.
+pub record OwnRecordAlone (d : Definition) : Type 0 where
+  pub refusal : (m : Machine) (ys : List Worker) (w : ℕ) (o : Order) (first second : ℕ) → entryOf first second ≡ Asks w o → recordOf ys w ≡ recordOf (m .workers) w
+      → d .turn (lentOthers m ys) first second .refusal ≡ d .turn m first second .refusal
+  pub ring : (m : Machine) (ys : List Worker) (w : ℕ) (o : Order) (first second : ℕ) → entryOf first second ≡ Asks w o → recordOf ys w ≡ recordOf (m .workers) w
+      → d .turn (lentOthers m ys) first second .machine .ring ≡ d .turn m first second .machine .ring
+  pub meter : (m : Machine) (ys : List Worker) (w : ℕ) (o : Order) (first second : ℕ) → entryOf first second ≡ Asks w o → recordOf ys w ≡ recordOf (m .workers) w
+      → d .turn (lentOthers m ys) first second .machine .meter ≡ d .turn m first second .machine .meter
+  pub own : (m : Machine) (ys : List Worker) (w : ℕ) (o : Order) (first second : ℕ) → entryOf first second ≡ Asks w o → recordOf ys w ≡ recordOf (m .workers) w
+      → w < length ys → w < length (m .workers)
+      → recordOf (d .turn (lentOthers m ys) first second .machine .workers) w ≡ recordOf (d .turn m first second .machine .workers) w
 
 -- ==== A close that holds (document 02, item 6). Said of the same machines and acts.
 

@@ -698,6 +698,10 @@ OtherHand m w = (v : ℕ) × (v ≢ w) × (t : Stamp) × InHand (placeOf (m .wor
 abbrev pub OtherHandAt : Machine → ℕ → ℕ → Type 0
 OtherHandAt m w i = (v : ℕ) × (v ≢ w) × (t : Stamp) × InHand (placeOf (m .workers) v) t × (indexOf (fixedOn (m .ring)) t ≡ i)
 
+-- The machine with these records in place of its own.
+abbrev pub lentOthers : Machine → List Worker → Machine
+lentOthers m ys = record { ring = m .ring; workers = ys; count = m .count; meter = m .meter }
+
 -- The slot that the present word of an end points to.
 abbrev pub slotAtEnd : Fixed → Ends → Moved → List ℕ
 slotAtEnd f e Neither = []

@@ -9,7 +9,7 @@ use Rattle.bounded_stock.specs.Stock.{talliedOf}
 use Rattle.bounded_sixteen_bits.specs.SixteenBits.{narrowed}
 use Rattle.bounded_demands.specs.Notions.{sixtyFour, sixteen, promisesOf, pushingIn, atTheEnd, withRecords, ofWidth, document01, stock, windowLength, widestLength, cutTo}
 use Rattle.bounded_orders.specs.Orders.{recordsMost}
-use Rattle.bounded_demands.specs.Demands.{Demand1, OnlyOneCount, UnderEverySchedule, NothingWraps, ActByAct, WholeSchedules, LenTrue, ScheduledAlone, WaitsForItsSlot, WaitsForItsSlotInWindow, Attained, AttainedBeside, AsForetold, StockUnderEverySchedule, MostStock, StockAttained, TallyAsSaid, TalliedUnderEverySchedule, EndsTold, LossesUnderEverySchedule, CountsAside, CloseHolds, OnceClosedAnywhere, ClosedIsLast, CaseF, WithinTheWindow, WithinWindowOf, NoWider, NoWiderAnywhere, PromptKeeps, AloneKeeps, RoundsClaim, NotIdle, WindowLengths, SameNumbers, NumbersFit, AsHeld, OnlyTheActing, LentUnbroken, OnlyOneLent, LentThroughout, SixtyFourRecords, LentDemand1, LentEachNumber, LentMixed, Mixed, MixedInWindow, OnlyOneMeets, EachNumber, AttainedBy, AtMost, AsForetoldBy, EnumsBothWays}
+use Rattle.bounded_demands.specs.Demands.{Demand1, OnlyOneCount, UnderEverySchedule, NothingWraps, ActByAct, WholeSchedules, LenTrue, ScheduledAlone, OwnRecordAlone, WaitsForItsSlot, WaitsForItsSlotInWindow, Attained, AttainedBeside, AsForetold, StockUnderEverySchedule, MostStock, StockAttained, TallyAsSaid, TalliedUnderEverySchedule, EndsTold, LossesUnderEverySchedule, CountsAside, CloseHolds, OnceClosedAnywhere, ClosedIsLast, CaseF, WithinTheWindow, WithinWindowOf, NoWider, NoWiderAnywhere, PromptKeeps, AloneKeeps, RoundsClaim, NotIdle, WindowLengths, SameNumbers, NumbersFit, AsHeld, OnlyTheActing, LentUnbroken, OnlyOneLent, LentThroughout, SixtyFourRecords, LentDemand1, LentEachNumber, LentMixed, Mixed, MixedInWindow, OnlyOneMeets, EachNumber, AttainedBy, AtMost, AsForetoldBy, EnumsBothWays}
 use Rattle.bounded_demands.specs.Eight.{EightRuns}
 use Rattle.bounded_demands.specs.Lending.{item11, promised}
 use Rattle.bounded_demands.proofs.Refusals.{demand1, only-one-count}
@@ -18,6 +18,7 @@ use Rattle.bounded_demands.proofs.EachNumber.{only-one-meets, each-number, each
 use Rattle.bounded_demands.proofs.Answers.{enums-both-ways}
 use Rattle.bounded_demands.proofs.Window.{window-lengths}
 use Rattle.bounded_demands.proofs.Fit.{numbers-fit}
+use Rattle.bounded_demands.proofs.Own.{own-record}
 use Rattle.bounded_demands.proofs.Attained.{numbers-attained, attained-by, attained-beside, at-most}
 use Rattle.bounded_demands.proofs.Foretold.{as-foretold, as-foretold-by}
 use Rattle.bounded_demands.proofs.Shelves.{most-stock}
@@ -108,6 +109,10 @@ pub waiting :
     × AttainedBeside (actOf SixtyFour) 1 × AttainedBeside (actOf SixtyFour) 2 × AttainedBeside (actOf Sixteen) 1 × AttainedBeside (actOf Sixteen) 2
 waiting =
     (waits-for-its-slot workersMost, waits-for-its-slot recordsMost, waits-in-window Sixteen workersMost, attained-beside .0, attained-beside .1, attained-beside .2, attained-beside .3)
+
+-- A step reads no other worker's record, refusal 6 aside.
+pub reads-its-own : OwnRecordAlone document01 × OwnRecordAlone (withRecords recordsMost SixtyFour) × OwnRecordAlone (ofWidth Sixteen)
+reads-its-own = (own-record workersMost SixtyFour, own-record recordsMost SixtyFour, own-record workersMost Sixteen)
 
 -- The eight runs on paper.
 pub on-paper : EightRuns

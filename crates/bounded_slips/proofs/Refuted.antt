@@ -10,6 +10,8 @@ use Rattle.queue_entries.specs.declared.Entry.the-variants.{Unreadable}
 use Rattle.queue_entries.specs.Schedules.{runBy, searchBy, scheduleBy, historyBy}
 use Rattle.queue_entries.specs.Entries.{strayOf, orderOf, entryOf}
 use Rattle.queue_entries.specs.Limits.{all, inLimits}
+use Rattle.queue_entries.specs.declared.Call.the-variants as call
+use Rattle.queue_entries.specs.declared.Order.the-variants.{Begin}
 use Rattle.bounded_words.specs.declared.Stamp.{Stamp}
 use Rattle.bounded_words.specs.Words.{doubled, markOf, markedOf, unmarkedOf, plus, minus, withMark, nextOf, same, onePast, lapBehind, lapBehindOnePast, stamp}
 use Rattle.bounded_places.specs.declared.Answer.{Answer}
@@ -21,7 +23,7 @@ use Rattle.bounded_places.specs.Places.{inside}
 use Rattle.bounded_acts.specs.Acts.{forcedTail, goes, losing, exchangeOf, afterTail, tailTo, headTo, stampTo, valueTo, countOf}
 use Rattle.bounded_machine.specs.declared.Machine.{Machine}
 use Rattle.bounded_machine.specs.declared.Ran.{Ran}
-use Rattle.bounded_machine.specs.Machine.{emptySlots, stamped, freshSlots, idlers, freshWith, freshOf, refused, accepted}
+use Rattle.bounded_machine.specs.Machine.{emptySlots, stamped, freshSlots, idler, idlers, freshWith, freshOf, refused, accepted}
 use Rattle.bounded_machine.specs.Broken.{byRule, endsFit, placeFits, recordFits, recordsFit, ringFits, brokenWith, allIdle}
 use Rattle.bounded_machine.specs.Contents.{countOn, wrapped, itemOn, itemsOn, listOn}
 use Rattle.bounded_machine.specs.Turn.{recordAfter, begun, stored, actedBy, turnOfBy}
@@ -180,11 +182,16 @@ refuted =
           omega arith;
       in-the-way = λ i. no-hand (reached popAfterPush) 0 refl refl quiet (i 0 (omega arith) refl);
       waits-hand = λ i. let o = i 0 (omega arith) refl in no-hand (reached popAfterPush) 0 refl refl quiet (o .hand .0, o .hand .1, o .hand .2, o .hand .3);
-      waits-needed = λ i. let q : 0 ≡ 1 = ap length (i 1 (omega arith) refl .needed) in omega (arith, q);
+      waits-needed = λ i. let q : _≡_ {A = ℕ} 0 1 = ap length (i 1 (omega arith) refl .needed) in omega (arith, q);
       -- P6 answers at once
       attained-beside = λ a. let q : _≡_ {A = ℕ} 2 7 = ap (λ (l : List Sight). getD l 0 (exactly Len1 0) .acts-needed) a in omega arith;
       lets-go = λ l. holds-on (slipped neverLetsGo) (reached popInHand) 0 2 (acts 0 2) refl (l 0 (stamp 0) (acts 0 2) handO4 (let q : 2 ≤ 2 = omega arith in q));
       as-run = λ p. true≢false (ap (λ (m : Machine). busyAt m 0) (p (0 ∷ 5 ∷ []) refl));
+      own-record =
+          λ d.
+          let q : _≡_ {A = ℕ} 7 0 =
+          d .refusal (reached (trial none 1 [])) (record { place = Idle Nothing; differed = 0; failed = 1 } ∷ idler ∷ []) 1 (Begin (call.Push 5)) 16 5 refl refl in
+          omega arith;
       at-most = λ a. let q : 8 ≤ 7 = a (P2 Force (stamp 0) 0) .0 in omega arith;
       -- the row of Len3
       attained = λ a. let q : _≡_ {A = ℕ} 1 4 = ap (λ (l : List Sight). getD l 21 (exactly Len1 0) .acts-needed) a in omega arith;

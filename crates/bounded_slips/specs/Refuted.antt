@@ -10,7 +10,7 @@ use Rattle.bounded_machine.specs.declared.Event.{Event}
 use Rattle.bounded_machine.specs.Broken.{brokenOf}
 use Rattle.bounded_demands.specs.Notions.{Definition, Words, Plain, machineAfter, actsOf, acts, stock}
 use Rattle.bounded_demands.specs.Demands.{ClaimRule, OnceOut, OneHand, ReadsWritten, AnswersTrue, UntakenCounts, ContentsWait, PlainQueue, EmptyTrue, FullTrue, ActByAct, WholeSchedules, LenTrue, NeverRefused, AloneEnds, InTheWay, WaitsAt, HandLetsGo, PassedAsRun, StockRises, StockFalls, StockStays, StockByHands, StockIsNumber, StockMost, EndTold, LossesCounted, CountsAside, OnceClosed, NoneAfterClosed}
-use Rattle.bounded_demands.specs.Demands.{AtMost, AttainedBy, AttainedBeside, AsForetoldBy, EightWaysBack, AloneBackOnce, AloneKeeps, RoundsClaim}
+use Rattle.bounded_demands.specs.Demands.{AtMost, OwnRecordAlone, AttainedBy, AttainedBeside, AsForetoldBy, EightWaysBack, AloneBackOnce, AloneKeeps, RoundsClaim}
 use Rattle.bounded_slips.specs.Slips.{none, lostPushGoesOn, closedUnseen, unwrapped, tailUnmoved, unwritten, unstamped, fullUnseen, tailBeforeHead, lostForceKeepsItsWord, lostForceTakesTheHead, stampBeforeValue, stampUntested, readsAfterItsStore, releasesWithNext, neverLetsGo, emptyUnseen, handsOutAgain, popKeepsItsWord, lenLooksOnce, emptyTailFirst, fullHeadFirst, pushWritesLate, forceForgets, closedTooSoon, closeWaits, fallsWhenTaken, risesWhenWritten, forceUnread, popUncounted, bothBySchedule, forceUncounted, wonCounted, counting, unreset, forgotten, twice, toldBySchedule, weary, slipped, stockWith, deaf, refusing, forgetful, slower, actWith}
 
 -- A schedule for a machine of this capacity and edition with two workers, with this slip.
@@ -227,6 +227,8 @@ pub record Refuted : Type 0 where
   pub attained-beside : AttainedBeside (actWith fullUnseen) 1 → ⊥
   pub lets-go : HandLetsGo (slipped neverLetsGo) (reached popInHand) → ⊥
   pub as-run : PassedAsRun deaf (reached (trial none 1 [])) → ⊥
+  -- a step that reads another's record
+  pub own-record : OwnRecordAlone weary → ⊥
   pub at-most : AtMost slower → ⊥
   pub attained : AttainedBy (actWith lenLooksOnce) 1 → ⊥
   pub foretold : AsForetoldBy SixtyFour (actWith unstamped) 1 → ⊥
