@@ -880,6 +880,20 @@ pub record WalkToldBy (f : WalkFace) : Type 0 where
 abbrev pub WalkTold : Type 0
 WalkTold = WalkToldBy item10
 
+-- "The number of sequences is the answer", of any machine, any depth and any buffer; what is refused is told by its number. `size` tells that number and the bytes that the list needs, or the
+-- same refusal, which is never 22. Of any functions; met by `item10`.
+pub record WalkCountsBy (f : WalkFace) : Type 0 where
+  pub counted : (m : Machine) (depth : ℕ) (buffer : List ℕ) → f .refusal m depth (length buffer) ≡ 0 → f .told m depth buffer ≡ answer.Number (length (walkOf depth m))
+  pub refused : (m : Machine) (depth : ℕ) (buffer : List ℕ) → (f .refusal m depth (length buffer) ≡ 0 → ⊥) → f .told m depth buffer ≡ answer.Refused (f .refusal m depth (length buffer))
+  pub size-counted : (m : Machine) (depth room : ℕ) → f .refusal m depth room ≡ 0 → f .size m depth ≡ Sequences (length (walkOf depth m)) (length (bytesOf (walkOf depth m)))
+  pub size-refused : (m : Machine) (depth room number : ℕ) → f .refusal m depth room ≡ number → (number ≡ 0 → ⊥) → (number ≡ 22 → ⊥) → f .size m depth ≡ sized.Refused number
+  -- 22 is given exactly where nothing else is amiss and the list is longer than the buffer
+  pub short : (m : Machine) (depth room : ℕ) → f .refusal m depth room ≡ 22
+      → (f .size m depth ≡ Sequences (length (walkOf depth m)) (length (bytesOf (walkOf depth m)))) × (room < length (bytesOf (walkOf depth m)))
+
+abbrev pub WalkCounts : Type 0
+WalkCounts = WalkCountsBy item10
+
 -- Each of these numbers is given: of no act and of one more than a walk has; of the blank machine, one with nobody under way, a push under way and one whose meter is at its end.
 abbrev pub WalkEachNumber : WalkFace → Type 0
 WalkEachNumber f =

@@ -54,10 +54,10 @@ use Rattle.bounded_proof_causes.proofs.Causes.{every-retry, eight-ways}
 use Rattle.bounded_proof_causes.proofs.Alone.{alone-back-once, retries-always, retries-in-window}
 use Rattle.bounded_proof_causes.proofs.Said.{kept-as-said, kept-of-records}
 use Rattle.bounded_sequences.specs.Sequences.{walkOf}
-use Rattle.bounded_demands.specs.Demands.{WalksAll, WalkTold, WalkEachNumber, WalksCounted}
+use Rattle.bounded_demands.specs.Demands.{WalksAll, WalkTold, WalkCounts, WalkEachNumber, WalksCounted}
 use Rattle.bounded_demands.specs.Walkings.{item10}
 use Rattle.bounded_demands.proofs.Walkings.{walks-counted}
-use Rattle.bounded_proof_walks.proofs.Walks.{walks-all, walk-told}
+use Rattle.bounded_proof_walks.proofs.Walks.{walks-all, walk-told, walk-counts}
 use Rattle.bounded_demands.specs.Demands.{AnswersPlain, AnswersPlainInWindow, OneStep, OneStepInWindow, ClosesNotOneStep}
 use Rattle.bounded_proof_plain.proofs.Plain.{answers-plain, plain-in-window}
 use Rattle.bounded_proof_plain.proofs.Linearizable.{one-step, one-step-in-window}
@@ -165,8 +165,8 @@ pub widest-window : WithinWindowOf widestLength (ofWidth Sixteen) × PromptKeeps
 widest-window = (within-the-widest Sixteen workersMost, prompt-keeps widestLength Sixteen workersMost, no-wider, no-wider-anywhere)
 
 -- Walks: the list has every sequence of acts that goes so and no other, in order; what is answered and left in the buffer, each refusal given; and how many there are of some.
-pub every-sequence : WalksAll walkOf × WalkTold × WalkEachNumber item10 × WalksCounted
-every-sequence = (walks-all, walk-told, walk-each-number, walks-counted)
+pub every-sequence : WalksAll walkOf × WalkTold × WalkCounts × WalkEachNumber item10 × WalksCounted
+every-sequence = (walks-all, walk-told, walk-counts, walk-each-number, walks-counted)
 
 -- Records in the host's memory: up to 16 of them as the machine that holds them; in a step only the acting record changes; demands 2 and 3 for every number of records, lent throughout; case H of this machine.
 pub records-lent : AsHeld item11 × OnlyTheActing item11 × LentUnbroken item11 × OnlyOneLent (promised item11) × LentThroughout item11 × SixtyFourRecords item11
