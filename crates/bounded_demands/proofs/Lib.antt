@@ -14,3 +14,4 @@ pub mod EachNumber
 pub mod Fit
 pub mod Answers
 pub mod Own
+pub mod Exactly

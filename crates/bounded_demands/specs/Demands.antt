@@ -2,11 +2,14 @@
 -- The proofs are gathered in crates/bounded_proof_all_demands/proofs/Headlines.antt; docs/PROMISES.md says in plain words what each says and
 -- what not.
 use Prim.Native.Nat.{ℕ, suc, _+_, _*_, _-_, _%_, _≤_, _<_, _/_}
-use mathlib.Core.Bool.{Bool, true, false}
+use mathlib.Core.Bool.{Bool, true, false, not}
 use mathlib.Core.List.{List, [], _∷_, _++_, map, List·Memᴰ}
 use mathlib.Core.Path.{_≡_}
+use lib.Dec.{ltb}
 use lib.ListN.{length, take, drop}
-use Rattle.queue_entries.specs.Limits.{workersMost, meterMost}
+use Rattle.queue_entries.specs.Limits.{workersMost, meterMost, inLimits}
+use Rattle.queue_numbers.specs.Numbers.{on, firstOf}
+use Rattle.bounded_words.specs.Limits.{slotsMost, editionsMost}
 use Rattle.queue_entries.specs.declared.Call.{Call}
 use Rattle.queue_entries.specs.declared.Call.the-variants.{Close}
 use Rattle.queue_entries.specs.declared.Told.{Told}
@@ -71,7 +74,7 @@ use Rattle.bounded_sequences.specs.Sequences.{walkOf}
 use Rattle.bounded_walks.specs.declared.Sized.{Sized}
 use Rattle.bounded_walks.specs.declared.Sized.the-variants.{Sequences}
 use Rattle.bounded_walks.specs.Walks.{sizeOf}
-use Rattle.bounded_demands.specs.Notions.{Tried, entriesOf, Face, Definition, ofWidth, Allowed, machineAfter, actsOf, Acts, acts, InHand, HandsOut, Reads, Truth, itemAt, itemsOf, tailersOf, takersOf, LatestIn, ItemIn, WrittenIn, CallClaim, tally, talliedBy, readsIn, waiting, stock, unreadBy, lesser, Exchanges, lostIn, struck, Fifo, Words, Plain, since, turnLength, windowLength, widestLength, KeepsWindow, KeepsWindowOf, KeepsWidestWindow, KeepsPrompt, rounds, sleepingPush, sleepingPop, valueAt, queueAnswer, LenAnswers, mostOf, mostBeside, OtherHand, OtherHandAt, slotNeeded, lentOthers, passed, ownActs, LetsGo, has, ClosesYes, NoClaims, ClaimsOn, withRecords, AllowedWith, Asking, leftByAll, takenByAll, Promises, freshIn, pushingIn, stockedIn, sixtyFour, atTheEnd}
+use Rattle.bounded_demands.specs.Notions.{Tried, entriesOf, Face, Definition, ofWidth, Allowed, machineAfter, actsOf, Acts, acts, InHand, HandsOut, Reads, Truth, itemAt, itemsOf, tailersOf, takersOf, LatestIn, ItemIn, WrittenIn, CallClaim, tally, talliedBy, readsIn, waiting, stock, unreadBy, lesser, Exchanges, lostIn, struck, Fifo, Words, Plain, since, turnLength, windowLength, widestLength, KeepsWindow, KeepsWindowOf, KeepsWidestWindow, KeepsPrompt, rounds, sleepingPush, sleepingPop, valueAt, queueAnswer, LenAnswers, mostOf, mostBeside, OtherHand, OtherHandAt, slotNeeded, lentOthers, begins, unreadable, beginGrounds, actGrounds, entryGrounds, passed, ownActs, LetsGo, has, ClosesYes, NoClaims, ClaimsOn, withRecords, AllowedWith, Asking, leftByAll, takenByAll, Promises, freshIn, pushingIn, stockedIn, sixtyFour, atTheEnd}
 use Rattle.bounded_walks.specs.Walks.{sizeRefusal}
 use Rattle.bounded_walks.specs.declared.Sized.the-variants as sized
 use Rattle.queue_entries.specs.declared.Told.the-variants as answer
@@ -241,6 +244,26 @@ pub record Numbered {M D R : Type 0} (f : Face M D R) : Type 0 where
   pub run : (m : M) (s : List ℕ) → has (0 ∷ 3 ∷ 4 ∷ 5 ∷ 6 ∷ 7 ∷ 8 ∷ 9 ∷ 11 ∷ []) (f .refusalIn (f .run m s)) ≡ true
   pub contents : (m : M) (room : ℕ) → has (0 ∷ 4 ∷ 6 ∷ 10 ∷ []) (contentsRefusal (f .wide m) room) ≡ true
   pub capacity : (m : M) → has (0 ∷ 6 ∷ []) (capacityRefusal (f .wide m)) ≡ true
+
+-- Each number is given exactly when its ground holds and none before it, in document 01's order, of any machine and anything handed in. (Of a schedule's 9 and of its entries: `ListFirst`.)
+pub record RefusedExactly {M D R : Type 0} (f : Face M D R) : Type 0 where
+  pub make : (capacity workers edition : ℕ) → f .refusal (f .make capacity workers edition)
+      ≡ firstOf (on 1 (not (inLimits capacity slotsMost)) ∷ on 2 (not (inLimits workers workersMost)) ∷ on 18 (not (inLimits edition editionsMost)) ∷ [])
+  pub step : (m : M) (first second : ℕ) → f .refusal (f .step m first second) ≡ firstOf (on 6 (brokenOf (f .wide m)) ∷ entryGrounds (f .wide m) first second)
+  pub begin : (m : M) (first second : ℕ) → f .refusal (f .begin m first second)
+      ≡ firstOf (on 6 (brokenOf (f .wide m)) ∷ on 9 (not (begins first)) ∷ on 9 (unreadable first second) ∷ beginGrounds (f .wide m) first)
+  pub act : (m : M) (first second : ℕ) → f .refusal (f .act m first second)
+      ≡ firstOf (on 6 (brokenOf (f .wide m)) ∷ on 9 (begins first) ∷ on 9 (unreadable first second) ∷ actGrounds (f .wide m) first)
+  pub run : (m : M) (s : List ℕ) → (brokenOf (f .wide m) ≡ true → f .run m s ≡ f .ran 6 0 m) × (brokenOf (f .wide m) ≡ false → length s % 2 ≡ 1 → f .run m s ≡ f .ran 11 0 m)
+  pub contents : (m : M) (room : ℕ) → contentsRefusal (f .wide m) room
+      ≡ firstOf (on 6 (brokenOf (f .wide m)) ∷ on 4 (not (allIdle (f .wide m .workers))) ∷ on 10 (ltb room (countIn (f .wide m))) ∷ [])
+  pub capacity : (m : M) → capacityRefusal (f .wide m) ≡ firstOf (on 6 (brokenOf (f .wide m)) ∷ [])
+
+-- "Code 9 where the words differ anyway does what code 8 does": the same refusal, and the same machine after it.
+abbrev pub NineAsEight : Definition → Type 0
+NineAsEight d =
+    (m : Machine) (w : ℕ) (found expected : Stamp) → Exchanges (d .width) (fixedOn (m .ring)) (endsOn (m .ring)) (placeOf (m .workers) w) found expected → (found ≡ expected → ⊥)
+    → d .turn m (16 * w + 9) 0 ≡ d .turn m (16 * w + 8) 0
 
 -- The list is checked first (document 02, item 7): of a machine that is not broken and a schedule of whole entries.
 pub record ListFirst {M D R : Type 0} (f : Face M D R) : Type 0 where
