@@ -9,7 +9,7 @@ use Rattle.bounded_stock.specs.Stock.{talliedOf}
 use Rattle.bounded_sixteen_bits.specs.SixteenBits.{narrowed}
 use Rattle.bounded_demands.specs.Notions.{sixtyFour, sixteen, promisesOf, pushingIn, atTheEnd, withRecords, ofWidth, document01, stock, windowLength, widestLength, cutTo}
 use Rattle.bounded_orders.specs.Orders.{recordsMost}
-use Rattle.bounded_demands.specs.Demands.{Demand1, OnlyOneCount, UnderEverySchedule, NothingWraps, ActByAct, WholeSchedules, LenTrue, ScheduledAlone, OwnRecordAlone, WaitsForItsSlot, WaitsForItsSlotInWindow, Attained, AttainedBeside, AsForetold, StockUnderEverySchedule, MostStock, StockAttained, TallyAsSaid, TalliedUnderEverySchedule, EndsTold, LossesUnderEverySchedule, CountsAside, CloseHolds, OnceClosedAnywhere, ClosedIsLast, CaseF, WithinTheWindow, WithinWindowOf, NoWider, NoWiderAnywhere, PromptKeeps, AloneKeeps, RoundsClaim, NotIdle, WindowLengths, SameNumbers, NumbersFit, AsHeld, OnlyTheActing, LentUnbroken, OnlyOneLent, LentThroughout, SixtyFourRecords, LentDemand1, LentEachNumber, LentMixed, Mixed, MixedInWindow, OnlyOneMeets, EachNumber, AttainedBy, AtMost, AsForetoldBy, EnumsBothWays}
+use Rattle.bounded_demands.specs.Demands.{Demand1, RefusedExactly, NineAsEight, OnlyOneCount, UnderEverySchedule, NothingWraps, ActByAct, WholeSchedules, LenTrue, ScheduledAlone, OwnRecordAlone, WaitsForItsSlot, WaitsForItsSlotInWindow, Attained, AttainedBeside, AsForetold, StockUnderEverySchedule, MostStock, StockAttained, TallyAsSaid, TalliedUnderEverySchedule, EndsTold, LossesUnderEverySchedule, CountsAside, CloseHolds, OnceClosedAnywhere, ClosedIsLast, CaseF, WithinTheWindow, WithinWindowOf, NoWider, NoWiderAnywhere, PromptKeeps, AloneKeeps, RoundsClaim, NotIdle, WindowLengths, SameNumbers, NumbersFit, AsHeld, OnlyTheActing, LentUnbroken, OnlyOneLent, LentThroughout, SixtyFourRecords, LentDemand1, LentEachNumber, LentMixed, Mixed, MixedInWindow, OnlyOneMeets, EachNumber, AttainedBy, AtMost, AsForetoldBy, EnumsBothWays}
 use Rattle.bounded_demands.specs.Eight.{EightRuns}
 use Rattle.bounded_demands.specs.Lending.{item11, promised}
 use Rattle.bounded_demands.proofs.Refusals.{demand1, only-one-count}
@@ -19,6 +19,7 @@ use Rattle.bounded_demands.proofs.Answers.{enums-both-ways}
 use Rattle.bounded_demands.proofs.Window.{window-lengths}
 use Rattle.bounded_demands.proofs.Fit.{numbers-fit}
 use Rattle.bounded_demands.proofs.Own.{own-record}
+use Rattle.bounded_demands.proofs.Exactly.{refused-exactly, narrow-refused-exactly, nine-as-eight}
 use Rattle.bounded_demands.proofs.Attained.{numbers-attained, attained-by, attained-beside, at-most}
 use Rattle.bounded_demands.proofs.Foretold.{as-foretold, as-foretold-by}
 use Rattle.bounded_demands.proofs.Shelves.{most-stock}
@@ -76,6 +77,10 @@ lent-answers-mean = (answers-plain recordsMost, one-step recordsMost)
 -- `requires`); a refused step changes nothing; only one answer meets a promise.
 pub demand-1 : Demand1 sixtyFour × Demand1 sixteen × OnlyOneCount
 demand-1 = (demand1, narrow-demand1, only-one-count)
+
+-- Each number is given exactly when its ground holds and none before it, in document 01's order; code 9 where the words differ anyway does what code 8 does.
+pub refused-when : RefusedExactly sixtyFour × RefusedExactly sixteen × NineAsEight document01 × NineAsEight (ofWidth Sixteen)
+refused-when = (refused-exactly, narrow-refused-exactly, nine-as-eight workersMost SixtyFour, nine-as-eight workersMost Sixteen)
 
 -- Each number of it is given; and only one answer meets the promises as they are made.
 pub demand-1-exact :

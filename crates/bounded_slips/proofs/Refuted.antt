@@ -22,8 +22,9 @@ use Rattle.bounded_places.specs.declared.Place.the-variants.{Idle, P3, P4, F8, 
 use Rattle.bounded_places.specs.Places.{inside}
 use Rattle.bounded_acts.specs.Acts.{forcedTail, goes, losing, exchangeOf, afterTail, tailTo, headTo, stampTo, valueTo, countOf}
 use Rattle.bounded_machine.specs.declared.Machine.{Machine}
+use Rattle.bounded_machine.specs.declared.Did.{Did}
 use Rattle.bounded_machine.specs.declared.Ran.{Ran}
-use Rattle.bounded_machine.specs.Machine.{emptySlots, stamped, freshSlots, idler, idlers, freshWith, freshOf, refused, accepted}
+use Rattle.bounded_machine.specs.Machine.{emptySlots, stamped, freshSlots, recordOf, idler, idlers, freshWith, freshOf, refused, accepted}
 use Rattle.bounded_machine.specs.Broken.{byRule, endsFit, placeFits, recordFits, recordsFit, ringFits, brokenWith, allIdle}
 use Rattle.bounded_machine.specs.Contents.{countOn, wrapped, itemOn, itemsOn, listOn}
 use Rattle.bounded_machine.specs.Turn.{recordAfter, begun, stored, actedBy, turnOfBy}
@@ -32,7 +33,7 @@ use Rattle.bounded_machine.specs.History.{event, tallyOf, stockOf, untakenOf}
 use Rattle.bounded_demands.specs.Notions.{acts, itemsOf, tailersOf, takersOf, handP4, handO4, Reads, readO4, readF8, unreadBy, exchangeP3, lostFrom, struck, popped, passed, ownActs, actsOf, Allowed}
 use Rattle.bounded_proof_demand2.proofs.Stock.{reading}
 use Rattle.bounded_slips.specs.Slips.{none, actWith, slipped, howMany, emptyUnseen, fullUnseen, closedUnseen, emptyTailFirst, fullHeadFirst, lenLooksOnce, popKeepsItsWord, lostForceKeepsItsWord, lostForceTakesTheHead, unstamped, releasesWithNext, neverLetsGo, handsOutAgain, readsAfterItsStore, stampBeforeValue, pushWritesLate, closedTooSoon}
-use Rattle.bounded_slips.specs.Refuted.{Trial, trial, reached, past, does, popLoses, Refuted, popOfNothing, popLooksLate, pushLooksLate, pushLoses, emptyLooks, fullLooks, popAfterPush, secondLap, popOutOfDate, forceOutOfDate, popInHand, lenLooks, lenOutOfDate, closedBefore}
+use Rattle.bounded_slips.specs.Refuted.{overtaken, Trial, trial, reached, past, does, popLoses, Refuted, popOfNothing, popLooksLate, pushLooksLate, pushLoses, emptyLooks, fullLooks, popAfterPush, secondLap, popOutOfDate, forceOutOfDate, popInHand, lenLooks, lenOutOfDate, closedBefore}
 use Rattle.bounded_places.specs.declared.Place.{Place}
 use Rattle.bounded_places.specs.declared.Place.the-variants.{P2, Len1}
 use Rattle.bounded_places.specs.declared.Kind.the-variants.{Force}
@@ -187,6 +188,11 @@ refuted =
       attained-beside = λ a. let q : _≡_ {A = ℕ} 2 7 = ap (λ (l : List Sight). getD l 0 (exactly Len1 0) .acts-needed) a in omega arith;
       lets-go = λ l. holds-on (slipped neverLetsGo) (reached popInHand) 0 2 (acts 0 2) refl (l 0 (stamp 0) (acts 0 2) handO4 (let q : 2 ≤ 2 = omega arith in q));
       as-run = λ p. true≢false (ap (λ (m : Machine). busyAt m 0) (p (0 ∷ 5 ∷ []) refl));
+      nine-as-eight =
+          λ n.
+          let q : _≡_ {A = ℕ} 1 0 =
+          ap (λ (d : Did). recordOf (d .machine .workers) 0 .failed) (n (reached overtaken) 0 (stamp 4) (stamp 0) exchangeP3 (λ e. let q : _≡_ {A = ℕ} 4 0 = ap (λ (t : Stamp). t .0) e in omega (arith, q))) in
+          omega arith;
       own-record =
           λ d.
           let q : _≡_ {A = ℕ} 7 0 =
