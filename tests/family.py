@@ -16,7 +16,7 @@ LAYERS = ('words|places|acts|pushes|forces|pops|lookers|table|machine|entries|ru
 KINDS = [
     ('shared', r'queue_\w+'),
     ('proof', r'(?P<of>\w+?)_(proof_\w+|slips)'),
-    ('statement', r'(?P<of>\w+?)_demands'),
+    ('statement', r'(?P<of>\w+?)_(demands|logs)'),
     ('program', r'(?P<of>\w+?)_shows_\w+|' + '|'.join(PROGRAMS)),
     ('library', r'(?P<of>\w+?)_text(_\w+)?|text_\w+|(' + '|'.join(PROGRAMS) + r')_\w+'),
     ('machine', r'(?P<of>' + '|'.join(QUEUES) + r')(_(' + LAYERS + r'))?|(?P<tape>tapes)(_\w+)?'),

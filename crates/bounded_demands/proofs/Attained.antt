@@ -18,8 +18,8 @@ use Rattle.bounded_machine.specs.Broken.{byRule, endsFit, placeFits, recordFits
 use Rattle.bounded_machine.specs.Turn.{recordAfter, begun, stored, actedBy, turnOfBy}
 use Rattle.bounded_machine.specs.Run.{ran}
 use Rattle.bounded_demands.specs.Notions.{acts, mostOf, InHand, handP4, handP5, handF7, handF8, handF9, handO4, handO5}
-use Rattle.bounded_demands.specs.Attained.{attained, seenBy, sightOf, needed, othersIdle}
-use Rattle.bounded_demands.specs.Demands.{Attained, AttainedBy, AtMost}
+use Rattle.bounded_demands.specs.Attained.{attained, seenBy, sightOf, needed, othersIdle, seenBeside, attainedBeside}
+use Rattle.bounded_demands.specs.Demands.{Attained, AttainedBy, AttainedBeside, AtMost}
 
 pub numbers-attained : Attained
 unfolding doubled markOf markedOf unmarkedOf plus minus withMark nextOf same onePast lapBehind lapBehindOnePast inside strayOf orderOf entryOf goes losing exchangeOf afterTail tailTo headTo stampTo valueTo forcedTail countOf emptySlots stamped freshSlots idlers freshWith refused accepted all inLimits byRule endsFit placeFits recordFits recordsFit brokenWith ringFits recordAfter begun stored actedBy turnOfBy ran runBy searchBy scheduleBy acts attained seenBy sightOf needed othersIdle
@@ -28,6 +28,10 @@ numbers-attained = refl
 pub attained-by : AttainedBy (actOf SixtyFour) 2 × AttainedBy (actOf Sixteen) 1 × AttainedBy (actOf Sixteen) 2
 unfolding doubled markOf markedOf unmarkedOf plus minus withMark nextOf same onePast lapBehind lapBehindOnePast inside strayOf orderOf entryOf goes losing exchangeOf afterTail tailTo headTo stampTo valueTo forcedTail countOf emptySlots stamped freshSlots idlers freshWith refused accepted all inLimits byRule endsFit placeFits recordFits recordsFit brokenWith ringFits recordAfter begun stored actedBy turnOfBy ran runBy searchBy scheduleBy acts attained seenBy sightOf needed othersIdle
 attained-by = (refl, refl, refl)
+
+pub attained-beside : AttainedBeside (actOf SixtyFour) 1 × AttainedBeside (actOf SixtyFour) 2 × AttainedBeside (actOf Sixteen) 1 × AttainedBeside (actOf Sixteen) 2
+unfolding doubled markOf markedOf unmarkedOf plus minus withMark nextOf same onePast lapBehind lapBehindOnePast inside strayOf orderOf entryOf goes losing exchangeOf afterTail tailTo headTo stampTo valueTo forcedTail countOf emptySlots stamped freshSlots idlers freshWith refused accepted all inLimits byRule endsFit placeFits recordFits recordsFit brokenWith ringFits recordAfter begun stored actedBy turnOfBy ran runBy searchBy scheduleBy acts attainedBeside seenBeside needed othersIdle
+attained-beside = (refl, refl, refl, refl)
 
 -- in hand
 hand-most : (p : Place) (t : Stamp) → InHand p t → mostOf p ≤ 3

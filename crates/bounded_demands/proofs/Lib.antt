@@ -13,3 +13,5 @@ pub mod Mixtures
 pub mod EachNumber
 pub mod Fit
 pub mod Answers
+pub mod Own
+pub mod Exactly

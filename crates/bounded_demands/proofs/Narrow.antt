@@ -24,7 +24,7 @@ kept m z e = ap narrowed e ∙ back m
 whole : (z : Machine) → brokenOf z ≡ false → brokenOf (widened (narrowed z)) ≡ false
 whole z e = ap brokenOf (again z) ∙ e
 
-ran-back : (number place : ℕ) (m : widths.Machine) → narrowedRan (ran number place (widened m)) ≡ record { refusal = number; place = place; machine = m }
+pub ran-back : (number place : ℕ) (m : widths.Machine) → narrowedRan (ran number place (widened m)) ≡ record { refusal = number; place = place; machine = m }
 unfolding ran
 ran-back number place m = ap (λ (z : widths.Machine). record { refusal = number; place = place; machine = z }) (back m)
 

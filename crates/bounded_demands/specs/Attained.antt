@@ -1,7 +1,7 @@
 -- The table of demand 3's numbers: for each place a schedule after which worker 0 stands there, every other worker is idle, and
 -- the call needs exactly `mostOf` acts more. What is said of it: `Attained` and `AttainedBy` of Demands.antt, proved in proofs/Attained.antt.
 use Prim.Native.Nat.{ℕ, zero, suc, _+_, _*_}
-use mathlib.Core.Bool.{Bool, true, cond, not}
+use mathlib.Core.Bool.{Bool, true, false, cond, not}
 use mathlib.Core.List.{List, [], _∷_, _++_}
 use lib.Dec.{eqb}
 use Rattle.queue_entries.specs.Limits.{workersMost, all}
@@ -16,7 +16,7 @@ use Rattle.bounded_machine.specs.declared.Machine.{Machine}
 use Rattle.bounded_machine.specs.Machine.{freshOf, placeOf}
 use Rattle.bounded_machine.specs.Turn.{Table, turnOfBy}
 use Rattle.bounded_machine.specs.Run.{runOfBy}
-use Rattle.bounded_demands.specs.Notions.{acts, mostOf}
+use Rattle.bounded_demands.specs.Notions.{acts, mostOf, mostBeside}
 
 -- Acts of worker w alone, code 8, until it is idle, by a table of what an act does at each place; no more than so many are tried.
 unfoldable pub needed : Table → ℕ → Machine → ℕ → ℕ
@@ -108,4 +108,34 @@ attained =
     ∷ needs 2 (its 5 1) (Full2 (stamp 0)) 1
     ∷ needs 2 (its 6 0) Close1 1
     ∷ needs 2 (its 7 0) IsClosed1 1
+    ∷ []
+
+-- Beside another's hand: the same of three workers, by the numbers of `mostBeside`, with worker 1 under way.
+unfoldable pub seenBeside : Table → ℕ → Case → Sight
+seenBeside table edition r =
+    record {
+      refusal = runOfBy table (freshOf (r .capacity) 3 edition) (r .schedule) .refusal;
+      place = placeOf (runOfBy table (freshOf (r .capacity) 3 edition) (r .schedule) .machine .workers) 0;
+      most = mostBeside (placeOf (runOfBy table (freshOf (r .capacity) 3 edition) (r .schedule) .machine .workers) 0);
+      acts-needed = needed table 9 (runOfBy table (freshOf (r .capacity) 3 edition) (r .schedule) .machine) 0;
+      alone = othersIdle (runOfBy table (freshOf (r .capacity) 3 edition) (r .schedule) .machine) 0;
+    }
+
+abbrev pub exactlyBeside : Place → ℕ → Sight
+exactlyBeside p n = record { refusal = 0; place = p; most = n; acts-needed = n; alone = false }
+
+-- Worker 1 displaces and stops at F8, the slot in its hand.
+abbrev displacing : List ℕ
+displacing = 17 ∷ 9 ∷ acts 1 4
+
+-- Worker 2 pops, from beginning to end.
+abbrev popped : List ℕ
+popped = 34 ∷ 0 ∷ acts 2 5
+
+-- Worker 0 has loaded tail; then worker 1's F7 moves it, with slot 0 in hand, whose stamp still says that it is full a lap behind the old word. Tail points to slot 1: free for the push, full
+-- for the force_push.
+unfoldable pub attainedBeside : List Case
+attainedBeside =
+    needs 2 (pushes ++ pushes ++ its 0 1 ++ displacing ++ popped) (P2 Push (stamp 8) 0) 7
+    ∷ needs 2 (pushes ++ pushes ++ its 1 1 ++ displacing) (P2 Force (stamp 8) 0) 8
     ∷ []

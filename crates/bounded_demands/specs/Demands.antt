@@ -2,15 +2,19 @@
 -- The proofs are gathered in crates/bounded_proof_all_demands/proofs/Headlines.antt; docs/PROMISES.md says in plain words what each says and
 -- what not.
 use Prim.Native.Nat.{ℕ, suc, _+_, _*_, _-_, _%_, _≤_, _<_, _/_}
-use mathlib.Core.Bool.{Bool, true, false}
+use mathlib.Core.Bool.{Bool, true, false, not}
 use mathlib.Core.List.{List, [], _∷_, _++_, map, List·Memᴰ}
 use mathlib.Core.Path.{_≡_}
+use lib.Dec.{ltb}
 use lib.ListN.{length, take, drop}
-use Rattle.queue_entries.specs.Limits.{workersMost, meterMost}
+use Rattle.queue_entries.specs.Limits.{workersMost, meterMost, inLimits}
+use Rattle.queue_numbers.specs.Numbers.{on, firstOf}
+use Rattle.bounded_words.specs.Limits.{slotsMost, editionsMost}
 use Rattle.queue_entries.specs.declared.Call.{Call}
 use Rattle.queue_entries.specs.declared.Call.the-variants.{Close}
 use Rattle.queue_entries.specs.declared.Told.{Told}
 use Rattle.queue_entries.specs.Told.{told}
+use Rattle.queue_entries.specs.declared.Order.{Order}
 use Rattle.queue_entries.specs.declared.Order.the-variants.{Act}
 use Rattle.queue_entries.specs.declared.Entry.the-variants.{Unreadable, Asks}
 use Rattle.queue_entries.specs.Entries.{entryOf}
@@ -70,7 +74,7 @@ use Rattle.bounded_sequences.specs.Sequences.{walkOf}
 use Rattle.bounded_walks.specs.declared.Sized.{Sized}
 use Rattle.bounded_walks.specs.declared.Sized.the-variants.{Sequences}
 use Rattle.bounded_walks.specs.Walks.{sizeOf}
-use Rattle.bounded_demands.specs.Notions.{Tried, entriesOf, Face, Definition, ofWidth, Allowed, machineAfter, actsOf, Acts, acts, InHand, HandsOut, Reads, Truth, itemAt, itemsOf, tailersOf, takersOf, LatestIn, ItemIn, WrittenIn, CallClaim, tally, talliedBy, readsIn, waiting, stock, unreadBy, lesser, Exchanges, lostIn, struck, Fifo, Words, Plain, since, turnLength, windowLength, widestLength, KeepsWindow, KeepsWindowOf, KeepsWidestWindow, KeepsPrompt, rounds, sleepingPush, sleepingPop, valueAt, queueAnswer, LenAnswers, mostOf, OtherHand, passed, ownActs, LetsGo, has, ClosesYes, NoClaims, ClaimsOn, withRecords, AllowedWith, Asking, leftByAll, takenByAll, Promises, freshIn, pushingIn, stockedIn, sixtyFour, atTheEnd}
+use Rattle.bounded_demands.specs.Notions.{Tried, entriesOf, Face, Definition, ofWidth, Allowed, machineAfter, actsOf, Acts, acts, InHand, HandsOut, Reads, Truth, itemAt, itemsOf, tailersOf, takersOf, LatestIn, ItemIn, WrittenIn, CallClaim, tally, talliedBy, readsIn, waiting, stock, unreadBy, lesser, Exchanges, lostIn, struck, Fifo, Words, Plain, since, turnLength, windowLength, widestLength, KeepsWindow, KeepsWindowOf, KeepsWidestWindow, KeepsPrompt, rounds, sleepingPush, sleepingPop, valueAt, queueAnswer, LenAnswers, mostOf, mostBeside, OtherHand, OtherHandAt, slotNeeded, lentOthers, begins, unreadable, beginGrounds, actGrounds, entryGrounds, passed, ownActs, LetsGo, has, ClosesYes, NoClaims, ClaimsOn, withRecords, AllowedWith, Asking, leftByAll, takenByAll, Promises, freshIn, pushingIn, stockedIn, sixtyFour, atTheEnd}
 use Rattle.bounded_walks.specs.Walks.{sizeRefusal}
 use Rattle.bounded_walks.specs.declared.Sized.the-variants as sized
 use Rattle.queue_entries.specs.declared.Told.the-variants as answer
@@ -84,7 +88,7 @@ use Rattle.bounded_demands.specs.Stories.{Story, storyOf, oneStep, OnlyS
 use Rattle.bounded_demands.specs.Lending.{Lending, Promise, promised, holding, holds-did, holds-ran, steps, heldIn, actsLent, refusalOf, stepByStep, Doing, leftLent, allTakenLent, stepOn, runOn, freshLent, pushingLent, stockedLent, noneLent, spentLent}
 use Rattle.bounded_demands.specs.Foretold.{foretold, Telling, toldBy, toldIn, tellings, asForetold}
 use Rattle.bounded_demands.specs.Eight.{closedF, caseF}
-use Rattle.bounded_demands.specs.Attained.{Case, seenBy, seenIn, attained, exactly}
+use Rattle.bounded_demands.specs.Attained.{Case, seenBy, seenIn, attained, exactly, seenBeside, attainedBeside, exactlyBeside}
 use Rattle.bounded_demands.specs.Walkings.{WalkFace, item10, Walking, walkings, walked}
 use Rattle.bounded_demands.specs.Shelves.{Shelf, shelving, stockAtMost, fullest}
 use Rattle.bounded_demands.specs.Notions.{goesBack, WayBack, watches, causesIn, Caused, otherHand, deed, DoneSince, LatestBy, Tells, Alone, goingsBack}
@@ -240,6 +244,26 @@ pub record Numbered {M D R : Type 0} (f : Face M D R) : Type 0 where
   pub run : (m : M) (s : List ℕ) → has (0 ∷ 3 ∷ 4 ∷ 5 ∷ 6 ∷ 7 ∷ 8 ∷ 9 ∷ 11 ∷ []) (f .refusalIn (f .run m s)) ≡ true
   pub contents : (m : M) (room : ℕ) → has (0 ∷ 4 ∷ 6 ∷ 10 ∷ []) (contentsRefusal (f .wide m) room) ≡ true
   pub capacity : (m : M) → has (0 ∷ 6 ∷ []) (capacityRefusal (f .wide m)) ≡ true
+
+-- Each number is given exactly when its ground holds and none before it, in document 01's order, of any machine and anything handed in. (Of a schedule's 9 and of its entries: `ListFirst`.)
+pub record RefusedExactly {M D R : Type 0} (f : Face M D R) : Type 0 where
+  pub make : (capacity workers edition : ℕ) → f .refusal (f .make capacity workers edition)
+      ≡ firstOf (on 1 (not (inLimits capacity slotsMost)) ∷ on 2 (not (inLimits workers workersMost)) ∷ on 18 (not (inLimits edition editionsMost)) ∷ [])
+  pub step : (m : M) (first second : ℕ) → f .refusal (f .step m first second) ≡ firstOf (on 6 (brokenOf (f .wide m)) ∷ entryGrounds (f .wide m) first second)
+  pub begin : (m : M) (first second : ℕ) → f .refusal (f .begin m first second)
+      ≡ firstOf (on 6 (brokenOf (f .wide m)) ∷ on 9 (not (begins first)) ∷ on 9 (unreadable first second) ∷ beginGrounds (f .wide m) first)
+  pub act : (m : M) (first second : ℕ) → f .refusal (f .act m first second)
+      ≡ firstOf (on 6 (brokenOf (f .wide m)) ∷ on 9 (begins first) ∷ on 9 (unreadable first second) ∷ actGrounds (f .wide m) first)
+  pub run : (m : M) (s : List ℕ) → (brokenOf (f .wide m) ≡ true → f .run m s ≡ f .ran 6 0 m) × (brokenOf (f .wide m) ≡ false → length s % 2 ≡ 1 → f .run m s ≡ f .ran 11 0 m)
+  pub contents : (m : M) (room : ℕ) → contentsRefusal (f .wide m) room
+      ≡ firstOf (on 6 (brokenOf (f .wide m)) ∷ on 4 (not (allIdle (f .wide m .workers))) ∷ on 10 (ltb room (countIn (f .wide m))) ∷ [])
+  pub capacity : (m : M) → capacityRefusal (f .wide m) ≡ firstOf (on 6 (brokenOf (f .wide m)) ∷ [])
+
+-- "Code 9 where the words differ anyway does what code 8 does": the same refusal, and the same machine after it.
+abbrev pub NineAsEight : Definition → Type 0
+NineAsEight d =
+    (m : Machine) (w : ℕ) (found expected : Stamp) → Exchanges (d .width) (fixedOn (m .ring)) (endsOn (m .ring)) (placeOf (m .workers) w) found expected → (found ≡ expected → ⊥)
+    → d .turn m (16 * w + 9) 0 ≡ d .turn m (16 * w + 8) 0
 
 -- The list is checked first (document 02, item 7): of a machine that is not broken and a schedule of whole entries.
 pub record ListFirst {M D R : Type 0} (f : Face M D R) : Type 0 where
@@ -498,6 +522,29 @@ pub record Demand3 (d : Definition) (m : Machine) (h : List Event) : Type 0 wher
   pub lets-go : HandLetsGo d m
   pub as-run : PassedAsRun d m
 
+-- Whom a call waits for: the call of worker w needs a slot, and another worker has that slot in hand.
+pub record WaitsFor (m : Machine) (w : ℕ) : Type 0 where
+  pub slot : ℕ
+  pub needed : slotNeeded (fixedOn (m .ring)) (endsOn (m .ring)) (placeOf (m .workers) w) ≡ slot ∷ []
+  pub hand : OtherHandAt m w slot
+
+-- A call that alone is scheduled, with eight acts left on the meter, has ended after so many acts; or another worker has in hand the very slot that the present word of the call's own end
+-- points to, and then it is a push, a force_push or a pop. So len, is_empty, is_full, close and is_closed wait for nobody, and nobody waits for a slot that it does not need.
+abbrev pub WaitsAt : Definition → Machine → Type 0
+WaitsAt d m =
+    (w : ℕ) → m .meter + 8 ≤ meterMost
+    → places.viewOf (placeOf (d .run m 0 (acts w (mostBeside (placeOf (m .workers) w))) .machine .workers) w) .busy ≡ true → WaitsFor m w
+
+-- Of every machine that a schedule reaches; at any width, one that keeps the widest window.
+abbrev pub WaitsForItsSlot : Definition → Type 0
+WaitsForItsSlot d =
+    (capacity workers edition : ℕ) → AllowedWith (d .records) capacity workers edition → (s : List ℕ) → WaitsAt d (machineAfter d capacity workers edition s)
+
+abbrev pub WaitsForItsSlotInWindow : Definition → Type 0
+WaitsForItsSlotInWindow d =
+    (capacity workers edition : ℕ) → AllowedWith (d .records) capacity workers edition → (s : List ℕ) → KeepsWidestWindow d (freshWith (d .records) capacity workers edition) [] s
+    → WaitsAt d (machineAfter d capacity workers edition s)
+
 abbrev pub ScheduledAlone : Definition → Type 0
 ScheduledAlone d =
     (capacity workers edition : ℕ) → AllowedWith (d .records) capacity workers edition → (s : List ℕ)
@@ -510,6 +557,10 @@ Attained = map seenIn attained ≡ map (λ (c : Case). exactly (c .place) (c .nu
 -- The same by any table of what an act does at each place, in any edition, so that it can be said of both widths and of a table with a slip.
 abbrev pub AttainedBy : Table → ℕ → Type 0
 AttainedBy table edition = map (seenBy table edition) attained ≡ map (λ (c : Case). exactly (c .place) (c .number)) attained
+
+-- Beside another's hand push's seven and force_push's eight are attained; the other numbers of `mostBeside` are those of `Attained`.
+abbrev pub AttainedBeside : Table → ℕ → Type 0
+AttainedBeside table edition = map (seenBeside table edition) attainedBeside ≡ map (λ (c : Case). exactlyBeside (c .place) (c .number)) attainedBeside
 
 -- In words: seven acts at most, and three with a slot in hand. It is met by `mostOf`.
 abbrev pub AtMost : (Place → ℕ) → Type 0
@@ -626,6 +677,19 @@ CountsAside d =
     (m : Machine) (first second : ℕ)
     → (d .turn m first second .refusal ≡ d .turn (struck m) first second .refusal)
     × (struck (d .turn m first second .machine) ≡ struck (d .turn (struck m) first second .machine))
+
+-- ==== A step reads no other worker's record (refusal 6 aside, which the faces judge before it): with other records beside it, it is refused alike and leaves the same ring, the same meter and
+-- the same record of its own.
+pub record OwnRecordAlone (d : Definition) : Type 0 where
+  pub refusal : (m : Machine) (ys : List Worker) (w : ℕ) (o : Order) (first second : ℕ) → entryOf first second ≡ Asks w o → recordOf ys w ≡ recordOf (m .workers) w
+      → d .turn (lentOthers m ys) first second .refusal ≡ d .turn m first second .refusal
+  pub ring : (m : Machine) (ys : List Worker) (w : ℕ) (o : Order) (first second : ℕ) → entryOf first second ≡ Asks w o → recordOf ys w ≡ recordOf (m .workers) w
+      → d .turn (lentOthers m ys) first second .machine .ring ≡ d .turn m first second .machine .ring
+  pub meter : (m : Machine) (ys : List Worker) (w : ℕ) (o : Order) (first second : ℕ) → entryOf first second ≡ Asks w o → recordOf ys w ≡ recordOf (m .workers) w
+      → d .turn (lentOthers m ys) first second .machine .meter ≡ d .turn m first second .machine .meter
+  pub own : (m : Machine) (ys : List Worker) (w : ℕ) (o : Order) (first second : ℕ) → entryOf first second ≡ Asks w o → recordOf ys w ≡ recordOf (m .workers) w
+      → w < length ys → w < length (m .workers)
+      → recordOf (d .turn (lentOthers m ys) first second .machine .workers) w ≡ recordOf (d .turn m first second .machine .workers) w
 
 -- ==== A close that holds (document 02, item 6). Said of the same machines and acts.
 
@@ -838,6 +902,20 @@ pub record WalkToldBy (f : WalkFace) : Type 0 where
 
 abbrev pub WalkTold : Type 0
 WalkTold = WalkToldBy item10
+
+-- "The number of sequences is the answer", of any machine, any depth and any buffer; what is refused is told by its number. `size` tells that number and the bytes that the list needs, or the
+-- same refusal, which is never 22. Of any functions; met by `item10`.
+pub record WalkCountsBy (f : WalkFace) : Type 0 where
+  pub counted : (m : Machine) (depth : ℕ) (buffer : List ℕ) → f .refusal m depth (length buffer) ≡ 0 → f .told m depth buffer ≡ answer.Number (length (walkOf depth m))
+  pub refused : (m : Machine) (depth : ℕ) (buffer : List ℕ) → (f .refusal m depth (length buffer) ≡ 0 → ⊥) → f .told m depth buffer ≡ answer.Refused (f .refusal m depth (length buffer))
+  pub size-counted : (m : Machine) (depth room : ℕ) → f .refusal m depth room ≡ 0 → f .size m depth ≡ Sequences (length (walkOf depth m)) (length (bytesOf (walkOf depth m)))
+  pub size-refused : (m : Machine) (depth room number : ℕ) → f .refusal m depth room ≡ number → (number ≡ 0 → ⊥) → (number ≡ 22 → ⊥) → f .size m depth ≡ sized.Refused number
+  -- 22 is given exactly where nothing else is amiss and the list is longer than the buffer
+  pub short : (m : Machine) (depth room : ℕ) → f .refusal m depth room ≡ 22
+      → (f .size m depth ≡ Sequences (length (walkOf depth m)) (length (bytesOf (walkOf depth m)))) × (room < length (bytesOf (walkOf depth m)))
+
+abbrev pub WalkCounts : Type 0
+WalkCounts = WalkCountsBy item10
 
 -- Each of these numbers is given: of no act and of one more than a walk has; of the blank machine, one with nobody under way, a push under way and one whose meter is at its end.
 abbrev pub WalkEachNumber : WalkFace → Type 0

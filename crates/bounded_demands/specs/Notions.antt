@@ -1,7 +1,7 @@
 -- The notions that the demands are said in: claim, hand, truth and the rest, of the machine's own struct, of the words of a schedule and
 -- of the history of its acts (history, tally of claims and stock: crates/bounded_machine/specs/History.antt). The demands are Demands.antt.
 use Prim.Native.Nat.{ℕ, zero, suc, _+_, _*_, _-_, _/_, _%_, _≤_, _<_}
-use mathlib.Core.Bool.{Bool, true, false, cond}
+use mathlib.Core.Bool.{Bool, true, false, cond, not}
 use mathlib.Core.List.{List, [], _∷_, _++_, map}
 use mathlib.Core.Path.{_≡_}
 use mathlib.Core.Logic.{_≢_}
@@ -17,7 +17,8 @@ use Rattle.queue_entries.specs.declared.Finding.{Finding}
 use Rattle.queue_entries.specs.declared.Told.{Told}
 use Rattle.queue_entries.specs.Told.{told}
 use Rattle.queue_entries.specs.declared.Finding.the-variants.{AllRead, UnreadableAt}
-use Rattle.queue_entries.specs.Entries.{entryOf}
+use Rattle.queue_entries.specs.Entries.{entryOf, strayOf}
+use Rattle.queue_numbers.specs.Numbers.{Ground, on}
 use Rattle.queue_entries.specs.Schedules.{searchBy}
 use Rattle.queue_walks.specs.Meaning.{Goes}
 use Rattle.bounded_words.specs.declared.Stamp.{Stamp}
@@ -124,6 +125,40 @@ sixteen =
       run = narrow.runOf;
       entries = λ m s. narrowedRan (runAt Sixteen (widened m) 0 s);
     }
+
+-- ---- "Eleven ways to be turned away": the grounds of refusal of an entry on a machine that is not broken, in document 01's order
+
+-- Codes 0 to 7 begin a call, 8 and 9 act.
+abbrev pub begins : ℕ → Bool
+begins first = ltb (first % 16) 8
+
+-- 9: a code of 10 to 15, or an item that is not 0 with a code above 1.
+abbrev pub unreadable : ℕ → ℕ → Bool
+unreadable first second = cond (strayOf (first % 16) second) true (not (ltb (first % 16) 10))
+
+-- 3: worker number not below the count.
+abbrev pub stranger : Machine → ℕ → Bool
+stranger m first = not (ltb (first / 16) (m .count))
+
+abbrev pub busyIn : Machine → ℕ → Bool
+busyIn m first = viewOf (placeOf (m .workers) (first / 16)) .busy
+
+-- 7: the meter at its last number or above. 8: code 9 where the next action is no weak exchange.
+abbrev pub spentIn : Machine → Bool
+spentIn m = not (ltb (m .meter) meterMost)
+
+abbrev pub strongIn : Machine → ℕ → Bool
+strongIn m first = cond (eqb (first % 16) 9) (not (viewOf (placeOf (m .workers) (first / 16)) .weak)) false
+
+-- 9, 3, then begin 4; act 5, 7, 8.
+abbrev pub beginGrounds : Machine → ℕ → List Ground
+beginGrounds m first = on 3 (stranger m first) ∷ on 4 (busyIn m first) ∷ []
+
+abbrev pub actGrounds : Machine → ℕ → List Ground
+actGrounds m first = on 3 (stranger m first) ∷ on 5 (not (busyIn m first)) ∷ on 7 (spentIn m) ∷ on 8 (strongIn m first) ∷ []
+
+abbrev pub entryGrounds : Machine → ℕ → ℕ → List Ground
+entryGrounds m first second = on 9 (unreadable first second) ∷ cond (begins first) (beginGrounds m first) (actGrounds m first)
 
 -- Which answers meet the promise of each function of a face.
 pub record Promises (M D R : Type 0) : Type 1 where
@@ -693,6 +728,37 @@ mostOf IsClosed1 = 1
 -- What stands in the way: another worker has a slot in hand.
 abbrev pub OtherHand : Machine → ℕ → Type 0
 OtherHand m w = (v : ℕ) × (v ≢ w) × (t : Stamp) × InHand (placeOf (m .workers) v) t
+
+-- Another worker has slot i in hand.
+abbrev pub OtherHandAt : Machine → ℕ → ℕ → Type 0
+OtherHandAt m w i = (v : ℕ) × (v ≢ w) × (t : Stamp) × InHand (placeOf (m .workers) v) t × (indexOf (fixedOn (m .ring)) t ≡ i)
+
+-- The machine with these records in place of its own.
+abbrev pub lentOthers : Machine → List Worker → Machine
+lentOthers m ys = record { ring = m .ring; workers = ys; count = m .count; meter = m .meter }
+
+-- The slot that the present word of an end points to.
+abbrev pub slotAtEnd : Fixed → Ends → Moved → List ℕ
+slotAtEnd f e Neither = []
+slotAtEnd f e Tail = indexOf f (e .tail) ∷ []
+slotAtEnd f e Head = indexOf f (e .head) ∷ []
+
+-- The slot that a call needs: in push, force_push and pop, with none in hand, the one at its own end. Every other call needs none.
+abbrev pub slotNeeded : Fixed → Ends → Place → List ℕ
+slotNeeded f e p = cond (viewOf p .stand .stamps) (cond (viewOf p .stand .hand) [] (slotAtEnd f e (viewOf p .stand .end))) []
+
+-- A word of tail that is out of date, beside a hand on the slot that it points to: P2, where the stamp is loaded, goes to P6 or F6, and these back to P1.
+abbrev pub byTail : Moved → ℕ
+byTail Neither = 0
+byTail Tail = 1
+byTail Head = 0
+
+abbrev pub roundMore : Place → ℕ
+roundMore p = cond (viewOf p .stand .stamps) (cond (eqb (viewOf p .stand .far) 2) (byTail (viewOf p .stand .end)) 0) 0
+
+-- Most acts to the end while others have other slots in hand: push at most 7, force_push 8, all other calls as before.
+abbrev pub mostBeside : Place → ℕ
+mostBeside p = mostOf p + roundMore p
 
 -- Entries one after another, refused ones passed over.
 unfoldable pub passed : Definition → Machine → List ℕ → Machine

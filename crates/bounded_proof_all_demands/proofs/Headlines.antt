@@ -9,7 +9,7 @@ use Rattle.bounded_stock.specs.Stock.{talliedOf}
 use Rattle.bounded_sixteen_bits.specs.SixteenBits.{narrowed}
 use Rattle.bounded_demands.specs.Notions.{sixtyFour, sixteen, promisesOf, pushingIn, atTheEnd, withRecords, ofWidth, document01, stock, windowLength, widestLength, cutTo}
 use Rattle.bounded_orders.specs.Orders.{recordsMost}
-use Rattle.bounded_demands.specs.Demands.{Demand1, OnlyOneCount, UnderEverySchedule, NothingWraps, ActByAct, WholeSchedules, LenTrue, ScheduledAlone, Attained, AsForetold, StockUnderEverySchedule, MostStock, StockAttained, TallyAsSaid, TalliedUnderEverySchedule, EndsTold, LossesUnderEverySchedule, CountsAside, CloseHolds, OnceClosedAnywhere, ClosedIsLast, CaseF, WithinTheWindow, WithinWindowOf, NoWider, NoWiderAnywhere, PromptKeeps, AloneKeeps, RoundsClaim, NotIdle, WindowLengths, SameNumbers, NumbersFit, AsHeld, OnlyTheActing, LentUnbroken, OnlyOneLent, LentThroughout, SixtyFourRecords, LentDemand1, LentEachNumber, LentMixed, Mixed, MixedInWindow, OnlyOneMeets, EachNumber, AttainedBy, AtMost, AsForetoldBy, EnumsBothWays}
+use Rattle.bounded_demands.specs.Demands.{Demand1, RefusedExactly, NineAsEight, OnlyOneCount, UnderEverySchedule, NothingWraps, ActByAct, WholeSchedules, LenTrue, ScheduledAlone, OwnRecordAlone, WaitsForItsSlot, WaitsForItsSlotInWindow, Attained, AttainedBeside, AsForetold, StockUnderEverySchedule, MostStock, StockAttained, TallyAsSaid, TalliedUnderEverySchedule, EndsTold, LossesUnderEverySchedule, CountsAside, CloseHolds, OnceClosedAnywhere, ClosedIsLast, CaseF, WithinTheWindow, WithinWindowOf, NoWider, NoWiderAnywhere, PromptKeeps, AloneKeeps, RoundsClaim, NotIdle, WindowLengths, SameNumbers, NumbersFit, AsHeld, OnlyTheActing, LentUnbroken, OnlyOneLent, LentThroughout, SixtyFourRecords, LentDemand1, LentEachNumber, LentMixed, Mixed, MixedInWindow, OnlyOneMeets, EachNumber, AttainedBy, AtMost, AsForetoldBy, EnumsBothWays}
 use Rattle.bounded_demands.specs.Eight.{EightRuns}
 use Rattle.bounded_demands.specs.Lending.{item11, promised}
 use Rattle.bounded_demands.proofs.Refusals.{demand1, only-one-count}
@@ -18,7 +18,9 @@ use Rattle.bounded_demands.proofs.EachNumber.{only-one-meets, each-number, each
 use Rattle.bounded_demands.proofs.Answers.{enums-both-ways}
 use Rattle.bounded_demands.proofs.Window.{window-lengths}
 use Rattle.bounded_demands.proofs.Fit.{numbers-fit}
-use Rattle.bounded_demands.proofs.Attained.{numbers-attained, attained-by, at-most}
+use Rattle.bounded_demands.proofs.Own.{own-record}
+use Rattle.bounded_demands.proofs.Exactly.{refused-exactly, narrow-refused-exactly, nine-as-eight}
+use Rattle.bounded_demands.proofs.Attained.{numbers-attained, attained-by, attained-beside, at-most}
 use Rattle.bounded_demands.proofs.Foretold.{as-foretold, as-foretold-by}
 use Rattle.bounded_demands.proofs.Shelves.{most-stock}
 use Rattle.bounded_demands.proofs.CaseF.{case-f}
@@ -38,6 +40,7 @@ use Rattle.bounded_proof_demand2.proofs.Losses.{ends-told, losses}
 use Rattle.bounded_proof_demand2.proofs.Aside.{counts-aside}
 use Rattle.bounded_proof_demand2.proofs.Closing.{close-holds, once-closed-anywhere, closed-is-last}
 use Rattle.bounded_proof_demand3.proofs.Demand3.{demand3, within-the-window}
+use Rattle.bounded_proof_demand3.proofs.Waits.{waits-for-its-slot, waits-in-window}
 use Rattle.bounded_proof_lent.proofs.Padded.{as-held, sixty-four-records}
 use Rattle.bounded_proof_lent.proofs.Acting.{only-the-acting, only-one-lent}
 use Rattle.bounded_proof_lent.proofs.Throughout.{lent-throughout, lent-unbroken-still}
@@ -52,10 +55,10 @@ use Rattle.bounded_proof_causes.proofs.Causes.{every-retry, eight-ways}
 use Rattle.bounded_proof_causes.proofs.Alone.{alone-back-once, retries-always, retries-in-window}
 use Rattle.bounded_proof_causes.proofs.Said.{kept-as-said, kept-of-records}
 use Rattle.bounded_sequences.specs.Sequences.{walkOf}
-use Rattle.bounded_demands.specs.Demands.{WalksAll, WalkTold, WalkEachNumber, WalksCounted}
+use Rattle.bounded_demands.specs.Demands.{WalksAll, WalkTold, WalkCounts, WalkEachNumber, WalksCounted}
 use Rattle.bounded_demands.specs.Walkings.{item10}
 use Rattle.bounded_demands.proofs.Walkings.{walks-counted}
-use Rattle.bounded_proof_walks.proofs.Walks.{walks-all, walk-told}
+use Rattle.bounded_proof_walks.proofs.Walks.{walks-all, walk-told, walk-counts}
 use Rattle.bounded_demands.specs.Demands.{AnswersPlain, AnswersPlainInWindow, OneStep, OneStepInWindow, ClosesNotOneStep}
 use Rattle.bounded_proof_plain.proofs.Plain.{answers-plain, plain-in-window}
 use Rattle.bounded_proof_plain.proofs.Linearizable.{one-step, one-step-in-window}
@@ -74,6 +77,10 @@ lent-answers-mean = (answers-plain recordsMost, one-step recordsMost)
 -- `requires`); a refused step changes nothing; only one answer meets a promise.
 pub demand-1 : Demand1 sixtyFour × Demand1 sixteen × OnlyOneCount
 demand-1 = (demand1, narrow-demand1, only-one-count)
+
+-- Each number is given exactly when its ground holds and none before it, in document 01's order; code 9 where the words differ anyway does what code 8 does.
+pub refused-when : RefusedExactly sixtyFour × RefusedExactly sixteen × NineAsEight document01 × NineAsEight (ofWidth Sixteen)
+refused-when = (refused-exactly, narrow-refused-exactly, nine-as-eight workersMost SixtyFour, nine-as-eight workersMost Sixteen)
 
 -- Each number of it is given; and only one answer meets the promises as they are made.
 pub demand-1-exact :
@@ -100,6 +107,17 @@ pub demand-3-exact :
     AtMost mostOf × AttainedBy (actOf SixtyFour) 2 × AttainedBy (actOf Sixteen) 1 × AttainedBy (actOf Sixteen) 2
     × AsForetoldBy SixtyFour (actOf SixtyFour) 2 × AsForetoldBy Sixteen (actOf Sixteen) 1 × AsForetoldBy Sixteen (actOf Sixteen) 2
 demand-3-exact = (at-most, attained-by .0, attained-by .1, attained-by .2, as-foretold-by .0, as-foretold-by .1, as-foretold-by .2)
+
+-- Whom a call waits for: alone it ends, unless another worker has in hand the very slot that its own end points to; held, lent, and at sixteen bits within the window. The numbers are attained.
+pub waiting :
+    WaitsForItsSlot document01 × WaitsForItsSlot (withRecords recordsMost SixtyFour) × WaitsForItsSlotInWindow (ofWidth Sixteen)
+    × AttainedBeside (actOf SixtyFour) 1 × AttainedBeside (actOf SixtyFour) 2 × AttainedBeside (actOf Sixteen) 1 × AttainedBeside (actOf Sixteen) 2
+waiting =
+    (waits-for-its-slot workersMost, waits-for-its-slot recordsMost, waits-in-window Sixteen workersMost, attained-beside .0, attained-beside .1, attained-beside .2, attained-beside .3)
+
+-- A step reads no other worker's record, refusal 6 aside.
+pub reads-its-own : OwnRecordAlone document01 × OwnRecordAlone (withRecords recordsMost SixtyFour) × OwnRecordAlone (ofWidth Sixteen)
+reads-its-own = (own-record workersMost SixtyFour, own-record recordsMost SixtyFour, own-record workersMost Sixteen)
 
 -- The eight runs on paper.
 pub on-paper : EightRuns
@@ -152,8 +170,8 @@ pub widest-window : WithinWindowOf widestLength (ofWidth Sixteen) × PromptKeeps
 widest-window = (within-the-widest Sixteen workersMost, prompt-keeps widestLength Sixteen workersMost, no-wider, no-wider-anywhere)
 
 -- Walks: the list has every sequence of acts that goes so and no other, in order; what is answered and left in the buffer, each refusal given; and how many there are of some.
-pub every-sequence : WalksAll walkOf × WalkTold × WalkEachNumber item10 × WalksCounted
-every-sequence = (walks-all, walk-told, walk-each-number, walks-counted)
+pub every-sequence : WalksAll walkOf × WalkTold × WalkCounts × WalkEachNumber item10 × WalksCounted
+every-sequence = (walks-all, walk-told, walk-counts, walk-each-number, walks-counted)
 
 -- Records in the host's memory: up to 16 of them as the machine that holds them; in a step only the acting record changes; demands 2 and 3 for every number of records, lent throughout; case H of this machine.
 pub records-lent : AsHeld item11 × OnlyTheActing item11 × LentUnbroken item11 × OnlyOneLent (promised item11) × LentThroughout item11 × SixtyFourRecords item11

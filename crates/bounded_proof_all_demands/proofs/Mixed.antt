@@ -104,12 +104,12 @@ module _ (bits : Width) where
         subst (Leads m (entryUnless refusal first second)) (sym (e .1)) (subst (λ (k : ℕ). Leads m (entryUnless k first second) (d .machine)) (sym (e .0)) led)
 
   -- ---- by a face that keeps the one machine's numbers
-  record Keeps {M D R : Type 0} (f : Face M D R) : Type 0 where
-    step : (m : M) (a b : ℕ) → (f .refusal (f .step m a b) ≡ stepOfBy (actOf bits) (f .wide m) a b .refusal) × (f .wide (f .left (f .step m a b)) ≡ stepOfBy (actOf bits) (f .wide m) a b .machine)
-    begin : (m : M) (a b : ℕ) → (f .refusal (f .begin m a b) ≡ beginStepOfBy (actOf bits) (f .wide m) a b .refusal) × (f .wide (f .left (f .begin m a b)) ≡ beginStepOfBy (actOf bits) (f .wide m) a b .machine)
-    act : (m : M) (a b : ℕ) → (f .refusal (f .act m a b) ≡ actStepOfBy (actOf bits) (f .wide m) a b .refusal) × (f .wide (f .left (f .act m a b)) ≡ actStepOfBy (actOf bits) (f .wide m) a b .machine)
-    run : (m : M) (s : List ℕ) → (f .placeIn (f .run m s) ≡ runOfBy (actOf bits) (f .wide m) s .place) × (f .wide (f .leftIn (f .run m s)) ≡ runOfBy (actOf bits) (f .wide m) s .machine)
-    made : (c w e : ℕ) → f .refusal (f .make c w e) ≡ 0 → (makeOf c w e .refusal ≡ 0) × (f .wide (f .left (f .make c w e)) ≡ makeOf c w e .machine)
+  pub record Keeps {M D R : Type 0} (f : Face M D R) : Type 0 where
+    pub step : (m : M) (a b : ℕ) → (f .refusal (f .step m a b) ≡ stepOfBy (actOf bits) (f .wide m) a b .refusal) × (f .wide (f .left (f .step m a b)) ≡ stepOfBy (actOf bits) (f .wide m) a b .machine)
+    pub begin : (m : M) (a b : ℕ) → (f .refusal (f .begin m a b) ≡ beginStepOfBy (actOf bits) (f .wide m) a b .refusal) × (f .wide (f .left (f .begin m a b)) ≡ beginStepOfBy (actOf bits) (f .wide m) a b .machine)
+    pub act : (m : M) (a b : ℕ) → (f .refusal (f .act m a b) ≡ actStepOfBy (actOf bits) (f .wide m) a b .refusal) × (f .wide (f .left (f .act m a b)) ≡ actStepOfBy (actOf bits) (f .wide m) a b .machine)
+    pub run : (m : M) (s : List ℕ) → (f .placeIn (f .run m s) ≡ runOfBy (actOf bits) (f .wide m) s .place) × (f .wide (f .leftIn (f .run m s)) ≡ runOfBy (actOf bits) (f .wide m) s .machine)
+    pub made : (c w e : ℕ) → f .refusal (f .make c w e) ≡ 0 → (makeOf c w e .refusal ≡ 0) × (f .wide (f .left (f .make c w e)) ≡ makeOf c w e .machine)
 
   module _ {M D R : Type 0} (f : Face M D R) (keeps : Keeps f) where
     one : (y : Asking) (m : M) → Leads (f .wide m) (takenBy f m y) (f .wide (leftBy f m y))
@@ -128,7 +128,7 @@ module _ (bits : Width) where
         goes-on (ring-queue bits) (takenBy f m y) (takenByAll f (leftBy f m y) rest) (f .wide m) (f .wide (leftBy f m y)) (f .wide (leftByAll f (leftBy f m y) rest))
         (one y m) (mixed rest (leftBy f m y))
 
-    as-one : (capacity workers edition : ℕ) → f .refusal (f .make capacity workers edition) ≡ 0 → (askings : List Asking)
+    pub as-one : (capacity workers edition : ℕ) → f .refusal (f .make capacity workers edition) ≡ 0 → (askings : List Asking)
         → Allowed capacity workers edition
         × AsOneSchedule (ofWidth bits) capacity workers edition (f .wide (leftByAll f (f .left (f .make capacity workers edition)) askings))
         (takenByAll f (f .left (f .make capacity workers edition)) askings)
@@ -141,11 +141,11 @@ module _ (bits : Width) where
         let so = goes-run (ring-queue bits) entries (freshOf capacity workers edition) left 0 (subst (λ (m : Machine). Leads m entries left) (its .1 ∙ fresh .1) (mixed askings first)) in
         (fresh .0, record { accepted = so .0; machine = so .1 })
 
-sixty-four-keeps : Keeps SixtyFour sixtyFour
+pub sixty-four-keeps : Keeps SixtyFour sixtyFour
 sixty-four-keeps =
     record { step = λ m a b. (refl, refl); begin = λ m a b. (refl, refl); act = λ m a b. (refl, refl); run = λ m s. (refl, refl); made = λ c w e h. (h, refl) }
 
-sixteen-keeps : Keeps Sixteen sixteen
+pub sixteen-keeps : Keeps Sixteen sixteen
 sixteen-keeps =
     record {
       step = λ m a b. (refl, again (stepOfBy (actOf Sixteen) (widened m) a b .machine));

@@ -1,5 +1,5 @@
 -- What a stamp load finds when no slot is in another's hand: a fresh load decides, and a word that is out of date is seen.
-use mathlib.Core.Path.{_≡_, refl, sym, ap, _∙_}
+use mathlib.Core.Path.{_≡_, refl, sym, ap, _∙_, subst}
 use mathlib.Core.Bool.{Bool, true, false, cond, true≢false}
 use Prim.Native.Nat.{ℕ, _+_, _*_, _%_, _≤_, _<_}
 use native.Mathlib.Omega.{arith}
@@ -10,37 +10,38 @@ use Rattle.bounded_words.specs.declared.Stamp.{Stamp}
 use Rattle.bounded_words.specs.declared.Fixed.{Fixed}
 use Rattle.bounded_words.specs.declared.Width.{Width}
 use Rattle.bounded_words.specs.Words.{indexOf, markedOf, unmarkedOf, minus, same, lapBehind}
+use Rattle.bounded_places.specs.declared.Kind.{Kind}
 use Rattle.bounded_places.specs.declared.Place.{Place}
 use Rattle.bounded_places.specs.declared.Place.the-variants.{Idle, P1, P2, P3, P4, P5, P6, F6, F7, F8, F9, O1, O2, O3, O4, O5, O6, Len1, Len2, Len3, Empty1, Empty2, Full1, Full2, Close1, IsClosed1}
 use Rattle.bounded_places.specs.Places.{viewOf}
 use Rattle.bounded_machine.specs.Turn.{spotOf}
 use Rattle.bounded_demands.specs.Notions.{InHand, handP4, handP5, handF7, handF8, handF9, handO4, handO5}
 use Rattle.bounded_proof_invariant.proofs.Width.{Near, near-one, turn-long}
-use Rattle.bounded_proof_invariant.proofs.Ring.{Cell, Await, Hold, Hand, Mine, Shared, CellOk, ViewOk, Awaits, Holds, Inv}
+use Rattle.bounded_proof_invariant.proofs.Ring.{Stage, Fill, Filled, Take, Grab, Swap, Swapped, taking, Cell, Await, Hold, Hand, Mine, Shared, HandOk, CellOk, ViewOk, Awaits, Holds, Inv}
 use Rattle.bounded_proof_invariant.proofs.Effects.{Loose}
 use Rattle.bounded_proof_each_act.proofs.Stamps
-use Rattle.bounded_proof_each_act.proofs.Stamps.{Ground, fixed, W, tailWord, word-slot, lap-slot}
+use Rattle.bounded_proof_each_act.proofs.Stamps.{Ground, fixed, W, tailWord, slotWord, word-slot, lap-slot}
 use Rattle.bounded_proof_each_act.proofs.Sight.{Age, look, HandAt, endsOf, slotOf, Stands, Recent}
-use Rattle.bounded_proof_demand3.proofs.Falls.{Finds, FindsTail, FindsHead}
+use Rattle.bounded_proof_demand3.proofs.Falls.{Finds, FindsTail, FindsHead, Loads}
 
--- a hand of the ring is one of document 01
-pub hand-of : (c mark i : ℕ) (p : Place) → HandAt mark (look c p) i → (t : Stamp) × InHand p t
+-- a hand of the ring is one of document 01, on the same slot
+pub hand-of : (c mark i : ℕ) (p : Place) → HandAt mark (look c p) i → (t : Stamp) × InHand p t × (t .0 % mark ≡ i)
 hand-of c mark i (Idle a) h = absurd h
 hand-of c mark i (P1 k x) h = absurd h
 hand-of c mark i (P2 k t x) h = absurd (true≢false (sym (h .0)))
 hand-of c mark i (P3 k t x) h = absurd (true≢false (sym (h .0)))
-hand-of c mark i (P4 t x) h = (t, handP4)
-hand-of c mark i (P5 t) h = (t, handP5)
+hand-of c mark i (P4 t x) h = (t, handP4, h .1)
+hand-of c mark i (P5 t) h = (t, handP5, h .1)
 hand-of c mark i (P6 t x) h = absurd (true≢false (sym (h .0)))
 hand-of c mark i (F6 t x) h = absurd (true≢false (sym (h .0)))
-hand-of c mark i (F7 t x) h = (t, handF7)
-hand-of c mark i (F8 t x) h = (t, handF8)
-hand-of c mark i (F9 t old) h = (t, handF9)
+hand-of c mark i (F7 t x) h = (t, handF7, h .1)
+hand-of c mark i (F8 t x) h = (t, handF8, h .1)
+hand-of c mark i (F9 t old) h = (t, handF9, h .1)
 hand-of c mark i O1 h = absurd h
 hand-of c mark i (O2 w) h = absurd (true≢false (sym (h .0)))
 hand-of c mark i (O3 w) h = absurd (true≢false (sym (h .0)))
-hand-of c mark i (O4 w) h = (w, handO4)
-hand-of c mark i (O5 w v) h = (w, handO5)
+hand-of c mark i (O4 w) h = (w, handO4, h .1)
+hand-of c mark i (O5 w v) h = (w, handO5, h .1)
 hand-of c mark i (O6 w) h = absurd (true≢false (sym (h .0)))
 hand-of c mark i Len1 h = absurd h
 hand-of c mark i (Len2 t) h = absurd h
@@ -177,6 +178,39 @@ module _ (bits : Width) (c mark n ed : ℕ) (g : Ground bits c mark n) (s : Shar
           empty = λ d. clash _ d here;
         }
 
+    -- A slot in hand whose stamp says that it is free at m waits for a claim that is not before head's.
+    hand-free : m ≤ s .head → s .head + c < m + n * c → (st : Stage) (k : ℕ) → k % c ≡ i → HandOk c s i st k → same (slotWord c mark n (taking st) k) (Word m) ≡ true → s .head ≡ m
+    hand-free le late Fill k a o h =
+        let r : Near (n * c) k m = omega (arith, turn, some, inv .low, inv .high, o .0, o .1) in
+        let e : k ≡ m = eqb-true k m (sym (Stamps.stamp-same bits c mark n g false k m (a ∙ sym at) r) ∙ h) in
+        omega (arith, o .0)
+    hand-free le late Filled k a o h =
+        let r : Near (n * c) k m = omega (arith, turn, some, inv .low, inv .high, o .0, o .1) in
+        let e : k ≡ m = eqb-true k m (sym (Stamps.stamp-same bits c mark n g false k m (a ∙ sym at) r) ∙ h) in
+        omega (arith, o .0)
+    hand-free le late Take k a o h =
+        let r : Near (n * c) k m = omega (arith, turn, some, inv .low, inv .high, o .0, o .1) in
+        clash _ h (Stamps.stamp-same bits c mark n g true k m (a ∙ sym at) r)
+    hand-free le late Grab k a o h =
+        let r : Near (n * c) k m = omega (arith, turn, some, inv .low, inv .high, o .0, o .1) in
+        clash _ h (Stamps.stamp-same bits c mark n g true k m (a ∙ sym at) r)
+    hand-free le late Swap k a o h =
+        let r : Near (n * c) k m = omega (arith, turn, some, inv .low, inv .high, o .0, o .1) in
+        clash _ h (Stamps.stamp-same bits c mark n g true k m (a ∙ sym at) r)
+    hand-free le late Swapped k a o h =
+        let r : Near (n * c) k m = omega (arith, turn, some, inv .low, inv .high, o .0, o .1) in
+        clash _ h (Stamps.stamp-same bits c mark n g true k m (a ∙ sym at) r)
+
+    -- of a slot that is in nobody's hand if the word is head's
+    finds-head-beside : m ≤ s .head → s .head + c < m + n * c → (x : Cell) → CellOk c s i x → (s .head ≡ m → Loose x) → FindsHead bits f (endsOf c mark n s b) (slotOf c mark n x v) (Word m)
+    finds-head-beside le late (Await k) o l = finds-head le late (Await k) o tt
+    finds-head-beside le late (Hold k) o l = finds-head le late (Hold k) o tt
+    finds-head-beside le late (Hand st k w) o l =
+        record {
+          decides = λ q p d. l (eqb-true _ _ (sym (head-is m le (omega arith)) ∙ q));
+          empty = λ d. absurd (l (hand-free le late st k (o .0) (o .1) d));
+        }
+
   cell-at : (k : ℕ) (x : Cell) → s .cell (k % c) ≡ x → CellOk c s (k % c) x
   cell-at k x e = rw e at (inv .cells (k % c) (mod-lt k (g .laws .some)))
 
@@ -239,3 +273,33 @@ module _ (bits : Width) (c mark n ed : ℕ) (g : Ground bits c mark n) (s : Shar
   finds w i age b (Full2 t) small at o y loose = tt
   finds w i age b Close1 small at o y loose = tt
   finds w i age b IsClosed1 small at o y loose = tt
+
+  -- The same beside others' hands, if the slot at its own end is in none.
+  module _ (w i : ℕ) (age : Age) (b : Bool) (small : i < c) where
+    tail-beside : (k : Kind) (t : Stamp) (x : ℕ) → i ≡ spotOf f (viewOf (P2 k t x) .held) → Stands c mark n s w age (look c (P2 k t x)) → Recent c mark n s age (look c (P2 k t x))
+        → same (unmarkedOf f (tailWord c mark n (s .tail) b)) t ≡ true → (s .tail % c ≡ i → Loose (s .cell i)) → FindsTail bits f (endsOf c mark n s b) (slotOf c mark n (s .cell i) (s .val i)) t
+    tail-beside k t x at o y in-date free =
+        let here : o .0 % c ≡ i = sym (word-slot bits c mark n g t (o .0) (o .1)) ∙ sym at in
+        let e : s .tail ≡ o .0 = eqb-true _ _ (sym (tail-is b (o .0) (o .2) (omega (arith, o .3, y refl))) ∙ (rw (o .1) at in-date)) in
+        rw (o .1) (finds-tail i (o .0) (s .val i) b here (o .2) (omega (arith, o .3, y refl)) (s .cell i) (inv .cells i small) (free (ap (λ (z : ℕ). z % c) e ∙ here)))
+
+    head-beside : (h : Stamp) → i ≡ spotOf f (viewOf (O2 h) .held) → Stands c mark n s w age (look c (O2 h)) → Recent c mark n s age (look c (O2 h))
+        → (s .head % c ≡ i → Loose (s .cell i)) → FindsHead bits f (endsOf c mark n s b) (slotOf c mark n (s .cell i) (s .val i)) h
+    head-beside h at o y free =
+        let here : o .0 % c ≡ i = sym (word-slot bits c mark n g h (o .0) (o .1)) ∙ sym at in
+        rw (o .1) (finds-head-beside i (o .0) (s .val i) b here (o .2) (omega (arith, o .3, y refl)) (s .cell i) (inv .cells i small) (λ e. free (ap (λ (z : ℕ). z % c) e ∙ here)))
+
+    pub loads-beside : (p : Place) → i ≡ spotOf f (viewOf p .held) → Stands c mark n s w age (look c p) → Recent c mark n s age (look c p)
+        → ((k : Kind) (t : Stamp) (x : ℕ) → p ≡ P2 k t x → s .tail % c ≡ i → Loose (s .cell i)) → ((h : Stamp) → p ≡ O2 h → s .head % c ≡ i → Loose (s .cell i))
+        → Loads 1 bits f (endsOf c mark n s b) (slotOf c mark n (s .cell i) (s .val i)) p
+    loads-beside p at o y tails heads =
+        record {
+          tail =
+              λ k t x q in-date.
+              tail-beside k t x (subst (λ (z : Place). i ≡ spotOf f (viewOf z .held)) q at) (subst (λ (z : Place). Stands c mark n s w age (look c z)) q o)
+              (subst (λ (z : Place). Recent c mark n s age (look c z)) q y) (in-date (omega arith)) (tails k t x q);
+          head =
+              λ h q.
+              head-beside h (subst (λ (z : Place). i ≡ spotOf f (viewOf z .held)) q at) (subst (λ (z : Place). Stands c mark n s w age (look c z)) q o)
+              (subst (λ (z : Place). Recent c mark n s age (look c z)) q y) (heads h q);
+        }

@@ -6,4 +6,5 @@ pub mod Solo
 pub mod Hand
 pub mod Queue
 pub mod Way
+pub mod Waits
 pub mod Demand3

@@ -46,7 +46,7 @@ use Rattle.bounded_proof_demand2.proofs.Pictured.{Base, Pictured, busy-counted,
 use Rattle.bounded_proof_demand2.proofs.Reached.{Reached, entered, grown, own-next}
 use Rattle.bounded_proof_demand2.proofs.Answers.{true-answers}
 use Rattle.bounded_proof_demand3.specs.Rank.{rankOf}
-use Rattle.bounded_proof_demand3.proofs.Falls.{Finds, falls}
+use Rattle.bounded_proof_demand3.proofs.Falls.{Finds, loads-of, falls}
 use Rattle.bounded_proof_demand3.proofs.Found.{hand-of, loose-of, finds}
 use Rattle.bounded_proof_demand3.proofs.Fresh.{leads-on, stays-recent}
 use Rattle.bounded_proof_demand3.proofs.Leaves.{Leaves, leaves}
@@ -130,7 +130,7 @@ module _ (bits : Width) (c n workers : ℕ) (base : Base bits c n workers) (s : 
       pub rank-falls : rank bits next w < rank bits m w
       unfolding actedBy stored
       rank-falls =
-          subst (λ (q : Place). rankOf bits (fixedOn (m .ring)) (result .ends) q < rank bits m w) (sym next-stood) (falls bits (fixedOn (m .ring)) (endsOn (m .ring)) (ownSlot m p) p busy found)
+          subst (λ (q : Place). rankOf bits (fixedOn (m .ring)) (result .ends) q < rank bits m w) (sym next-stood) (falls 0 bits (fixedOn (m .ring)) (endsOn (m .ring)) (ownSlot m p) p busy (loads-of bits (fixedOn (m .ring)) (endsOn (m .ring)) (ownSlot m p) p found))
 
       long : i < length (m .ring .slots)
       long = omega (arith, small, base .few, pic .slots-long)
@@ -172,7 +172,7 @@ pub record Ended (bits : Width) (m : Machine) (h : List Event) (from w most : �
   pub idle-by : viewOf (placeOf (runAt bits m from (acts w most) .machine .workers) w) .busy ≡ false
 
 -- one act more before it
-run-more : (bits : Width) (m next : Machine) (from w k : ℕ) → turnAt bits m (16 * w + 8) 0 ≡ accepted next → runAt bits m from (acts w (suc k)) ≡ runAt bits next (from + 1) (acts w k)
+pub run-more : (bits : Width) (m next : Machine) (from w k : ℕ) → turnAt bits m (16 * w + 8) 0 ≡ accepted next → runAt bits m from (acts w (suc k)) ≡ runAt bits next (from + 1) (acts w k)
 unfolding runBy acts accepted
 run-more bits m next from w k e = rw e
 
@@ -222,7 +222,7 @@ last bits m next h from w a taken busy e t claims k =
 
 module _ (bits : Width) (c n workers : ℕ) (base : Base bits c n workers) (w : ℕ) where
   -- its own act leaves its word as young as it was
-  own-young : (m : Machine) (h : List Event) (r : Reached c n workers m h) (l : w < m .count) (busy : viewOf (stood m w) .busy ≡ true)
+  pub own-young : (m : Machine) (h : List Event) (r : Reached c n workers m h) (l : w < m .count) (busy : viewOf (stood m w) .busy ≡ true)
       (young : Recent c (markOf c) n (r .ring) (r .pictured .ages w) (look c (stood m w))) (early : m .meter < meterMost)
       → Recent c (markOf c) n
       (entered bits c n workers base m h (Asks w (Act false)) (acted bits m w (stood m w) false) (eventOf bits m w false (acted bits m w (stood m w) false) ∷ []) r young (did w false l busy early) .ring)

@@ -59,6 +59,10 @@ refuted =
       numbered = λ r. true≢false (sym (r .run m₀ (0 ∷ [])));
       numbered-begin = λ r. true≢false (sym (r .begin m₀ 8 0));
       each-number = λ r. let q : _≡_ {A = ℕ} 2 18 = ap (λ (l : List ℕ). getD l 3 0) (r .make) in omega arith;
+      exactly-make = λ r. let q : _≡_ {A = ℕ} 2 18 = r .make 1 1 0 in omega arith;
+      exactly-step = λ r. let q : _≡_ {A = ℕ} 9 0 = r .step m₀ 0 5 in omega arith;
+      exactly-begin = λ r. let q : _≡_ {A = ℕ} 5 9 = r .begin m₀ 8 0 in omega arith;
+      exactly-run = λ r. let q : _≡_ {A = ℕ} 12 11 = ap (λ (x : Ran). x .refusal) (r .run m₀ (0 ∷ []) .1 refl refl) in omega arith;
       list-first = λ r. true≢false (ap (λ (x : Ran). busy (x .machine)) (r .stops m₀ (0 ∷ 5 ∷ []) 1 10 0 [] refl refl refl (readable, tt) refl));
       stays-unbroken = λ r. true≢false (r .step exchanging 9 0 refl);
       only-one = λ r. true≢false (ap (λ (x : Did). busy (x .machine)) (r .step m₀ 8 0 (record { refusal = 5; machine = exchanging }) (record { refusal = 5; machine = m₀ }) refl refl));

@@ -51,6 +51,10 @@ editionByTwo = 7
 abbrev pub machineOpen : ℕ
 machineOpen = 8
 
+-- every step is refused by 9
+abbrev pub refusesAll : ℕ
+refusesAll = 9
+
 abbrev withMeter : ℕ → Machine → Machine
 withMeter k m = machineOf (fixedOn (m .ring)) (endsOn (m .ring)) (m .ring .slots) (m .workers) (m .count) k
 
@@ -68,7 +72,8 @@ stepWith n m first second =
     cond (eqb n refusedMoves)
     (cond (eqb (bounded.stepOf m first second .refusal) 0) (bounded.stepOf m first second) (did (bounded.stepOf m first second .refusal) (withMeter (m .meter + 1) m)))
     (cond (eqb n meterStays) (did (bounded.stepOf m first second .refusal) (withMeter (m .meter) (bounded.stepOf m first second .machine)))
-    (bounded.stepOf m first second))
+    (cond (eqb n refusesAll) (did 9 m)
+    (bounded.stepOf m first second)))
 
 abbrev beginWith : ℕ → Machine → ℕ → ℕ → Did
 beginWith n m first second = cond (eqb n beginActs) (bounded.stepOf m first second) (bounded.beginStepOf m first second)

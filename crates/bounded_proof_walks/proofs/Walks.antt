@@ -8,9 +8,11 @@ use native.Mathlib.Omega.{arith}
 use lib.Dec.{eqb, ltb}
 use lib.ListN.{length, take, drop}
 use lib.Seq.{take-append-seam, drop-append-seam}
-use borrow.Author.Tests.{eq-eqb, ne-eqb, eqb-true, le-ltb}
+use borrow.Author.Tests.{eq-eqb, ne-eqb, eqb-true, eqb-false, ltb-true, ltb-false, le-ltb}
 use Rattle.queue_entries.specs.Limits.{workersMost}
 use Rattle.queue_entries.specs.Schedules.{runBy}
+use Rattle.queue_entries.specs.Told.{told}
+use Rattle.queue_entries.specs.declared.Told.the-variants as answer
 use Rattle.queue_walks.specs.Walks.{actByte, walkBy}
 use Rattle.queue_walks.specs.Listed.{bytesOf}
 use Rattle.queue_walks.specs.Meaning.{Goes, none-left, all-idle, goes-on}
@@ -28,7 +30,7 @@ use Rattle.bounded_walks.specs.declared.Sized.{Sized}
 use Rattle.bounded_walks.specs.declared.Sized.the-variants as sized
 use Rattle.bounded_walks.proofs.Facts.{turn-counts, told-fits}
 use Rattle.bounded_demands.specs.Notions.{Tried, entriesOf, has}
-use Rattle.bounded_demands.specs.Demands.{WalksAll, WalkTold}
+use Rattle.bounded_demands.specs.Demands.{WalksAll, WalkTold, WalkCounts}
 
 -- no more workers than a byte's low half numbers
 abbrev Few : Machine → Type 0
@@ -105,4 +107,56 @@ walk-told = record {
   fits = λ m depth sequences bytes h. told-fits m depth sequences bytes h;
   answer = λ m depth buffer x y a b p q r s. (p ∙ sym q, r ∙ sym s);
   size = λ m depth x y p q. p ∙ sym q;
+}
+
+-- ---- the number of sequences
+told-number : (number value : ℕ) → number ≡ 0 → told number value ≡ answer.Number value
+unfolding told
+told-number number value h = simp (eq-eqb number 0 h)
+
+told-refused : (number value : ℕ) → (number ≡ 0 → ⊥) → told number value ≡ answer.Refused number
+unfolding told
+told-refused number value h = simp (ne-eqb number 0 h)
+
+-- a size that is not refused
+size-told : (m : Machine) (depth : ℕ) → sizeRefusal m depth ≡ 0 → sizeOf m depth ≡ sized.Sequences (length (walkOf depth m)) (length (bytesOf (walkOf depth m)))
+unfolding sizeOf
+size-told m depth h = simp (eq-eqb (sizeRefusal m depth) 0 h)
+
+size-untold : (m : Machine) (depth : ℕ) → (sizeRefusal m depth ≡ 0 → ⊥) → sizeOf m depth ≡ sized.Refused (sizeRefusal m depth)
+unfolding sizeOf
+size-untold m depth h = simp (ne-eqb (sizeRefusal m depth) 0 h)
+
+-- by which test a walk is refused
+walk-is : (A : Type 0) (m : Machine) (depth room : ℕ) → (sizeRefusal m depth ≡ 0 → length (bytesOf (walkOf depth m)) ≤ room → walkRefusal m depth room ≡ 0 → A)
+    → (sizeRefusal m depth ≡ 0 → room < length (bytesOf (walkOf depth m)) → walkRefusal m depth room ≡ 22 → A)
+    → ((sizeRefusal m depth ≡ 0 → ⊥) → walkRefusal m depth room ≡ sizeRefusal m depth → A) → A
+unfolding walkRefusal
+walk-is A m depth room fits short sizes = go (eqb (sizeRefusal m depth) 0) refl (ltb room (length (bytesOf (walkOf depth m)))) refl
+  where
+    go : (b : Bool) → eqb (sizeRefusal m depth) 0 ≡ b → (d : Bool) → ltb room (length (bytesOf (walkOf depth m))) ≡ d → A
+    go true e true q = short (eqb-true _ _ e) (ltb-true _ _ q) (rw (e, q))
+    go true e false q = fits (eqb-true _ _ e) (ltb-false _ _ q) (rw (e, q))
+    go false e d q = sizes (eqb-false _ _ e) (rw e)
+
+-- no size is refused by 22
+size-not-22 : (m : Machine) (depth : ℕ) → sizeRefusal m depth ≡ 22 → ⊥
+unfolding sizeRefusal
+size-not-22 m depth =
+    either (λ (k : ℕ). k ≡ 22 → ⊥) (brokenOf m) 6 _ (λ b e. omega (arith, e))
+    (λ b. either (λ (k : ℕ). k ≡ 22 → ⊥) (ltb 3 (m .count)) 19 _ (λ b e. omega (arith, e))
+    (λ b. either (λ (k : ℕ). k ≡ 22 → ⊥) (ltb 12 depth) 19 _ (λ b e. omega (arith, e))
+    (λ b. either (λ (k : ℕ). k ≡ 22 → ⊥) (allBusy m) _ 20 (λ b. either (λ (k : ℕ). k ≡ 22 → ⊥) (ltb _ depth) 21 0 (λ b e. omega (arith, e)) (λ b e. omega (arith, e))) (λ b e. omega (arith, e)))))
+
+pub walk-counts : WalkCounts
+walk-counts = record {
+  counted = λ m depth buffer h. told-number (walkRefusal m depth (length buffer)) _ h;
+  refused = λ m depth buffer h. told-refused (walkRefusal m depth (length buffer)) _ h;
+  size-counted = λ m depth room h.
+      walk-is _ m depth room (λ z l e. size-told m depth z) (λ z l e. let q : _≡_ {A = ℕ} 22 0 = sym e ∙ h in absurd (omega (arith, q))) (λ z e. absurd (z (sym e ∙ h)));
+  size-refused = λ m depth room number h some not-22.
+      walk-is _ m depth room (λ z l e. absurd (some (sym h ∙ e))) (λ z l e. absurd (not-22 (sym h ∙ e)))
+      (λ z e. size-untold m depth z ∙ ap sized.Refused (sym e ∙ h));
+  short = λ m depth room h.
+      walk-is _ m depth room (λ z l e. let q : _≡_ {A = ℕ} 0 22 = sym e ∙ h in absurd (omega (arith, q))) (λ z l e. (size-told m depth z, l)) (λ z e. absurd (size-not-22 m depth (sym e ∙ h)));
 }

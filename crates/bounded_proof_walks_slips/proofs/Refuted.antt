@@ -10,6 +10,11 @@ use lib.ListN.{getD, length}
 use Rattle.queue_entries.specs.Limits.{all, inLimits}
 use Rattle.queue_entries.specs.Schedules.{runBy}
 use Rattle.queue_entries.specs.Entries.{strayOf, orderOf, entryOf}
+use Rattle.queue_entries.specs.Told.{told}
+use Rattle.queue_entries.specs.declared.Told.{Told}
+use Rattle.queue_entries.specs.declared.Told.the-variants as answer
+use Rattle.bounded_walks.specs.declared.Sized.{Sized}
+use Rattle.bounded_walks.specs.declared.Sized.the-variants as sized
 use Rattle.queue_walks.specs.Walks.{after, inTurn, choiceBy, walkBy}
 use Rattle.queue_walks.specs.Meaning.{Before, lower, sooner, further, none-left, all-idle, goes-on}
 use Rattle.bounded_words.specs.Words.{doubled, markOf, markedOf, unmarkedOf, plus, minus, withMark, nextOf, same, onePast, lapBehind, lapBehindOnePast}
@@ -74,8 +79,16 @@ not-ended left m busy (all-idle e) = true≢false (sym e ∙ busy)
 idle-number : walkRefusal (freshIn sixtyFour) 0 8 ≡ 20
 idle-number = ap (λ (l : List ℕ). getD l 3 0) walk-each-number
 
+value : Told → ℕ
+value (answer.Number n) = n
+value (answer.Refused n) = 0
+
+bytes : Sized → ℕ
+bytes (sized.Sequences s b) = b
+bytes (sized.Refused n) = 0
+
 pub refuted : Refuted
-unfolding two alone doubled markOf markedOf unmarkedOf plus minus withMark nextOf same onePast lapBehind lapBehindOnePast inside strayOf orderOf entryOf goes losing exchangeOf afterTail tailTo headTo stampTo valueTo forcedTail emptySlots stamped freshSlots idlers freshWith refused accepted byRule endsFit placeFits recordFits recordsFit brokenWith ringFits recordAfter begun stored actedBy turnOfBy ran runBy all inLimits allIdle allBusy acts after inTurn choiceBy walkBy turnsWith walkWith has bytesOf sizeRefusal walkRefusal listed sizeOf
+unfolding two alone value bytes told doubled markOf markedOf unmarkedOf plus minus withMark nextOf same onePast lapBehind lapBehindOnePast inside strayOf orderOf entryOf goes losing exchangeOf afterTail tailTo headTo stampTo valueTo forcedTail emptySlots stamped freshSlots idlers freshWith refused accepted byRule endsFit placeFits recordFits recordsFit brokenWith ringFits recordAfter begun stored actedBy turnOfBy ran runBy all inLimits allIdle allBusy acts after inTurn choiceBy walkBy turnsWith walkWith has bytesOf sizeRefusal walkRefusal listed sizeOf
 refuted =
     record {
       nine-first = λ r. not-before 144 128 refl (omega arith) (r .order 1 two refl .0 (128 ∷ []) (List·Memᴰ·head refl));
@@ -86,5 +99,7 @@ refuted =
       refused-writes = λ r. let q : _≡_ {A = ℕ} 0 7 = ap (λ (l : List ℕ). getD l 0 0) (r .unchanged alone 0 (7 ∷ []) (λ e. omega (arith, e))) in omega arith;
       idle-by-four = λ r. true≢false (sym (r .numbered alone 0 1));
       sized-short = λ r. let q : _≡_ {A = ℕ} 22 0 = r .fits two 0 1 0 refl in omega arith;
+      answers-none = λ r. let q : _≡_ {A = ℕ} 0 1 = ap value (r .counted two 0 (0 ∷ []) refl) in omega arith;
+      counted-short = λ r. let q : _≡_ {A = ℕ} 0 1 = ap bytes (r .size-counted two 0 1 refl) in omega arith;
       each-number = λ r. let q : _≡_ {A = ℕ} 4 20 = sym (ap (λ (k : ℕ). cond (eqb k 20) 4 k) idle-number) ∙ ap (λ (l : List ℕ). getD l 3 0) r in omega arith;
     }

@@ -1,6 +1,6 @@
 -- Which statement refuses which slip.
-use Rattle.bounded_demands.specs.Demands.{WalksAll, WalkToldBy, WalkEachNumber}
-use Rattle.bounded_proof_walks_slips.specs.Slips.{nineFirst, oneSkipped, cutWhenOneIdle, listedTwice, walkWith, oneShort, refusedWrites, idleByFour, sizedShort, faceWith}
+use Rattle.bounded_demands.specs.Demands.{WalksAll, WalkToldBy, WalkCountsBy, WalkEachNumber}
+use Rattle.bounded_proof_walks_slips.specs.Slips.{nineFirst, oneSkipped, cutWhenOneIdle, listedTwice, walkWith, oneShort, refusedWrites, idleByFour, sizedShort, answersNone, faceWith}
 
 pub record Refuted : Type 0 where
   pub nine-first : WalksAll (walkWith nineFirst) → ⊥
@@ -12,4 +12,7 @@ pub record Refuted : Type 0 where
   pub refused-writes : WalkToldBy (faceWith refusedWrites) → ⊥
   pub idle-by-four : WalkToldBy (faceWith idleByFour) → ⊥
   pub sized-short : WalkToldBy (faceWith sizedShort) → ⊥
+  pub answers-none : WalkCountsBy (faceWith answersNone) → ⊥
+  -- its size is not that of the list
+  pub counted-short : WalkCountsBy (faceWith sizedShort) → ⊥
   pub each-number : WalkEachNumber (faceWith idleByFour) → ⊥

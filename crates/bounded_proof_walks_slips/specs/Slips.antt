@@ -5,6 +5,7 @@ use mathlib.Core.List.{List, [], _∷_, _++_}
 use mathlib.Core.Path.{_≡_}
 use lib.Dec.{eqb}
 use lib.ListN.{length, drop}
+use Rattle.queue_entries.specs.Told.{told}
 use Rattle.queue_walks.specs.Walks.{choiceBy}
 use Rattle.queue_walks.specs.Listed.{bytesOf}
 use Rattle.bounded_machine.specs.declared.Machine.{Machine}
@@ -75,6 +76,10 @@ idleByFour = 7
 abbrev pub sizedShort : ℕ
 sizedShort = 8
 
+-- a walk answers 0, whatever it listed
+abbrev pub answersNone : ℕ
+answersNone = 9
+
 abbrev lessOne : Sized → Sized
 lessOne (Sequences sequences bytes) = Sequences sequences (bytes - 1)
 lessOne (Refused number) = Refused number
@@ -88,7 +93,7 @@ faceWith n =
           cond (eqb n oneShort) (walkRefusal m depth (room + 1))
           (cond (eqb n idleByFour) (cond (eqb (walkRefusal m depth room) 20) 4 (walkRefusal m depth room))
           (walkRefusal m depth room));
-      told = walkTold;
+      told = λ m depth buffer. cond (eqb n answersNone) (told (walkRefusal m depth (length buffer)) 0) (walkTold m depth buffer);
       listed = λ m depth buffer. cond (eqb n refusedWrites) (bytesOf (walkOf depth m) ++ drop (length (bytesOf (walkOf depth m))) buffer) (listed m depth buffer);
       size = λ m depth. cond (eqb n sizedShort) (lessOne (sizeOf m depth)) (sizeOf m depth);
     }

@@ -5,11 +5,13 @@ use mathlib.Core.Bool.{true, false, true≢false}
 use mathlib.Core.List.{List, [], _∷_, _++_}
 use mathlib.Core.Path.{_≡_, refl, sym, ap}
 use mathlib.Core.Logic.{_≢_}
-use lib.ListN.{getD}
+use lib.ListN.{length, getD}
 use Rattle.queue_entries.specs.declared.Entry.the-variants.{Unreadable}
 use Rattle.queue_entries.specs.Schedules.{runBy, searchBy, scheduleBy, historyBy}
 use Rattle.queue_entries.specs.Entries.{strayOf, orderOf, entryOf}
 use Rattle.queue_entries.specs.Limits.{all, inLimits}
+use Rattle.queue_entries.specs.declared.Call.the-variants as call
+use Rattle.queue_entries.specs.declared.Order.the-variants.{Begin}
 use Rattle.bounded_words.specs.declared.Stamp.{Stamp}
 use Rattle.bounded_words.specs.Words.{doubled, markOf, markedOf, unmarkedOf, plus, minus, withMark, nextOf, same, onePast, lapBehind, lapBehindOnePast, stamp}
 use Rattle.bounded_places.specs.declared.Answer.{Answer}
@@ -20,8 +22,9 @@ use Rattle.bounded_places.specs.declared.Place.the-variants.{Idle, P3, P4, F8, 
 use Rattle.bounded_places.specs.Places.{inside}
 use Rattle.bounded_acts.specs.Acts.{forcedTail, goes, losing, exchangeOf, afterTail, tailTo, headTo, stampTo, valueTo, countOf}
 use Rattle.bounded_machine.specs.declared.Machine.{Machine}
+use Rattle.bounded_machine.specs.declared.Did.{Did}
 use Rattle.bounded_machine.specs.declared.Ran.{Ran}
-use Rattle.bounded_machine.specs.Machine.{emptySlots, stamped, freshSlots, idlers, freshWith, freshOf, refused, accepted}
+use Rattle.bounded_machine.specs.Machine.{emptySlots, stamped, freshSlots, recordOf, idler, idlers, freshWith, freshOf, refused, accepted}
 use Rattle.bounded_machine.specs.Broken.{byRule, endsFit, placeFits, recordFits, recordsFit, ringFits, brokenWith, allIdle}
 use Rattle.bounded_machine.specs.Contents.{countOn, wrapped, itemOn, itemsOn, listOn}
 use Rattle.bounded_machine.specs.Turn.{recordAfter, begun, stored, actedBy, turnOfBy}
@@ -30,7 +33,7 @@ use Rattle.bounded_machine.specs.History.{event, tallyOf, stockOf, untakenOf}
 use Rattle.bounded_demands.specs.Notions.{acts, itemsOf, tailersOf, takersOf, handP4, handO4, Reads, readO4, readF8, unreadBy, exchangeP3, lostFrom, struck, popped, passed, ownActs, actsOf, Allowed}
 use Rattle.bounded_proof_demand2.proofs.Stock.{reading}
 use Rattle.bounded_slips.specs.Slips.{none, actWith, slipped, howMany, emptyUnseen, fullUnseen, closedUnseen, emptyTailFirst, fullHeadFirst, lenLooksOnce, popKeepsItsWord, lostForceKeepsItsWord, lostForceTakesTheHead, unstamped, releasesWithNext, neverLetsGo, handsOutAgain, readsAfterItsStore, stampBeforeValue, pushWritesLate, closedTooSoon}
-use Rattle.bounded_slips.specs.Refuted.{Trial, trial, reached, past, does, popLoses, Refuted, popOfNothing, popLooksLate, pushLooksLate, pushLoses, emptyLooks, fullLooks, popAfterPush, secondLap, popOutOfDate, forceOutOfDate, popInHand, lenLooks, lenOutOfDate, closedBefore}
+use Rattle.bounded_slips.specs.Refuted.{overtaken, Trial, trial, reached, past, does, popLoses, Refuted, popOfNothing, popLooksLate, pushLooksLate, pushLoses, emptyLooks, fullLooks, popAfterPush, secondLap, popOutOfDate, forceOutOfDate, popInHand, lenLooks, lenOutOfDate, closedBefore}
 use Rattle.bounded_places.specs.declared.Place.{Place}
 use Rattle.bounded_places.specs.declared.Place.the-variants.{P2, Len1}
 use Rattle.bounded_places.specs.declared.Kind.the-variants.{Force}
@@ -38,7 +41,7 @@ use Rattle.bounded_places.specs.declared.Moved.the-variants.{Neither, Tail, Hea
 use Rattle.bounded_places.specs.Places.{viewOf}
 use Rattle.bounded_causes.specs.Causes.{standOf, goesBackOf, deedOf, sinceWith, ownAct, otherAct, othersHold, watchedTo, watchedOf, causesOf, namedOf}
 use Rattle.bounded_demands.specs.Notions.{rounds, watchesFrom, goingsBack, WayBack, p2-p1, p3-p2, p6-p1, f6-p1, o2-o1, o3-o2, o6-o1, len3-len1}
-use Rattle.bounded_demands.specs.Attained.{Sight, attained, seenBy, sightOf, needed, othersIdle, exactly}
+use Rattle.bounded_demands.specs.Attained.{Sight, attained, seenBy, sightOf, needed, othersIdle, exactly, seenBeside, attainedBeside}
 use Rattle.bounded_demands.specs.Foretold.{Told, tellings, toldOn, toldBy, asForetold}
 use Rattle.bounded_slips.proofs.Forgets.{alone-keeps}
 use Rattle.bounded_slips.proofs.Ways.{busyAt, nowhere, wrong-item, unclaimed, sole, acting, said, no-cons, untouched, quiet, no-hand, stillBusy, late, rests, at-once, busyAlong, holds-on}
@@ -115,7 +118,7 @@ back-free p q o6-o1 = refl
 back-free p q len3-len1 = refl
 
 pub refuted : Refuted
-unfolding attained seenBy sightOf needed othersIdle tellings toldOn toldBy rounds goesBackOf deedOf sinceWith ownAct otherAct othersHold watchedTo watchedOf causesOf namedOf watchesFrom goingsBack forcedTail doubled markOf markedOf unmarkedOf plus minus withMark nextOf same onePast lapBehind lapBehindOnePast inside strayOf orderOf entryOf goes losing exchangeOf afterTail tailTo headTo stampTo valueTo countOf emptySlots stamped freshSlots idlers freshWith refused accepted all inLimits byRule endsFit placeFits recordFits recordsFit brokenWith ringFits allIdle countOn wrapped itemOn itemsOn listOn recordAfter begun stored actedBy turnOfBy ran runBy searchBy scheduleBy historyBy tallyOf stockOf untakenOf howMany unreadBy acts itemsOf tailersOf takersOf lostFrom struck passed ownActs nowhere stillBusy busyAlong
+unfolding attained seenBy sightOf needed othersIdle attainedBeside seenBeside tellings toldOn toldBy rounds goesBackOf deedOf sinceWith ownAct otherAct othersHold watchedTo watchedOf causesOf namedOf watchesFrom goingsBack forcedTail doubled markOf markedOf unmarkedOf plus minus withMark nextOf same onePast lapBehind lapBehindOnePast inside strayOf orderOf entryOf goes losing exchangeOf afterTail tailTo headTo stampTo valueTo countOf emptySlots stamped freshSlots idlers freshWith refused accepted all inLimits byRule endsFit placeFits recordFits recordsFit brokenWith ringFits allIdle countOn wrapped itemOn itemsOn listOn recordAfter begun stored actedBy turnOfBy ran runBy searchBy scheduleBy historyBy tallyOf stockOf untakenOf howMany unreadBy acts itemsOf tailersOf takersOf lostFrom struck passed ownActs nowhere stillBusy busyAlong
 refuted =
     record {
       act-by-act = λ a. true≢false (sym (ap (λ (m : Machine). busyAt m 0) (a (freshOf 1 2 1) [] 0 5 refl refl refl .0)));
@@ -179,8 +182,22 @@ refuted =
           (a 1 refl (omega arith) (no-hand (reached lenOutOfDate) 1 refl refl quiet)) .1) in
           omega arith;
       in-the-way = λ i. no-hand (reached popAfterPush) 0 refl refl quiet (i 0 (omega arith) refl);
+      waits-hand = λ i. let o = i 0 (omega arith) refl in no-hand (reached popAfterPush) 0 refl refl quiet (o .hand .0, o .hand .1, o .hand .2, o .hand .3);
+      waits-needed = λ i. let q : _≡_ {A = ℕ} 0 1 = ap length (i 1 (omega arith) refl .needed) in omega (arith, q);
+      -- P6 answers at once
+      attained-beside = λ a. let q : _≡_ {A = ℕ} 2 7 = ap (λ (l : List Sight). getD l 0 (exactly Len1 0) .acts-needed) a in omega arith;
       lets-go = λ l. holds-on (slipped neverLetsGo) (reached popInHand) 0 2 (acts 0 2) refl (l 0 (stamp 0) (acts 0 2) handO4 (let q : 2 ≤ 2 = omega arith in q));
       as-run = λ p. true≢false (ap (λ (m : Machine). busyAt m 0) (p (0 ∷ 5 ∷ []) refl));
+      nine-as-eight =
+          λ n.
+          let q : _≡_ {A = ℕ} 1 0 =
+          ap (λ (d : Did). recordOf (d .machine .workers) 0 .failed) (n (reached overtaken) 0 (stamp 4) (stamp 0) exchangeP3 (λ e. let q : _≡_ {A = ℕ} 4 0 = ap (λ (t : Stamp). t .0) e in omega (arith, q))) in
+          omega arith;
+      own-record =
+          λ d.
+          let q : _≡_ {A = ℕ} 7 0 =
+          d .refusal (reached (trial none 1 [])) (record { place = Idle Nothing; differed = 0; failed = 1 } ∷ idler ∷ []) 1 (Begin (call.Push 5)) 16 5 refl refl in
+          omega arith;
       at-most = λ a. let q : 8 ≤ 7 = a (P2 Force (stamp 0) 0) .0 in omega arith;
       -- the row of Len3
       attained = λ a. let q : _≡_ {A = ℕ} 1 4 = ap (λ (l : List Sight). getD l 21 (exactly Len1 0) .acts-needed) a in omega arith;

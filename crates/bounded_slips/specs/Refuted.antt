@@ -9,9 +9,9 @@ use Rattle.bounded_machine.specs.declared.Machine.{Machine}
 use Rattle.bounded_machine.specs.declared.Event.{Event}
 use Rattle.bounded_machine.specs.Broken.{brokenOf}
 use Rattle.bounded_demands.specs.Notions.{Definition, Words, Plain, machineAfter, actsOf, acts, stock}
-use Rattle.bounded_demands.specs.Demands.{ClaimRule, OnceOut, OneHand, ReadsWritten, AnswersTrue, UntakenCounts, ContentsWait, PlainQueue, EmptyTrue, FullTrue, ActByAct, WholeSchedules, LenTrue, NeverRefused, AloneEnds, InTheWay, HandLetsGo, PassedAsRun, StockRises, StockFalls, StockStays, StockByHands, StockIsNumber, StockMost, EndTold, LossesCounted, CountsAside, OnceClosed, NoneAfterClosed}
-use Rattle.bounded_demands.specs.Demands.{AtMost, AttainedBy, AsForetoldBy, EightWaysBack, AloneBackOnce, AloneKeeps, RoundsClaim}
-use Rattle.bounded_slips.specs.Slips.{none, lostPushGoesOn, closedUnseen, unwrapped, tailUnmoved, unwritten, unstamped, fullUnseen, tailBeforeHead, lostForceKeepsItsWord, lostForceTakesTheHead, stampBeforeValue, stampUntested, readsAfterItsStore, releasesWithNext, neverLetsGo, emptyUnseen, handsOutAgain, popKeepsItsWord, lenLooksOnce, emptyTailFirst, fullHeadFirst, pushWritesLate, forceForgets, closedTooSoon, fallsWhenTaken, risesWhenWritten, forceUnread, popUncounted, bothBySchedule, forceUncounted, wonCounted, counting, unreset, forgotten, twice, toldBySchedule, weary, slipped, stockWith, deaf, refusing, forgetful, slower, actWith}
+use Rattle.bounded_demands.specs.Demands.{ClaimRule, OnceOut, OneHand, ReadsWritten, AnswersTrue, UntakenCounts, ContentsWait, PlainQueue, EmptyTrue, FullTrue, ActByAct, WholeSchedules, LenTrue, NeverRefused, AloneEnds, InTheWay, WaitsAt, HandLetsGo, PassedAsRun, StockRises, StockFalls, StockStays, StockByHands, StockIsNumber, StockMost, EndTold, LossesCounted, CountsAside, OnceClosed, NoneAfterClosed}
+use Rattle.bounded_demands.specs.Demands.{AtMost, NineAsEight, OwnRecordAlone, AttainedBy, AttainedBeside, AsForetoldBy, EightWaysBack, AloneBackOnce, AloneKeeps, RoundsClaim}
+use Rattle.bounded_slips.specs.Slips.{none, lostPushGoesOn, closedUnseen, unwrapped, tailUnmoved, unwritten, unstamped, fullUnseen, tailBeforeHead, lostForceKeepsItsWord, lostForceTakesTheHead, stampBeforeValue, stampUntested, readsAfterItsStore, releasesWithNext, neverLetsGo, emptyUnseen, handsOutAgain, popKeepsItsWord, lenLooksOnce, emptyTailFirst, fullHeadFirst, pushWritesLate, forceForgets, closedTooSoon, closeWaits, fallsWhenTaken, risesWhenWritten, forceUnread, popUncounted, bothBySchedule, forceUncounted, wonCounted, counting, unreset, forgotten, twice, toldBySchedule, weary, slipped, stockWith, deaf, refusing, forgetful, slower, actWith}
 
 -- A schedule for a machine of this capacity and edition with two workers, with this slip.
 pub record Trial : Type 0 where
@@ -121,6 +121,14 @@ abbrev pub lenOutOfDate : Trial
 lenOutOfDate = trial lenLooksOnce 1 (does 1 3 0 2 ++ does 0 0 5 5)
 
 -- a pop with its slot in hand
+-- a push about to exchange a tail that another has moved
+abbrev pub overtaken : Trial
+overtaken = trial bothBySchedule 1 (does 0 0 5 2 ++ does 1 0 6 3)
+
+-- a push in hand, and another worker's close
+abbrev pub closeBesideHand : Trial
+closeBesideHand = trial closeWaits 1 (does 0 0 5 3 ++ does 1 6 0 0)
+
 abbrev pub popInHand : Trial
 popInHand = trial neverLetsGo 1 (does 0 0 5 5 ++ does 0 2 0 3)
 
@@ -217,8 +225,16 @@ pub record Refuted : Type 0 where
   -- it ends, and not with the answer foretold
   pub alone-other : AloneEnds (slipped lenLooksOnce) (reached lenOutOfDate) (past lenOutOfDate) → ⊥
   pub in-the-way : InTheWay (slipped unstamped) (reached popAfterPush) → ⊥
+  -- it waits for a slot that is in nobody's hand; it waits and needs no slot
+  pub waits-hand : WaitsAt (slipped unstamped) (reached popAfterPush) → ⊥
+  pub waits-needed : WaitsAt (slipped closeWaits) (reached closeBesideHand) → ⊥
+  pub attained-beside : AttainedBeside (actWith fullUnseen) 1 → ⊥
   pub lets-go : HandLetsGo (slipped neverLetsGo) (reached popInHand) → ⊥
   pub as-run : PassedAsRun deaf (reached (trial none 1 [])) → ⊥
+  -- code 9 counts a loss that code 8 does not, where the words differ anyway
+  pub nine-as-eight : NineAsEight (slipped bothBySchedule) → ⊥
+  -- a step that reads another's record
+  pub own-record : OwnRecordAlone weary → ⊥
   pub at-most : AtMost slower → ⊥
   pub attained : AttainedBy (actWith lenLooksOnce) 1 → ⊥
   pub foretold : AsForetoldBy SixtyFour (actWith unstamped) 1 → ⊥

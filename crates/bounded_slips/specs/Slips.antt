@@ -3,16 +3,17 @@ use Prim.Native.Nat.{ℕ, _+_, _-_}
 use mathlib.Core.Bool.{Bool, true, false, cond, not}
 use mathlib.Core.List.{List, [], _∷_}
 use mathlib.Core.Path.{_≡_}
-use lib.Dec.{eqb}
+use lib.Dec.{eqb, ltb}
 use lib.ListN.{length, set}
 use Rattle.queue_entries.specs.Limits.{workersMost}
 use Rattle.queue_entries.specs.declared.Entry.{Entry}
 use Rattle.queue_entries.specs.declared.Entry.the-variants.{Unreadable, Asks}
 use Rattle.queue_entries.specs.Entries.{entryOf}
+use Rattle.bounded_words.specs.declared.Stamp.{Stamp}
 use Rattle.bounded_words.specs.declared.Fixed.{Fixed}
 use Rattle.bounded_words.specs.declared.Width.{Width}
 use Rattle.bounded_words.specs.declared.Width.the-variants.{SixtyFour, Sixteen}
-use Rattle.bounded_words.specs.Words.{plus, minus, nextOf, same, markedOf, unmarkedOf, withMark, lapBehind}
+use Rattle.bounded_words.specs.Words.{stamp, indexOf, plus, minus, nextOf, same, markedOf, unmarkedOf, withMark, lapBehind}
 use Rattle.bounded_places.specs.declared.Slot.{Slot}
 use Rattle.bounded_places.specs.declared.Ends.{Ends}
 use Rattle.bounded_places.specs.declared.Kind.the-variants.{Force}
@@ -215,6 +216,17 @@ forceUncompared = 42
 abbrev pub emptyOfClosed : ℕ
 emptyOfClosed = 43
 
+-- close goes back while slot 0's stamp is not what the ends say of it, that is while somebody has slot 0 in hand
+abbrev pub closeWaits : ℕ
+closeWaits = 44
+
+-- The word of the claim that has slot 0 next, counted from head; and slot 0's stamp, if it is in no hand: full if tail is past that claim, else free.
+abbrev claimAtZero : Fixed → Ends → Stamp
+claimAtZero f e = cond (eqb (indexOf f (e .head)) 0) (e .head) (plus SixtyFour (stamp (e .head .0 - indexOf f (e .head))) (f .lap))
+
+abbrev stampAtZero : Fixed → Ends → Stamp
+stampAtZero f e = cond (ltb (claimAtZero f e .0) (unmarkedOf f (e .tail) .0)) (plus SixtyFour (claimAtZero f e) 1) (claimAtZero f e)
+
 -- The row of document 01, but for this slip.
 abbrev but : ℕ → ℕ → Acted → Acted → Acted
 but n slip wrong right = cond (eqb n slip) wrong right
@@ -284,7 +296,9 @@ actWith n f e s (Empty2 t) lose =
 actWith n f e s Full1 lose = but n fullHeadFirst (goes e s (Full2 (e .head))) (actOf SixtyFour f e s Full1 lose)
 actWith n f e s (Full2 h) lose =
     but n fullHeadFirst (goes e s (Idle (yesNo (lapBehind SixtyFour f h (unmarkedOf f (e .tail)))))) (but n fullSaysNo (goes e s (Idle No)) (actOf SixtyFour f e s (Full2 h) lose))
-actWith n f e s Close1 lose = but n closeSaysYes (goes (tailTo e (withMark SixtyFour f (e .tail))) s (Idle Yes)) (actOf SixtyFour f e s Close1 lose)
+actWith n f e s Close1 lose =
+    but n closeSaysYes (goes (tailTo e (withMark SixtyFour f (e .tail))) s (Idle Yes))
+    (but n closeWaits (cond (same (s .stamp) (stampAtZero f e)) (actOf SixtyFour f e s Close1 lose) (goes e s Close1)) (actOf SixtyFour f e s Close1 lose))
 actWith n f e s IsClosed1 lose = but n closedSaysNo (goes e s (Idle No)) (actOf SixtyFour f e s IsClosed1 lose)
 
 -- ---- the machine with a slip

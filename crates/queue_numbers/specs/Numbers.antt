@@ -9,6 +9,19 @@ unfoldable pub has : List ℕ → ℕ → Bool
 has [] n = false
 has (x ∷ l) n = cond (eqb n x) true (has l n)
 
+-- A ground of refusal: its number, and whether it holds. Of several in their order the first that holds is given; 0, none, where none does. So each number is given exactly when its ground holds
+-- and no ground before it.
+pub record Ground : Type 0 where
+  pub number : ℕ
+  pub holds : Bool
+
+abbrev pub on : ℕ → Bool → Ground
+on number holds = record { number = number; holds = holds }
+
+abbrev pub firstOf : List Ground → ℕ
+firstOf [] = 0
+firstOf (g ∷ rest) = cond (g .holds) (g .number) (firstOf rest)
+
 -- The numbers that the functions of a face give, on machines M.
 pub record Numbers (M : Type 0) : Type 0 where
   pub make : ℕ → ℕ

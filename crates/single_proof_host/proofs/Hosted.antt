@@ -293,7 +293,7 @@ module _ (w : Words) (workers : ℕ) (made : makeWords w workers .answer ≡ 0) 
     unbroken = ap brokenOf (read₀ ∙ sym machine-is) ∙ stays-unbroken .made workers (fresh .refusal-is);
   }
 
-  allowed : Allowed workers
+  pub allowed : Allowed workers
   allowed = record { some = limit-some workers workersMost true (sym few) refl; most = limit-most workers workersMost true (sym few) refl }
 
   under : (entries : List ℕ) → Under workers (machineIn (leftBy face (makeWords w workers .words) entries)) (takenBy face (makeWords w workers .words) entries)

@@ -1,8 +1,10 @@
 -- What item 5 asks of tapes. Proved in proofs/ here and in crates/tapes_proof_round_trip, whose Headlines.antt has all together.
 -- That anything handed in gets an answer is what `write` and `read` of crate tapes promise: neither has a `requires`, and answer and
 -- buffer are each equal to a definition. What follows speaks of these definitions.
-use Prim.Native.Nat.{ℕ, _+_, _-_, _%_, _<_, _≤_, _^_}
+use Prim.Native.Nat.{ℕ, _+_, _-_, _/_, _%_, _<_, _≤_, _^_}
+use mathlib.Core.Bool.{false}
 use mathlib.Core.List.{List, [], _∷_, _++_}
+use mathlib.Core.Logic.{_⊎_}
 use mathlib.Core.Path.{_≡_}
 use lib.ListN.{length, take, drop}
 use Rattle.tapes_numbers.specs.declared.Variant.{Variant}
@@ -14,12 +16,12 @@ use Rattle.tapes.specs.declared.Reading.the-variants as reading
 use Rattle.tapes_fields.specs.declared.Head.the-variants as head
 use Rattle.tapes_fields.specs.declared.Field.the-variants as field
 use Rattle.tapes_fields.specs.Fields.{headOf, endOf}
-use Rattle.tapes_fields.specs.Judged.{headIn, fieldIn}
-use Rattle.tapes.specs.Written.{entriesOf, tapeOf, writeOf, writtenOf}
+use Rattle.tapes_fields.specs.Judged.{headIn, fieldIn, carried}
+use Rattle.tapes.specs.Written.{most, entriesOf, tapeOf, writeOf, writtenOf}
 use Rattle.tapes.specs.Written as writing
 use Rattle.tapes.specs.Heard.{readOf, readInto}
 use Rattle.tapes.specs.Heard as heard
-use Rattle.tapes_demands.specs.Notions.{Below, OneOf, entriesLong, writingOf, aboutOf, readingOf}
+use Rattle.tapes_demands.specs.Notions.{Below, OneOf, entriesLong, Carriable, writingOf, aboutOf, readingOf}
 
 -- The functions: what the writer answers, what is in the buffer after it, and the tape; what the reader answers, and what is in the buffer after it. What is asked is said of any, so that it can be said of
 -- some with a slip.
@@ -81,6 +83,31 @@ pub record FirstFault (read : List ℕ → ℕ → Reading) : Type 0 where
   -- "the reader gives 16 only for a tape with no other fault"
   pub short : (s : List ℕ) (room count : ℕ) → read s room ≡ reading.Refused 16 count
       → (v : Variant) × (capacity : ℕ) × (workers : ℕ) × (read s count ≡ reading.Schedule v capacity workers count)
+
+-- "The writer checks 11, 17, 16 in that order", each given exactly then, and what is left is written: so of no writer that refuses more. Of any writer; met by `item5`.
+pub record WriterOrderBy (f : TapeFace) : Type 0 where
+  pub odd : (capacity workers : ℕ) (words : List ℕ) (room : ℕ) → length words % 2 ≡ 1 → f .write capacity workers words room ≡ refusal.Refused 11 0
+  pub large : (capacity workers : ℕ) (words : List ℕ) (room : ℕ) → length words % 2 ≡ 0 → (most < capacity) ⊎ (most < workers) → f .write capacity workers words room ≡ refusal.Refused 17 0
+  -- the first entry that the tape can't carry
+  pub uncarried : (capacity workers : ℕ) (words : List ℕ) (first item : ℕ) (rest : List ℕ) (room : ℕ) → Carriable capacity workers words → length rest % 2 ≡ 0 → carried first item ≡ false
+      → f .write capacity workers (words ++ first ∷ item ∷ rest) room ≡ refusal.Refused 17 (length words / 2)
+  pub short : (capacity workers : ℕ) (words : List ℕ) (room : ℕ) → Carriable capacity workers words → room < 10 + entriesLong words
+      → f .write capacity workers words room ≡ refusal.Refused 16 (10 + entriesLong words)
+  pub written : (capacity workers : ℕ) (words : List ℕ) (room : ℕ) → Carriable capacity workers words → 10 + entriesLong words ≤ room
+      → f .write capacity workers words room ≡ Tape (10 + entriesLong words)
+
+abbrev pub WriterOrder : Type 0
+WriterOrder = WriterOrderBy item5
+
+-- Every tape of a schedule that can be carried is read, as that schedule: so of no reader that refuses more.
+abbrev pub EveryTapeReadBy : TapeFace → Type 0
+EveryTapeReadBy f =
+    (v : Variant) (capacity workers : ℕ) (words lent : List ℕ) → Carriable capacity workers words → Below (2 ^ 64) words → length words ≤ length lent
+    → (f .read (f .tape v capacity workers words) (length lent) ≡ reading.Schedule v capacity workers (length words))
+    × (take (length words) (f .into (f .tape v capacity workers words) lent) ≡ words)
+
+abbrev pub EveryTapeRead : Type 0
+EveryTapeRead = EveryTapeReadBy item5
 
 -- An accepted tape is as long as its answer says and as its entries say, stands at the buffer's start, and past it nothing changes.
 abbrev pub LengthBy : TapeFace → Type 0

@@ -1,12 +1,15 @@
 -- Notions that the statements use.
-use Prim.Native.Nat.{ℕ, _+_, _%_, _<_}
-use mathlib.Core.Bool.{cond}
+use Prim.Native.Nat.{ℕ, _+_, _%_, _<_, _≤_}
+use mathlib.Core.Bool.{true, cond}
 use mathlib.Core.List.{List, [], _∷_}
 use mathlib.Core.Logic.{_⊎_}
 use mathlib.Core.Path.{_≡_}
 use lib.Dec.{ltb, eqb}
+use lib.ListN.{length}
 use Rattle.tapes_numbers.specs.declared.Variant.{Variant}
 use Rattle.tapes_numbers.specs.declared.Variant.the-variants.{BigEndian}
+use Rattle.tapes_fields.specs.Judged.{carried}
+use Rattle.tapes.specs.Written.{most}
 use Rattle.tapes.specs.declared.Writing.{Writing}
 use Rattle.tapes.specs.declared.Writing.the-variants as writing
 use Rattle.tapes.specs.declared.Reading.{Reading}
@@ -26,6 +29,19 @@ unfoldable pub entriesLong : List ℕ → ℕ
 entriesLong [] = 0
 entriesLong (first ∷ []) = 0
 entriesLong (first ∷ item ∷ rest) = cond (ltb (first % 16) 2) 12 4 + entriesLong rest
+
+-- A tape can carry each entry.
+abbrev pub Carries : List ℕ → Type 0
+Carries [] = Unit {0}
+Carries (first ∷ []) = Unit {0}
+Carries (first ∷ item ∷ rest) = (carried first item ≡ true) × Carries rest
+
+-- What the writer takes: whole entries, a capacity and a number of workers that two bytes hold, entries that a tape can carry.
+pub record Carriable (capacity workers : ℕ) (words : List ℕ) : Type 0 where
+  pub whole : length words % 2 ≡ 0
+  pub narrow : capacity ≤ most
+  pub few : workers ≤ most
+  pub carries : Carries words
 
 -- ---- an answer of its number and values: the way back from `numberIn` and `valueIn` (crates/tapes/specs)
 

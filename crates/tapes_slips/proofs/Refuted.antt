@@ -16,7 +16,7 @@ use Rattle.tapes.specs.declared.Writing.the-variants as writing
 use Rattle.tapes.specs.Written.{entriesOf, tapeOf, loadFrom, fitted, writeOf, accepted, writtenOf}
 use Rattle.tapes.specs.Written as writer
 use Rattle.tapes.specs.Heard.{wordsIn, taken, readInto, joined, longOf, heardBy, hearFrom, hearIn, countIn, readBy, readAfter, readOf, numberIn, valueIn}
-use Rattle.tapes_demands.specs.Notions.{Below, OneOf, aboutOf}
+use Rattle.tapes_demands.specs.Notions.{Below, OneOf, Carriable, entriesLong, aboutOf}
 use Rattle.tapes_demands.specs.Cases.{first}
 use Rattle.tapes_slips.specs.Slips.{none, amiss, reported, turned, Faithful}
 use Rattle.tapes_slips.specs.Refuted.{Refuted}
@@ -54,8 +54,12 @@ bare-low = (omega arith, (omega arith, (omega arith, (omega arith, (omega arith,
 first-low : Below 256 first
 first-low = (omega arith, (omega arith, (omega arith, (omega arith, (omega arith, (omega arith, (omega arith, tt)))))))
 
+-- a schedule of no entry can be carried
+empty : Carriable 2 1 []
+empty = record { whole = refl; narrow = omega arith; few = omega arith; carries = tt }
+
 pub refuted : Refuted
-unfolding bare accepted over headOf entryFieldOf entriesOf tapeOf loadFrom fitted writeOf writtenOf writer.numberIn taken wordsIn readInto inOrder digitsOf valueOf bytesOf numberOf openingOf fieldOf endOf swapped tagFor sizeOf opens allowed headBy headIn entryBy fieldIn joined longOf heardBy hearFrom hearIn countIn readBy readAfter readOf numberIn valueIn
+unfolding bare entriesLong accepted over headOf entryFieldOf entriesOf tapeOf loadFrom fitted writeOf writtenOf writer.numberIn taken wordsIn readInto inOrder digitsOf valueOf bytesOf numberOf openingOf fieldOf endOf swapped tagFor sizeOf opens allowed headBy headIn entryBy fieldIn joined longOf heardBy hearFrom hearIn countIn readBy readAfter readOf numberIn valueIn
 refuted =
     record {
       -- code 1 under tag 3, and then an unknown tag
@@ -72,5 +76,8 @@ refuted =
       reading-written = λ r. let q : _≡_ {A = ℕ} 1 2 = ap (λ (x : Reading). aboutOf x .1) (r BigEndian 2 1 [] (replicate 10 0) 10 tt refl .fits [] (omega arith) .0) in omega arith;
       writing-read = λ w. let q : _≡_ {A = ℕ} 1 2 = ap (λ (l : List ℕ). getD l 4 0) (w bare [] BigEndian 1 2 0 bare-low refl (replicate 10 0) (omega arith) .1) in omega arith;
       different = λ d. let q : _≡_ {A = ℕ} 1 2 = d BigEndian BigEndian 2 2 1 2 [] [] 10 10 10 10 tt tt refl refl refl .2 in omega arith;
+      writer-order = λ w. let q : _≡_ {A = ℕ} 17 0 = ap writer.numberIn (w .written 2 1 [] 10 empty (omega arith)) in omega arith;
+      writer-odd = λ w. let q : _≡_ {A = ℕ} 12 11 = ap writer.numberIn (w .odd 2 1 (5 ∷ []) 0 refl) in omega arith;
+      every-tape = λ e. let q : _≡_ {A = ℕ} 12 0 = ap numberIn (e BigEndian 2 1 [] [] empty tt (omega arith) .0) in omega arith;
       both-ways-read = λ b. let q : _≡_ {A = ℕ} 0 12 = b .read-kept 12 0 (BigEndian, 0, 0) .0 in omega arith;
     }

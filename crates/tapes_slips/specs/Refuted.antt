@@ -3,8 +3,8 @@ use Rattle.tapes.specs.declared.Writing.{Writing}
 use Rattle.tapes.specs.declared.Reading.{Reading}
 use Rattle.tapes.specs.Written as writer
 use Rattle.tapes.specs.Heard as reader
-use Rattle.tapes_demands.specs.Demands.{FirstFault, EnumsBothWays, RefusedUnchangedBy, NumberedBy, LengthBy, ReadingWhatWasWrittenBy, WritingWhatWasReadBy, DifferentTapesBy}
-use Rattle.tapes_slips.specs.Slips.{codesLast, afterItsTag, endIsEnough, roomFirst, readWith, refusedWrites, oddByTwelve, oneMore, workersFirst, teamless, faceWith}
+use Rattle.tapes_demands.specs.Demands.{FirstFault, EnumsBothWays, RefusedUnchangedBy, NumberedBy, LengthBy, ReadingWhatWasWrittenBy, WritingWhatWasReadBy, DifferentTapesBy, WriterOrderBy, EveryTapeReadBy}
+use Rattle.tapes_slips.specs.Slips.{codesLast, afterItsTag, endIsEnough, roomFirst, readWith, refusedWrites, oddByTwelve, oneMore, workersFirst, teamless, refusesAll, faceWith}
 
 pub record Refuted : Type 0 where
   pub later : FirstFault (readWith codesLast) → ⊥
@@ -21,3 +21,7 @@ pub record Refuted : Type 0 where
   pub reading-written : ReadingWhatWasWrittenBy (faceWith workersFirst) → ⊥
   pub writing-read : WritingWhatWasReadBy (faceWith workersFirst) → ⊥
   pub different : DifferentTapesBy (faceWith teamless) → ⊥
+  -- it writes nothing, and reads nothing; 12 for 11
+  pub writer-order : WriterOrderBy (faceWith refusesAll) → ⊥
+  pub writer-odd : WriterOrderBy (faceWith oddByTwelve) → ⊥
+  pub every-tape : EveryTapeReadBy (faceWith refusesAll) → ⊥

@@ -77,13 +77,18 @@ workersFirst = 8
 abbrev pub teamless : ℕ
 teamless = 9
 
+-- writer and reader refuse everything
+abbrev pub refusesAll : ℕ
+refusesAll = 10
+
 abbrev pub reported : ℕ → Writing → Writing
 reported n (writing.Refused number value) = cond (eqb n oddByTwelve) (cond (eqb number 11) (writing.Refused 12 value) (writing.Refused number value)) (writing.Refused number value)
-reported n (writing.Tape count) = cond (eqb n oneMore) (writing.Tape (count + 1)) (writing.Tape count)
+reported n (writing.Tape count) = cond (eqb n oneMore) (writing.Tape (count + 1)) (cond (eqb n refusesAll) (writing.Refused 17 0) (writing.Tape count))
 
 abbrev pub turned : ℕ → Reading → Reading
 turned n (Refused number value) = Refused number value
-turned n (Schedule v capacity workers count) = cond (eqb n workersFirst) (Schedule v workers capacity count) (Schedule v capacity workers count)
+turned n (Schedule v capacity workers count) =
+    cond (eqb n workersFirst) (Schedule v workers capacity count) (cond (eqb n refusesAll) (Refused 12 0) (Schedule v capacity workers count))
 
 abbrev pub faceWith : ℕ → TapeFace
 faceWith n =

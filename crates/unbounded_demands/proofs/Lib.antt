@@ -4,3 +4,4 @@ pub mod Blocks
 pub mod Pool
 pub mod Runs
 pub mod Answers
+pub mod Breaks

@@ -25,19 +25,19 @@ use Rattle.queue_numbers.specs.Numbers as numbers
 use Rattle.unbounded_words.specs.declared.Index.{Index}
 use Rattle.unbounded_words.specs.declared.Pointer.{Pointer}
 use Rattle.unbounded_words.specs.declared.Pointer.the-variants.{None, To}
-use Rattle.unbounded_words.specs.Words.{Sizes, sizes, markedOf, offsetOf, numberOf}
+use Rattle.unbounded_words.specs.Words.{Sizes, sizes, index, markedOf, offsetOf, numberOf}
 use Rattle.unbounded_places.specs.declared.Answer.{Answer}
 use Rattle.unbounded_places.specs.declared.Block.{Block}
 use Rattle.unbounded_places.specs.declared.Answer.the-variants.{Pushed, Popped, PopClosed, Len, Yes, No}
 use Rattle.unbounded_places.specs.declared.Place.{Place}
-use Rattle.unbounded_places.specs.declared.Place.the-variants.{Idle, U15, V6, V10, Empty1, Empty2}
+use Rattle.unbounded_places.specs.declared.Place.the-variants.{Idle, U15, V6, V10, Empty1, Empty2, Full1}
 use Rattle.unbounded_places.specs.Places.{viewOf}
 use Rattle.unbounded_acts.specs.Acts.{WRITE, has}
 use Rattle.unbounded_machine.specs.declared.Machine.{Machine}
 use Rattle.unbounded_machine.specs.declared.Event.{Event}
 use Rattle.unbounded_machine.specs.declared.Did.{Did}
 use Rattle.unbounded_machine.specs.declared.Ran.{Ran}
-use Rattle.unbounded_machine.specs.Machine.{blank, freshOf, placeOf, blockAt, live}
+use Rattle.unbounded_machine.specs.Machine.{blank, freshOf, machineOf, freeBlocks, emptySlots, placeOf, blockAt, live}
 use Rattle.unbounded_machine.specs.Broken.{brokenOf, allIdle, usesFit}
 use Rattle.unbounded_machine.specs.Contents.{countIn, contentsOf, contentsRefusal, written}
 use Rattle.unbounded_machine.specs.Turn.{entryHere, lowestFree}
@@ -199,6 +199,16 @@ pub record RefusedUnchangedBy (f : Functions Machine Did Ran) : Type 0 where
 
 abbrev pub RefusedUnchanged : Type 0
 RefusedUnchanged = RefusedUnchangedBy functions
+
+-- Why refusal 6 is judged at every entry: an accepted act can break a machine that no schedule reaches. One worker at its one act of is_full, tail ahead of head, no block: while it is busy nobody
+-- asks for `Drop`'s walk; once it is idle that is asked for, and its first step uses no block.
+abbrev pub unblocked : Machine
+unblocked = machineOf (record { head = index 0; front = None; tail = index 2; back = None }) (freeBlocks sizes) (emptySlots sizes) (record { place = Full1 } ∷ []) 1 0
+
+pub record AnActMayBreak : Type 0 where
+  pub sound : brokenOf sizes unblocked ≡ false
+  pub accepted : stepOf sizes unblocked 8 0 .refusal ≡ 0
+  pub broken : brokenOf sizes (stepOf sizes unblocked 8 0 .machine) ≡ true
 
 -- The list is checked first (document 02, item 7): of a machine that is not broken and a schedule of whole entries.
 pub record ListFirstBy (f : Functions Machine Did Ran) : Type 0 where

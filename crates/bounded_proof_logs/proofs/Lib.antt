@@ -1,0 +1,2 @@
+pub mod Under
+pub mod Ring

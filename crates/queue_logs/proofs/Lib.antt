@@ -1,0 +1,11 @@
+pub mod Sums
+pub mod Late
+pub mod Working
+pub mod Account
+pub mod Rows
+pub mod Book
+pub mod Whole
+pub mod Acts
+pub mod Times
+pub mod Few
+pub mod Shown
