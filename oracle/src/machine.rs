@@ -118,6 +118,11 @@ impl Machine {
         self.workers[worker].busy.map(|busy| self.watch.causes(worker, busy.call))
     }
 
+    /// Answers beyond the window of sixteen-bit words are held to the plain queue too, of which they are none.
+    pub fn judged_beyond_the_window(&mut self) {
+        self.window.uncounted();
+    }
+
     /// Whether the entries so far keep the window of sixteen-bit words.
     pub fn window(&self) -> &Window {
         &self.window

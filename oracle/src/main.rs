@@ -144,6 +144,7 @@ impl Options {
                 stock: self.flag("stock"),
                 moments: self.flag("moments"),
                 plain: self.flag("plain"),
+                beyond: false,
             }),
             (_, Some(name)) => Err(format!("--{name} is of the ring alone\n{USAGE}")),
         }

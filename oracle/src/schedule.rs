@@ -110,6 +110,8 @@ pub struct Show {
     pub moments: bool,
     /// Nothing more; but an answer that is not the plain queue's is a fault.
     pub plain: bool,
+    /// So beyond the window of sixteen-bit words too.
+    pub beyond: bool,
 }
 
 /// What `replay` must print.
@@ -118,7 +120,12 @@ pub fn run(schedule: &Schedule, show: Show, tally: &mut Tally) -> String {
     let mut out = String::new();
     match Machine::make(schedule.making, schedule.workers) {
         Err(refusal) => refused_making(&mut out, schedule.making.queue(), refusal, tally),
-        Ok(machine) => run_on(machine, schedule, show, &mut out, tally),
+        Ok(mut machine) => {
+            if show.beyond {
+                machine.judged_beyond_the_window();
+            }
+            run_on(machine, schedule, show, &mut out, tally)
+        }
     }
     out
 }

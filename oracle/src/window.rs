@@ -26,6 +26,11 @@ impl Window {
         Window { length: length(making), claims: Claims::default(), given: vec![None; workers], left: false, leaves: false }
     }
 
+    /// From now on it is not counted, and so never left.
+    pub fn uncounted(&mut self) {
+        self.length = None;
+    }
+
     /// The last entry left it.
     pub fn leaves(&self) -> bool {
         self.leaves

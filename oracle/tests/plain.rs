@@ -53,6 +53,7 @@ fn a_fault_is_told_and_kept() {
     }
     call(&mut schedule, 1, None, 1);
     let mut run = held_to_the_plain_queue(queue);
+    run.program = Program::Replay(Show { plain: true, quiet: true, beyond: true, ..Show::default() });
     let told = run.add(schedule.clone()).expect_err("it is no plain queue's answer");
     assert!(told.contains("entry 196611: worker 1: push answers full(9); the plain queue at=11 pushed"), "{told}");
     let kept = std::fs::read_to_string(run.save.join("plain.in")).unwrap();
