@@ -9,6 +9,7 @@ import sys
 
 import runs
 
+ENDING = {signal.SIGINT, signal.SIGTERM, signal.SIGHUP}
 LENGTH = struct.Struct('<I')
 AHEAD = 8  # batches of results that may wait in memory for one that takes long, by worker
 
@@ -38,7 +39,7 @@ def write_message(fd, message):
     runs.write_all(fd, LENGTH.pack(len(body)) + body)
 
 
-def work(asked, turns, requests, results):
+def work(asked, turns, requests, results, heard):
     mine = runs.Runs(asked, turns)
 
     def stop(*_):
@@ -47,6 +48,7 @@ def work(asked, turns, requests, results):
     signal.signal(signal.SIGINT, signal.SIG_IGN)  # the archive hears it, and ends its workers
     signal.signal(signal.SIGHUP, signal.SIG_IGN)
     signal.signal(signal.SIGTERM, stop)
+    signal.pthread_sigmask(signal.SIG_SETMASK, heard)
     while (message := read_message(requests)) is not None:
         number, paths = message
         told = mine.of(paths)
@@ -58,18 +60,20 @@ class Worker:
         asked_here, self.requests = os.pipe()
         self.results, answered_here = os.pipe()
         self.is_busy = False
+        heard = signal.pthread_sigmask(signal.SIG_BLOCK, ENDING)  # a worker that is ended before it has its own handlers would say that the archive was
         self.process = os.fork()
         if self.process == 0:
             status = 1
             try:
                 for fd in (self.requests, self.results, *(fd for other in others for fd in (other.requests, other.results))):
                     os.close(fd)
-                work(asked, turns, asked_here, answered_here)
+                work(asked, turns, asked_here, answered_here, heard)
                 status = 0
             except (SystemExit, BrokenPipeError):
                 status = 0
             finally:
                 os._exit(status)
+        signal.pthread_sigmask(signal.SIG_SETMASK, heard)
         os.close(asked_here)
         os.close(answered_here)
 
