@@ -59,10 +59,13 @@ use Rattle.bounded_demands.specs.Demands.{WalksAll, WalkTold, WalkCounts, WalkE
 use Rattle.bounded_demands.specs.Walkings.{item10}
 use Rattle.bounded_demands.proofs.Walkings.{walks-counted}
 use Rattle.bounded_proof_walks.proofs.Walks.{walks-all, walk-told, walk-counts}
-use Rattle.bounded_demands.specs.Demands.{AnswersPlain, AnswersPlainInWindow, OneStep, OneStepInWindow, ClosesNotOneStep}
+use Rattle.bounded_demands.specs.Demands.{AnswersPlain, AnswersPlainInWindow, OneStep, OneStepInWindow, OneStepUnderEverySchedule, OneStepUnderEveryInWindow, ClosesNotOneStep, LooksNotOneStep, MomentsKept, MomentsKeptInWindow, MomentsKeptOf}
 use Rattle.bounded_proof_plain.proofs.Plain.{answers-plain, plain-in-window}
 use Rattle.bounded_proof_plain.proofs.Linearizable.{one-step, one-step-in-window}
+use Rattle.bounded_proof_plain.proofs.Unlooked.{others, others-in-window}
 use Rattle.bounded_proof_plain.proofs.TwoCloses.{closes-not-one-step}
+use Rattle.bounded_proof_plain.proofs.BetweenClaims.{looks-not-one-step}
+use Rattle.bounded_proof_plain.proofs.Moments.{moments-kept, moments-in-window, moments-kept-of}
 
 -- What an answer means: every run is a run of a plain queue, each answer its at a moment inside the call, nothing lost and nothing another's; of 64 bits, and of sixteen within the window. One step a
 -- call: linearizable in the classical sense, with push, force_push and pop, and in edition 2 with close and is_closed; in edition 1 two closes are not.
@@ -72,6 +75,15 @@ answers-mean = (answers-plain workersMost, plain-in-window Sixteen workersMost, 
 -- The same with as many records as are lent, up to 64.
 pub lent-answers-mean : AnswersPlain (withRecords recordsMost SixtyFour) × OneStep (withRecords recordsMost SixtyFour)
 lent-answers-mean = (answers-plain recordsMost, one-step recordsMost)
+
+-- One step a call under every schedule: len, is_empty and is_full are left out of the story; held, lent, and of sixteen bits within the window. With one of them in it there is no such run.
+pub one-step-always :
+    OneStepUnderEverySchedule document01 × OneStepUnderEverySchedule (withRecords recordsMost SixtyFour) × OneStepUnderEveryInWindow (ofWidth Sixteen) × LooksNotOneStep document01
+one-step-always = (others workersMost, others recordsMost, others-in-window Sixteen workersMost, looks-not-one-step)
+
+-- The moment that the program names is the one that the story has; and by the same rule of as many workers as are lent.
+pub moments-named : MomentsKept document01 × MomentsKeptInWindow (ofWidth Sixteen) × MomentsKeptOf recordsMost (withRecords recordsMost SixtyFour)
+moments-named = (moments-kept workersMost, moments-in-window Sixteen workersMost, moments-kept-of recordsMost recordsMost)
 
 -- 1. Any machine, entry or schedule handed in gets an answer or a numbered refusal (the functions of crates bounded and bounded_narrow have no
 -- `requires`); a refused step changes nothing; only one answer meets a promise.
