@@ -47,7 +47,7 @@ use Rattle.bounded_machine.specs.declared.Event.{Event}
 use Rattle.bounded_machine.specs.declared.Tally.{Tally}
 use Rattle.bounded_machine.specs.Machine.{freshOf, recordOf, placeOf, blank, freshWith, idler, fixedOn, endsOn}
 use Rattle.bounded_machine.specs.Broken.{brokenOf, allIdle, brokenWith}
-use Rattle.bounded_machine.specs.Contents.{countIn, contentsOf, contentsRefusal, written, capacityRefusal, capacityOf}
+use Rattle.bounded_machine.specs.Contents.{countOn, countIn, contentsOf, contentsRefusal, written, capacityRefusal, capacityOf}
 use Rattle.bounded_machine.specs.Turn.{byWords, bySchedule}
 use Rattle.bounded_machine.specs.Turn.{Table}
 use Rattle.bounded_machine.specs.Run.{runFrom, runOfBy, runOf}
@@ -83,7 +83,7 @@ use Rattle.bounded_demands.specs.Answers.{sizedNumber, sizedValues, size
 use Rattle.bounded.specs.Bounded.{makeOf, stepOf}
 use Rattle.bounded_orders.specs.declared.Metered.{Metered}
 use Rattle.bounded_orders.specs.Orders.{recordsMost, meteredOf, Filled, filled, report}
-use Rattle.bounded_lent.specs.Lent.{Lent, Gone, gone}
+use Rattle.bounded_lent.specs.Lent.{held, Lent, Gone, gone}
 use Rattle.bounded_demands.specs.Stories.{Story, storyOf, oneStep, OnlySuch, unlooked, neverCloses, betweenClaims, twoCloses, known, queueAt, changeOf, actor, replyOf, putBy, takenBy, givenBack, At, momentOf, momentNamed, momentNamedOf, inStory}
 use Rattle.bounded_demands.specs.Lending.{Lending, Promise, promised, holding, holds-did, holds-ran, steps, heldIn, actsLent, refusalOf, stepByStep, Doing, leftLent, allTakenLent, stepOn, runOn, freshLent, pushingLent, stockedLent, noneLent, spentLent}
 use Rattle.bounded_demands.specs.Foretold.{foretold, Telling, toldBy, toldIn, tellings, asForetold}
@@ -1032,6 +1032,17 @@ pub record LentNumbered (d : Lending) : Type 0 where
   pub run : (l : Metered) (ys : List Worker) (s : List ℕ) → has (0 ∷ 3 ∷ 4 ∷ 5 ∷ 6 ∷ 7 ∷ 8 ∷ 9 ∷ 11 ∷ []) (d .run l ys s .report .refusal) ≡ true
   pub contents : (l : Metered) (ys : List Worker) (buffer : List ℕ) → has (0 ∷ 4 ∷ 6 ∷ 10 ∷ []) (refusalOf (d .contents l ys buffer .answer)) ≡ true
   pub capacity : (l : Metered) (ys : List Worker) → has (0 ∷ 6 ∷ []) (refusalOf (d .capacity l ys)) ≡ true
+
+-- Each number is given exactly when its ground holds and none before it, in document 01's order, of any ring, any records and anything handed in; the count is the number lent.
+pub record LentRefusedExactly (d : Lending) : Type 0 where
+  pub make : (ys : List Worker) (capacity edition : ℕ) → d .make ys capacity edition .answer
+      ≡ firstOf (on 1 (not (inLimits capacity slotsMost)) ∷ on 2 (not (inLimits (length ys) recordsMost)) ∷ on 18 (not (inLimits edition editionsMost)) ∷ [])
+  pub step : (l : Metered) (ys : List Worker) (first second : ℕ) → d .step l ys first second .answer ≡ firstOf (on 6 (d .broken l ys) ∷ entryGrounds (held l ys) first second)
+  pub run : (l : Metered) (ys : List Worker) (s : List ℕ)
+      → (d .broken l ys ≡ true → d .run l ys s .report ≡ report 6 0) × (d .broken l ys ≡ false → length s % 2 ≡ 1 → d .run l ys s .report ≡ report 11 0)
+  pub contents : (l : Metered) (ys : List Worker) (buffer : List ℕ) → refusalOf (d .contents l ys buffer .answer)
+      ≡ firstOf (on 6 (d .broken l ys) ∷ on 4 (not (allIdle ys)) ∷ on 10 (ltb (length buffer) (countOn (l .ring))) ∷ [])
+  pub capacity : (l : Metered) (ys : List Worker) → refusalOf (d .capacity l ys) ≡ firstOf (on 6 (d .broken l ys) ∷ [])
 
 -- Each of them is given, by the rings and records named here.
 pub record LentEachNumber (d : Lending) : Type 0 where

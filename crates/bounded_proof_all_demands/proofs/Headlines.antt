@@ -9,7 +9,7 @@ use Rattle.bounded_stock.specs.Stock.{talliedOf}
 use Rattle.bounded_sixteen_bits.specs.SixteenBits.{narrowed}
 use Rattle.bounded_demands.specs.Notions.{sixtyFour, sixteen, promisesOf, pushingIn, atTheEnd, withRecords, ofWidth, document01, stock, windowLength, widestLength, cutTo}
 use Rattle.bounded_orders.specs.Orders.{recordsMost}
-use Rattle.bounded_demands.specs.Demands.{Demand1, RefusedExactly, NineAsEight, OnlyOneCount, UnderEverySchedule, NothingWraps, ActByAct, WholeSchedules, LenTrue, ScheduledAlone, OwnRecordAlone, WaitsForItsSlot, WaitsForItsSlotInWindow, Attained, AttainedBeside, AsForetold, StockUnderEverySchedule, MostStock, StockAttained, TallyAsSaid, TalliedUnderEverySchedule, EndsTold, LossesUnderEverySchedule, CountsAside, CloseHolds, OnceClosedAnywhere, ClosedIsLast, CaseF, WithinTheWindow, WithinWindowOf, NoWider, NoWiderAnywhere, PromptKeeps, AloneKeeps, RoundsClaim, NotIdle, WindowLengths, SameNumbers, NumbersFit, AsHeld, OnlyTheActing, LentUnbroken, OnlyOneLent, LentThroughout, SixtyFourRecords, LentDemand1, LentEachNumber, LentMixed, Mixed, MixedInWindow, OnlyOneMeets, EachNumber, AttainedBy, AtMost, AsForetoldBy, EnumsBothWays}
+use Rattle.bounded_demands.specs.Demands.{Demand1, RefusedExactly, NineAsEight, OnlyOneCount, UnderEverySchedule, NothingWraps, ActByAct, WholeSchedules, LenTrue, ScheduledAlone, OwnRecordAlone, WaitsForItsSlot, WaitsForItsSlotInWindow, Attained, AttainedBeside, AsForetold, StockUnderEverySchedule, MostStock, StockAttained, TallyAsSaid, TalliedUnderEverySchedule, EndsTold, LossesUnderEverySchedule, CountsAside, CloseHolds, OnceClosedAnywhere, ClosedIsLast, CaseF, WithinTheWindow, WithinWindowOf, NoWider, NoWiderAnywhere, PromptKeeps, AloneKeeps, RoundsClaim, NotIdle, WindowLengths, SameNumbers, NumbersFit, AsHeld, OnlyTheActing, LentUnbroken, OnlyOneLent, LentThroughout, SixtyFourRecords, LentDemand1, LentEachNumber, LentRefusedExactly, LentMixed, Mixed, MixedInWindow, OnlyOneMeets, EachNumber, AttainedBy, AtMost, AsForetoldBy, EnumsBothWays}
 use Rattle.bounded_demands.specs.Eight.{EightRuns}
 use Rattle.bounded_demands.specs.Lending.{item11, promised}
 use Rattle.bounded_demands.proofs.Refusals.{demand1, only-one-count}
@@ -46,6 +46,7 @@ use Rattle.bounded_proof_lent.proofs.Acting.{only-the-acting, only-one-lent}
 use Rattle.bounded_proof_lent.proofs.Throughout.{lent-throughout, lent-unbroken-still}
 use Rattle.bounded_proof_lent.proofs.Refusals.{lent-demand1}
 use Rattle.bounded_proof_lent.proofs.EachNumber.{lent-each-number}
+use Rattle.bounded_proof_lent.proofs.Exactly.{lent-refused-exactly}
 use Rattle.bounded_proof_lent.proofs.Mixed.{lent-mixed, within-the-widest}
 use Rattle.bounded_proof_all_demands.proofs.Mixed.{any-mixture, any-mixture-in-window}
 use Rattle.bounded_demands.specs.Notions.{causesIn, watches, mostOf}
@@ -189,9 +190,9 @@ every-sequence = (walks-all, walk-told, walk-counts, walk-each-number, walks-cou
 pub records-lent : AsHeld item11 × OnlyTheActing item11 × LentUnbroken item11 × OnlyOneLent (promised item11) × LentThroughout item11 × SixtyFourRecords item11
 records-lent = (as-held, only-the-acting, lent-unbroken-still, only-one-lent, lent-throughout, sixty-four-records)
 
--- The same face, of any number of records: demand 1, each number given; and steps and schedules in any mixture, with all that is said of one schedule.
-pub records-lent-1 : LentDemand1 item11 × LentEachNumber item11
-records-lent-1 = (lent-demand1, lent-each-number)
+-- The same face, of any number of records: demand 1, each number given, and exactly when; and steps and schedules in any mixture, with all that is said of one schedule.
+pub records-lent-1 : LentDemand1 item11 × LentEachNumber item11 × LentRefusedExactly item11
+records-lent-1 = (lent-demand1, lent-each-number, lent-refused-exactly)
 
 pub lent-in-any-mixture : LentMixed item11
 lent-in-any-mixture = lent-mixed
