@@ -92,7 +92,7 @@ module _ (bits : Width) (m : Machine) (first second : ℕ) where
       go false true = act-grounds bits m (first / 16) (eqb (first % 16) 9)
       go false false = refl
 
-  turn-grounds : turnAt bits m first second .refusal ≡ firstOf (entryGrounds m first second)
+  pub turn-grounds : turnAt bits m first second .refusal ≡ firstOf (entryGrounds m first second)
   turn-grounds = go (begins first) refl
     where
       go : (b : Bool) → begins first ≡ b → turnAt bits m first second .refusal ≡ firstOf (on 9 (unreadable first second) ∷ cond (begins first) (beginGrounds m first) (actGrounds m first))

@@ -47,7 +47,7 @@ use Rattle.bounded_machine.specs.declared.Event.{Event}
 use Rattle.bounded_machine.specs.declared.Tally.{Tally}
 use Rattle.bounded_machine.specs.Machine.{freshOf, recordOf, placeOf, blank, freshWith, idler, fixedOn, endsOn}
 use Rattle.bounded_machine.specs.Broken.{brokenOf, allIdle, brokenWith}
-use Rattle.bounded_machine.specs.Contents.{countIn, contentsOf, contentsRefusal, written, capacityRefusal, capacityOf}
+use Rattle.bounded_machine.specs.Contents.{countOn, countIn, contentsOf, contentsRefusal, written, capacityRefusal, capacityOf}
 use Rattle.bounded_machine.specs.Turn.{byWords, bySchedule}
 use Rattle.bounded_machine.specs.Turn.{Table}
 use Rattle.bounded_machine.specs.Run.{runFrom, runOfBy, runOf}
@@ -83,8 +83,8 @@ use Rattle.bounded_demands.specs.Answers.{sizedNumber, sizedValues, size
 use Rattle.bounded.specs.Bounded.{makeOf, stepOf}
 use Rattle.bounded_orders.specs.declared.Metered.{Metered}
 use Rattle.bounded_orders.specs.Orders.{recordsMost, meteredOf, Filled, filled, report}
-use Rattle.bounded_lent.specs.Lent.{Lent, Gone, gone}
-use Rattle.bounded_demands.specs.Stories.{Story, storyOf, oneStep, OnlySuch, twoCloses, known, queueAt, changeOf, actor, replyOf, putBy, takenBy, givenBack, At, momentOf, momentNamed, inStory}
+use Rattle.bounded_lent.specs.Lent.{held, Lent, Gone, gone}
+use Rattle.bounded_demands.specs.Stories.{Story, storyOf, oneStep, OnlySuch, unlooked, neverCloses, betweenClaims, twoCloses, known, queueAt, changeOf, actor, replyOf, putBy, takenBy, givenBack, At, momentOf, momentNamed, momentNamedOf, inStory}
 use Rattle.bounded_demands.specs.Lending.{Lending, Promise, promised, holding, holds-did, holds-ran, steps, heldIn, actsLent, refusalOf, stepByStep, Doing, leftLent, allTakenLent, stepOn, runOn, freshLent, pushingLent, stockedLent, noneLent, spentLent}
 use Rattle.bounded_demands.specs.Foretold.{foretold, Telling, toldBy, toldIn, tellings, asForetold}
 use Rattle.bounded_demands.specs.Eight.{closedF, caseF}
@@ -182,8 +182,7 @@ pub record OneByOne (capacity edition : ℕ) (s : Story) : Type 0 where
       → (i < length s) × (known capacity edition (take i s) .each (x .worker) .calls ≡ x .call ∷ []) × (known capacity edition (take i s) .each (x .worker) .begun < i)
   pub once : (i j : ℕ) (x y : Step) → i < j → steps i ≡ x ∷ [] → steps j ≡ y ∷ [] → x .worker ≡ y .worker → i < known capacity edition (take j s) .each (y .worker) .begun
 
--- So it is in edition 2 with push, force_push, pop, close and is_closed, and in edition 1 with push, force_push and pop; a force_push that displaces takes its step at the act that gave it
--- its word. (With len, is_empty or is_full it is not: case G.)
+-- So it is in edition 2 with push, force_push, pop, close and is_closed, and in edition 1 with push, force_push and pop. (With len, is_empty or is_full it is not: `LooksNotOneStep`.)
 abbrev pub OneStep : Definition → Type 0
 OneStep d =
     (capacity workers edition : ℕ) → AllowedWith (d .records) capacity workers edition → (s : List ℕ) → OnlySuch (oneStep edition) (storyOf d capacity workers edition s)
@@ -194,16 +193,40 @@ OneStepInWindow d =
     (capacity workers edition : ℕ) → AllowedWith (d .records) capacity workers edition → (s : List ℕ) → KeepsWindow d (freshWith (d .records) capacity workers edition) [] s
     → OnlySuch (oneStep edition) (storyOf d capacity workers edition s) → OneByOne capacity edition (storyOf d capacity workers edition s)
 
+-- Of every schedule, len, is_empty and is_full left out of its story: they move nothing. In edition 1 no close and no is_closed is begun.
+abbrev pub OthersOneByOne : Definition → ℕ → ℕ → ℕ → List ℕ → Type 0
+OthersOneByOne d capacity workers edition s =
+    (edition ≡ 1 → OnlySuch neverCloses (storyOf d capacity workers edition s)) → OneByOne capacity edition (unlooked (storyOf d capacity workers edition s))
+
+abbrev pub OneStepUnderEverySchedule : Definition → Type 0
+OneStepUnderEverySchedule d =
+    (capacity workers edition : ℕ) → AllowedWith (d .records) capacity workers edition → (s : List ℕ) → OthersOneByOne d capacity workers edition s
+
+abbrev pub OneStepUnderEveryInWindow : Definition → Type 0
+OneStepUnderEveryInWindow d =
+    (capacity workers edition : ℕ) → AllowedWith (d .records) capacity workers edition → (s : List ℕ) → KeepsWindow d (freshWith (d .records) capacity workers edition) [] s
+    → OthersOneByOne d capacity workers edition s
+
+-- With one of them in the story there is no such run, in either edition: between the two claims of a force_push len answers 0, is_empty yes and is_full no (case G).
+pub record LooksNotOneStep (d : Definition) : Type 0 where
+  pub len : (edition : ℕ) → OneByOne 1 edition (storyOf d 1 2 edition (betweenClaims 3 3)) → ⊥
+  pub is-empty : (edition : ℕ) → OneByOne 1 edition (storyOf d 1 2 edition (betweenClaims 4 2)) → ⊥
+  pub is-full : (edition : ℕ) → OneByOne 1 edition (storyOf d 1 2 edition (betweenClaims 5 2)) → ⊥
+
 -- In edition 1 close is not: two closes, one after the other, both answer yes.
 abbrev pub ClosesNotOneStep : Definition → Type 0
 ClosesNotOneStep d = OneByOne 1 1 (storyOf d 1 2 1 twoCloses) → ⊥
 
--- What the program names (`replay --moments`): at every act of the first sixteen workers, what `name_moment` of crate bounded_moments answers, by what was kept along the story before it,
--- is the moment of its call. Of less than 2^64 entries; the meter ends a run before. Of any way to name it, so that slips can be said of it.
-abbrev pub NamesMomentsBy : (ℕ → Story → Event → Moment) → ℕ → ℕ → Story → Type 0
-NamesMomentsBy name capacity edition s =
-    length s < wide → (earlier later : Story) (act : Event) → s ≡ earlier ++ Does act ∷ later → act .worker < workersMost
+-- What is named at every act of the first so many workers, by what was kept along the story before it, is the moment of its call. Of less than 2^64 entries; the meter ends a run before. Of any way to
+-- name it, so that slips can be said of it.
+abbrev pub NamesMomentsOf : ℕ → (ℕ → Story → Event → Moment) → ℕ → ℕ → Story → Type 0
+NamesMomentsOf many name capacity edition s =
+    length s < wide → (earlier later : Story) (act : Event) → s ≡ earlier ++ Does act ∷ later → act .worker < many
     → inStory (name capacity earlier act) ≡ momentOf capacity edition (act .worker) (earlier ++ Does act ∷ [])
+
+-- What the program names (`replay --moments`): of the first sixteen workers, what `name_moment` of crate bounded_moments answers.
+abbrev pub NamesMomentsBy : (ℕ → Story → Event → Moment) → ℕ → ℕ → Story → Type 0
+NamesMomentsBy = NamesMomentsOf workersMost
 
 abbrev pub NamesMoments : ℕ → ℕ → Story → Type 0
 NamesMoments = NamesMomentsBy momentNamed
@@ -216,6 +239,12 @@ abbrev pub MomentsKeptInWindow : Definition → Type 0
 MomentsKeptInWindow d =
     (capacity workers edition : ℕ) → AllowedWith (d .records) capacity workers edition → (s : List ℕ) → KeepsWindow d (freshWith (d .records) capacity workers edition) [] s
     → NamesMoments capacity edition (storyOf d capacity workers edition s)
+
+-- By the same rule, kept for as many workers as are lent: at every act of every one of these.
+abbrev pub MomentsKeptOf : ℕ → Definition → Type 0
+MomentsKeptOf many d =
+    (capacity workers edition : ℕ) → AllowedWith (d .records) capacity workers edition → (s : List ℕ)
+    → NamesMomentsOf many (momentNamedOf many) capacity edition (storyOf d capacity workers edition s)
 
 -- ==== 1. Any machine, entry or schedule handed in gets an answer or a numbered refusal; a refused step changes nothing.
 -- That each gets an answer is what the functions of crates bounded and bounded_narrow promise: none has a `requires`, and each answer is equal to a
@@ -1004,6 +1033,17 @@ pub record LentNumbered (d : Lending) : Type 0 where
   pub contents : (l : Metered) (ys : List Worker) (buffer : List ℕ) → has (0 ∷ 4 ∷ 6 ∷ 10 ∷ []) (refusalOf (d .contents l ys buffer .answer)) ≡ true
   pub capacity : (l : Metered) (ys : List Worker) → has (0 ∷ 6 ∷ []) (refusalOf (d .capacity l ys)) ≡ true
 
+-- Each number is given exactly when its ground holds and none before it, in document 01's order, of any ring, any records and anything handed in; the count is the number lent.
+pub record LentRefusedExactly (d : Lending) : Type 0 where
+  pub make : (ys : List Worker) (capacity edition : ℕ) → d .make ys capacity edition .answer
+      ≡ firstOf (on 1 (not (inLimits capacity slotsMost)) ∷ on 2 (not (inLimits (length ys) recordsMost)) ∷ on 18 (not (inLimits edition editionsMost)) ∷ [])
+  pub step : (l : Metered) (ys : List Worker) (first second : ℕ) → d .step l ys first second .answer ≡ firstOf (on 6 (d .broken l ys) ∷ entryGrounds (held l ys) first second)
+  pub run : (l : Metered) (ys : List Worker) (s : List ℕ)
+      → (d .broken l ys ≡ true → d .run l ys s .report ≡ report 6 0) × (d .broken l ys ≡ false → length s % 2 ≡ 1 → d .run l ys s .report ≡ report 11 0)
+  pub contents : (l : Metered) (ys : List Worker) (buffer : List ℕ) → refusalOf (d .contents l ys buffer .answer)
+      ≡ firstOf (on 6 (d .broken l ys) ∷ on 4 (not (allIdle ys)) ∷ on 10 (ltb (length buffer) (countOn (l .ring))) ∷ [])
+  pub capacity : (l : Metered) (ys : List Worker) → refusalOf (d .capacity l ys) ≡ firstOf (on 6 (d .broken l ys) ∷ [])
+
 -- Each of them is given, by the rings and records named here.
 pub record LentEachNumber (d : Lending) : Type 0 where
   pub make : map (λ (x : Lent). x .answer) (d .make (idler ∷ []) 1 1 ∷ d .make (idler ∷ []) 0 1 ∷ d .make [] 1 1 ∷ d .make (idler ∷ []) 1 0 ∷ []) ≡ 0 ∷ 1 ∷ 2 ∷ 18 ∷ []
@@ -1048,6 +1088,7 @@ pub record ThroughoutInWindow (d : Definition) (capacity workers edition : ℕ) 
   -- what an answer means
   pub plain : PlainThroughout capacity edition (machineAfter d capacity workers edition s) (actsOf d capacity workers edition s) (storyOf d capacity workers edition s)
   pub one-step : OnlySuch (oneStep edition) (storyOf d capacity workers edition s) → OneByOne capacity edition (storyOf d capacity workers edition s)
+  pub others-one-step : OthersOneByOne d capacity workers edition s
   -- why calls go back
   pub retries : workers ≤ recordsMost → Retried causesIn (actsOf d capacity workers edition s)
 

@@ -4,7 +4,7 @@ use mathlib.Core.Bool.{Bool, true, false, cond}
 use mathlib.Core.List.{List, [], _∷_, _++_}
 use mathlib.Core.Path.{_≡_}
 use lib.Dec.{eqb}
-use lib.ListN.{length}
+use lib.ListN.{length, replicate}
 use Rattle.queue_entries.specs.Schedules.{historyBy}
 use Rattle.queue_entries.specs.declared.Call.{Call}
 use Rattle.queue_entries.specs.declared.Call.the-variants as call
@@ -15,18 +15,19 @@ use Rattle.queue_plain.specs.Story.{Begun, Does, Change, Known, elementsBy, fre
 use Rattle.bounded_places.specs.declared.Answer.{Answer}
 use Rattle.bounded_places.specs.declared.Answer.the-variants.{Nothing, Pushed, Full, Closed, Displaced, Popped, Empty, PopClosed, Len, Yes, No}
 use Rattle.bounded_places.specs.declared.Place.{Place}
+use Rattle.bounded_places.specs.declared.Place.the-variants.{Idle, P1, P2, P3, P4, P5, P6, F6, F7, F8, F9, O1, O2, O3, O4, O5, O6, Len1, Len2, Len3, Empty1, Empty2, Full1, Full2, Close1, IsClosed1}
 use Rattle.bounded_machine.specs.declared.Machine.{Machine}
 use Rattle.bounded_machine.specs.declared.Did.{Did}
 use Rattle.bounded_machine.specs.declared.Event.{Event}
 use Rattle.bounded_machine.specs.Machine.{freshWith}
-use Rattle.bounded_machine.specs.History.{eventsOf, movedOf}
+use Rattle.bounded_machine.specs.History.{eventsOf, movedOf, untallied}
 use Rattle.bounded_causes.specs.Causes.{standOf, claimsTail, claimsHead}
 use Rattle.bounded_moments.specs.declared.Timing.{Timing}
 use Rattle.bounded_moments.specs.declared.Timing.the-variants.{Now, Stays, IfSome, IfRoom}
 use Rattle.bounded_moments.specs.declared.Moment as declared
 use Rattle.bounded_moments.specs.declared.Moment.the-variants as moments
 use Rattle.bounded_moments.specs.declared.Moments.{Moments}
-use Rattle.bounded_moments.specs.Moments.{timingOf, start, begunOf, namedOf}
+use Rattle.bounded_moments.specs.Moments.{timingOf, start, ofWorker, begunOf, namedOf}
 use Rattle.bounded_demands.specs.Notions.{Definition, acts}
 
 abbrev pub Element : Type 0
@@ -140,6 +141,66 @@ OnlySuch such [] = Unit {0}
 OnlySuch such (Begun w c ∷ s) = (such c ≡ true) × OnlySuch such s
 OnlySuch such (Does e ∷ s) = OnlySuch such s
 
+-- The calls that look and move nothing, and the places of their acts.
+abbrev pub looks : Call → Bool
+looks (call.Push x) = false
+looks (call.ForcePush x) = false
+looks call.Pop = false
+looks call.Len = true
+looks call.IsEmpty = true
+looks call.IsFull = true
+looks call.Close = false
+looks call.IsClosed = false
+
+abbrev pub looksAt : Place → Bool
+looksAt (Idle a) = false
+looksAt (P1 k x) = false
+looksAt (P2 k t x) = false
+looksAt (P3 k t x) = false
+looksAt (P4 t x) = false
+looksAt (P5 t) = false
+looksAt (P6 t x) = false
+looksAt (F6 t x) = false
+looksAt (F7 t x) = false
+looksAt (F8 t x) = false
+looksAt (F9 t old) = false
+looksAt O1 = false
+looksAt (O2 h) = false
+looksAt (O3 h) = false
+looksAt (O4 h) = false
+looksAt (O5 h v) = false
+looksAt (O6 h) = false
+looksAt Len1 = true
+looksAt (Len2 t) = true
+looksAt (Len3 t h) = true
+looksAt Empty1 = true
+looksAt (Empty2 h) = true
+looksAt Full1 = true
+looksAt (Full2 t) = true
+looksAt Close1 = false
+looksAt IsClosed1 = false
+
+-- The story without them: neither their begins nor their acts.
+unfoldable pub unlooked : Story → Story
+unlooked [] = []
+unlooked (Begun w c ∷ s) = cond (looks c) [] (Begun w c ∷ []) ++ unlooked s
+unlooked (Does e ∷ s) = cond (looksAt (e .before)) [] (Does e ∷ []) ++ unlooked s
+
+-- Every call but close and is_closed.
+abbrev pub neverCloses : Call → Bool
+neverCloses (call.Push x) = true
+neverCloses (call.ForcePush x) = true
+neverCloses call.Pop = true
+neverCloses call.Len = true
+neverCloses call.IsEmpty = true
+neverCloses call.IsFull = true
+neverCloses call.Close = false
+neverCloses call.IsClosed = false
+
+-- Case G: capacity 1, with one item in: worker 0's force_push up to F7; then worker 1 begins a call with this code and does so many acts.
+unfoldable pub betweenClaims : ℕ → ℕ → List ℕ
+betweenClaims code many = 0 ∷ 1 ∷ acts 0 5 ++ 1 ∷ 2 ∷ acts 0 3 ++ (16 + code) ∷ 0 ∷ acts 1 many
+
 -- Capacity 1, with one item in: worker 0's force_push up to F7; worker 1 closes; F7, which clears the mark in edition 1; worker 1 closes again.
 unfoldable pub twoCloses : List ℕ
 twoCloses = 0 ∷ 1 ∷ acts 0 5 ++ 1 ∷ 2 ∷ acts 0 3 ++ 22 ∷ 0 ∷ acts 1 1 ++ acts 0 1 ++ 22 ∷ 0 ∷ acts 1 1
@@ -161,6 +222,13 @@ momentsKept capacity s = momentsFrom (start capacity) s
 -- Of an act after it: what `name_moment` answers.
 abbrev pub momentNamed : ℕ → Story → Event → declared.Moment
 momentNamed capacity earlier act = namedOf (momentsKept capacity earlier) (act .worker) (act .before) (act .after) .moment
+
+-- By the same rule, kept for so many workers; `start` has room for sixteen.
+abbrev pub momentsKeptOf : ℕ → ℕ → Story → Moments
+momentsKeptOf many capacity s = momentsFrom (record { place = 0; tally = untallied; capacity = capacity; each = replicate many (ofWorker (moments.Before 0)) }) s
+
+abbrev pub momentNamedOf : ℕ → ℕ → Story → Event → declared.Moment
+momentNamedOf many capacity earlier act = namedOf (momentsKeptOf many capacity earlier) (act .worker) (act .before) (act .after) .moment
 
 -- Just before entry j, j elements stand before the moment; directly after it, one more.
 abbrev pub inStory : declared.Moment → Moment

@@ -9,7 +9,7 @@ use Rattle.bounded_stock.specs.Stock.{talliedOf}
 use Rattle.bounded_sixteen_bits.specs.SixteenBits.{narrowed}
 use Rattle.bounded_demands.specs.Notions.{sixtyFour, sixteen, promisesOf, pushingIn, atTheEnd, withRecords, ofWidth, document01, stock, windowLength, widestLength, cutTo}
 use Rattle.bounded_orders.specs.Orders.{recordsMost}
-use Rattle.bounded_demands.specs.Demands.{Demand1, RefusedExactly, NineAsEight, OnlyOneCount, UnderEverySchedule, NothingWraps, ActByAct, WholeSchedules, LenTrue, ScheduledAlone, OwnRecordAlone, WaitsForItsSlot, WaitsForItsSlotInWindow, Attained, AttainedBeside, AsForetold, StockUnderEverySchedule, MostStock, StockAttained, TallyAsSaid, TalliedUnderEverySchedule, EndsTold, LossesUnderEverySchedule, CountsAside, CloseHolds, OnceClosedAnywhere, ClosedIsLast, CaseF, WithinTheWindow, WithinWindowOf, NoWider, NoWiderAnywhere, PromptKeeps, AloneKeeps, RoundsClaim, NotIdle, WindowLengths, SameNumbers, NumbersFit, AsHeld, OnlyTheActing, LentUnbroken, OnlyOneLent, LentThroughout, SixtyFourRecords, LentDemand1, LentEachNumber, LentMixed, Mixed, MixedInWindow, OnlyOneMeets, EachNumber, AttainedBy, AtMost, AsForetoldBy, EnumsBothWays}
+use Rattle.bounded_demands.specs.Demands.{Demand1, RefusedExactly, NineAsEight, OnlyOneCount, UnderEverySchedule, NothingWraps, ActByAct, WholeSchedules, LenTrue, ScheduledAlone, OwnRecordAlone, WaitsForItsSlot, WaitsForItsSlotInWindow, Attained, AttainedBeside, AsForetold, StockUnderEverySchedule, MostStock, StockAttained, TallyAsSaid, TalliedUnderEverySchedule, EndsTold, LossesUnderEverySchedule, CountsAside, CloseHolds, OnceClosedAnywhere, ClosedIsLast, CaseF, WithinTheWindow, WithinWindowOf, NoWider, NoWiderAnywhere, PromptKeeps, AloneKeeps, RoundsClaim, NotIdle, WindowLengths, SameNumbers, NumbersFit, AsHeld, OnlyTheActing, LentUnbroken, OnlyOneLent, LentThroughout, SixtyFourRecords, LentDemand1, LentEachNumber, LentRefusedExactly, LentMixed, Mixed, MixedInWindow, OnlyOneMeets, EachNumber, AttainedBy, AtMost, AsForetoldBy, EnumsBothWays}
 use Rattle.bounded_demands.specs.Eight.{EightRuns}
 use Rattle.bounded_demands.specs.Lending.{item11, promised}
 use Rattle.bounded_demands.proofs.Refusals.{demand1, only-one-count}
@@ -46,6 +46,7 @@ use Rattle.bounded_proof_lent.proofs.Acting.{only-the-acting, only-one-lent}
 use Rattle.bounded_proof_lent.proofs.Throughout.{lent-throughout, lent-unbroken-still}
 use Rattle.bounded_proof_lent.proofs.Refusals.{lent-demand1}
 use Rattle.bounded_proof_lent.proofs.EachNumber.{lent-each-number}
+use Rattle.bounded_proof_lent.proofs.Exactly.{lent-refused-exactly}
 use Rattle.bounded_proof_lent.proofs.Mixed.{lent-mixed, within-the-widest}
 use Rattle.bounded_proof_all_demands.proofs.Mixed.{any-mixture, any-mixture-in-window}
 use Rattle.bounded_demands.specs.Notions.{causesIn, watches, mostOf}
@@ -59,10 +60,13 @@ use Rattle.bounded_demands.specs.Demands.{WalksAll, WalkTold, WalkCounts, WalkE
 use Rattle.bounded_demands.specs.Walkings.{item10}
 use Rattle.bounded_demands.proofs.Walkings.{walks-counted}
 use Rattle.bounded_proof_walks.proofs.Walks.{walks-all, walk-told, walk-counts}
-use Rattle.bounded_demands.specs.Demands.{AnswersPlain, AnswersPlainInWindow, OneStep, OneStepInWindow, ClosesNotOneStep}
+use Rattle.bounded_demands.specs.Demands.{AnswersPlain, AnswersPlainInWindow, OneStep, OneStepInWindow, OneStepUnderEverySchedule, OneStepUnderEveryInWindow, ClosesNotOneStep, LooksNotOneStep, MomentsKept, MomentsKeptInWindow, MomentsKeptOf}
 use Rattle.bounded_proof_plain.proofs.Plain.{answers-plain, plain-in-window}
 use Rattle.bounded_proof_plain.proofs.Linearizable.{one-step, one-step-in-window}
+use Rattle.bounded_proof_plain.proofs.Unlooked.{others, others-in-window}
 use Rattle.bounded_proof_plain.proofs.TwoCloses.{closes-not-one-step}
+use Rattle.bounded_proof_plain.proofs.BetweenClaims.{looks-not-one-step}
+use Rattle.bounded_proof_plain.proofs.Moments.{moments-kept, moments-in-window, moments-kept-of}
 
 -- What an answer means: every run is a run of a plain queue, each answer its at a moment inside the call, nothing lost and nothing another's; of 64 bits, and of sixteen within the window. One step a
 -- call: linearizable in the classical sense, with push, force_push and pop, and in edition 2 with close and is_closed; in edition 1 two closes are not.
@@ -72,6 +76,15 @@ answers-mean = (answers-plain workersMost, plain-in-window Sixteen workersMost, 
 -- The same with as many records as are lent, up to 64.
 pub lent-answers-mean : AnswersPlain (withRecords recordsMost SixtyFour) × OneStep (withRecords recordsMost SixtyFour)
 lent-answers-mean = (answers-plain recordsMost, one-step recordsMost)
+
+-- One step a call under every schedule: len, is_empty and is_full are left out of the story; held, lent, and of sixteen bits within the window. With one of them in it there is no such run.
+pub one-step-always :
+    OneStepUnderEverySchedule document01 × OneStepUnderEverySchedule (withRecords recordsMost SixtyFour) × OneStepUnderEveryInWindow (ofWidth Sixteen) × LooksNotOneStep document01
+one-step-always = (others workersMost, others recordsMost, others-in-window Sixteen workersMost, looks-not-one-step)
+
+-- The moment that the program names is the one that the story has; and by the same rule of as many workers as are lent.
+pub moments-named : MomentsKept document01 × MomentsKeptInWindow (ofWidth Sixteen) × MomentsKeptOf recordsMost (withRecords recordsMost SixtyFour)
+moments-named = (moments-kept workersMost, moments-in-window Sixteen workersMost, moments-kept-of recordsMost recordsMost)
 
 -- 1. Any machine, entry or schedule handed in gets an answer or a numbered refusal (the functions of crates bounded and bounded_narrow have no
 -- `requires`); a refused step changes nothing; only one answer meets a promise.
@@ -177,9 +190,9 @@ every-sequence = (walks-all, walk-told, walk-counts, walk-each-number, walks-cou
 pub records-lent : AsHeld item11 × OnlyTheActing item11 × LentUnbroken item11 × OnlyOneLent (promised item11) × LentThroughout item11 × SixtyFourRecords item11
 records-lent = (as-held, only-the-acting, lent-unbroken-still, only-one-lent, lent-throughout, sixty-four-records)
 
--- The same face, of any number of records: demand 1, each number given; and steps and schedules in any mixture, with all that is said of one schedule.
-pub records-lent-1 : LentDemand1 item11 × LentEachNumber item11
-records-lent-1 = (lent-demand1, lent-each-number)
+-- The same face, of any number of records: demand 1, each number given, and exactly when; and steps and schedules in any mixture, with all that is said of one schedule.
+pub records-lent-1 : LentDemand1 item11 × LentEachNumber item11 × LentRefusedExactly item11
+records-lent-1 = (lent-demand1, lent-each-number, lent-refused-exactly)
 
 pub lent-in-any-mixture : LentMixed item11
 lent-in-any-mixture = lent-mixed

@@ -94,22 +94,22 @@ module _ (claimed : Stage → Bool) where
   one-in (Counts t h) = omega arith
 
 -- the claims that a call has made with the word that it holds
-abbrev tailsAt : Place → ℕ
+abbrev pub tailsAt : Place → ℕ
 tailsAt p = claimsIn tailing (look 0 p)
 
-abbrev headsAt : Place → ℕ
+abbrev pub headsAt : Place → ℕ
 headsAt p = claimsIn taking (look 0 p)
 
 few-at : (p : Place) → (tailsAt p ≤ 1) × (headsAt p ≤ 1)
 few-at p = (one-in tailing (look 0 p), one-in taking (look 0 p))
 
 -- from p an act leads to q: with a new word there are none, and an old one was held before
-abbrev Follows : Holding → Place → Place → Type 0
+abbrev pub Follows : Holding → Place → Place → Type 0
 Follows NoWord p q = Unit {0}
 Follows NewWord p q = (tailsAt q ≡ 0) × (headsAt q ≡ 0)
 Follows OldWord p q = (holds (holdingAt p) ≡ true) × (tailsAt q ≡ tailsAt p + tails (movedOf q)) × (headsAt q ≡ headsAt p + heads (movedOf q))
 
-abbrev Leads : Place → Place → Type 0
+abbrev pub Leads : Place → Place → Type 0
 Leads p q = Follows (holdingAt q) p q
 
 finds : (f : Fixed) (t : Stamp) (k : Kind) (x : ℕ) (p : Place) → Leads p (afterTail f k t x)
@@ -120,7 +120,7 @@ full-leads : (k j : Kind) (t : Stamp) (x : ℕ) → Leads (P2 j t x) (fullAt k t
 full-leads Push j t x = (refl, refl, refl)
 full-leads Force j t x = (refl, refl, refl)
 
-leads-on : (bits : Width) (f : Fixed) (e : Ends) (z : Slot) (p : Place) (lose : Bool) → viewOf p .busy ≡ true → Leads p (actOf bits f e z p lose .place)
+pub leads-on : (bits : Width) (f : Fixed) (e : Ends) (z : Slot) (p : Place) (lose : Bool) → viewOf p .busy ≡ true → Leads p (actOf bits f e z p lose .place)
 unfolding goes losing
 leads-on bits f e z (Idle a) lose busy = tt
 leads-on bits f e z (P1 k x) lose busy = finds f (e .tail) k x (P1 k x)
@@ -162,7 +162,7 @@ leads-on bits f e z Close1 lose busy =
     either (λ (y : Acted). Leads Close1 (y .place)) (markedOf f (e .tail)) (goes e z (Idle No)) (goes (tailTo e (withMark bits f (e .tail))) z (Idle Yes)) (λ b. tt) (λ b. tt)
 leads-on bits f e z IsClosed1 lose busy = tt
 
-begins-without : (q : Call) → holds (holdingAt (beginOf q)) ≡ false
+pub begins-without : (q : Call) → holds (holdingAt (beginOf q)) ≡ false
 begins-without (call.Push x) = refl
 begins-without (call.ForcePush x) = refl
 begins-without call.Pop = refl

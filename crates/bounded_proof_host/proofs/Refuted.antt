@@ -28,9 +28,10 @@ use Rattle.bounded_slices.specs.Slices.{brokenWords}
 use Rattle.bounded_host.specs.Host.{makeWords, runWords}
 use Rattle.bounded_host_step.specs.Step.{stepWords}
 use Rattle.bounded_demands.specs.Lending.{stepping, running}
-use Rattle.bounded_proof_host.specs.Hosted.{Malformed, RefusedWords, OnlyTheActingWords, AsHeldWords, HostedThroughout, HostedMixed, leftBy, entriesBy, actsWords, allTakenWords}
+use Rattle.bounded_proof_host.specs.Hosted.{Malformed, HostedRefusedExactly, RefusedWords, OnlyTheActingWords, AsHeldWords, HostedThroughout, HostedMixed, leftBy, entriesBy, actsWords, allTakenWords}
 use Rattle.bounded_proof_host.specs.Slips.{Faithful, Stands, Refuted}
 use Rattle.bounded_proof_host.proofs.Hosted.{one-to-one, malformed, refused-words, only-the-acting-words, as-held-words, hosted-throughout}
+use Rattle.bounded_proof_host.proofs.Exactly.{hosted-refused-exactly}
 use Rattle.bounded_proof_host.proofs.Mixed.{hosted-mixed}
 
 pub faithful : Faithful
@@ -40,6 +41,7 @@ pub stands : Stands
 stands = (
   one-to-one,
   subst Malformed (sym faithful) malformed,
+  subst HostedRefusedExactly (sym faithful) hosted-refused-exactly,
   subst RefusedWords (sym faithful) refused-words,
   subst OnlyTheActingWords (sym faithful) only-the-acting-words,
   subst AsHeldWords (sym faithful) as-held-words,
@@ -71,6 +73,7 @@ refuted =
     record {
       one-to-one = λ r. true≢false (ap (λ (w : Words). eqb (getD (w .records) 0 0) 38) (r .written code99 refl));
       malformed = λ r. true≢false (ap (λ (x : After). eqb (x .answer) 0) (r .step otherLayout 0 5 refl));
+      refused-exactly = λ r. let q : _≡_ {A = ℕ} 0 6 = r .step otherLayout 0 5 in omega arith;
       refused-step = λ r. true≢false (sym (ap (λ (w : Words). eqb (getD (w .head) 6 0) 0) (r .step (fresh 5) 8 0 (some-number _ refl))));
       refused-make = λ r. true≢false (sym (ap (λ (w : Words). eqb (getD (w .head) 0 0) 0) (r .make (words (0 ∷ []) [] []) 1 1 (some-number _ refl))));
       acting = λ r. true≢false (sym (ap (λ (y : Worker). eqb (y .differed) 0) (r .others (fresh 10) 0 5 1 refl (λ e. omega arith))));

@@ -1,32 +1,35 @@
 -- What is said of words in a host's memory and of the functions that it calls on them (crate bounded_host).
 -- The statements are over a definition of the face (`Hosting`) and of which words stand for something, so that they can be said of one with a slip.
-use Prim.Native.Nat.{ℕ, _/_, _≤_}
+use Prim.Native.Nat.{ℕ, _/_, _%_, _≤_}
 use mathlib.Core.Path.{_≡_}
-use mathlib.Core.Bool.{Bool, true, false, cond}
+use mathlib.Core.Bool.{Bool, true, false, cond, not}
 use mathlib.Core.List.{List, [], _∷_, _++_}
-use lib.Dec.{eqb}
+use lib.Dec.{eqb, ltb}
 use lib.ListN.{length}
-use Rattle.queue_entries.specs.Limits.{workersMost}
+use Rattle.queue_entries.specs.Limits.{workersMost, inLimits}
 use Rattle.queue_entries.specs.Entries.{entryOf}
 use Rattle.queue_entries.specs.Schedules.{searchBy}
-use Rattle.bounded_words.specs.Limits.{slotsMost}
+use Rattle.queue_numbers.specs.Numbers.{on, firstOf}
+use Rattle.bounded_words.specs.Limits.{slotsMost, editionsMost}
 use Rattle.bounded_words.specs.declared.Width.the-variants.{SixtyFour}
 use Rattle.bounded_places.specs.declared.Worker.{Worker}
 use Rattle.bounded_machine.specs.declared.Machine.{Machine}
 use Rattle.bounded_machine.specs.declared.Event.{Event}
 use Rattle.bounded_machine.specs.Machine.{recordOf}
 use Rattle.bounded_machine.specs.History.{eventsOf}
+use Rattle.bounded_machine.specs.Broken.{allIdle}
+use Rattle.bounded_machine.specs.Contents.{countOn}
 use Rattle.bounded_machine.specs.Run.{runOf}
 use Rattle.bounded.specs.Bounded.{stepOf}
 use Rattle.bounded_orders.specs.declared.Metered.{Metered}
-use Rattle.bounded_orders.specs.Orders.{report}
+use Rattle.bounded_orders.specs.Orders.{recordsMost, report}
 use Rattle.bounded_lent.specs.Lent.{held, lent, gone}
-use Rattle.bounded_rows.specs.Rows.{Words, wordsOf, meteredIn, recordsIn, stand, After, after}
+use Rattle.bounded_rows.specs.Rows.{Words, wordsOf, meteredIn, recordsIn, shaped, stand, After, after}
 use Rattle.bounded_slices.specs.Slices.{brokenWords}
 use Rattle.bounded_host.specs.declared.Reply.{Reply}
 use Rattle.bounded_host.specs.Host.{reply, makeWords, Ended, ended, runWords, capacityWords, Listed, listed, contentsWords}
 use Rattle.bounded_host_step.specs.Step.{stepWords}
-use Rattle.bounded_demands.specs.Notions.{withRecords, ranOf, entryUnless}
+use Rattle.bounded_demands.specs.Notions.{withRecords, ranOf, entryUnless, entryGrounds}
 use Rattle.bounded_demands.specs.Lending.{holding, holds-did, holds-ran, Doing, stepping, running}
 use Rattle.bounded_demands.specs.Demands.{Demand2, Demand3, AsOneSchedule, Throughout}
 
@@ -63,6 +66,17 @@ pub record Malformed (d : Hosting) : Type 0 where
   pub run : (w : Words) (s : List ℕ) → stand w ≡ false → d .run w s ≡ ended (reply 6 0) w
   pub capacity : (w : Words) → stand w ≡ false → d .capacity w ≡ reply 6 0
   pub contents : (w : Words) (buffer : List ℕ) → stand w ≡ false → d .contents w buffer ≡ listed (reply 6 0) buffer
+
+-- Each number is given exactly when its ground holds and none before it, in document 01's order, of any words and anything handed in. Making asks only how many words there are; else words that stand
+-- for nothing are broken (`Malformed`).
+pub record HostedRefusedExactly (d : Hosting) : Type 0 where
+  pub make : (w : Words) (capacity edition : ℕ) → d .make w capacity edition .answer
+      ≡ firstOf (on 6 (not (shaped w)) ∷ on 1 (not (inLimits capacity slotsMost)) ∷ on 2 (not (inLimits (length (recordsIn (w .records))) recordsMost)) ∷ on 18 (not (inLimits edition editionsMost)) ∷ [])
+  pub step : (w : Words) (first second : ℕ) → d .step w first second .answer ≡ firstOf (on 6 (d .broken w) ∷ entryGrounds (heldWords w) first second)
+  pub run : (w : Words) (s : List ℕ) → (d .broken w ≡ true → d .run w s .answer ≡ reply 6 0) × (d .broken w ≡ false → length s % 2 ≡ 1 → d .run w s .answer ≡ reply 11 0)
+  pub contents : (w : Words) (buffer : List ℕ) → d .contents w buffer .answer .refusal
+      ≡ firstOf (on 6 (d .broken w) ∷ on 4 (not (allIdle (recordsIn (w .records)))) ∷ on 10 (ltb (length buffer) (countOn (meteredIn w .ring))) ∷ [])
+  pub capacity : (w : Words) → d .capacity w .refusal ≡ firstOf (on 6 (d .broken w) ∷ [])
 
 -- "In a step only the acting record may change."
 pub record OnlyTheActingWords (d : Hosting) : Type 0 where

@@ -9,7 +9,7 @@ use Rattle.bounded_rows.specs.Rows.{Words, words, stand, After, after}
 use Rattle.bounded_slices.specs.Slices.{brokenWords}
 use Rattle.bounded_host.specs.Host.{makeWords, runWords, Ended, ended, capacityWords, contentsWords}
 use Rattle.bounded_host_step.specs.Step.{stepWords}
-use Rattle.bounded_proof_host.specs.Hosted.{Hosting, face, OneToOne, Malformed, RefusedWords, OnlyTheActingWords, AsHeldWords, HostedThroughout, HostedMixed}
+use Rattle.bounded_proof_host.specs.Hosted.{Hosting, face, OneToOne, Malformed, HostedRefusedExactly, RefusedWords, OnlyTheActingWords, AsHeldWords, HostedThroughout, HostedMixed}
 
 abbrev pub none : ℕ
 none = 0
@@ -96,12 +96,13 @@ abbrev pub Faithful : Type 0
 Faithful = given ≡ face
 
 abbrev pub Stands : Type 0
-Stands = OneToOne stand × Malformed given × RefusedWords given × OnlyTheActingWords given × AsHeldWords given × HostedThroughout given × HostedMixed given
+Stands = OneToOne stand × Malformed given × HostedRefusedExactly given × RefusedWords given × OnlyTheActingWords given × AsHeldWords given × HostedThroughout given × HostedMixed given
 
 -- Which statement refuses which slip.
 pub record Refuted : Type 0 where
   pub one-to-one : OneToOne everyCode → ⊥
   pub malformed : Malformed (hostingWith layoutPassed) → ⊥
+  pub refused-exactly : HostedRefusedExactly (hostingWith layoutPassed) → ⊥
   pub refused-step : RefusedWords (hostingWith refusedMoves) → ⊥
   pub refused-make : RefusedWords (hostingWith refusedMarks) → ⊥
   pub acting : OnlyTheActingWords (hostingWith neighbourWritten) → ⊥

@@ -4,3 +4,4 @@ pub mod Throughout
 pub mod Refusals
 pub mod Mixed
 pub mod EachNumber
+pub mod Exactly

@@ -25,6 +25,7 @@ use Rattle.bounded_proof_demand2.proofs.Lens.{len-true}
 use Rattle.bounded_proof_demand3.proofs.Demand3.{within-in}
 use Rattle.bounded_proof_plain.proofs.Plain.{plain-in}
 use Rattle.bounded_proof_plain.proofs.Linearizable.{one-step-in}
+use Rattle.bounded_proof_plain.proofs.Unlooked.{others-in}
 use Rattle.bounded_proof_causes.proofs.Alone.{retries-in}
 use Rattle.bounded_proof_lent.proofs.Throughout.{next, next-is, held-next, sound-next, stays, allowed, held-fresh, sound-fresh}
 use Rattle.bounded_proof_lent.proofs.Refusals.{by-lender, ranLent, run-sound}
@@ -36,6 +37,7 @@ within-the-widest bits records capacity workers edition a s keeps =
       within = within-in bits records capacity workers edition a s keeps;
       plain = plain-in bits records capacity workers edition a s keeps;
       one-step = one-step-in bits records capacity workers edition a s keeps;
+      others-one-step = others-in bits records capacity workers edition a s keeps;
       retries = λ team. retries-in bits records capacity workers edition a team s keeps;
     }
 

@@ -42,7 +42,7 @@ use Rattle.bounded_proof_lent.proofs.Acting.{only-the-acting, only-one-
 use Rattle.bounded_proof_lent.proofs.Throughout.{sound-of, sound-next, sound-fresh, lent-unbroken-still, next-is, held-next}
 
 -- the refusal that a number or a refusal was made of
-told-back : (k value : ℕ) → refusalOf (told k value) ≡ k
+pub told-back : (k value : ℕ) → refusalOf (told k value) ≡ k
 unfolding told
 told-back k value = either (λ (t : Told). refusalOf t ≡ k) (eqb k 0) (Number value) (Refused k) (λ b. sym (eqb-true k 0 b)) (λ b. refl)
 

@@ -25,6 +25,7 @@ use Rattle.bounded_machine.specs.Turn.{recordAfter, begun, stored, actedBy, tur
 use Rattle.bounded_machine.specs.Run.{ran}
 use Rattle.bounded_step_machine.specs.Steps.{stepOfBy}
 use Rattle.bounded_orders.specs.declared.Metered.{Metered}
+use Rattle.bounded_orders.specs.declared.Report.{Report}
 use Rattle.bounded_orders.specs.Orders.{makeRefusalWith, meteredOf, contentsBy}
 use Rattle.bounded_lent.specs.Lent.{brokenLent, Lent, lent, stepLent, Gone, runLent, makeLent, contentsLent}
 use Rattle.bounded_demands.specs.Notions.{has, acts}
@@ -72,6 +73,7 @@ refuted =
       refused-contents = λ r. true≢false (ap (λ (buffer : List ℕ). eqb (getD buffer 0 0) 7) (r .contents ring [] (1 ∷ []) (some-number _ refl)));
       numbered = λ r. true≢false (sym (r .run ring (idler ∷ []) (0 ∷ [])));
       each-number = λ r. let q : _≡_ {A = ℕ} 12 11 = ap (λ (l : List ℕ). getD l 8 0) (r .run) in omega arith;
+      refused-exactly = λ r. let q : _≡_ {A = ℕ} 12 11 = ap (λ (x : Report). x .refusal) (r .run ring (idler ∷ []) (0 ∷ []) .1 refl refl) in omega arith;
       list-first = λ r. true≢false (ap (λ (g : Gone). first-busy (g .records)) (r .stops ring (idler ∷ []) (0 ∷ 5 ∷ []) 1 10 0 [] refl refl refl (readable, tt) refl));
       stays-unbroken = λ r. true≢false (r .run ring (pushing ∷ []) (9 ∷ 0 ∷ []) refl);
       mixed = λ r. true≢false (sym (ap (λ (m : Machine). eqb (m .meter) 0) (r (idler ∷ []) 1 1 refl (running (0 ∷ 5 ∷ 8 ∷ 0 ∷ []) ∷ []) .0 .machine)));

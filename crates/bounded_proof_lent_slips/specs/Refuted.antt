@@ -1,5 +1,5 @@
 -- Which statement refuses which slip.
-use Rattle.bounded_demands.specs.Demands.{AsHeld, OnlyTheActing, LentUnbroken, OnlyOneLent, LentThroughout, SixtyFourRecords, LentRefused, LentNumbered, LentEachNumber, LentListFirst, LentStaysUnbroken, LentMixed}
+use Rattle.bounded_demands.specs.Demands.{AsHeld, OnlyTheActing, LentUnbroken, OnlyOneLent, LentThroughout, SixtyFourRecords, LentRefused, LentNumbered, LentEachNumber, LentRefusedExactly, LentListFirst, LentStaysUnbroken, LentMixed}
 use Rattle.bounded_proof_lent_slips.specs.Slips.{neighbourWritten, countKept, refusedMoves, meterStays, sixtyFive, refusedIdles, recordsOpen, refusedUndone, oddByTwelve, unsearched, notRun, refusedWrites, lendingWith, promiseWith}
 
 pub record Refuted : Type 0 where
@@ -18,6 +18,7 @@ pub record Refuted : Type 0 where
   pub refused-contents : LentRefused (lendingWith refusedWrites) → ⊥
   pub numbered : LentNumbered (lendingWith oddByTwelve) → ⊥
   pub each-number : LentEachNumber (lendingWith oddByTwelve) → ⊥
+  pub refused-exactly : LentRefusedExactly (lendingWith oddByTwelve) → ⊥
   pub list-first : LentListFirst (lendingWith unsearched) → ⊥
   pub stays-unbroken : LentStaysUnbroken (lendingWith meterStays) → ⊥
   -- any mixture

@@ -10,5 +10,7 @@ pub mod Replies
 pub mod OneStep
 pub mod Linear
 pub mod Linearizable
+pub mod Unlooked
 pub mod TwoCloses
+pub mod BetweenClaims
 pub mod Moments

@@ -35,7 +35,7 @@ use Rattle.bounded_proof_plain.proofs.Linear.{Both, both-kept, only-fir
 use Rattle.bounded_proof_plain.proofs.Plain.{told-first}
 
 -- what is told is a run, one step a call
-one-by-one : (c ed : ℕ) (m : Machine) (st : Story) (s : _) (ages : _) → Lined c ed m st s ages → OneByOne c ed st
+pub one-by-one : (c ed : ℕ) (m : Machine) (st : Story) (s : _) (ages : _) → Lined c ed m st s ages → OneByOne c ed st
 one-by-one c ed m st s ages o =
     record {
       steps = o .line .steps;
@@ -52,7 +52,7 @@ module _ (bits : Width) (records c workers ed : ℕ) (a : AllowedWith records c 
   abbrev n : ℕ
   n = lapsOf bits c
 
-  abbrev Tells : Machine → Story → Type 0
+  abbrev pub Tells : Machine → Story → Type 0
   Tells m st = OnlySuch (oneStep ed) st → Both bits c n workers (base-of bits records c workers ed a) ed m st
 
   first-line : Line c ed []
@@ -77,7 +77,7 @@ module _ (bits : Width) (records c workers ed : ℕ) (a : AllowedWith records c 
   unfolding knownFrom
   no-call m w k z = absurd (let q : _≡_ {A = ℕ} 0 1 = ap length (z .its) in omega arith)
 
-  first-both : Tells (freshWith records c workers ed) []
+  pub first-both : Tells (freshWith records c workers ed) []
   unfolding knownFrom momentFrom first-line
   first-both only =
       record {

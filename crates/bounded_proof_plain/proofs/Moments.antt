@@ -39,8 +39,8 @@ use Rattle.bounded_moments.specs.declared.Timing.{Timing}
 use Rattle.bounded_moments.specs.declared.Timing.the-variants.{Now, Stays, IfSome, IfRoom}
 use Rattle.bounded_moments.specs.Moments.{timingOf, timedOf, heardOf, ofWorker, momentIn, heardByAll, begunOf, ownOf, namedOf}
 use Rattle.bounded_demands.specs.Notions.{withRecords, AllowedWith, KeepsWidestWindow, tally}
-use Rattle.bounded_demands.specs.Stories.{Element, Story, storyOf, known, changeOf, actor, Moment, At, AfterNextTail, AfterNextHead, timed, heard, momentOf, momentFrom, momentsWith, momentsFrom, momentsKept, momentNamed, inStory}
-use Rattle.bounded_demands.specs.Demands.{NamesMoments, MomentsKept, MomentsKeptInWindow}
+use Rattle.bounded_demands.specs.Stories.{Element, Story, storyOf, known, changeOf, actor, Moment, At, AfterNextTail, AfterNextHead, timed, heard, momentOf, momentFrom, momentsWith, momentsFrom, momentsKeptOf, momentNamedOf, inStory}
+use Rattle.bounded_demands.specs.Demands.{NamesMomentsOf, MomentsKept, MomentsKeptInWindow, MomentsKeptOf}
 use Rattle.bounded_proof_demand2.proofs.Turns.{Turned, began, did, turned}
 use Rattle.bounded_proof_demand2.proofs.Lists.{Last, Earlier, split-end}
 use Rattle.bounded_proof_demand2.proofs.Counts.{tally-end}
@@ -107,23 +107,23 @@ unfolding momentsFrom
 kept-end ms [] x = refl
 kept-end ms (y ∷ s) x = kept-end (momentsWith ms y) s x
 
-module _ (c ed : ℕ) where
+module _ (many c ed : ℕ) where
   abbrev Names : Story → Type 0
   Names st =
-      (earlier later : Story) (act : Event) → st ≡ earlier ++ Does act ∷ later → act .worker < workersMost
-      → inStory (momentNamed c earlier act) ≡ momentOf c ed (act .worker) (earlier ++ Does act ∷ [])
+      (earlier later : Story) (act : Event) → st ≡ earlier ++ Does act ∷ later → act .worker < many
+      → inStory (momentNamedOf many c earlier act) ≡ momentOf c ed (act .worker) (earlier ++ Does act ∷ [])
 
   record Sound (st : Story) : Type 0 where
-    place : momentsKept c st .place ≡ length st
-    tallied : momentsKept c st .tally ≡ tally (actsIn st)
-    capacity : momentsKept c st .capacity ≡ c
-    long : length (momentsKept c st .each) ≡ workersMost
-    each : (w : ℕ) → w < workersMost → inStory (momentIn (momentsKept c st .each) w) ≡ momentOf c ed w st
+    place : momentsKeptOf many c st .place ≡ length st
+    tallied : momentsKeptOf many c st .tally ≡ tally (actsIn st)
+    capacity : momentsKeptOf many c st .capacity ≡ c
+    long : length (momentsKeptOf many c st .each) ≡ many
+    each : (w : ℕ) → w < many → inStory (momentIn (momentsKeptOf many c st .each) w) ≡ momentOf c ed w st
     names : Names st
 
   module _ (st : Story) (o : Sound st) (early : length st + 1 < wide) where
     abbrev ms : Moments
-    ms = momentsKept c st
+    ms = momentsKeptOf many c st
 
     longer : (x : Element) → length (st ++ x ∷ []) ≡ length st + 1
     longer x = length-append st (x ∷ []) ∙ omega arith
@@ -151,8 +151,8 @@ module _ (c ed : ℕ) where
         append-none [] = refl
         append-none (x ∷ l) = ap (λ (z : List Event). x ∷ z) (append-none l)
 
-        go : (earlier later : Story) (e : Event) → e .worker < workersMost → Last st (Begun w cl) earlier (Does e) later ⊎ Earlier st (Begun w cl) earlier (Does e) later
-            → inStory (momentNamed c earlier e) ≡ momentOf c ed (e .worker) (earlier ++ Does e ∷ [])
+        go : (earlier later : Story) (e : Event) → e .worker < many → Last st (Begun w cl) earlier (Does e) later ⊎ Earlier st (Begun w cl) earlier (Does e) later
+            → inStory (momentNamedOf many c earlier e) ≡ momentOf c ed (e .worker) (earlier ++ Does e ∷ [])
         go earlier later e few (inr p) = o .names earlier (p .left) e (p .was) few
         go earlier later e few (inl p) = absurd (let y = p .one in let q : _≡_ {A = ℕ} 0 1 = cc in omega arith)
 
@@ -168,7 +168,7 @@ module _ (c ed : ℕ) where
       count-is : ms .place ≡ known c ed st .count
       count-is = o .place ∙ sym (known-count actor (changeOf ed) c st)
 
-      heard-long : length heard-on ≡ workersMost
+      heard-long : length heard-on ≡ many
       unfolding heardByAll
       heard-long = length-map (ms .each) _ ∙ o .long
 
@@ -180,20 +180,20 @@ module _ (c ed : ℕ) where
           (omega (arith, few .2, acts-few st, early))
           ∙ sym (tally-end (actsIn st) e untallied) ∙ ap tally (sym (acts-end st (Does e)))
 
-      own : e .worker < workersMost → inStory (ownOf ms (e .worker) (e .before) (e .after)) ≡ momentOf c ed (e .worker) st′
+      own : e .worker < many → inStory (ownOf ms (e .worker) (e .before) (e .after)) ≡ momentOf c ed (e .worker) st′
       own few =
           timed-same (timingOf (e .before) (e .after)) (known c ed st) (ms .place) (untakenOf (ms .tally)) (ms .capacity) (momentIn (ms .each) (e .worker)) (momentOf c ed (e .worker) st) count-is
           (ap untakenOf (o .tallied) ∙ waits) (o .capacity ∙ sym room) (o .each (e .worker) few)
           ∙ sym (moment-own c ed st e)
 
-      other : (j : ℕ) → j < workersMost → j ≢ e .worker → inStory (momentIn heard-on j) ≡ momentOf c ed j st′
+      other : (j : ℕ) → j < many → j ≢ e .worker → inStory (momentIn heard-on j) ≡ momentOf c ed j st′
       unfolding heardByAll
       other j few far =
           ap (λ (x : OfWorker). inStory (x .moment)) (List·getD-map (λ (x : OfWorker). ofWorker (heardOf (movedOf (e .after)) (ms .place) (x .moment))) (ms .each) j (ofWorker (moments.Before 0)))
           ∙ heard-same ed e (ms .place) (known c ed st .count + 1) (momentIn (ms .each) j) (momentOf c ed j st) (ap (λ (k : ℕ). k + 1) count-is) (o .each j few)
           ∙ sym (moment-else c ed st e j far)
 
-      each-on : (j : ℕ) → j < workersMost → inStory (momentIn (set heard-on (e .worker) (ofWorker (ownOf ms (e .worker) (e .before) (e .after)))) j) ≡ momentOf c ed j st′
+      each-on : (j : ℕ) → j < many → inStory (momentIn (set heard-on (e .worker) (ofWorker (ownOf ms (e .worker) (e .before) (e .after)))) j) ≡ momentOf c ed j st′
       each-on j few = go (ℕ-discrete j (e .worker))
         where
           go : Dec (j ≡ e .worker) → inStory (momentIn (set heard-on (e .worker) (ofWorker (ownOf ms (e .worker) (e .before) (e .after)))) j) ≡ momentOf c ed j st′
@@ -207,11 +207,11 @@ module _ (c ed : ℕ) where
       unfolding namedOf
       names-on earlier later act q few = go (split-end st (Does e) earlier (Does act) later q)
         where
-          go : Last st (Does e) earlier (Does act) later ⊎ Earlier st (Does e) earlier (Does act) later → inStory (momentNamed c earlier act) ≡ momentOf c ed (act .worker) (earlier ++ Does act ∷ [])
+          go : Last st (Does e) earlier (Does act) later ⊎ Earlier st (Does e) earlier (Does act) later → inStory (momentNamedOf many c earlier act) ≡ momentOf c ed (act .worker) (earlier ++ Does act ∷ [])
           go (inr p) = o .names earlier (p .left) act (p .was) few
           go (inl p) =
               let one : act ≡ e = let y = p .one in cc in
-              rw (p .whole, one) (own (subst (λ (z : Event). z .worker < workersMost) one few))
+              rw (p .whole, one) (own (subst (λ (z : Event). z .worker < many) one few))
 
       sound-act : Sound st′
       unfolding namedOf
@@ -233,8 +233,8 @@ module _ (c ed : ℕ) where
         place = refl;
         tallied = refl;
         capacity = refl;
-        long = length-replicate workersMost (ofWorker (moments.Before 0));
-        each = λ w few. ap (λ (x : OfWorker). inStory (x .moment)) (same-at workersMost w);
+        long = length-replicate many (ofWorker (moments.Before 0));
+        each = λ w few. ap (λ (x : OfWorker). inStory (x .moment)) (same-at many w);
         names = λ earlier later act q few. absurd (nil-split earlier (Does act) later q);
       }
     where
@@ -245,32 +245,36 @@ module _ (c ed : ℕ) where
 
 -- ---- along every schedule
 
-module _ (bits : Width) (records c workers ed : ℕ) (a : AllowedWith records c workers ed) where
-  sound-kept : (m : Machine) (st : Story) (en : Entry) (after-it : Machine) (acts : List Event) → Tells bits records c workers ed a m st → (length st < wide → Sound c ed st) → Turned bits m en after-it acts
-      → length (st ++ (begunIn en ++ map Does acts)) < wide → Sound c ed (st ++ (begunIn en ++ map Does acts))
+module _ (many : ℕ) (bits : Width) (records c workers ed : ℕ) (a : AllowedWith records c workers ed) where
+  sound-kept : (m : Machine) (st : Story) (en : Entry) (after-it : Machine) (acts : List Event) → Tells bits records c workers ed a m st → (length st < wide → Sound many c ed st) → Turned bits m en after-it acts
+      → length (st ++ (begunIn en ++ map Does acts)) < wide → Sound many c ed (st ++ (begunIn en ++ map Does acts))
   sound-kept m st en after-it acts o s (began w cl l idle) few =
       let early : length st + 1 < wide = omega (arith, few, length-append st (Begun w cl ∷ [])) in
-      sound-begun c ed st (s (omega arith)) early w cl
+      sound-begun many c ed st (s (omega arith)) early w cl
   sound-kept m st en after-it acts o s (did w lose l busy early-act) few =
       let early : length st + 1 < wide = omega (arith, few, length-append st (map Does acts)) in
-      sound-act c ed st (s (omega arith)) early _
+      sound-act many c ed st (s (omega arith)) early _
       (subst (λ (h : List Event). untakenOf (tally h) ≡ length (known c ed st .queue .items)) (sym (o .acts))
       (untaken-is bits c _ workers (base-of bits records c workers ed a) m (o .h) (o .reached) ∙ omega (arith, o .shelf .long)))
       (o .shelf .room)
 
-  sound-entry : (m : Machine) (st : Story) (i j : ℕ) → Tells bits records c workers ed a m st → (length st < wide → Sound c ed st) → turnAt bits m i j .refusal ≡ 0
-      → length (st ++ elementsBy (eventsOf bits) m (entryOf i j) (turnAt bits m i j .machine)) < wide → Sound c ed (st ++ elementsBy (eventsOf bits) m (entryOf i j) (turnAt bits m i j .machine))
+  sound-entry : (m : Machine) (st : Story) (i j : ℕ) → Tells bits records c workers ed a m st → (length st < wide → Sound many c ed st) → turnAt bits m i j .refusal ≡ 0
+      → length (st ++ elementsBy (eventsOf bits) m (entryOf i j) (turnAt bits m i j .machine)) < wide → Sound many c ed (st ++ elementsBy (eventsOf bits) m (entryOf i j) (turnAt bits m i j .machine))
   unfolding turnOfBy
   sound-entry m st i j o s e = sound-kept m st (entryOf i j) _ _ o s (turned bits m (entryOf i j) e)
 
-pub moments-in : (bits : Width) (records c workers ed : ℕ) → AllowedWith records c workers ed → (s : List ℕ) → KeepsWidestWindow (withRecords records bits) (freshWith records c workers ed) [] s
-    → NamesMoments c ed (storyOf (withRecords records bits) c workers ed s)
-moments-in bits records c workers ed a s keeps few =
-    told-with bits records c workers ed a (λ (m : Machine) (st : Story). length st < wide → Sound c ed st) (sound-entry bits records c workers ed a) (λ h. sound-none c ed) s keeps .1 few .names
+pub moments-of : (many : ℕ) (bits : Width) (records c workers ed : ℕ) → AllowedWith records c workers ed → (s : List ℕ) → KeepsWidestWindow (withRecords records bits) (freshWith records c workers ed) [] s
+    → NamesMomentsOf many (momentNamedOf many) c ed (storyOf (withRecords records bits) c workers ed s)
+moments-of many bits records c workers ed a s keeps few =
+    told-with bits records c workers ed a (λ (m : Machine) (st : Story). length st < wide → Sound many c ed st) (sound-entry many bits records c workers ed a) (λ h. sound-none many c ed) s keeps .1 few .names
 
 pub moments-in-window : (bits : Width) (records : ℕ) → MomentsKeptInWindow (withRecords records bits)
-moments-in-window bits records c workers ed a s keeps = moments-in bits records c workers ed a s (widens (withRecords records bits) (freshWith records c workers ed) [] s keeps)
+moments-in-window bits records c workers ed a s keeps = moments-of workersMost bits records c workers ed a s (widens (withRecords records bits) (freshWith records c workers ed) [] s keeps)
 
 -- of 64 bits every schedule
 pub moments-kept : (records : ℕ) → MomentsKept (withRecords records SixtyFour)
-moments-kept records c workers ed a s = moments-in SixtyFour records c workers ed a s (always records c workers ed a s)
+moments-kept records c workers ed a s = moments-of workersMost SixtyFour records c workers ed a s (always records c workers ed a s)
+
+-- and for as many workers as are lent
+pub moments-kept-of : (many records : ℕ) → MomentsKeptOf many (withRecords records SixtyFour)
+moments-kept-of many records c workers ed a s = moments-of many SixtyFour records c workers ed a s (always records c workers ed a s)

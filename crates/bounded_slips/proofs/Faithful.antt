@@ -10,7 +10,7 @@ use Rattle.bounded_places.specs.declared.Place.{Place}
 use Rattle.bounded_places.specs.declared.Place.the-variants.{Idle, P1, P2, P3, P4, P5, P6, F6, F7, F8, F9, O1, O2, O3, O4, O5, O6, Len1, Len2, Len3, Empty1, Empty2, Full1, Full2, Close1, IsClosed1}
 use Rattle.bounded_acts.specs.Acts.{actOf}
 use Rattle.bounded_demands.specs.Notions.{Definition, byTable, document01}
-use Rattle.bounded_demands.specs.Demands.{UnderEverySchedule, NothingWraps, ActByAct, WholeSchedules, LenTrue, ScheduledAlone, StockUnderEverySchedule, LossesUnderEverySchedule, CountsAside, CloseHolds, ClosedIsLast, AnswersPlain, OneStep}
+use Rattle.bounded_demands.specs.Demands.{UnderEverySchedule, NothingWraps, ActByAct, WholeSchedules, LenTrue, ScheduledAlone, StockUnderEverySchedule, LossesUnderEverySchedule, CountsAside, CloseHolds, ClosedIsLast, AnswersPlain, OneStep, OneStepUnderEverySchedule}
 use Rattle.bounded_proof_demand2.proofs.Demand2.{demand2, nothing-wraps, act-by-act, whole-schedules}
 use Rattle.bounded_proof_demand2.proofs.Lens.{len-true}
 use Rattle.bounded_proof_demand2.proofs.Stock.{stock-stands}
@@ -20,6 +20,7 @@ use Rattle.bounded_proof_demand2.proofs.Closing.{close-holds, closed-is-last}
 use Rattle.bounded_proof_demand3.proofs.Demand3.{demand3}
 use Rattle.bounded_proof_plain.proofs.Plain.{answers-plain}
 use Rattle.bounded_proof_plain.proofs.Linearizable.{one-step}
+use Rattle.bounded_proof_plain.proofs.Unlooked.{others}
 use Rattle.bounded_slips.specs.Slips.{planted, actWith, givenStock, Faithful, Stands}
 
 -- every row
@@ -69,4 +70,5 @@ stands = (
   subst ClosedIsLast (sym (faithful .0)) (closed-is-last workersMost),
   subst AnswersPlain (sym (faithful .0)) (answers-plain workersMost),
   subst OneStep (sym (faithful .0)) (one-step workersMost),
+  subst OneStepUnderEverySchedule (sym (faithful .0)) (others workersMost),
 )

@@ -5,3 +5,4 @@ pub mod Faithful
 pub mod RefutedPlain
 pub mod OneByOne
 pub mod RefutedCounts
+pub mod Clauses

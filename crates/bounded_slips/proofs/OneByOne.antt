@@ -1,4 +1,4 @@
--- One step a call: two tables of which that is false. And moments that are named by what is kept of no story.
+-- One step a call: tables of which that is false. And moments that are named by what is kept of no story.
 use Prim.Native.Nat.{ℕ, zero, suc, _≤_, _<_}
 use native.Mathlib.Omega.{arith}
 use mathlib.Core.Bool.{Bool, true, false, cond}
@@ -17,6 +17,7 @@ use Rattle.queue_plain.specs.Plain as plain
 use Rattle.queue_plain.specs.OneStep.{Step, Follows}
 use Rattle.queue_plain.specs.Story.{Begun, Does, Doing, Known, fresh, knownWith, knownFrom}
 use Rattle.queue_plain.proofs.Answers.{pop-none}
+use Rattle.bounded_words.specs.declared.Width.the-variants.{SixtyFour}
 use Rattle.bounded_words.specs.Words.{stamp, doubled, markOf, markedOf, unmarkedOf, plus, minus, withMark, nextOf, same, onePast, lapBehind, lapBehindOnePast}
 use Rattle.bounded_places.specs.declared.Kind.the-variants.{Push}
 use Rattle.bounded_places.specs.declared.Loss.the-variants as loss
@@ -28,14 +29,15 @@ use Rattle.bounded_machine.specs.Machine.{emptySlots, stamped, freshSlots, idle
 use Rattle.bounded_machine.specs.Turn.{recordAfter, begun, stored, actedBy, turnOfBy}
 use Rattle.bounded_machine.specs.Run.{ran}
 use Rattle.bounded_machine.specs.History.{event}
-use Rattle.bounded_moments.specs.Moments.{namedOf}
-use Rattle.bounded_demands.specs.Notions.{Allowed, acts}
-use Rattle.bounded_demands.specs.Stories.{Story, storyOf, known, actor, changeOf, twoCloses, Moment, At, AfterNextTail, AfterNextHead, momentFrom, momentsFrom}
+use Rattle.bounded_moments.specs.Moments.{heardByAll, begunOf, namedOf}
+use Rattle.bounded_demands.specs.Notions.{Allowed, acts, withRecords}
+use Rattle.bounded_demands.specs.Stories.{Story, storyOf, unlooked, known, actor, changeOf, twoCloses, Moment, At, AfterNextTail, AfterNextHead, momentFrom, momentsFrom}
 use Rattle.bounded_demands.specs.Demands.{OneByOne}
 use Rattle.bounded_proof_plain.proofs.TwoCloses.{not-both}
-use Rattle.bounded_slips.specs.Slips.{forceForgets, handsOutAgain, slipped}
+use Rattle.bounded_proof_plain.proofs.BetweenClaims.{actOf, act-at}
+use Rattle.bounded_slips.specs.Slips.{forceForgets, handsOutAgain, lenForgets, slipped}
 use Rattle.bounded_slips.specs.Refuted.{does}
-use Rattle.bounded_slips.specs.RefutedPlain.{RefutedOneStep, popOfNone}
+use Rattle.bounded_slips.specs.RefutedPlain.{RefutedOneStep, popOfNone, lenBetweenCloses}
 use Rattle.bounded_slips.proofs.Refuted.{one-two}
 
 -- ---- pops alone: a plain queue that was empty stays so, and hands out nothing
@@ -114,17 +116,29 @@ atIn (At n) = n
 atIn AfterNextTail = 0
 atIn AfterNextHead = 0
 
+abbrev sixteenth : Story
+sixteenth = storyOf (withRecords 17 SixtyFour) 1 17 1 (does 16 0 5 2)
+
 in-edition-2 : Allowed 1 2 2
 in-edition-2 = record { slot-some = omega arith; slot-most = omega arith; worker-some = omega arith; worker-most = omega arith; edition-some = omega arith; edition-most = omega arith }
 
 pub refuted-one-step : RefutedOneStep
-unfolding forcedTail doubled markOf markedOf unmarkedOf plus minus withMark nextOf same onePast lapBehind lapBehindOnePast strayOf orderOf entryOf goes losing exchangeOf afterTail tailTo headTo stampTo valueTo countOf emptySlots stamped freshSlots idlers freshWith refused accepted all recordAfter begun stored actedBy turnOfBy ran runBy historyBy acts knownFrom twoCloses momentFrom momentsFrom namedOf
+unfolding forcedTail doubled markOf markedOf unmarkedOf plus minus withMark nextOf same onePast lapBehind lapBehindOnePast strayOf orderOf entryOf goes losing exchangeOf afterTail tailTo headTo stampTo valueTo countOf emptySlots stamped freshSlots idlers freshWith refused accepted all recordAfter begun stored actedBy turnOfBy ran runBy historyBy acts knownFrom twoCloses unlooked momentFrom momentsFrom heardByAll begunOf namedOf
 refuted-one-step =
     record {
       force-forgets =
           λ r.
           not-both 2 (storyOf (slipped forceForgets) 1 2 2 twoCloses) (r 1 2 2 in-edition-2 twoCloses (refl, (refl, (refl, (refl, tt))))) 11 1 (omega arith) refl refl refl refl refl refl refl refl;
       hands-out-again = λ r. none-out popping (r 1 2 1 one-two (popOfNone .schedule) (refl, tt)) pops-only (take 3 popping) [] (event 0 (O6 (stamp 0)) (Idle (Popped 0)) loss.Nothing) 0 refl refl;
+      force-forgets-always =
+          λ r.
+          not-both 2 (unlooked (storyOf (slipped forceForgets) 1 2 2 twoCloses)) (r 1 2 2 in-edition-2 twoCloses (λ first. absurd (omega (arith, first)))) 11 1 (omega arith) refl refl refl refl refl refl refl refl;
+      len-forgets =
+          λ r.
+          not-both 2 (unlooked (storyOf (slipped lenForgets) 1 2 2 (lenBetweenCloses .schedule))) (r 1 2 2 in-edition-2 (lenBetweenCloses .schedule) (λ first. absurd (omega (arith, first)))) 1 1 (omega arith) refl refl refl refl refl
+          refl refl refl;
       moments-unkept =
           λ r. let q : _≡_ {A = ℕ} 0 1 = ap atIn (r (omega arith) (Begun 0 (call.Push 5) ∷ []) [] (event 0 (P1 Push 5) (P2 Push (stamp 0) 5) loss.Nothing) refl (omega arith)) in omega arith;
+      sixteen-kept =
+          λ r. let q : _≡_ {A = ℕ} 0 1 = ap atIn (r (omega arith) (take 2 sixteenth) (drop 1 (drop 2 sixteenth)) (actOf (drop 2 sixteenth)) (act-at sixteenth 2 refl) (omega arith)) in omega arith;
     }

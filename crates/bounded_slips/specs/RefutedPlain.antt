@@ -1,10 +1,11 @@
--- Which tables are no plain queue's: of each slip a schedule on which `AnswersPlain` is false; and of which `OneStep` is.
+-- Which tables are no plain queue's: of each slip a schedule on which `AnswersPlain` is false (clause by clause: Clauses.antt); and of which `OneStep` is.
 use Prim.Native.Nat.{ℕ}
 use mathlib.Core.List.{List, [], _∷_, _++_}
-use Rattle.bounded_demands.specs.Notions.{acts, document01}
+use Rattle.bounded_words.specs.declared.Width.the-variants.{SixtyFour}
+use Rattle.bounded_demands.specs.Notions.{acts, document01, withRecords}
 use Rattle.bounded_demands.specs.Stories.{storyOf, momentNamed}
-use Rattle.bounded_demands.specs.Demands.{AnswersPlain, OneStep, NamesMomentsBy}
-use Rattle.bounded_slips.specs.Slips.{unwritten, fullUnseen, stampBeforeValue, emptyUnseen, lenLooksOnce, emptyTailFirst, fullHeadFirst, pushWritesLate, forceForgets, closedTooSoon, closedUnseen, handsOutAgain, anotherItem, anotherForced, lostSaysPushed, emptySaysNo, fullSaysNo, closeSaysYes, closedSaysNo, lostDropsTheMark, forceKeeps, pushStampUntested, forceUncompared, emptyOfClosed, slipped}
+use Rattle.bounded_demands.specs.Demands.{AnswersPlain, OneStep, OneStepUnderEverySchedule, NamesMomentsBy, NamesMomentsOf}
+use Rattle.bounded_slips.specs.Slips.{unwritten, fullUnseen, stampBeforeValue, emptyUnseen, lenLooksOnce, emptyTailFirst, fullHeadFirst, pushWritesLate, forceForgets, closedTooSoon, closedUnseen, handsOutAgain, anotherItem, anotherForced, lostSaysPushed, emptySaysNo, fullSaysNo, closeSaysYes, closedSaysNo, lostDropsTheMark, forceKeeps, pushStampUntested, forceUncompared, emptyOfClosed, lenForgets, slipped}
 use Rattle.bounded_slips.specs.Refuted.{Trial, trial, trialIn, does}
 
 -- The last act of each schedule is the one that is wrong; of the first two its item is.
@@ -131,10 +132,19 @@ pub record RefutedPlain : Type 0 where
 abbrev pub popOfNone : Trial
 popOfNone = trial handsOutAgain 1 (does 0 2 0 3)
 
+-- worker 1 closes, worker 0 begins a push, worker 1 calls len and closes again, which answers yes too
+abbrev pub lenBetweenCloses : Trial
+lenBetweenCloses = trialIn 2 lenForgets 1 (does 1 6 0 1 ++ does 0 0 5 0 ++ does 1 3 0 3 ++ does 1 6 0 1)
+
 pub record RefutedOneStep : Type 0 where
   -- two closes both answer yes: a force_push of edition 2 has cleared the mark between them
   pub force-forgets : OneStep (slipped forceForgets) → ⊥
   -- one pop, and it hands out something
   pub hands-out-again : OneStep (slipped (popOfNone .slip)) → ⊥
+  -- the first again; and a len, which is left out of the story, has cleared the mark: of that `OneStep` says nothing
+  pub force-forgets-always : OneStepUnderEverySchedule (slipped forceForgets) → ⊥
+  pub len-forgets : OneStepUnderEverySchedule (slipped (lenBetweenCloses .slip)) → ⊥
   -- named by what is kept of no story
   pub moments-unkept : NamesMomentsBy (λ capacity earlier act. momentNamed capacity [] act) 1 1 (storyOf document01 1 2 1 (does 0 0 5 1)) → ⊥
+  -- of seventeen workers, by what is kept of sixteen: the last one's second act
+  pub sixteen-kept : NamesMomentsOf 17 momentNamed 1 1 (storyOf (withRecords 17 SixtyFour) 1 17 1 (does 16 0 5 2)) → ⊥

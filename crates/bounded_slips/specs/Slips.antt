@@ -37,7 +37,7 @@ use Rattle.bounded_machine.specs.Run.{ran, runWith, runFrom, runAt}
 use Rattle.bounded_machine.specs.declared.Tally.{Tally}
 use Rattle.bounded_machine.specs.History.{lossAt, historyWith, historyOf, movedOf, readsAt, counted, readOn, untakenOf, historyAt}
 use Rattle.bounded_demands.specs.Notions.{Definition, byTable, document01, itemIn, tally, stock, isNew, holdingAt, mostOf}
-use Rattle.bounded_demands.specs.Demands.{UnderEverySchedule, NothingWraps, ActByAct, WholeSchedules, LenTrue, ScheduledAlone, StockUnderEverySchedule, LossesUnderEverySchedule, CountsAside, CloseHolds, ClosedIsLast, AnswersPlain, OneStep}
+use Rattle.bounded_demands.specs.Demands.{UnderEverySchedule, NothingWraps, ActByAct, WholeSchedules, LenTrue, ScheduledAlone, StockUnderEverySchedule, LossesUnderEverySchedule, CountsAside, CloseHolds, ClosedIsLast, AnswersPlain, OneStep, OneStepUnderEverySchedule}
 
 -- ---- the slips
 
@@ -220,6 +220,18 @@ emptyOfClosed = 43
 abbrev pub closeWaits : ℕ
 closeWaits = 44
 
+-- P6 answers Full with another item
+abbrev pub fullGivesAnother : ℕ
+fullGivesAnother = 45
+
+-- close answers no and does nothing
+abbrev pub closeSaysNo : ℕ
+closeSaysNo = 46
+
+-- len's first load clears the mark
+abbrev pub lenForgets : ℕ
+lenForgets = 47
+
 -- The word of the claim that has slot 0 next, counted from head; and slot 0's stamp, if it is in no hand: full if tail is past that claim, else free.
 abbrev claimAtZero : Fixed → Ends → Stamp
 claimAtZero f e = cond (eqb (indexOf f (e .head)) 0) (e .head) (plus SixtyFour (stamp (e .head .0 - indexOf f (e .head))) (f .lap))
@@ -253,7 +265,7 @@ actWith n f e s (P3 k t x) lose =
 actWith n f e s (P4 t x) lose =
     but n unwritten (goes e s (P5 t)) (but n pushWritesLate (goes e (stampTo s (plus SixtyFour t 1)) (F9 t x)) (actOf SixtyFour f e s (P4 t x) lose))
 actWith n f e s (P5 t) lose = but n unstamped (goes e s (Idle Pushed)) (actOf SixtyFour f e s (P5 t) lose)
-actWith n f e s (P6 t x) lose = but n fullUnseen (goes e s (Idle (Full x))) (actOf SixtyFour f e s (P6 t x) lose)
+actWith n f e s (P6 t x) lose = but n fullUnseen (goes e s (Idle (Full x))) (but n fullGivesAnother (goes e s (Idle (Full (x + 1)))) (actOf SixtyFour f e s (P6 t x) lose))
 actWith n f e s (F6 t x) lose =
     but n tailBeforeHead (goes (tailTo e (nextOf SixtyFour f t)) s (F7 t x))
     (but n lostForceKeepsItsWord (cond (same (e .head) (minus SixtyFour t (f .lap))) (actOf SixtyFour f e s (F6 t x) lose) (goes e s (P2 Force t x)))
@@ -287,7 +299,7 @@ actWith n f e s (O6 h) lose =
     (but n closedTooSoon (cond (markedOf f (e .tail)) (goes e s (Idle PopClosed)) (actOf SixtyFour f e s (O6 h) lose))
     (but n emptyOfClosed (cond (same (unmarkedOf f (e .tail)) h) (goes e s (Idle Empty)) (actOf SixtyFour f e s (O6 h) lose))
     (actOf SixtyFour f e s (O6 h) lose)))))
-actWith n f e s Len1 lose = actOf SixtyFour f e s Len1 lose
+actWith n f e s Len1 lose = but n lenForgets (goes (tailTo e (unmarkedOf f (e .tail))) s (Len2 (unmarkedOf f (e .tail)))) (actOf SixtyFour f e s Len1 lose)
 actWith n f e s (Len2 t) lose = actOf SixtyFour f e s (Len2 t) lose
 actWith n f e s (Len3 t h) lose = but n lenLooksOnce (goes e s (Idle (Len (countOf f t h)))) (actOf SixtyFour f e s (Len3 t h) lose)
 actWith n f e s Empty1 lose = but n emptyTailFirst (goes e s (Empty2 (e .tail))) (actOf SixtyFour f e s Empty1 lose)
@@ -298,7 +310,8 @@ actWith n f e s (Full2 h) lose =
     but n fullHeadFirst (goes e s (Idle (yesNo (lapBehind SixtyFour f h (unmarkedOf f (e .tail)))))) (but n fullSaysNo (goes e s (Idle No)) (actOf SixtyFour f e s (Full2 h) lose))
 actWith n f e s Close1 lose =
     but n closeSaysYes (goes (tailTo e (withMark SixtyFour f (e .tail))) s (Idle Yes))
-    (but n closeWaits (cond (same (s .stamp) (stampAtZero f e)) (actOf SixtyFour f e s Close1 lose) (goes e s Close1)) (actOf SixtyFour f e s Close1 lose))
+    (but n closeWaits (cond (same (s .stamp) (stampAtZero f e)) (actOf SixtyFour f e s Close1 lose) (goes e s Close1))
+    (but n closeSaysNo (goes e s (Idle No)) (actOf SixtyFour f e s Close1 lose)))
 actWith n f e s IsClosed1 lose = but n closedSaysNo (goes e s (Idle No)) (actOf SixtyFour f e s IsClosed1 lose)
 
 -- ---- the machine with a slip
@@ -433,3 +446,4 @@ abbrev pub Stands : Type 0
 Stands =
     UnderEverySchedule given × NothingWraps given × ActByAct given × WholeSchedules given × LenTrue given × ScheduledAlone given × StockUnderEverySchedule given givenStock
     × LossesUnderEverySchedule given × CountsAside given × CloseHolds given × ClosedIsLast given × AnswersPlain given × OneStep given
+    × OneStepUnderEverySchedule given

@@ -3,3 +3,4 @@ pub mod Numbers
 pub mod Attained
 pub mod Runs
 pub mod EachNumber
+pub mod Exactly

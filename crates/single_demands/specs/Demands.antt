@@ -2,20 +2,23 @@
 -- are defined in Notions.antt. The proofs are gathered in crates/single_proof_all_demands/proofs/Headlines.antt; docs/PROMISES.md says in
 -- plain words what each says and what not.
 use Prim.Native.Nat.{ℕ, suc, _+_, _*_, _%_, _≤_, _<_}
-use mathlib.Core.Bool.{Bool, true, false}
+use mathlib.Core.Bool.{Bool, true, false, not}
 use mathlib.Core.List.{List, [], _∷_, _++_, map}
 use mathlib.Core.Path.{_≡_}
 use mathlib.Core.Logic.{_↔_, _≢_, _⊎_}
+use lib.Dec.{ltb}
 use lib.ListN.{length, take}
-use Rattle.queue_entries.specs.Limits.{meterMost}
+use Rattle.queue_entries.specs.Limits.{workersMost, meterMost, inLimits}
 use Rattle.queue_entries.specs.declared.Call.{Call}
 use Rattle.queue_entries.specs.declared.Call.the-variants.{Push, Close}
 use Rattle.queue_entries.specs.declared.Told.{Told}
 use Rattle.queue_entries.specs.declared.Told.the-variants as answer
 use Rattle.queue_entries.specs.Told.{told}
-use Rattle.queue_entries.specs.declared.Entry.the-variants.{Unreadable}
+use Rattle.queue_entries.specs.declared.Order.the-variants.{Begin, Act}
+use Rattle.queue_entries.specs.declared.Entry.{Entry}
+use Rattle.queue_entries.specs.declared.Entry.the-variants.{Unreadable, Asks}
 use Rattle.queue_entries.specs.Entries.{entryOf}
-use Rattle.queue_numbers.specs.Numbers.{has, Numbers, Functions}
+use Rattle.queue_numbers.specs.Numbers.{has, Numbers, Functions, Ground, on, firstOf}
 use Rattle.queue_numbers.specs.Answers.{BothWays, numberIn, valueIn}
 use Rattle.queue_plain.specs.Plain.{answerOf, Pushed}
 use Rattle.queue_plain.specs.Story.{Does, actsIn, fresh, cameFrom, wentFrom}
@@ -188,6 +191,25 @@ pub record EachNumber (n : Numbers Machine) : Type 0 where
       ∷ n .run pushingOne (9 ∷ 0 ∷ []) ∷ n .run freshOne (10 ∷ 0 ∷ []) ∷ n .run freshOne (0 ∷ []) ∷ []
       ≡ 0 ∷ 3 ∷ 4 ∷ 5 ∷ 6 ∷ 7 ∷ 8 ∷ 9 ∷ 11 ∷ []
   pub contents : n .contents freshOne 0 ∷ n .contents pushingOne 0 ∷ n .contents blank 0 ∷ n .contents stockedOne 0 ∷ [] ≡ 0 ∷ 4 ∷ 6 ∷ 10 ∷ []
+
+-- What an entry is refused for on a machine that is not broken, in document 01's order. No exchange of this queue is weak: code 9 is always refusal 8.
+abbrev pub entryGrounds : Machine → Entry → List Ground
+entryGrounds m Unreadable = on 9 true ∷ []
+entryGrounds m (Asks w (Begin c)) = on 3 (not (ltb w (m .count))) ∷ on 4 (places.viewOf (placeOf (m .workers) w) .busy) ∷ []
+entryGrounds m (Asks w (Act lose)) =
+    on 3 (not (ltb w (m .count))) ∷ on 5 (not (places.viewOf (placeOf (m .workers) w) .busy)) ∷ on 7 (not (ltb (m .meter) meterMost)) ∷ on 8 lose ∷ []
+
+-- Each number is given exactly when its ground holds and none before it, of any machine and anything handed in. (Of a schedule's 9 and of its entries: `ListFirst`.)
+pub record RefusedExactly (n : Numbers Machine) : Type 0 where
+  pub make : (workers : ℕ) → n .make workers ≡ firstOf (on 2 (not (inLimits workers workersMost)) ∷ [])
+  pub step : (m : Machine) (first second : ℕ) → n .step m first second ≡ firstOf (on 6 (brokenOf m) ∷ entryGrounds m (entryOf first second))
+  -- codes 0 to 7 begin
+  pub begin : (m : Machine) (first second : ℕ)
+      → n .begin m first second ≡ firstOf (on 6 (brokenOf m) ∷ on 9 (not (ltb (first % 16) 8)) ∷ entryGrounds m (entryOf first second))
+  pub act : (m : Machine) (first second : ℕ) → n .act m first second ≡ firstOf (on 6 (brokenOf m) ∷ on 9 (ltb (first % 16) 8) ∷ entryGrounds m (entryOf first second))
+  pub run : (m : Machine) (s : List ℕ) → (brokenOf m ≡ true → n .run m s ≡ 6) × (brokenOf m ≡ false → length s % 2 ≡ 1 → n .run m s ≡ 11)
+  pub contents : (m : Machine) (room : ℕ) → n .contents m room ≡ firstOf (on 6 (brokenOf m) ∷ on 4 (not (idleFrom 0 (m .workers))) ∷ on 10 (ltb room (countIn m)) ∷ [])
+  pub capacity : (m : Machine) → numberIn (capacityOf m) ≡ firstOf (on 6 (brokenOf m) ∷ [])
 
 -- The list is checked first (document 02, item 7): of a machine that is not broken and a schedule of whole entries.
 pub record ListFirstBy (f : Functions Machine Did Ran) : Type 0 where

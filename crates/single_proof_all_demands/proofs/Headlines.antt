@@ -1,12 +1,13 @@
 -- The demands on the one-slot queue, proved. What they say, in the words of request 1 and of document 01, is
 -- crates/single_demands/specs/Demands.antt; the table of runs is Runs.antt beside it.
 use Rattle.single_demands.specs.Notions.{source, mostOf}
-use Rattle.single_demands.specs.Demands.{AnswersPlain, RoomNeeded, RefusedUnchanged, Numbered, EachNumber, EnumsBothWays, ListFirst, StaysUnbroken, OnlyOne, refusals, UnderEverySchedule, ActByAct, WholeSchedules, ScheduledAlone, AtMost, Attained}
+use Rattle.single_demands.specs.Demands.{AnswersPlain, RoomNeeded, RefusedUnchanged, Numbered, EachNumber, RefusedExactly, EnumsBothWays, ListFirst, StaysUnbroken, OnlyOne, refusals, UnderEverySchedule, ActByAct, WholeSchedules, ScheduledAlone, AtMost, Attained}
 use Rattle.single_demands.specs.Runs.{RunsHold}
 use Rattle.queue_numbers.proofs.Answers.{told-both-ways}
 use Rattle.single_demands.proofs.Refusals.{refused-unchanged, list-first, stays-unbroken, only-one}
 use Rattle.single_demands.proofs.Numbers.{numbered}
 use Rattle.single_demands.proofs.EachNumber.{each-number}
+use Rattle.single_demands.proofs.Exactly.{refused-exactly}
 use Rattle.single_demands.proofs.Attained.{at-most, numbers-attained}
 use Rattle.single_demands.proofs.Runs.{runs-hold}
 use Rattle.single_proof_demand2.proofs.Demand2.{demand2, act-by-act, whole-schedules}
@@ -26,6 +27,10 @@ demand-1 = (refused-unchanged, numbered, list-first, stays-unbroken, only-one)
 -- Each number of it is given; and answers that are enums are known by their numbers and values, there and back.
 pub demand-1-exact : EachNumber refusals × EnumsBothWays
 demand-1-exact = (each-number, told-both-ways)
+
+-- And it is given exactly when its ground holds and none before it.
+pub refused-when : RefusedExactly refusals
+refused-when = refused-exactly
 
 -- 2. Under every schedule from a fresh machine: each act is the one action of the source; an item goes out at most once, the one of the
 -- latest write; the slot is in at most one hand, and LOCKED while it is; what Empty, Full and Closed mean, exactly.

@@ -20,9 +20,10 @@ use Rattle.single.specs.Single.{makeOf, stepOf}
 use Rattle.single_codes.specs.Codes.{triple, placeIn, standsFor}
 use Rattle.single_rows.specs.Rows.{Words, words, headOf, recordsOf, recordsIn, machineIn, shaped, placed, stand}
 use Rattle.single_host.specs.Host.{brokenWords, After, makeWords, stepWords, Ended, runWords}
-use Rattle.single_proof_host.specs.Hosted.{Malformed, RefusedWords, RunAsSteps, HostedThroughout, HostedMixed, running, leftBy, takenBy, leftByAll, entriesBy}
+use Rattle.single_proof_host.specs.Hosted.{Malformed, HostedRefusedExactly, RefusedWords, RunAsSteps, HostedThroughout, HostedMixed, running, leftBy, takenBy, leftByAll, entriesBy}
 use Rattle.single_proof_host.specs.Slips.{Faithful, Stands, Refuted}
 use Rattle.single_proof_host.proofs.Hosted.{one-to-one, malformed, refused-words, run-as-steps, hosted-throughout}
+use Rattle.single_proof_host.proofs.Exactly.{hosted-refused-exactly}
 use Rattle.single_proof_host.proofs.Mixed.{hosted-mixed}
 
 pub faithful : Faithful
@@ -32,6 +33,7 @@ pub stands : Stands
 stands = (
   one-to-one,
   subst Malformed (sym faithful) malformed,
+  subst HostedRefusedExactly (sym faithful) hosted-refused-exactly,
   subst RefusedWords (sym faithful) refused-words,
   subst RunAsSteps (sym faithful) run-as-steps,
   subst HostedThroughout (sym faithful) hosted-throughout,
@@ -66,6 +68,7 @@ refuted =
     record {
       one-to-one = λ r. true≢false (ap (λ (w : Words). eqb (getD (w .records) 0 0) 26) (r .written code99 refl));
       malformed = λ r. true≢false (ap (λ (x : After). eqb (x .answer) 0) (r .step otherLayout 0 5 refl));
+      refused-exactly = λ r. let q : _≡_ {A = ℕ} 0 6 = r .step otherLayout 0 5 in omega arith;
       refused-step = λ r. true≢false (sym (ap (λ (w : Words). eqb (getD (w .head) 3 0) 0) (r .step fresh 8 0 (some-number _ refl))));
       refused-make = λ r. true≢false (sym (ap (λ (w : Words). eqb (getD (w .head) 0 0) 0) (r .make blanks 0 (some-number _ refl))));
       refused-run = λ r. true≢false (sym (ap (λ (w : Words). eqb (getD (w .head) 3 0) 0) (r .run fresh (0 ∷ []) (some-number _ refl) refl)));

@@ -2,22 +2,25 @@
 -- The statements are over a definition of the face (`Hosting`) and of which words stand for a machine, so that they can be said of one with a slip.
 use Prim.Native.Nat.{ℕ, _*_, _%_}
 use mathlib.Core.Path.{_≡_}
-use mathlib.Core.Bool.{Bool, true, false, cond}
+use mathlib.Core.Bool.{Bool, true, false, cond, not}
 use mathlib.Core.List.{List, [], _∷_, _++_}
-use lib.Dec.{eqb}
+use lib.Dec.{eqb, ltb}
 use lib.ListN.{length, take}
-use Rattle.queue_entries.specs.Limits.{workersMost}
+use Rattle.queue_entries.specs.Limits.{workersMost, inLimits}
 use Rattle.queue_entries.specs.Entries.{entryOf}
 use Rattle.queue_entries.specs.Schedules.{runBy}
+use Rattle.queue_numbers.specs.Numbers.{on, firstOf}
 use Rattle.queue_schedules.specs.Reading.{Readable}
 use Rattle.single_machine.specs.declared.Machine.{Machine}
 use Rattle.single_machine.specs.Machine.{freshOf}
-use Rattle.single_rows.specs.Rows.{Words, wordsOf, machineIn, stand}
+use Rattle.single_machine.specs.Broken.{idleFrom}
+use Rattle.single_machine.specs.Contents.{countIn}
+use Rattle.single_rows.specs.Rows.{Words, wordsOf, machineIn, shaped, stand}
 use Rattle.single_host.specs.declared.Reply.{Reply}
 use Rattle.single_host.specs.Host.{reply, brokenWords, After, after, makeWords, stepWords, Ended, ended, runWords, Listed, listed, contentsWords}
 use Rattle.single_demands.specs.Notions.{source, machineAfter, actsOf}
 use Rattle.single_demands.specs.Stories.{storyOf}
-use Rattle.single_demands.specs.Demands.{PlainThroughout, Demand2, Demand3}
+use Rattle.single_demands.specs.Demands.{PlainThroughout, entryGrounds, Demand2, Demand3}
 
 -- What each function of the face answers, with the words and the buffer as they are then.
 pub record Hosting : Type 0 where
@@ -45,6 +48,15 @@ pub record Malformed (d : Hosting) : Type 0 where
   pub step : (w : Words) (first second : ℕ) → stand w ≡ false → d .step w first second ≡ after 6 w
   pub run : (w : Words) (s : List ℕ) → stand w ≡ false → d .run w s ≡ ended (reply 6 0) w
   pub contents : (w : Words) (buffer : List ℕ) → stand w ≡ false → d .contents w buffer ≡ listed (reply 6 0) buffer
+
+-- Each number is given exactly when its ground holds and none before it, in document 01's order, of any words and anything handed in. Making asks only how many words there are; else words that stand
+-- for nothing are broken (`Malformed`).
+pub record HostedRefusedExactly (d : Hosting) : Type 0 where
+  pub make : (w : Words) (workers : ℕ) → d .make w workers .answer ≡ firstOf (on 6 (not (shaped w)) ∷ on 2 (not (inLimits workers workersMost)) ∷ [])
+  pub step : (w : Words) (first second : ℕ) → d .step w first second .answer ≡ firstOf (on 6 (d .broken w) ∷ entryGrounds (machineIn w) (entryOf first second))
+  pub run : (w : Words) (s : List ℕ) → (d .broken w ≡ true → d .run w s .answer .refusal ≡ 6) × (d .broken w ≡ false → length s % 2 ≡ 1 → d .run w s .answer .refusal ≡ 11)
+  pub contents : (w : Words) (buffer : List ℕ) → d .contents w buffer .answer .refusal
+      ≡ firstOf (on 6 (d .broken w) ∷ on 4 (not (idleFrom 0 (machineIn w .workers))) ∷ on 10 (ltb (length buffer) (countIn (machineIn w))) ∷ [])
 
 -- A refused making and a refused step change no word; nor does a schedule of which no entry was run: the whole was refused, or its first entry, or one of its entries can't be read.
 pub record RefusedWords (d : Hosting) : Type 0 where

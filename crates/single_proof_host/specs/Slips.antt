@@ -7,7 +7,7 @@ use lib.Dec.{eqb}
 use lib.ListN.{set, getD}
 use Rattle.single_rows.specs.Rows.{Words, words, stand}
 use Rattle.single_host.specs.Host.{brokenWords, After, after, makeWords, stepWords, Ended, ended, runWords, contentsWords}
-use Rattle.single_proof_host.specs.Hosted.{Hosting, face, OneToOne, Malformed, RefusedWords, RunAsSteps, HostedThroughout, HostedMixed}
+use Rattle.single_proof_host.specs.Hosted.{Hosting, face, OneToOne, Malformed, HostedRefusedExactly, RefusedWords, RunAsSteps, HostedThroughout, HostedMixed}
 
 abbrev pub none : ℕ
 none = 0
@@ -86,12 +86,13 @@ abbrev pub Faithful : Type 0
 Faithful = given ≡ face
 
 abbrev pub Stands : Type 0
-Stands = OneToOne stand × Malformed given × RefusedWords given × RunAsSteps given × HostedThroughout given × HostedMixed given
+Stands = OneToOne stand × Malformed given × HostedRefusedExactly given × RefusedWords given × RunAsSteps given × HostedThroughout given × HostedMixed given
 
 -- Which statement refuses which slip.
 pub record Refuted : Type 0 where
   pub one-to-one : OneToOne everyCode → ⊥
   pub malformed : Malformed (hostingWith layoutPassed) → ⊥
+  pub refused-exactly : HostedRefusedExactly (hostingWith layoutPassed) → ⊥
   pub refused-step : RefusedWords (hostingWith refusedMoves) → ⊥
   pub refused-make : RefusedWords (hostingWith refusedMarks) → ⊥
   pub refused-run : RefusedWords (hostingWith refusedRunMoves) → ⊥

@@ -224,6 +224,7 @@ refuted =
       unchanged-buffer = λ r. no-cons (r .contents (freshOf 0) (7 ∷ []) (λ e. omega (arith, e)));
       numbered = λ n. true≢false (sym (n .make 1));
       each-number = λ n. let q : _≡_ {A = ℕ} 1 0 = ap (λ (l : List ℕ). getD l 0 0) (n .make) in omega arith;
+      refused-exactly = λ n. let q : _≡_ {A = ℕ} 1 0 = n .make 1 in omega arith;
       list-first = λ r. true≢false (ap (λ (x : Ran). busyAt (x .machine) 0) (r .stops (freshOf 2) (0 ∷ 5 ∷ []) 1 10 0 [] refl refl refl (readable, tt) refl));
       stays-unbroken = λ r. true≢false (r .step (machineAfter (slipped closeAdds) 2 (does 0 6 0 1 ++ does 0 6 0 0)) 8 0 refl);
       at-most = λ a. let q : 5 ≤ 4 = a (C1 (state 0)) .0 in omega arith;

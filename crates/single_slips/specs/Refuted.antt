@@ -11,7 +11,7 @@ use Rattle.single_machine.specs.declared.Event.{Event}
 use Rattle.single_machine.specs.Broken.{brokenOf}
 use Rattle.single_demands.specs.Notions.{machineAfter, actsOf}
 use Rattle.single_demands.specs.Stories.{Story, storyOf}
-use Rattle.single_demands.specs.Demands.{PlainThroughout, RefusedUnchangedBy, Numbered, EachNumber, ListFirstBy, StaysUnbrokenBy, AtMost, GoesOut, OnceOut, ReadsLatest, ReadsWritten, OneHand, LockedInHand, PushedWaits, ClosedHolds, PlainQueue, TakesOut, ContentsWait, AnswersTrue, Decides, Means, LookersTrue, ActByAct, WholeSchedules, NeverRefused, AloneEnds, InTheWay, HandLetsGo, PassedAsRun}
+use Rattle.single_demands.specs.Demands.{PlainThroughout, RefusedUnchangedBy, Numbered, EachNumber, RefusedExactly, ListFirstBy, StaysUnbrokenBy, AtMost, GoesOut, OnceOut, ReadsLatest, ReadsWritten, OneHand, LockedInHand, PushedWaits, ClosedHolds, PlainQueue, TakesOut, ContentsWait, AnswersTrue, Decides, Means, LookersTrue, ActByAct, WholeSchedules, NeverRefused, AloneEnds, InTheWay, HandLetsGo, PassedAsRun}
 use Rattle.single_slips.specs.Slips.{none, pushTakesAny, pushWaits, alwaysFull, unwritten, unlocksFirst, unlockClearsPushed, staysLocked, forceKeepsLocked, forceKeepsItsWord, forceUnclosed, forceNeverDisplaces, forceAlwaysDisplaces, displacesItsOwn, popKeepsLocked, popWaits, popLeavesPushed, emptyUnclosed, popKeepsItsWord, popTakesAny, popPeeks, readsAfterUnlock, neverLetsGo, lenUnlocked, emptyIsZero, closeByStore, closeAdds, pushDrops, pushesAnother, forceDrops, emptyIsLocked, popsAnother, closeIdle, faceWith, stepsAdding, slipped, deaf, refusing, givesOne, slower}
 
 -- A schedule for a machine with two workers, with this slip.
@@ -234,6 +234,7 @@ pub record Refuted : Type 0 where
   pub unchanged-buffer : RefusedUnchangedBy (faceWith refusedEmpties) → ⊥
   pub numbered : Numbered givesOne → ⊥
   pub each-number : EachNumber givesOne → ⊥
+  pub refused-exactly : RefusedExactly givesOne → ⊥
   pub list-first : ListFirstBy (faceWith unsearched) → ⊥
   pub stays-unbroken : StaysUnbrokenBy stepsAdding → ⊥
   -- demand 3

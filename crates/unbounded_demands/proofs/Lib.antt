@@ -1,5 +1,6 @@
 pub mod Refusals
 pub mod Numbers
+pub mod Exactly
 pub mod Blocks
 pub mod Pool
 pub mod Runs

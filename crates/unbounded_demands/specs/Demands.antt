@@ -1,16 +1,17 @@
 -- The statements of request 12, all of them, in its words, and what is said of the pool and of progress beside them. The notions (history, claim, hand ..) are
 -- defined in Notions.antt and Waiting.antt. The proofs are gathered in crates/unbounded_proof_all_demands/proofs/Headlines.antt.
 use Prim.Native.Nat.{ℕ, suc, _+_, _*_, _%_, _≤_, _<_}
-use mathlib.Core.Bool.{Bool, true, false, cond}
+use mathlib.Core.Bool.{Bool, true, false, cond, not}
 use mathlib.Core.List.{List, [], _∷_, _++_, map}
 use mathlib.Core.Logic.{_↔_, _⊎_}
 use mathlib.Core.Path.{_≡_}
-use lib.Dec.{eqb}
+use lib.Dec.{eqb, ltb}
 use lib.ListN.{length, take}
 use Rattle.queue_entries.specs.declared.Told.{Told}
 use Rattle.queue_entries.specs.Told.{told}
-use Rattle.queue_entries.specs.Limits.{meterMost}
-use Rattle.queue_entries.specs.declared.Order.the-variants.{Act}
+use Rattle.queue_entries.specs.Limits.{workersMost, meterMost, inLimits}
+use Rattle.queue_entries.specs.declared.Order.the-variants.{Begin, Act}
+use Rattle.queue_entries.specs.declared.Entry.{Entry}
 use Rattle.queue_entries.specs.declared.Entry.the-variants.{Unreadable, Asks}
 use Rattle.queue_entries.specs.Entries.{entryOf}
 use Rattle.queue_entries.specs.declared.Call.{Call}
@@ -20,7 +21,7 @@ use Rattle.queue_plain.specs.Story.{Does, actsIn, fresh, cameFrom, wentFrom}
 use Rattle.queue_plain.specs.Story.{itemsOf as itemsBegun}
 use Rattle.queue_schedules.specs.Reading.{Readable}
 use Rattle.queue_schedules.specs.Alone.{acts}
-use Rattle.queue_numbers.specs.Numbers.{Numbers, Functions}
+use Rattle.queue_numbers.specs.Numbers.{Numbers, Functions, Ground, on, firstOf}
 use Rattle.queue_numbers.specs.Numbers as numbers
 use Rattle.unbounded_words.specs.declared.Index.{Index}
 use Rattle.unbounded_words.specs.declared.Pointer.{Pointer}
@@ -267,6 +268,29 @@ boundNumber (bound.Refused number) = number
 
 abbrev pub boundOf : ℕ → Unit {0} → Bound
 boundOf number value = cond (eqb number 0) bound.None (bound.Refused number)
+
+-- What an entry is refused for on a machine that is not broken, in document 01's order; last, request 12's 23: a call needs a block and none is free.
+abbrev pub entryGrounds : Machine → Entry → List Ground
+entryGrounds m Unreadable = on 9 true ∷ []
+entryGrounds m (Asks w (Begin c)) = on 3 (not (ltb w (m .count))) ∷ on 4 (viewOf sizes (placeOf (m .workers) w) .busy) ∷ []
+entryGrounds m (Asks w (Act lose)) =
+    on 3 (not (ltb w (m .count))) ∷ on 5 (not (viewOf sizes (placeOf (m .workers) w) .busy)) ∷ on 7 (not (ltb (m .meter) meterMost))
+    ∷ on 8 (cond lose (not (viewOf sizes (placeOf (m .workers) w) .weak)) false)
+    ∷ on 23 (cond (viewOf sizes (placeOf (m .workers) w) .takes) (not (ltb (lowestFree sizes (m .blocks)) (sizes .blocks))) false) ∷ []
+
+-- Each number is given exactly when its ground holds and none before it, of any machine and anything handed in. (Of a schedule's 9 and of its entries: `ListFirst`. Of 23: `TwentyThree` too.)
+pub record RefusedExactly (n : Numbers Machine) : Type 0 where
+  pub make : (workers : ℕ) → n .make workers ≡ firstOf (on 2 (not (inLimits workers workersMost)) ∷ [])
+  pub step : (m : Machine) (first second : ℕ) → n .step m first second ≡ firstOf (on 6 (brokenOf sizes m) ∷ entryGrounds m (entryHere first second))
+  -- codes 0 to 7 begin
+  pub begin : (m : Machine) (first second : ℕ)
+      → n .begin m first second ≡ firstOf (on 6 (brokenOf sizes m) ∷ on 9 (not (ltb (first % 16) 8)) ∷ entryGrounds m (entryHere first second))
+  pub act : (m : Machine) (first second : ℕ)
+      → n .act m first second ≡ firstOf (on 6 (brokenOf sizes m) ∷ on 9 (ltb (first % 16) 8) ∷ entryGrounds m (entryHere first second))
+  pub run : (m : Machine) (s : List ℕ) → (brokenOf sizes m ≡ true → n .run m s ≡ 6) × (brokenOf sizes m ≡ false → length s % 2 ≡ 1 → n .run m s ≡ 11)
+  pub contents : (m : Machine) (room : ℕ)
+      → n .contents m room ≡ firstOf (on 6 (brokenOf sizes m) ∷ on 4 (not (allIdle sizes (m .workers))) ∷ on 10 (ltb room (countIn sizes m)) ∷ [])
+  pub capacity : (m : Machine) → boundNumber (capacityOf sizes m) ≡ firstOf (on 6 (brokenOf sizes m) ∷ [])
 
 pub record EnumsBothWays : Type 0 where
   pub numbers-back : BothWays answer.Refused numberIn valueIn told

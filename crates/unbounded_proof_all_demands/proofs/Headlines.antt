@@ -4,7 +4,7 @@ use Rattle.unbounded_words.specs.Words.{sizes}
 use Rattle.unbounded_acts.specs.Acts.{actOf}
 use Rattle.unbounded_machine.specs.Turn.{lowestFree}
 use Rattle.unbounded_demands.specs.Notions.{Definition, definition}
-use Rattle.unbounded_demands.specs.Demands.{RefusedUnchanged, Numbered, refusals, ListFirst, OnlyOne, UnderEverySchedule, ActByAct, WholeSchedules, NoBlock, LowestFirst, TwentyThree, PoolUnderEverySchedule, ProgressUnderEverySchedule, PushEnds, PopsEndAlone, PushesEndAlone, LooksEndAlone, AttainedBy, EachNumber, EnumsBothWays, AnswersPlain, ClosesAndClaims}
+use Rattle.unbounded_demands.specs.Demands.{RefusedUnchanged, Numbered, refusals, ListFirst, OnlyOne, UnderEverySchedule, ActByAct, WholeSchedules, NoBlock, LowestFirst, TwentyThree, PoolUnderEverySchedule, ProgressUnderEverySchedule, PushEnds, PopsEndAlone, PushesEndAlone, LooksEndAlone, AttainedBy, EachNumber, RefusedExactly, EnumsBothWays, AnswersPlain, ClosesAndClaims}
 use Rattle.unbounded_demands.specs.Runs.{Runs}
 use Rattle.unbounded_demands.proofs.Refusals.{refused-unchanged, list-first, only-one}
 use Rattle.unbounded_demands.proofs.Numbers.{numbered}
@@ -23,6 +23,7 @@ use Rattle.unbounded_proof_progress.proofs.PushAlone.{pushes-end-alone}
 use Rattle.unbounded_proof_progress.proofs.LookAlone.{looks-end-alone}
 use Rattle.unbounded_proof_attained.proofs.Attained.{attained-by}
 use Rattle.unbounded_proof_attained.proofs.EachNumber.{each-number}
+use Rattle.unbounded_demands.proofs.Exactly.{refused-exactly}
 
 -- The source's table, over a pool of 64 blocks of 31 slots.
 abbrev pub source : Definition
@@ -40,6 +41,10 @@ demand-1 = (refused-unchanged, numbered, list-first, only-one)
 -- Each number of it is given; and answers that are enums have document 01's numbers and values, there and back.
 pub demand-1-exact : EachNumber refusals × EnumsBothWays
 demand-1-exact = (each-number, enums-both-ways)
+
+-- And it is given exactly when its ground holds and none before it.
+pub refused-when : RefusedExactly refusals
+refused-when = refused-exactly
 
 -- 2. Under every schedule from a fresh machine: each act is the one action of the source; the claim rule; no slot in two hands, no act on a free block; what Empty
 -- and Closed mean; a block freed once for each taking; contents in order; no machine is broken.

@@ -213,6 +213,7 @@ further-refuted =
       look-alone = λ l. look-alone (subst (LookAlone (whole looksAgain)) (machine-is emptyLooks) l);
       attained = attained;
       each-number = λ n. let q : _≡_ {A = ℕ} 1 0 = ap (λ (l : List ℕ). getD l 0 0) (n .make) in omega arith;
+      refused-exactly = λ n. let q : _≡_ {A = ℕ} 1 0 = n .make 1 in omega arith;
       both-ways = λ b. let q : _≡_ {A = ℕ} 0 6 = b .number-kept 6 tt in omega arith;
     }
   where

@@ -17,7 +17,7 @@ use Rattle.unbounded_machine.specs.Run.{runWith, runFrom}
 use Rattle.unbounded_machine.specs.History.{historyWith}
 use Rattle.unbounded_machine.specs.Turn.{turnWith}
 use Rattle.unbounded_demands.specs.Notions.{Definition, acts}
-use Rattle.unbounded_demands.specs.Demands.{functions, refusals, RefusedUnchangedBy, ListFirstBy, Numbered, LowestFirst, TwentyThree, OneAside, OneHandInPool, RefusedByMeterOrPool, Holders, PushEnds, PopAlone, PushAlone, LookAlone, AttainedBy, EachNumber, boundOf}
+use Rattle.unbounded_demands.specs.Demands.{functions, refusals, RefusedUnchangedBy, ListFirstBy, Numbered, LowestFirst, TwentyThree, OneAside, OneHandInPool, RefusedByMeterOrPool, Holders, PushEnds, PopAlone, PushAlone, LookAlone, AttainedBy, EachNumber, RefusedExactly, boundOf}
 use Rattle.queue_numbers.specs.Answers.{BothWays}
 use Rattle.unbounded.specs.declared.Bound.{Bound}
 use Rattle.unbounded.specs.declared.Bound.the-variants as bound
@@ -110,5 +110,6 @@ pub record FurtherRefuted : Type 0 where
   pub look-alone : LookAlone (whole looksAgain) (wholeMachine emptyLooks) → ⊥
   pub attained : AttainedBy (actWith givesOn) → ⊥
   pub each-number : EachNumber givesOne → ⊥
+  pub refused-exactly : RefusedExactly givesOne → ⊥
   -- a refusal of `capacity` has number 0
   pub both-ways : BothWays bound.Refused (λ (b : Bound). 0) (λ (b : Bound). tt) boundOf → ⊥
