@@ -58,8 +58,9 @@
 extern "C" {
 #endif
 
-/* Before a function whose answer is not to be passed over. */
-#if (defined __cplusplus && __cplusplus >= 201703L) || (defined __STDC_VERSION__ && __STDC_VERSION__ >= 202311L)
+/* Before a function whose answer is not to be passed over; a program that means to may define it as nothing. */
+#ifdef FERN_NODISCARD
+#elif (defined __cplusplus && __cplusplus >= 201703L) || (defined __STDC_VERSION__ && __STDC_VERSION__ >= 202311L)
 #define FERN_NODISCARD [[nodiscard]]
 #elif defined __GNUC__
 #define FERN_NODISCARD __attribute__((warn_unused_result))
