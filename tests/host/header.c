@@ -90,7 +90,7 @@ static void whole_calls(void) {
 /* Where FERN_ACT_LOSE is accepted a weak exchange comes next, and nowhere else. */
 static void weak_exchanges(void) {
     uint64_t state = 35;
-    int both[2] = {0, 0};
+    bool places[FERN_CODES] = {false};
     expect(fern_ring_fresh(&ring, 2, 1) == FERN_ACCEPTED, "a fresh ring");
     for (int turn = 0; turn < 20000; turn++) {
         const size_t worker = random_below(&state, WORKERS);
@@ -98,6 +98,10 @@ static void weak_exchanges(void) {
         if (!fern_busy(record)) {
             const enum fern_call call = (enum fern_call)random_below(&state, 6);
             expect(fern_ring_entry(&ring, fern_entry(worker, call), call <= FERN_FORCE_PUSH ? 7 : 0) == FERN_ACCEPTED, "a begin");
+            continue;
+        }
+        if (random_below(&state, 2) == 0) {
+            expect(fern_ring_entry(&ring, fern_entry(worker, FERN_ACT), 0) == FERN_ACCEPTED, "an act");
             continue;
         }
         const bool weak = fern_weak_next(record);
@@ -109,11 +113,10 @@ static void weak_exchanges(void) {
             expect(fern_differed(record) + fern_failed(record) == before + 1, "a lost exchange is counted");
         else
             expect(fern_place(record) == place && fern_ring_entry(&ring, fern_entry(worker, FERN_ACT), 0) == FERN_ACCEPTED, "what is refused changes nothing");
-        both[weak]++;
-        if (weak && random_below(&state, 2) == 0 && fern_busy(record))
-            expect(fern_ring_entry(&ring, fern_entry(worker, FERN_ACT), 0) == FERN_ACCEPTED, "an act");
+        places[place] = true;
     }
-    expect(both[0] > 100 && both[1] > 100, "weak exchanges and others");
+    for (int place = FERN_P1_PUSH; place < FERN_CLOSE1; place++)
+        expect(places[place], "every place but those of close and is_closed was tried");
 }
 
 static void renewed(void) {
@@ -136,6 +139,8 @@ static void renewed(void) {
         const struct fern_reply renewed = fern_ring_renew(&ring, again, waiting.number);
         expect(renewed.refusal == FERN_ACCEPTED && renewed.number == waiting.number && memcmp(items, again, 8 * waiting.number) == 0, "renewed");
         expect(one.head[FERN_HEAD_METER] < 100 && one.head[FERN_HEAD_CAPACITY] == capacity && one.head[FERN_HEAD_EDITION] == edition, "a fresh meter, the same ring");
+        for (int word = 0; word < WORKERS * FERN_RECORD_WORDS; word++)
+            expect(one.records[word] == 0, "all idle, with no answer yet");
         const struct fern_reply after = fern_ring_contents(FERN_LENT(&ring), again, FERN_CAPACITY);
         expect(after.number == waiting.number && memcmp(items, again, 8 * waiting.number) == 0, "the same contents");
         expect(fern_ring_call(&ring, 2, FERN_IS_CLOSED, 0).answer == (closed ? FERN_YES : FERN_NO), "closed as it was");

@@ -37,8 +37,8 @@ fn pushes<T>(queue: &ConcurrentQueue<T>, mut item: T) {
 
 /// Fewer runs than [`model::random`] has, so that all of it takes seconds.
 fn random(program: impl Fn() + Send + Sync + 'static) {
-    let ran = Bed::new().runs(100).random(program).unwrap_or_else(|failure| panic!("{failure}"));
-    assert_eq!((ran.runs, ran.cut), (100, 0));
+    let ran = Bed::new().runs(40).random(program).unwrap_or_else(|failure| panic!("{failure}"));
+    assert_eq!((ran.runs, ran.cut), (40, 0));
 }
 
 #[test]
