@@ -513,6 +513,65 @@ FERN_NODISCARD static inline struct fern_called fern_single_call(const struct fe
     return fern_called_of(refusal, fern_single_record(single, worker));
 }
 
+/* ---- A recorder: a tape entry by entry into a lent buffer, as a host does them. C over fern_tape_write, which makes each
+ * field, and not proved to be what that makes of the whole; tests/host/header.c compares the two. */
+
+struct fern_recorder {
+    uint8_t *tape;
+    size_t tape_bytes; /* how long the buffer is */
+    size_t length;     /* bytes so far, but for the last field */
+    uint64_t entries;  /* entries so far */
+    uint64_t variant;
+};
+
+enum {
+    FERN_TAPE_HEAD_BYTES = 7,   /* of a tape's first field, */
+    FERN_TAPE_END_BYTES = 3,    /* its last one, */
+    FERN_TAPE_ENTRY_BYTES = 12  /* and at most of an entry's */
+};
+
+/* A recorder over this buffer, with no entry yet. Refusals 13, 17 and 16, as fern_tape_write of no entries. */
+FERN_NODISCARD static inline struct fern_reply fern_tape_begin(struct fern_recorder *recorder, uint64_t variant, uint64_t capacity, uint64_t workers, uint8_t *tape, size_t tape_bytes) {
+    const struct fern_reply reply = fern_tape_write(variant, capacity, workers, NULL, 0, tape, tape_bytes);
+    const struct fern_recorder fresh = {tape, tape_bytes, FERN_TAPE_HEAD_BYTES, 0, variant};
+    if (reply.refusal == FERN_ACCEPTED)
+        *recorder = fresh;
+    return reply;
+}
+
+/* One more entry: how many bytes the tape has with it. Refusal 17 with the entry's place, for one that no tape carries; 16
+ * with the bytes that it would take, last field and all. What is refused changes nothing, and recording can go on. */
+FERN_NODISCARD static inline struct fern_reply fern_tape_append(struct fern_recorder *recorder, uint64_t first, uint64_t second) {
+    uint8_t alone[FERN_TAPE_HEAD_BYTES + FERN_TAPE_ENTRY_BYTES + FERN_TAPE_END_BYTES];
+    const uint64_t entry[2] = {first, second};
+    struct fern_reply reply = fern_tape_write(recorder->variant, 0, 0, entry, 2, alone, sizeof alone);
+    if (reply.refusal != FERN_ACCEPTED) {
+        reply.number = recorder->entries;
+        return reply;
+    }
+    const size_t field = (size_t)reply.number - FERN_TAPE_HEAD_BYTES - FERN_TAPE_END_BYTES;
+    reply.number = recorder->length + field + FERN_TAPE_END_BYTES;
+    if (reply.number > recorder->tape_bytes) {
+        reply.refusal = FERN_TAPE_ROOM;
+        return reply;
+    }
+    for (size_t i = 0; i < field; i++)
+        recorder->tape[recorder->length + i] = alone[FERN_TAPE_HEAD_BYTES + i];
+    recorder->length += field;
+    recorder->entries++;
+    return reply;
+}
+
+/* The last field: how many bytes the tape has. There is always room for it. The recorder is as it was: more entries may
+ * follow, over it, and another end. */
+static inline size_t fern_tape_end(const struct fern_recorder *recorder) {
+    uint8_t alone[FERN_TAPE_HEAD_BYTES + FERN_TAPE_END_BYTES];
+    const struct fern_reply reply = fern_tape_write(recorder->variant, 0, 0, NULL, 0, alone, sizeof alone);
+    for (size_t i = 0; reply.refusal == FERN_ACCEPTED && i < FERN_TAPE_END_BYTES; i++)
+        recorder->tape[recorder->length + i] = alone[FERN_TAPE_HEAD_BYTES + i];
+    return recorder->length + FERN_TAPE_END_BYTES;
+}
+
 /* A refusal in words. */
 static inline const char *fern_refusal_says(uint64_t refusal) {
     static const char *const says[] = {

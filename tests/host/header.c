@@ -1,8 +1,9 @@
-/* The part of fernmoldew.h that is C and not proved, beside the proved functions that it calls: whole calls, also one that is still under way; accessors; a ring that is renewed; the one-slot queue under its names of today; entries
+/* The part of fernmoldew.h that is C and not proved, beside the proved functions that it calls: whole calls, also one that is still under way; accessors; a ring that is renewed; a recorder of tapes; the one-slot queue under its names of today; entries
  * that are refused, and words that somebody wrote over. Each answer is that of the entries one by one. C99 and C++11 to 20 take it. Status 1 where something is not so. */
 #include "fernmoldew.h"
 
 #include <stdio.h>
+#include <stdlib.h>
 #include <string.h>
 
 #define WORKERS 3
@@ -170,11 +171,53 @@ static void one_slot(void) {
     expect(fern_slot_broken(head, FERN_SLOT_HEAD, records, FERN_SLOT_RECORDS) == FERN_BROKEN && FERN_HEAD == 8 && FERN_SLOTS == 2048 && FERN_RECORD == 5, "the old names");
 }
 
+/* A recorder's tape and refusals beside fern_tape_write of the whole, in buffers that are exactly as long as is said. */
+static void recorded(void) {
+    uint64_t state = 37, refusals[32] = {0};
+    for (int turn = 0; turn < 3000; turn++) {
+        const size_t room = random_below(&state, 90);
+        uint8_t *tape = (uint8_t *)malloc(room + 1), *whole = (uint8_t *)malloc(room + 1);
+        uint64_t schedule[40];
+        size_t words = 0;
+        const uint64_t variant = random_below(&state, 9) == 0 ? 2 : random_below(&state, 2) == 0 ? 1 : 129, capacity = random_below(&state, 9) == 0 ? 65536 : 65535;
+        struct fern_recorder recorder;
+        memset(tape, 85, room + 1);
+        memset(whole, 85, room + 1);
+        struct fern_reply ours = fern_tape_begin(&recorder, variant, capacity, 3, tape, room), theirs = fern_tape_write(variant, capacity, 3, NULL, 0, whole, room);
+        expect(ours.refusal == theirs.refusal && ours.number == theirs.number, "a recorder begins as a tape of no entries");
+        for (int entries = 0; ours.refusal == FERN_ACCEPTED && entries < 15; entries++) {
+            const uint64_t code = random_below(&state, 11), worker = random_below(&state, 20) == 0 ? 16 : random_below(&state, 16);
+            schedule[words] = 16 * worker + code;
+            schedule[words + 1] = code < 2 ? UINT64_C(0x0123456789abcdef) + (uint64_t)turn : random_below(&state, 20) == 0;
+            const struct fern_recorder before = recorder;
+            const struct fern_reply appended = fern_tape_append(&recorder, schedule[words], schedule[words + 1]);
+            theirs = fern_tape_write(variant, capacity, 3, schedule, words + 2, whole, room);
+            expect(appended.refusal == theirs.refusal && appended.number == theirs.number, "an entry is refused as the whole with it is");
+            if (appended.refusal == FERN_ACCEPTED)
+                words += 2;
+            else
+                expect(recorder.length == before.length && recorder.entries == before.entries, "what is refused is not recorded");
+            refusals[appended.refusal]++;
+            if (random_below(&state, 4) == 0) {
+                const size_t bytes = fern_tape_end(&recorder);
+                theirs = fern_tape_write(variant, capacity, 3, schedule, words, whole, room);
+                expect(theirs.refusal == FERN_ACCEPTED && bytes == theirs.number && memcmp(tape, whole, bytes) == 0 && recorder.entries == words / 2, "a recorder's tape is that of the whole");
+            }
+        }
+        refusals[ours.refusal]++;
+        expect(tape[room] == 85, "nothing is written past the buffer");
+        free(tape);
+        free(whole);
+    }
+    expect(refusals[FERN_ACCEPTED] && refusals[FERN_TAPE_FIELD] && refusals[FERN_TAPE_ENTRY] && refusals[FERN_TAPE_ROOM], "of every refusal");
+}
+
 int main(void) {
     expect(strcmp(fern_version(), FERN_VERSION) == 0, "the library is of the header's version");
     whole_calls();
     weak_exchanges();
     renewed();
     one_slot();
+    recorded();
     return wrong;
 }
