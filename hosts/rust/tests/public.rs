@@ -393,3 +393,23 @@ fn what_is_shared_beside_queues_is_told() {
         .unwrap_err();
     assert!(failed.what.contains("something else than queues is shared"), "{failed}");
 }
+
+#[test]
+fn what_a_task_that_panics_drops_takes_no_steps() {
+    struct Drains(Arc<ConcurrentQueue<i32>>);
+    impl Drop for Drains {
+        fn drop(&mut self) {
+            assert_eq!(self.0.pop(), Err(PopError::Closed), "no step can be taken any more");
+        }
+    }
+    let failed = Bed::new()
+        .explore(|| {
+            let drains = Drains(shared(2));
+            drains.0.push(7).unwrap();
+            panic!("over");
+        })
+        .unwrap_err();
+    assert_eq!(failed.what, "task 0 panicked: over");
+    assert_eq!(failed.recorded[0].tape.schedule[..2], [0, 100]);
+    assert_eq!(failed.recorded[0].tape.schedule.len(), 2 * 6);
+}
