@@ -1,6 +1,7 @@
 /* What hosts/README.md and fernmoldew.h say of the library besides its answers, tried: NULL where a length is 0; bytes of stack of every call; calls in two threads at once on words of their own, each as if it
  * were alone; words that are at the end of the meter. Status 1 where something is not so. */
 #define _GNU_SOURCE
+#define FERN_NODISCARD /* where stack is measured no answer is looked at */
 #include "fernmoldew.h"
 
 #include <inttypes.h>

@@ -20,15 +20,38 @@
 //! # Ok::<(), fernmoldew::Refusal>(())
 //! ```
 //!
-//! A [`OneSlot`] is the torque station's one-slot queue, in the same way. A [`Tape`] is a schedule as bytes, for an archive.
+//! A [`Machine`] is a ring that owns its workers. A [`OneSlot`] is the torque station's one-slot queue, in the same way; [`Queue`] is what they have in common. A [`Tape`] is a schedule as bytes, for an archive.
+//! [`ConcurrentQueue`] has the names of the crate concurrent-queue over these machines, and [`model`] runs a program of yours around it in orders that it chooses, action by action.
+//!
+//! With no feature `std` (it is on unless you turn it off) the crate needs `alloc` alone; [`ConcurrentQueue`] and [`model`] need `std`.
 //!
 //! The library behind it is compiled from proved Rattle (crates/bounded_host, crates/bounded_host_step, crates/single_host, crates/tapes_host); its promises are of the words that a [`Ring`] and its [`Workers`], or a [`OneSlot`], hold, and of a tape's bytes and words.
-//! They hold if a ring is lent the same workers throughout, as this crate's borrows leave to you: lend another ring's and refusal 6 alone judges them.
+//! They hold if a ring is lent the same workers throughout, as this crate's borrows leave to you: lend another ring's and refusal 6 alone judges them. What this crate does beside those calls is Rust, and not proved.
 
+#![cfg_attr(not(feature = "std"), no_std)]
+#![deny(missing_docs)]
+
+extern crate alloc;
+
+use alloc::boxed::Box;
+use alloc::vec;
+use alloc::vec::Vec;
+use core::fmt;
+#[cfg(feature = "std")]
 use std::error::Error;
-use std::fmt;
 
+mod machine;
+#[cfg(feature = "std")]
+pub mod model;
 mod one_slot;
+mod place;
+#[cfg(feature = "std")]
+mod queue;
+
+pub use machine::{Machine, Queue};
+pub use place::Place;
+#[cfg(feature = "std")]
+pub use queue::{ConcurrentQueue, ForcePushError, IntoIter, PopError, PushError, TryIter};
 
 pub use one_slot::{OneSlot, ONE_SLOT_HEAD_WORDS, ONE_SLOT_MOST_ACTS_ALONE, ONE_SLOT_RECORDS_WORDS, ONE_SLOT_RECORD_WORDS};
 
@@ -49,9 +72,11 @@ extern "C" {
     fn fern_tape_read(tape: *const u8, length: usize, about: *mut u64, n: usize, schedule: *mut u64, room: usize) -> Reply;
 }
 
-/// The words of a ring but for its slots, of its slots, and of a worker's record.
+/// The words of a ring but for its slots.
 pub const HEAD_WORDS: usize = 8;
+/// The words of a ring's slots, two for each of 1,024.
 pub const SLOT_WORDS: usize = 2048;
+/// The words of a worker's record.
 pub const RECORD_WORDS: usize = 5;
 
 /// The most acts that a call on a ring needs with nobody else acting, where no other worker has a slot in hand.
@@ -61,28 +86,51 @@ pub const MOST_ACTS_ALONE: usize = 7;
 #[derive(Clone, Copy, Debug, PartialEq, Eq, Hash, PartialOrd, Ord)]
 #[repr(u64)]
 pub enum Refusal {
+    /// The capacity is 0 or above 1,024.
     Capacity = 1,
+    /// There are no workers, or more than 64.
     Count = 2,
+    /// The worker's number is not below the count.
     NoSuchWorker = 3,
+    /// A busy worker was to begin a call; contents while any is busy.
     Busy = 4,
+    /// An act of an idle worker.
     Idle = 5,
+    /// The words stand for no machine, or for a broken one.
     Broken = 6,
+    /// The meter is at its last number.
     Meter = 7,
+    /// An act was to lose its weak exchange, and none comes next.
     NoWeakExchange = 8,
+    /// An entry cannot be read.
     Unreadable = 9,
+    /// The buffer is shorter than the contents.
     BufferShort = 10,
+    /// The schedule has an odd number of words.
     OddSchedule = 11,
+    /// The tape is cut short.
     TapeCut = 12,
+    /// A tape's field has an unknown tag, a wrong length or place, or is of the other variant.
     TapeField = 13,
+    /// A code is not allowed under its tag.
     TapeCode = 14,
+    /// There are bytes after the tape's end.
     TapeMore = 15,
+    /// The output buffer is too short.
     TapeRoom = 16,
+    /// A tape can't carry an entry.
     TapeEntry = 17,
+    /// The edition is neither 1 nor 2.
     Edition = 18,
+    /// A walk of more than 3 workers or 12 acts.
     WalkLimits = 19,
+    /// A walk with an idle worker.
     WalkIdle = 20,
+    /// Fewer acts are left on the meter than the walk is deep.
     WalkMeter = 21,
+    /// The buffer is shorter than the walk's list.
     WalkRoom = 22,
+    /// No block is free.
     NoBlock = 23,
 }
 
@@ -126,6 +174,7 @@ impl Refusal {
         Refusal::ALL.get(place).copied()
     }
 
+    /// Its number, as the library answers it.
     pub fn number(self) -> u64 {
         self as u64
     }
@@ -162,12 +211,15 @@ impl fmt::Display for Refusal {
     }
 }
 
+#[cfg(feature = "std")]
 impl Error for Refusal {}
 
 /// A schedule that was refused, and the place of the entry, from 0.
 #[derive(Clone, Copy, Debug, PartialEq, Eq)]
 pub struct Stopped {
+    /// Why.
     pub refusal: Refusal,
+    /// Which entry, from 0.
     pub place: u64,
 }
 
@@ -177,6 +229,7 @@ impl fmt::Display for Stopped {
     }
 }
 
+#[cfg(feature = "std")]
 impl Error for Stopped {}
 
 /// The library answers no number but those of refusals.
@@ -194,20 +247,30 @@ fn told(reply: Reply) -> Result<u64, Refusal> {
 /// Which ring it is: the source's, or the one in which a close holds (a force_push does not lose it).
 #[derive(Clone, Copy, Debug, PartialEq, Eq)]
 pub enum Edition {
+    /// As in concurrent-queue 2.5.0.
     Source = 1,
+    /// A force_push does not lose a close.
     CloseHolds = 2,
 }
 
 /// What a worker is asked to do.
 #[derive(Clone, Copy, Debug, PartialEq, Eq)]
 pub enum Call {
+    /// Put this item in, if there is room.
     Push(u64),
+    /// Put this item in; where there is no room, the oldest goes out for it.
     ForcePush(u64),
+    /// Take the oldest item out.
     Pop,
+    /// How many items there are.
     Len,
+    /// Whether there is none.
     IsEmpty,
+    /// Whether there is no room.
     IsFull,
+    /// Take no more items; yes where it was open.
     Close,
+    /// Whether it is closed.
     IsClosed,
 }
 
@@ -248,11 +311,12 @@ fn first_word(worker: usize, code: u64) -> u64 {
     16 * (worker as u64).min(u64::MAX / 16) + code
 }
 
-/// The entries of a schedule for an act of a worker, and for one whose weak exchange fails.
+/// The entry of a schedule for an act of a worker.
 pub fn act_entry(worker: usize) -> [u64; 2] {
     [first_word(worker, 8), 0]
 }
 
+/// The entry of a schedule for an act of a worker whose weak exchange fails.
 pub fn losing_entry(worker: usize) -> [u64; 2] {
     [first_word(worker, 9), 0]
 }
@@ -268,7 +332,9 @@ pub enum Answer {
     Empty,
     /// There was none to pop, and the queue is closed.
     PopClosed,
+    /// Of a question; of a close, that it was open.
     Yes,
+    /// Of a question; of a close, that it was closed.
     No,
     /// The item is handed back.
     Full(u64),
@@ -276,8 +342,28 @@ pub enum Answer {
     Closed(u64),
     /// The item is in, and this one went out for it.
     Displaced(u64),
+    /// This item is out.
     Popped(u64),
+    /// So many items.
     Len(u64),
+}
+
+impl fmt::Display for Answer {
+    fn fmt(&self, f: &mut fmt::Formatter<'_>) -> fmt::Result {
+        match self {
+            Answer::Nothing => f.write_str("nothing"),
+            Answer::Pushed => f.write_str("pushed"),
+            Answer::Empty => f.write_str("empty"),
+            Answer::PopClosed => f.write_str("closed"),
+            Answer::Yes => f.write_str("yes"),
+            Answer::No => f.write_str("no"),
+            Answer::Full(item) => write!(f, "full {item}"),
+            Answer::Closed(item) => write!(f, "closed {item}"),
+            Answer::Displaced(item) => write!(f, "displaced {item}"),
+            Answer::Popped(item) => write!(f, "popped {item}"),
+            Answer::Len(count) => write!(f, "len {count}"),
+        }
+    }
 }
 
 /// What a record's code and first word answer; none of a busy worker's.
@@ -299,7 +385,7 @@ fn answer_of(code: u64, value: u64) -> Option<Answer> {
 }
 
 /// Where one worker stands.
-#[derive(Clone, Copy, Debug, PartialEq, Eq)]
+#[derive(Clone, Copy, PartialEq, Eq)]
 pub struct Worker {
     words: [u64; RECORD_WORDS],
 }
@@ -315,6 +401,11 @@ impl Worker {
         answer_of(self.words[0], self.words[1])
     }
 
+    /// Where it stands in its call; none while it is idle, or where the words stand for no place.
+    pub fn place(&self) -> Option<Place> {
+        Place::of_ring(self.words[0])
+    }
+
     /// How many exchanges its present or last call lost because the words differed.
     pub fn differed(&self) -> u64 {
         self.words[3]
@@ -326,8 +417,15 @@ impl Worker {
     }
 }
 
+/// Its answer, or the place where it stands.
+impl fmt::Debug for Worker {
+    fn fmt(&self, f: &mut fmt::Formatter<'_>) -> fmt::Result {
+        place::stands(f, self.answer(), self.place())
+    }
+}
+
 /// The records of a ring's workers, side by side.
-#[derive(Clone, Debug, PartialEq, Eq)]
+#[derive(Clone, PartialEq, Eq)]
 pub struct Workers {
     words: Vec<u64>,
 }
@@ -343,18 +441,23 @@ impl Workers {
         Workers { words }
     }
 
+    /// Their words.
     pub fn words(&self) -> &[u64] {
         &self.words
     }
 
+    /// How many there are.
     pub fn len(&self) -> usize {
         self.words.len() / RECORD_WORDS
     }
 
+    /// Whether there is none.
     pub fn is_empty(&self) -> bool {
         self.words.is_empty()
     }
 
+    /// Where this one stands.
+    ///
     /// # Panics
     /// Where there is no such worker.
     pub fn get(&self, worker: usize) -> Worker {
@@ -362,13 +465,20 @@ impl Workers {
         Worker { words: record.try_into().expect("five words") }
     }
 
+    /// Where each stands, in their order.
     pub fn iter(&self) -> impl Iterator<Item = Worker> + '_ {
         (0..self.len()).map(|worker| self.get(worker))
     }
 }
 
+impl fmt::Debug for Workers {
+    fn fmt(&self, f: &mut fmt::Formatter<'_>) -> fmt::Result {
+        f.debug_list().entries(self.iter()).finish()
+    }
+}
+
 /// A ring.
-#[derive(Clone, Debug, PartialEq, Eq)]
+#[derive(Clone, PartialEq, Eq)]
 pub struct Ring {
     head: [u64; HEAD_WORDS],
     slots: Box<[u64; SLOT_WORDS]>,
@@ -387,10 +497,12 @@ impl Ring {
         Ring { head, slots }
     }
 
+    /// Its words but for the slots.
     pub fn head_words(&self) -> &[u64; HEAD_WORDS] {
         &self.head
     }
 
+    /// The words of its slots, also of those that are not used.
     pub fn slot_words(&self) -> &[u64; SLOT_WORDS] {
         &self.slots
     }
@@ -495,6 +607,7 @@ impl Ring {
         Ok(count as usize)
     }
 
+    /// How many slots it has. Refusal 6.
     pub fn capacity(&self, workers: &Workers) -> Result<u64, Refusal> {
         let (Ring { head, slots }, Workers { words }) = (self, workers);
         // SAFETY: the three are read alone, each as long as is said.
@@ -514,19 +627,34 @@ impl Ring {
     }
 }
 
+/// Its numbers, and of its slots stamp and value of those that are used.
+impl fmt::Debug for Ring {
+    fn fmt(&self, f: &mut fmt::Formatter<'_>) -> fmt::Result {
+        let [_, _, capacity, edition, head, tail, meter, _] = self.head;
+        let used = usize::try_from(capacity).unwrap_or(usize::MAX).min(SLOT_WORDS / 2);
+        let slots: Vec<(u64, u64)> = self.slots.chunks_exact(2).take(used).map(|slot| (slot[0], slot[1])).collect();
+        f.debug_struct("Ring").field("capacity", &capacity).field("edition", &edition).field("head", &head).field("tail", &tail).field("meter", &meter).field("slots", &slots).finish()
+    }
+}
+
 /// How a tape has its numbers; its own number is the byte with which the tape begins.
 #[derive(Clone, Copy, Debug, PartialEq, Eq, Hash)]
 #[repr(u64)]
 pub enum Variant {
+    /// Lengths and numbers are big-endian.
     BigEndian = 1,
+    /// Little-endian, and every tag has 128 added.
     LittleEndian = 129,
 }
 
 /// What a tape tells beside its schedule: how it has its numbers, and the capacity and the count of workers that the schedule is meant for, neither above 65,535.
 #[derive(Clone, Copy, Debug, PartialEq, Eq, Hash)]
 pub struct About {
+    /// How it has its numbers.
     pub variant: Variant,
+    /// The capacity that the schedule is meant for.
     pub capacity: u64,
+    /// The count of workers that it is meant for.
     pub workers: u64,
 }
 
@@ -534,7 +662,9 @@ pub struct About {
 /// bytes or words it would take; of 11 it is 0.
 #[derive(Clone, Copy, Debug, PartialEq, Eq)]
 pub struct Spoiled {
+    /// Why.
     pub refusal: Refusal,
+    /// Where, or how much room it takes.
     pub number: u64,
 }
 
@@ -550,6 +680,7 @@ impl fmt::Display for Spoiled {
     }
 }
 
+#[cfg(feature = "std")]
 impl Error for Spoiled {}
 
 fn taped(Reply { refusal, number }: Reply) -> Result<usize, Spoiled> {
@@ -574,12 +705,14 @@ fn taped(Reply { refusal, number }: Reply) -> Result<usize, Spoiled> {
 /// ```
 #[derive(Clone, Debug, PartialEq, Eq)]
 pub struct Tape {
+    /// What it tells beside the schedule.
     pub about: About,
+    /// The entries, two words each.
     pub schedule: Vec<u64>,
 }
 
 impl Tape {
-    /// Refusals 11 and 17.
+    /// The tape as bytes. Refusals 11 and 17.
     pub fn to_bytes(&self) -> Result<Vec<u8>, Spoiled> {
         // the first and the last field have 10 bytes, and no entry has more than 12
         let mut bytes = vec![0; 10 + 6 * self.schedule.len()];
@@ -588,7 +721,7 @@ impl Tape {
         Ok(bytes)
     }
 
-    /// Refusals 12 to 15: the first fault, from left to right.
+    /// The tape that these bytes are. Refusals 12 to 15: the first fault, from left to right.
     pub fn from_bytes(bytes: &[u8]) -> Result<Tape, Spoiled> {
         // no entry has less than 4 bytes
         let mut schedule = vec![0; bytes.len() / 2];

@@ -1,4 +1,6 @@
-use crate::{act_entry, answer_of, judged, told, Answer, Call, Refusal, Reply, Stopped};
+use core::fmt;
+
+use crate::{act_entry, answer_of, judged, place, told, Answer, Call, Place, Refusal, Reply, Stopped};
 
 extern "C" {
     fn fern_slot_make(head: *mut u64, n: usize, records: *mut u64, k: usize, workers: u64) -> u64;
@@ -8,9 +10,11 @@ extern "C" {
     fn fern_slot_broken(head: *const u64, n: usize, records: *const u64, k: usize) -> u64;
 }
 
-/// The words of a one-slot queue but for its records, of a record, and of all sixteen.
+/// The words of a one-slot queue but for its records.
 pub const ONE_SLOT_HEAD_WORDS: usize = 5;
+/// The words of a record of a one-slot queue.
 pub const ONE_SLOT_RECORD_WORDS: usize = 3;
+/// The words of all sixteen records of a one-slot queue.
 pub const ONE_SLOT_RECORDS_WORDS: usize = 48;
 
 /// The most acts that a call on a one-slot queue needs with nobody else acting, where no other worker has the slot in hand.
@@ -33,7 +37,7 @@ pub const ONE_SLOT_MOST_ACTS_ALONE: usize = 4;
 /// assert_eq!(slot.answer(1), Some(Answer::Popped(255)));
 /// # Ok::<(), fernmoldew::Refusal>(())
 /// ```
-#[derive(Clone, Debug, PartialEq, Eq)]
+#[derive(Clone, PartialEq, Eq)]
 pub struct OneSlot {
     head: [u64; ONE_SLOT_HEAD_WORDS],
     records: [u64; ONE_SLOT_RECORDS_WORDS],
@@ -52,10 +56,12 @@ impl OneSlot {
         OneSlot { head, records }
     }
 
+    /// Its words but for the records.
     pub fn head_words(&self) -> &[u64; ONE_SLOT_HEAD_WORDS] {
         &self.head
     }
 
+    /// The words of all sixteen records.
     pub fn record_words(&self) -> &[u64; ONE_SLOT_RECORDS_WORDS] {
         &self.records
     }
@@ -127,6 +133,19 @@ impl OneSlot {
         answer_of(record[0], record[1])
     }
 
+    /// Where a worker stands in its call; none while it is idle, or where the words stand for no place.
+    ///
+    /// # Panics
+    /// Where there is no such record.
+    pub fn place(&self, worker: usize) -> Option<Place> {
+        Place::of_one_slot(self.record(worker)[0])
+    }
+
+    /// How many workers it was made with.
+    pub fn workers(&self) -> usize {
+        usize::try_from(self.head[2]).unwrap_or(usize::MAX)
+    }
+
     /// The item, if there is one. Nothing is removed. Refusals 6 and 4.
     pub fn contents(&self) -> Result<Option<u64>, Refusal> {
         let mut item = [0];
@@ -151,5 +170,20 @@ impl OneSlot {
     /// How many acts were accepted since it was made.
     pub fn meter(&self) -> u64 {
         self.head[3]
+    }
+}
+
+/// Its numbers, and where each worker stands.
+impl fmt::Debug for OneSlot {
+    fn fmt(&self, f: &mut fmt::Formatter<'_>) -> fmt::Result {
+        struct Stands(Option<Answer>, Option<Place>);
+        impl fmt::Debug for Stands {
+            fn fmt(&self, f: &mut fmt::Formatter<'_>) -> fmt::Result {
+                place::stands(f, self.0, self.1)
+            }
+        }
+        let [state, value, _, meter, _] = self.head;
+        let workers: alloc::vec::Vec<Stands> = (0..self.workers().min(ONE_SLOT_RECORDS_WORDS / ONE_SLOT_RECORD_WORDS)).map(|worker| Stands(self.answer(worker), self.place(worker))).collect();
+        f.debug_struct("OneSlot").field("state", &state).field("value", &value).field("meter", &meter).field("workers", &workers).finish()
     }
 }
