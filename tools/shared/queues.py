@@ -5,6 +5,7 @@ A reading is made for one run and told of every act in order. A slot is a number
 from typing import NamedTuple
 
 LOOKERS = {'len': 'len', 'empty': 'is_empty', 'full': 'is_full', 'close': 'close', 'isclosed': 'is_closed'}  # by the name of their places
+LOADS_OF_HEAD = (('len2', 'len3'),)
 MOVED = {('len3', 'len1'): 'moved', ('len3', 'len2'): 'moved'}
 
 
@@ -33,6 +34,11 @@ def pairs_of(line):
     return [tuple(map(int, pair[1:-1].split(','))) for pair in line.split() if pair.startswith('(')]
 
 
+def slots_in(last):
+    """Those of the ring, of what replay prints behind the lines of the entries."""
+    return pairs_of(next((line for line in last if line.startswith('slots')), ''))
+
+
 class Change(NamedTuple):
     """What an act did to a slot. None: that stays."""
     slot: object
@@ -47,18 +53,25 @@ class Reading:
     back = {}  # acts that go back, and why, where replay names no cause
     pushes, forces, pops = (), (), ()  # first places
     fresh_ends = '0', '0'  # the words of tail and head of a fresh machine
+    weak = frozenset()  # places whose exchange the schedule may make fail
+    moments = {}  # of an answer, or of a call and its answer, the acts before the last of which a plain queue gives it: docs/PROMISES.md
 
-    def call_of(self, stand):
+    @classmethod
+    def call_of(cls, stand):
         """The name of a call that begins so, and its item."""
-        if stand.place in self.pops:
+        if stand.place in cls.pops:
             return 'pop', ''
-        if stand.place in self.pushes:
-            return ('force_push' if stand.place in self.forces or stand.kind == 'force' else 'push'), stand.words[-1]
+        if stand.place in cls.pushes:
+            return ('force_push' if stand.place in cls.forces or stand.kind == 'force' else 'push'), stand.words[-1]
         return LOOKERS[stand.place.rstrip('0123456789')], ''
 
     def taken(self, before, after):
         """The slots that an act made anew."""
         return ()
+
+    def decided(self, call, answer):
+        """The acts just before the last of which a plain queue gives that answer; else it does so just before the call's last act."""
+        return self.moments.get((call, answer)) or self.moments.get(answer, ())
 
 
 class Ring(Reading):
@@ -68,16 +81,17 @@ class Ring(Reading):
     back = {('P2', 'P1'): 'stamp', ('P3', 'P2'): 'lost', ('P6', 'P1'): 'moved', ('F6', 'P1'): 'lost',
             ('O2', 'O1'): 'stamp', ('O3', 'O2'): 'lost', ('O6', 'O1'): 'moved', **MOVED}
     pushes, pops = ('P1',), ('O1',)
+    weak = frozenset(('P3', 'F6', 'O3'))
     tail_claims, head_claims = (('P3', 'P4'), ('F7', 'F8')), (('O3', 'O4'), ('F6', 'F7'))
+    gave_tail = ('P1', 'P2'), ('P3', 'P2')
+    moments = {'pushed': tail_claims[:1], 'popped': head_claims[:1], 'full': gave_tail, 'displaced': gave_tail, 'len': LOADS_OF_HEAD}
 
-    def __init__(self, last, bits):
-        """last: what replay prints behind the lines of the entries."""
-        self.at_end = pairs_of(next(line for line in last if line.startswith('slots')))
+    def __init__(self, capacity, bits):
         self.mark = 1
-        while self.mark <= len(self.at_end):
+        while self.mark <= capacity:
             self.mark *= 2
         self.turn = 2**bits
-        self.fresh = {i: (i, 0) for i in range(len(self.at_end))}
+        self.fresh = {i: (i, 0) for i in range(capacity)}
 
     def ends(self, words):
         """The words of tail and head as they are shown, and whether the queue is closed."""
@@ -104,9 +118,9 @@ class Ring(Reading):
         step = before.place, after.place
         return (('tail', after.words[1]),) if step in self.tail_claims else (('head', ''),) if step in self.head_claims else ()
 
-    def is_end(self, slots):
-        """Whether these are the slots that replay shows at its end."""
-        return [slots[i] for i in range(len(self.at_end))] == self.at_end
+    def is_end(self, slots, last):
+        """Whether these are the slots that replay shows behind the lines of the entries."""
+        return [slots[i] for i in self.fresh] == slots_in(last)
 
 
 class OneSlot(Reading):
@@ -116,10 +130,10 @@ class OneSlot(Reading):
     back = {('B1', 'B1'): 'lost', ('C1', 'C1'): 'lost'}
     pushes, forces, pops = ('A1', 'B1'), ('B1',), ('C1',)
     fresh_ends = None, None
+    moments = {answer: (('A1', 'A2'), ('B1', 'B2'), ('B1', 'B4'), ('C1', 'C2')) for answer in ('pushed', 'displaced', 'popped')}
     BITS = (1, 'L'), (2, 'P'), (4, 'C')  # locked, pushed, closed
 
-    def __init__(self, last, bits):
-        self.at_end = next((int(line.split()[1]) for line in last if line.startswith('value ')), 0)
+    def __init__(self, capacity, bits):
         self.fresh = {0: ('0', 0)}
 
     def ends(self, words):
@@ -139,8 +153,8 @@ class OneSlot(Reading):
         out = (('head', ''),) if after.place in ('B4', 'C2') else ()
         return out if after.place == 'C2' else (*out, ('tail', before.words[-1]))
 
-    def is_end(self, slots):
-        return slots[0][1] == self.at_end
+    def is_end(self, slots, last):
+        return slots[0][1] == next((int(line.split()[1]) for line in last if line.startswith('value ')), 0)
 
 
 class Unbounded(Reading):
@@ -153,10 +167,11 @@ class Unbounded(Reading):
             ('V2', 'V1'): 'end', ('V5', 'V1'): 'end', ('V3', 'V1'): 'end', ('V4', 'V5'): 'lost',
             ('V6', 'V6'): 'waits', ('V10', 'V10'): 'waits', **MOVED}
     pushes, pops = ('U1',), ('V1',)
+    weak = frozenset(('U7', 'V4'))
+    moments = {'pushed': (('U7', 'U9'), ('U7', 'U12')), 'popped': (('V4', 'V6'), ('V4', 'V10')), ('push', 'closed'): (('U1', 'U2'), ('U7', 'U8')), 'len': LOADS_OF_HEAD}
     SLOTS = 31
 
-    def __init__(self, last, bits):
-        self.at_end = {int(line.split()[1]): pairs_of(line) for line in last if line.startswith('block ')}
+    def __init__(self, capacity, bits):
         self.fresh = {}
         self.states = {}
 
@@ -203,8 +218,9 @@ class Unbounded(Reading):
             return (('tail', before.words[-1]),)
         return (('head', ''),) if before.place == 'V4' and after.place in self.popping else ()
 
-    def is_end(self, slots):
-        return all(slots.get((block, i), (0, 0)) == pair for block, pairs in self.at_end.items() for i, pair in enumerate(pairs))
+    def is_end(self, slots, last):
+        at_end = {int(line.split()[1]): pairs_of(line) for line in last if line.startswith('block ')}
+        return all(slots.get((block, i), (0, 0)) == pair for block, pairs in at_end.items() for i, pair in enumerate(pairs))
 
 
 READINGS = {'bounded': Ring, 'single': OneSlot, 'unbounded': Unbounded}
