@@ -4,7 +4,7 @@ import json
 import subprocess
 import sys
 
-from calls import LEFT, Fold, line_of, said_of
+from calls import LEFT, Fold, line_of, plain_lines, said_of, table
 from manners import Told, copy_of, is_kept, options_among, printed, run
 from queues import IDLE, READINGS, pairs_of
 
@@ -238,26 +238,10 @@ class Schedule:
 
     def text(self):
         yield self.head
-        rows = [('worker', 'call', 'first', 'last', 'moment', 'answer', 'lost', 'tries again')]
-        for call in self.fold.calls:
-            counts = {}
-            for _, causes in call.retries:
-                for cause in causes:
-                    counts[cause] = counts.get(cause, 0) + 1
-            tries = ', '.join(f'{cause} {count}' for cause, count in counts.items())
-            rows.append((
-                f'w{call.worker}', call.name + ('' if call.item is None else f' {call.item}'), str(call.begun), '-' if call.ended is None else str(call.ended), call.moment or '-',
-                (call.answer + ('' if call.value is None else f' {call.value}')) or 'busy', f'{call.differed},{call.failed}', f'{len(call.retries)}: {tries}' if tries else '0'))
-        if len(rows) > 1:
-            wide = [max(len(row[column]) for row in rows) for column in range(len(rows[0]))]
-            for row in rows:
-                yield '  '.join(word.rjust(width) if column in (2, 3) else word.ljust(width) for column, (word, width) in enumerate(zip(row, wide))).rstrip()
+        yield from table(self.fold.calls)
         if self.left:
             yield self.left
-        yield 'the plain queue:' if self.fold.plain.changes else 'the plain queue: unchanged'
-        for change in self.fold.plain.changes:
-            what = change.what if change.what in ('closed', 'open again') else f'{"?" if change.item is None else change.item} {change.what}'
-            yield f'{change.entry:>6}  {"w" + str(change.worker):<4} {what}'
+        yield from plain_lines(self.fold.plain.changes)
         yield from self.words
 
 

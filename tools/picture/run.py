@@ -183,9 +183,9 @@ def fold(run, reading, lines, back, quiet):
                     run.changes.append((entry, slot, 0, 0))
             change = reading.change(before, words)
             if change:
-                stamp, value = slots.get(change.slot, (0, 0))
-                now = stamp if change.stamp is None else change.stamp, value if change.value is None else change.value
-                if now != (stamp, value):
+                found = slots.get(change.slot, (0, 0))
+                now = change.of(found)
+                if now != found:
                     slots[change.slot] = now
                     if drawn:
                         run.changes.append((entry, change.slot, *now))

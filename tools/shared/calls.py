@@ -207,3 +207,37 @@ class Fold:
         causes = line.more['because'].split(',') if 'because' in line.more else causes_of(said) if said else []
         if causes:
             call.retries.append((line.entry, causes))
+
+
+# As text
+
+def counts_of(retries):
+    """How often, and by which causes; one with two counts in both."""
+    counts = {}
+    for _, causes in retries:
+        for cause in causes:
+            counts[cause] = counts.get(cause, 0) + 1
+    return f'{len(retries)}: ' + ', '.join(f'{cause} {count}' for cause, count in counts.items()) if retries else '0'
+
+
+def with_number(name, number):
+    return name if number is None else f'{name} {number}'
+
+
+def table(calls):
+    """A row for each call, in the order in which they begin; nothing where there is none."""
+    rows = [('worker', 'call', 'first', 'last', 'moment', 'answer', 'lost', 'tries again')] if calls else []
+    for call in calls:
+        rows.append((
+            f'w{call.worker}', with_number(call.name, call.item), str(call.begun), '-' if call.ended is None else str(call.ended), call.moment or '-',
+            with_number(call.answer, call.value) if call.answer else 'busy', f'{call.differed},{call.failed}', counts_of(call.retries)))
+    wide = [max(map(len, column)) for column in zip(*rows)]
+    for row in rows:
+        yield '  '.join(word.rjust(width) if column in (2, 3) else word.ljust(width) for column, (word, width) in enumerate(zip(row, wide))).rstrip()
+
+
+def plain_lines(changes):
+    yield 'the plain queue:' if changes else 'the plain queue: unchanged'
+    for change in changes:
+        what = change.what if change.what in ('closed', 'open again') else f'{"?" if change.item is None else change.item} {change.what}'
+        yield f'{change.entry:>6}  {"w" + str(change.worker):<4} {what}'

@@ -1,10 +1,13 @@
 """What replay's lines say of each queue: where a worker stands, which slot it has in hand, what an act did to the slots and to the two ends.
 
-A reading is made for one run and told of every act in order. A slot is a number; in the unbounded queue it is a block and an offset there."""
+A reading is made for one machine. A slot is a number; in the unbounded queue it is a block and an offset there."""
 
 from typing import NamedTuple
 
 LOOKERS = {'len': 'len', 'empty': 'is_empty', 'full': 'is_full', 'close': 'close', 'isclosed': 'is_closed'}  # by the name of their places
+CALLS = ('push', 'force_push', 'pop', 'len', 'is_empty', 'is_full', 'close', 'is_closed')  # by code
+ACT, FAIL = 8, 9  # codes of acts
+WITH_ITEM = ('push', 'force_push')
 LOADS_OF_HEAD = (('len2', 'len3'),)
 MOVED = {('len3', 'len1'): 'moved', ('len3', 'len2'): 'moved'}
 
@@ -18,6 +21,9 @@ class Stand(NamedTuple):
     @property
     def idle(self):
         return self.place == 'idle'
+
+    def __str__(self):
+        return self.place + f':{self.kind}' * bool(self.kind) + f'({",".join(self.words)})' * bool(self.words)
 
 
 IDLE = Stand('idle', 'none', [])
@@ -40,10 +46,16 @@ def slots_in(last):
 
 
 class Change(NamedTuple):
-    """What an act did to a slot. None: that stays."""
+    """What an act did to a slot. None: that stays. A bit is added to the state."""
     slot: object
     stamp: object = None
     value: object = None
+    bit: int = 0
+
+    def of(self, found):
+        """What is there after it, of what was there before."""
+        stamp, value = found
+        return stamp | self.bit if self.bit else stamp if self.stamp is None else self.stamp, value if self.value is None else self.value
 
 
 class Reading:
@@ -68,6 +80,18 @@ class Reading:
     def taken(self, before, after):
         """The slots that an act made anew."""
         return ()
+
+    def ends_said(self, ends):
+        """The shared words decoded, by their names in a line, each as a text."""
+        return []
+
+    def word_said(self, stand):
+        """The words of the ends that a worker holds, decoded."""
+        return []
+
+    def awaited(self, ways, others):
+        """Of other workers and where they stand: those for whom one waits who goes round and stands so on the way."""
+        return [worker for worker, other in others if self.hand_of(other) is not None]
 
     def decided(self, call, answer):
         """The acts just before the last of which a plain queue gives that answer; else it does so just before the call's last act."""
@@ -100,6 +124,21 @@ class Ring(Reading):
 
     def slot_of(self, word):
         return int(word) % self.mark
+
+    def decoded(self, end, word):
+        number = int(word)
+        return f'{end} {number}: lap {number // (2 * self.mark)}, slot {number % self.mark}' + ', closed' * (end == 'tail' and bool(number & self.mark))
+
+    def ends_said(self, ends):
+        return [self.decoded('head', ends['h']), self.decoded('tail', ends['t'])]
+
+    def word_said(self, stand):
+        held = {'P': ('tail',), 'F': ('tail',), 'O': ('head',)}.get(stand.place[0]) or {'len2': ('tail',), 'len3': ('tail', 'head'), 'empty2': ('head',), 'full2': ('tail',)}.get(stand.place, ())
+        return [] if stand.place == 'P1' else [self.decoded(end, word) for end, word in zip(held, stand.words)]
+
+    def awaited(self, ways, others):
+        looked_at = {self.slot_of(stand.words[0]) for stand in ways if stand.place in ('P2', 'O2')}
+        return [worker for worker, other in others if self.hand_of(other) in looked_at]
 
     def hand_of(self, stand):
         return self.slot_of(stand.words[0]) if stand.place in self.hands else None
@@ -139,6 +178,10 @@ class OneSlot(Reading):
     def ends(self, words):
         return None, None, bool(int(words[2][2:]) & 4)
 
+    def ends_said(self, ends):
+        bits = [name for bit, name in ((1, 'locked'), (2, 'pushed'), (4, 'closed')) if int(ends['s']) & bit]
+        return [f'state {ends["s"]}: ' + (' and '.join(filter(None, (', '.join(bits[:-1]), bits[-1]))) if bits else 'free')]
+
     def hand_of(self, stand):
         return 0 if stand.place in self.hands else None
 
@@ -173,11 +216,20 @@ class Unbounded(Reading):
 
     def __init__(self, capacity, bits):
         self.fresh = {}
-        self.states = {}
 
     def ends(self, words):
         tail = words[4][2:]
         return tail, words[2][2:], bool(int(tail) & 1)
+
+    def ends_said(self, ends):
+        return [f'{end} {ends[word]}' + ', marked' * (int(ends[word]) & 1) + f': position {int(ends[word]) // 2}, ' + ('no block' if ends[block] == '-' else f'block {ends[block]}')
+                for end, word, block in (('head', 'h', 'hb'), ('tail', 't', 'tb'))]
+
+    def awaited(self, ways, others):
+        """The push of the slot that it is to read, or who has the last slot of a block in hand and has not moved on the end."""
+        own = self.hand_of(ways[-1])
+        written = [worker for worker, other in others if own is not None and self.hand_of(other) == own]
+        return written or [worker for worker, other in others if (self.hand_of(other) or (0, 0))[1] == self.SLOTS - 1]
 
     def hand_of(self, stand):
         if stand.place in self.pushing:
@@ -192,14 +244,10 @@ class Unbounded(Reading):
         if before.place == 'U12':
             return Change(self.slot_of(held[2], held[1]), value=int(held[3]))
         if before.place == 'U13':
-            return self.set_bit(self.slot_of(held[2], held[1]), 1)
+            return Change(self.slot_of(held[2], held[1]), bit=1)
         if before.place == 'V12':
-            return self.set_bit(self.slot_of(held[1], held[0]), 2)
-        return self.set_bit((int(held[0]), int(held[1])), 4) if before.place == 'V14' else None
-
-    def set_bit(self, slot, bit):
-        self.states[slot] = self.states.get(slot, 0) | bit
-        return Change(slot, stamp=self.states[slot])
+            return Change(self.slot_of(held[1], held[0]), bit=2)
+        return Change((int(held[0]), int(held[1])), bit=4) if before.place == 'V14' else None
 
     def taken(self, before, after):
         if before.place == 'U3' and after.place in ('U4', 'U7'):
@@ -208,10 +256,7 @@ class Unbounded(Reading):
             block = int(after.words[2])
         else:
             return ()
-        slots = [(block, i) for i in range(self.SLOTS)]
-        for slot in slots:
-            self.states.pop(slot, None)
-        return slots
+        return [(block, i) for i in range(self.SLOTS)]
 
     def claims(self, before, after):
         if before.place == 'U7' and after.place in self.pushing:

@@ -13,6 +13,36 @@ def words_for(options):
     return [word for option, value in options if option in (*WITH_VALUE, *ALONE) for word in (option, value) if word]
 
 
+def named_among(options):
+    """What replay is to run, of another program's options."""
+    chosen = dict(options)
+    return chosen.get('--queue', 'bounded'), '--lent' in chosen, chosen.get('--bits') == '16'
+
+
+def command_of(starter):
+    """The words that run the program itself, as tools/start has them; what that notes goes to standard error."""
+    done = subprocess.run([*starter, '--command'], stdout=subprocess.PIPE, stdin=subprocess.DEVNULL)
+    if done.returncode:
+        raise Told('replay is not there', done.returncode)
+    *command, _ = done.stdout.decode(errors='surrogateescape').split('\0')[:-1]  # without the word that asks for the status
+    return command
+
+
+class Program:
+    """replay itself, run on one text after another."""
+
+    def __init__(self, command, options):
+        self.command, self.words = command, words_for(options)
+
+    def run(self, text, *options):
+        """Its lines. What it cannot read, or refuses as a whole, is told in its words."""
+        done = subprocess.run([*self.command, *options, *self.words], input=text, stdout=subprocess.PIPE, stderr=subprocess.PIPE)
+        if not done.stdout:
+            said = done.stderr.decode(errors='surrogateescape').splitlines()
+            raise Told(said[-1][len('replay: '):] if said and said[-1].startswith('replay: ') else said[-1] if said else f'replay ended with status {done.returncode}')
+        return done.stdout.decode(errors='surrogateescape').splitlines()
+
+
 class Replay:
     """replay, started on one input as often as is asked."""
 
