@@ -4,7 +4,7 @@ import json
 import subprocess
 import sys
 
-from calls import LEFT, Fold, line_of, plain_lines, said_of, table
+from calls import LEFT, Fold, line_of, options_for, plain_lines, said_of, table
 from manners import Told, copy_of, is_kept, options_among, printed, run
 from queues import IDLE, READINGS, pairs_of
 
@@ -250,7 +250,7 @@ def by_calls(starter, asked, out):
     rest = asked.rest
     if given is not None and asked.file is not None:
         rest = [word for word in rest if word not in ('--', asked.file)]
-    more = () if not asked.is_ring() else ('--causes', '--losses') if asked.lent else ('--causes', '--losses', '--moments')
+    more = options_for(asked.queue, asked.lent)
     with Started([*starter, '--explain', *rest], given) as words:
         # told by the first run alone; two of one input that is given share where it is read, so that the second waits for the first
         said = list(words) if given is not None else iter(words)

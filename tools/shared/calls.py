@@ -8,7 +8,7 @@ from collections import deque
 from dataclasses import dataclass, field
 from typing import NamedTuple, Optional
 
-from queues import IDLE, stand_of
+from queues import IDLE, READINGS, stand_of
 
 LEFT = 'left the window at entry '
 CAUSES = {'own end moved': ['own-end'], 'other end moved': ['other-end'], 'both ends moved': ['own-end', 'other-end'], 'slot in hand': ['hand'], "block's end": ['blocks-end'],
@@ -207,6 +207,21 @@ class Fold:
         causes = line.more['because'].split(',') if 'because' in line.more else causes_of(said) if said else []
         if causes:
             call.retries.append((line.entry, causes))
+
+
+def options_for(queue, lent):
+    """What replay is asked to add to a line, so that a fold has all that it names."""
+    return () if queue != 'bounded' else ('--causes', '--losses') if lent else ('--causes', '--losses', '--moments')
+
+
+def calls_told(program, text, capacity):
+    """The table of a schedule's calls and the plain queue along it, of one that is run to its end or up to a refusal."""
+    fold = Fold(READINGS[program.queue](capacity, 16 if program.narrow else 64), program.queue == 'bounded' and not program.lent)
+    words = iter(program.run(text, '--explain')[1:])
+    for line in program.run(text, *options_for(program.queue, program.lent)):
+        numbers = line_of(line)
+        fold.add(line, said_of(next(words)) if numbers and numbers.worker is not None else None)
+    return [*table(fold.calls), *plain_lines(fold.plain.changes)]
 
 
 # As text

@@ -33,6 +33,22 @@ class Program:
 
     def __init__(self, command, options):
         self.command, self.words = command, words_for(options)
+        self.queue, self.lent, self.narrow = named_among(options)
+
+    def for_words(self):
+        """The same where nothing is run."""
+        return Program(self.command, [('--queue', self.queue)])
+
+    def parts(self, texts, *options):
+        """The lines of each of several schedules."""
+        found, part = [], []
+        for line in self.run('%\n'.join(texts).encode(), '--many', *options):
+            if line == '%':
+                found.append(part)
+                part = []
+            else:
+                part.append(line)
+        return found
 
     def run(self, text, *options):
         """Its lines. What it cannot read, or refuses as a whole, is told in its words."""

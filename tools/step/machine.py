@@ -3,10 +3,10 @@
 import re
 from typing import NamedTuple
 
-from calls import Fold, line_of, plain_lines, said_of, table
+from calls import calls_told, line_of
 from manners import Told
 from queues import ACT, IDLE, READINGS
-from replay import Program, named_among
+from replay import Program
 
 ROUNDS = 64  # acts of one worker in a row, at most: alone a call of the unbounded queue ends in 43
 MOST = 100_000  # entries
@@ -48,8 +48,7 @@ class Refusal(NamedTuple):
 class Machine:
     def __init__(self, command, options):
         self.program = Program(command, options)
-        self.words = Program(command, [(option, value) for option, value in options if option == '--queue'])  # for what runs nothing
-        self.queue, self.lent, self.narrow = named_among(options)
+        self.queue, self.narrow = self.program.queue, self.program.narrow
         self.head = []  # capacity, of the ring, and workers
         self.entries, self.rows, self.at = [], [], 0
         self.made = ''
@@ -215,15 +214,8 @@ class Machine:
 
     def calls(self):
         """The lines of replay --calls up to here."""
-        text = self.text(self.entries[:self.at])
-        more = () if self.queue != 'bounded' else ('--causes', '--losses') if self.lent else ('--causes', '--losses', '--moments')
-        fold = Fold(READINGS[self.queue](self.head[0], 16 if self.narrow else 64), self.queue == 'bounded' and not self.lent)
-        words = iter(self.program.run(text, '--explain')[1:])
-        for line in self.program.run(text, *more):
-            numbers = line_of(line)
-            fold.add(line, said_of(next(words)) if numbers and numbers.worker is not None else None)
-        return [*table(fold.calls), *plain_lines(fold.plain.changes)]
+        return calls_told(self.program, self.text(self.entries[:self.at]), self.head[0])
 
     def in_words(self):
         """The schedule up to here."""
-        return self.words.run(self.text(self.entries[:self.at]), '--words-of')
+        return self.program.for_words().run(self.text(self.entries[:self.at]), '--words-of')
