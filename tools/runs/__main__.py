@@ -27,7 +27,7 @@ the same schedules.
   --weak PERCENT   so often an exchange that may fail does, up to 90 (10 if not given); the one-slot
                  queue has none
   --queue single, --queue unbounded, --edition 2, --bits 16, --lent   for replay, as its help says
-  --many         prints them one after another, with a line % between two, as replay --many reads them
+  --many         prints them one after another, a line % between two, as replay --many reads them
   -o DIR         writes each as DIR/run-1.txt and so on; DIR is made, and no file that is there is
                  written over
   --version      prints the version
