@@ -5,12 +5,13 @@ import subprocess
 import sys
 
 from calls import LEFT, Fold, line_of, options_for, plain_lines, said_of, table
-from manners import Told, copy_of, is_kept, options_among, printed, run
+from manners import Told, copy_of, is_kept, number_of, options_among, printed, run
 from queues import IDLE, READINGS, pairs_of
 
 MOST = 1_000_000  # entries of a schedule that is told by its calls
 NAMES = {'h': 'head', 't': 'tail', 'm': 'meter', 's': 'state', 'hb': 'head_block', 'tb': 'tail_block'}
 WITH_VALUE = ('--queue', '--edition', '--bits', '--follow')
+CHOOSE = ('--from', '--to', '--worker')  # of the rows; without --calls they are left to replay
 NOT_WITH = {
     '--calls': ('--quiet', '--causes', '--moments', '--losses', '--stock', '--summary', '--words-of', '--explain', '--follow'),
     '--json': ('--words-of', '--explain', '--follow'),
@@ -23,7 +24,8 @@ class Asked:
     def __init__(self, words):
         self.calls = self.json = self.many = False
         self.rest, self.queue, self.narrow, self.lent = [], 'bounded', False, False
-        given, name, words = [], None, list(words)
+        given, name, words, self.chosen = [], None, list(words), {}
+        chooses = '--calls' in options_among(words)
         while words:
             word = words.pop(0)
             option, equals, value = word.partition('=')
@@ -35,6 +37,11 @@ class Asked:
                 if equals:
                     raise Told(f'{option} takes no value: {word} (see --help)')
                 setattr(self, option[2:], True)
+                continue
+            if chooses and option in CHOOSE:
+                if not (equals or words):
+                    raise Told(f'{option} wants a number (see --help)')
+                self.chosen[option] = number_of(option, value if equals else words.pop(0))
                 continue
             self.rest.append(word)
             if word.startswith('-'):
@@ -190,7 +197,7 @@ class Schedule:
         made = [int(word) for word in head.replace(',', ' ').split() if word.isdigit()] if head.startswith('made: a ring') else [0]
         self.name = asked.file or 'standard input'
         self.fold = Fold(READINGS[asked.queue](made[0], 16 if asked.narrow else 64), asked.is_ring() and not asked.lent)
-        self.head, self.last, self.words, self.left = head, [], [], None
+        self.head, self.last, self.words, self.left, self.chosen = head, [], [], None, asked.chosen
 
     def read(self, numbers, explained):
         """Up to the line % that ends it, or the end."""
@@ -218,19 +225,32 @@ class Schedule:
             self.words.append(text)
         return self
 
+    def is_chosen(self, worker, first, last):
+        """Of a worker's entries FIRST to LAST, None while they go on."""
+        chosen = self.chosen
+        return worker == chosen.get('--worker', worker) and first <= chosen.get('--to', first) and (last is None or last >= chosen.get('--from', 0))
+
+    @property
+    def calls(self):
+        return [call for call in self.fold.calls if self.is_chosen(call.worker, call.begun, call.ended)]
+
+    @property
+    def changes(self):
+        return [change for change in self.fold.plain.changes if self.is_chosen(change.worker, change.entry, change.entry)]
+
     def objects(self):
         lines = Lines(self.fold.reading)
         last = [lines.object_of(text) for text in self.last]
         yield {**last[0], 'said': self.head}
         if self.left:
             yield lines.object_of(self.left)
-        for call in self.fold.calls:
+        for call in self.calls:
             yield {
                 'kind': 'call', 'worker': call.worker, 'call': call.name, **({} if call.item is None else {'item': call.item}), 'first': call.begun, 'last': call.ended,
                 'answer': call.answer or None, **({} if call.value is None else {'value': call.value}), 'moment': moment(call.moment or '-'), 'lost': lost(call.differed, call.failed),
                 'retries': [{'entry': entry, 'because': causes} for entry, causes in call.retries],
             }
-        for change in self.fold.plain.changes:
+        for change in self.changes:
             yield {'kind': 'change', 'entry': change.entry, 'what': change.what, 'item': change.item, 'worker': change.worker}
         if self.fold.refusal:
             yield {'kind': 'refused', 'entry': self.fold.refusal[0], 'refused': self.fold.refusal[1]}
@@ -238,10 +258,10 @@ class Schedule:
 
     def text(self):
         yield self.head
-        yield from table(self.fold.calls)
+        yield from table(self.calls)
         if self.left:
             yield self.left
-        yield from plain_lines(self.fold.plain.changes)
+        yield from plain_lines(self.changes)
         yield from self.words
 
 
