@@ -13,7 +13,7 @@ if _signal.getsignal(_signal.SIGINT) is _signal.default_int_handler:
     _signal.signal(_signal.SIGINT, _signal.SIG_DFL)
 
 program = __file__[:-len('begin.py')] + sys.argv[1]
-sys.path.insert(0, program)
+sys.path[:0] = program, __file__[:-len('begin.py')] + 'shared'
 del sys.argv[0]
 with open(program + '/__main__.py', 'rb') as source:
     text = source.read()

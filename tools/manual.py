@@ -1,5 +1,6 @@
 #!/usr/bin/env python3
-"""manual.py man|bash|zsh PROGRAM < HELP: the manual page of a program, or what a shell completes of it, from what its --help prints, so that neither goes stale.
+"""manual.py man PROGRAM < HELP: the manual page of a program, from what its --help prints, so that it does not go stale; so is what a shell completes of fern. A program is
+installed as `fern PROGRAM`, and its page as fern-PROGRAM.
 
 A help has the usage, a blank line, then paragraphs. A line of two blanks is a term, with what it means behind two blanks more and on lines that
 are further in; a term that begins with - is an option. 'Status: ' begins the paragraph of the statuses."""
@@ -12,7 +13,7 @@ from pathlib import Path
 from typing import NamedTuple
 
 HOME = Path(__file__).resolve().parent.parent
-PROGRAMS = ('archive', 'explore', 'picture', 'possible', 'replay', 'tape', 'walk')
+PROGRAMS = ('archive', 'explore', 'picture', 'possible', 'replay', 'runs', 'shrink', 'step', 'tape', 'walk')
 
 
 class Help(NamedTuple):
@@ -74,11 +75,17 @@ def list_of(terms):
     return [line for name, said in terms for line in ('.TP', f'.B {name.translate(ESCAPES)}', *([roff(said)] if said else []))]
 
 
+def page_of(program):
+    """The name of its manual page."""
+    return program if program == 'fern' else f'fern-{program}'
+
+
 def man(program, text, on, version):
     told = read(text)
-    page = [f'.TH {program.upper()} 1 {on} "fernmoldew {version}" "Fernmoldew"', '.SH NAME', f'{program} \\- {roff(summary_of(program))}', '.SH SYNOPSIS']
+    name = page_of(program)
+    page = [f'.TH {name.upper()} 1 {on} "fernmoldew {version}" "Fernmoldew"', '.SH NAME', f'{name} \\- {roff(summary_of(program))}', '.SH SYNOPSIS']
     for number, usage in enumerate(told.usage):
-        page += ['.br'] * (number > 0) + [f'.B {usage.translate(ESCAPES)}']
+        page += ['.br'] * (number > 0) + [f'.B {("" if program == "fern" else "fern ") + usage.translate(ESCAPES)}']
     page.append('.SH DESCRIPTION')
     status = ''
     begun = False
@@ -97,8 +104,8 @@ def man(program, text, on, version):
         page += ['.SH OPTIONS', *list_of(options)]
     if status:
         page += ['.SH EXIT STATUS', roff(status)]
-    others = [other for other in PROGRAMS if other != program and (HOME / other).exists()]
-    page += ['.SH SEE ALSO', ',\n'.join(f'.BR {other} (1)' for other in others).replace(',\n', ' ,\n')]
+    others = [page_of(other) for other in (*PROGRAMS, 'fern') if other != program and (HOME / other).exists()]
+    page += ['.SH SEE ALSO', ',\n'.join(f'.BR {other} (1)' for other in sorted(others)).replace(',\n', ' ,\n')]
     return '\n'.join(page) + '\n'
 
 
@@ -132,7 +139,8 @@ def is_file(value):
     return value is not None and bool(re.search(r'FILE|NAME\.|DIR|PLACE|TAPE|SCHEDULE', value))
 
 
-def bash(program, text):
+def bash_of(program, text):
+    """A function that completes the words of one program, its name being the first."""
     told = read(text)
     options, commands = options_of(told), commands_of(told)
     cases = []
@@ -143,7 +151,7 @@ def bash(program, text):
             cases.append(f'    {option}) return ;;')
     first = f'''    if [ "$COMP_CWORD" = 1 ]; then COMPREPLY=($(compgen -W '{' '.join(commands)} --help' -- "$now")); return; fi\n''' if commands else ''
     before = 'case $before in\n' + '\n'.join(cases) + '\n    esac\n    ' if cases else ''
-    return f'''# Completion of {program} for bash, made from {program} --help.
+    return f'''# Made from {program} --help.
 _fernmoldew_{program}() {{
     local now=${{COMP_WORDS[COMP_CWORD]}} before=${{COMP_WORDS[COMP_CWORD - 1]}}
     COMPREPLY=()
@@ -151,11 +159,28 @@ _fernmoldew_{program}() {{
     -*) COMPREPLY=($(compgen -W '{' '.join(options)}' -- "$now")); return ;;
     esac
 {first}}}
-complete -o default -F _fernmoldew_{program} {program}
 '''
 
 
-def zsh(program, text):
+def bash(helps):
+    """Completion of fern: helps has what the --help of each program prints."""
+    names = ' '.join(helps)
+    return ''.join(bash_of(program, text) for program, text in helps.items()) + f'''# Completion of fern for bash.
+_fernmoldew_fern() {{
+    local now=${{COMP_WORDS[COMP_CWORD]}} program=${{COMP_WORDS[1]-}}
+    COMPREPLY=()
+    if [ "$COMP_CWORD" = 1 ]; then COMPREPLY=($(compgen -W '{names} help --help --version' -- "$now")); return; fi
+    if [ "$program" = help ]; then COMPREPLY=($(compgen -W '{names}' -- "$now")); return; fi
+    declare -F "_fernmoldew_$program" >/dev/null && [ "$program" != fern ] || return
+    COMP_WORDS=("${{COMP_WORDS[@]:1}}")
+    COMP_CWORD=$((COMP_CWORD - 1))
+    "_fernmoldew_$program"
+}}
+complete -o default -F _fernmoldew_fern fern
+'''
+
+
+def zsh_of(program, text):
     told = read(text)
     words = []
     for option, (value, values, said) in options_of(told).items():
@@ -164,11 +189,26 @@ def zsh(program, text):
         words.append(f"'{option}[{said}]{after}'")
     if commands_of(told):
         words.append(f"'1:command:({' '.join(commands_of(told))})'")
-    head = f'#compdef {program}\n# Completion of {program} for zsh, made from {program} --help.\n_arguments'
-    return ' \\\n    '.join([head, *words, "'*:file:_files'"]) + '\n'
+    head = f'# Made from {program} --help.\n_fern_{program}() {{\n    _arguments'
+    return ' \\\n        '.join([head, *words, "'*:file:_files'"]) + '\n}\n'
+
+
+def zsh(helps):
+    names = ' '.join(helps)
+    return '#compdef fern\n' + ''.join(zsh_of(program, text) for program, text in helps.items()) + f'''# Completion of fern for zsh.
+_fern() {{
+    if (( CURRENT == 2 )); then compadd {names} help --help --version; return; fi
+    if [[ $words[2] == help ]]; then compadd {names}; return; fi
+    local program=$words[2]
+    (( $+functions[_fern_$program] )) || return
+    shift words
+    (( CURRENT-- ))
+    _fern_$program
+}}
+_fern "$@"
+'''
 
 
 if __name__ == '__main__':
-    kind, program = sys.argv[1:]
-    text = sys.stdin.read()
-    sys.stdout.write({'man': lambda: man(program, text, date.today().isoformat(), '0'), 'bash': lambda: bash(program, text), 'zsh': lambda: zsh(program, text)}[kind]())
+    _, program = sys.argv[1:]
+    sys.stdout.write(man(program, sys.stdin.read(), date.today().isoformat(), '0'))

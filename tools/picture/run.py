@@ -1,29 +1,20 @@
 """A run as it is drawn: replay's lines, folded into calls, hands, slots, claims and lives of items."""
 
 import re
-import subprocess
 from collections import deque
 from dataclasses import dataclass, field
 from typing import NamedTuple, Optional
 
-from queues import IDLE, READINGS, stand_of
+from manners import Told
+from queues import IDLE, READINGS, slots_in, stand_of
 
 MOST = 20_000  # entries of one picture
 LEFT = 'left the window at entry '
-UNPROVED = 'built from the sources, not proved on this machine: '
 REFUSALS = {
     1: 'a capacity of 0 or above 1,024', 2: 'too many workers, or none', 3: 'no such worker', 4: 'a call begun by a busy worker',
     5: 'an act of an idle worker', 6: 'no sound machine', 7: 'no act left on the meter', 8: 'code 9 where no weak exchange comes next',
     9: 'an entry that cannot be read', 11: 'an odd number of words', 18: 'an edition that is not 1 or 2', 23: 'no block is free',
 }
-
-
-class Told(Exception):
-    """One line for standard error, and the status."""
-
-    def __init__(self, line, status=2):
-        super().__init__(line)
-        self.status = status
 
 
 @dataclass
@@ -100,62 +91,6 @@ class Run:
     workers: int = 0
 
 
-class Replay:
-    """replay, started on one input as often as is asked."""
-
-    def __init__(self, starter, queue_words, file, given):
-        self.starter, self.words, self.file, self.given = starter, queue_words, None if given else file, given  # what is given is read so, and has a name at the most
-        self.name, self.is_named = file or 'standard input', file is not None
-        self.noted = None  # the starter's word on what is not proved
-
-    def started(self, *options):
-        words = [*self.starter, *options, *self.words, *(['--', self.file] if self.file else [])]
-        if self.given:
-            self.given.seek(0)
-        try:
-            return subprocess.Popen(words, stdin=self.given or subprocess.DEVNULL, stdout=subprocess.PIPE, stderr=subprocess.PIPE, text=True, errors='surrogateescape')
-        except OSError as wrong:
-            raise Told(f'{self.starter[-1]}: {wrong.strerror}')
-
-    def all(self, *options):
-        """What it prints, and its status. What it cannot do is told in its words."""
-        started = self.started(*options)
-        try:
-            out, said = started.communicate()
-        except BaseException:
-            started.terminate()
-            raise
-        lines = []
-        for line in said.split('\n')[:-1]:
-            if line.startswith(UNPROVED):
-                self.noted = line
-            elif lines and lines[-1].startswith('replay: ') and not line.startswith('replay: '):
-                lines[-1] += '\n' + line  # of a name that has two
-            else:
-                lines.append(line)
-        if started.returncode not in (0, 1) or not out:
-            said = lines[-1] if lines else f'replay ended with status {started.returncode}'
-            if said.startswith('replay: '):
-                said = said[len('replay: '):]
-                if self.given and said.startswith('standard input: '):
-                    said = f'{self.name}: {said[len("standard input: "):]}'
-            elif self.is_named:
-                said = f'{self.name}: {said}'
-            raise Told(said, 1 if started.returncode == 1 else 2)
-        return out.splitlines(), started.returncode
-
-    def lines(self, *options):
-        """Its lines, one by one; whoever has enough of them leaves."""
-        started = self.started(*options)
-        try:
-            yield from started.stdout
-        finally:
-            started.stdout.close()
-            started.stderr.close()
-            started.terminate()
-            started.wait()
-
-
 def lines_to_show(replay, first, last):
     """The line that the cursor shows over an entry: of `replay --explain` where this replay has it; else there is none, and its plain line is shown."""
     if not re.search(r'(?m)^ *--explain\b', '\n'.join(replay.all('--help')[0])):
@@ -185,7 +120,7 @@ def run_of(replay, queue, options, first, last):
     end = entries - 1 if last is None else min(last, entries - 1)
     if end - first >= MOST:
         raise Told(f'{name}: {end - first + 1:,} entries, at most {MOST:,} are drawn: choose a part, as --from {first} --to {first + MOST - 1}')
-    reading = READINGS[queue](quiet[2:], 16 if ('--bits', '16') in options else 64)
+    reading = READINGS[queue](len(slots_in(quiet)), 16 if ('--bits', '16') in options else 64)
     what = {'bounded': f'ring of {len(reading.fresh)} slot{"s" * (len(reading.fresh) != 1)}', 'single': 'one-slot queue', 'unbounded': 'unbounded queue'}[queue]
     said = ''.join(f', {option[2:]} {value}'.rstrip() for option, value in options if option in ('--edition', '--bits', '--lent'))
     run = Run(name, what + said, reading.stamp, entries, first, end)
@@ -200,12 +135,12 @@ def run_of(replay, queue, options, first, last):
     more = ('--causes', '--moments') if queue == 'bounded' and ('--lent', '') not in options else ()
     if entries:
         run.lines = lines_to_show(replay, first, end)
-        fold(run, reading, replay.lines(*more), {} if more else reading.back)
+        fold(run, reading, replay.lines(*more), {} if more else reading.back, quiet)
     return run
 
 
-def fold(run, reading, lines, back):
-    """back: why an act goes back, where the lines name no cause."""
+def fold(run, reading, lines, back, quiet):
+    """back: why an act goes back, where the lines name no cause. quiet: what replay shows at its end."""
     stands, calls, hands, items, lives = {}, {}, {}, {}, deque()
     slots = dict(reading.fresh)
     tails = heads = 0
@@ -248,9 +183,9 @@ def fold(run, reading, lines, back):
                     run.changes.append((entry, slot, 0, 0))
             change = reading.change(before, words)
             if change:
-                stamp, value = slots.get(change.slot, (0, 0))
-                now = stamp if change.stamp is None else change.stamp, value if change.value is None else change.value
-                if now != (stamp, value):
+                found = slots.get(change.slot, (0, 0))
+                now = change.of(found)
+                if now != found:
                     slots[change.slot] = now
                     if drawn:
                         run.changes.append((entry, change.slot, *now))
@@ -297,5 +232,5 @@ def fold(run, reading, lines, back):
     run.calls += calls.values()
     run.hands += hands.values()
     run.lives += lives
-    if entry == run.count - 1 and not reading.is_end(slots):
+    if entry == run.count - 1 and not reading.is_end(slots, quiet):
         raise Told(f'{run.name}: the slots that replay ends with are not those of its lines')

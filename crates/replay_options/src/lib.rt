@@ -180,6 +180,7 @@ pub fn help() -> bool {
         replay --words-of [--queue NAME] [--many] [--tape] [FILE]\n\
         replay --explain [--follow ITEM] [--queue NAME] [--edition N] [--bits N] [--lent] [--many] [--tape]\n\
         \x20      [FILE]\n\
+        replay --calls [--json] [--queue NAME] [--edition N] [--bits N] [--lent] [--many] [--tape] [FILE]\n\
         \n\
         Runs a schedule on the stamped ring, or on another queue. It is read from FILE, or from standard\n\
         input: unsigned decimal numbers separated by white space. The first is the capacity (1 to 1024), the\n\
@@ -236,6 +237,9 @@ pub fn help() -> bool {
         \x20             exchanges were lost. Coloured on a terminal, unless NO_COLOR is set\n\
         \x20 --follow ITEM   with --explain, only the lines of that item's life: from its push to the call that\n\
         \x20             hands it out\n\
+        \x20 --calls     a row for each call: its first and last entry, answer, moment, exchanges lost, why it\n\
+        \x20             tried again; then what came into a plain queue and went out of it, at which entry\n\
+        \x20 --json      the lines, or with --calls the rows, as JSON, an object a line; docs/GUIDE.md has them\n\
         \x20 --words-of  prints the schedule in words, acts in a row gathered, and runs nothing; 9, 11: what no\n\
         \x20             words are for\n\
         \x20 --tape      FILE is a schedule tape (see tape --help); a tape that is refused is told in one line,\n\

@@ -1,10 +1,14 @@
 """What replay's lines say of each queue: where a worker stands, which slot it has in hand, what an act did to the slots and to the two ends.
 
-A reading is made for one run and told of every act in order. A slot is a number; in the unbounded queue it is a block and an offset there."""
+A reading is made for one machine. A slot is a number; in the unbounded queue it is a block and an offset there."""
 
 from typing import NamedTuple
 
 LOOKERS = {'len': 'len', 'empty': 'is_empty', 'full': 'is_full', 'close': 'close', 'isclosed': 'is_closed'}  # by the name of their places
+CALLS = ('push', 'force_push', 'pop', 'len', 'is_empty', 'is_full', 'close', 'is_closed')  # by code
+ACT, FAIL = 8, 9  # codes of acts
+WITH_ITEM = ('push', 'force_push')
+LOADS_OF_HEAD = (('len2', 'len3'),)
 MOVED = {('len3', 'len1'): 'moved', ('len3', 'len2'): 'moved'}
 
 
@@ -17,6 +21,9 @@ class Stand(NamedTuple):
     @property
     def idle(self):
         return self.place == 'idle'
+
+    def __str__(self):
+        return self.place + f':{self.kind}' * bool(self.kind) + f'({",".join(self.words)})' * bool(self.words)
 
 
 IDLE = Stand('idle', 'none', [])
@@ -33,11 +40,22 @@ def pairs_of(line):
     return [tuple(map(int, pair[1:-1].split(','))) for pair in line.split() if pair.startswith('(')]
 
 
+def slots_in(last):
+    """Those of the ring, of what replay prints behind the lines of the entries."""
+    return pairs_of(next((line for line in last if line.startswith('slots')), ''))
+
+
 class Change(NamedTuple):
-    """What an act did to a slot. None: that stays."""
+    """What an act did to a slot. None: that stays. A bit is added to the state."""
     slot: object
     stamp: object = None
     value: object = None
+    bit: int = 0
+
+    def of(self, found):
+        """What is there after it, of what was there before."""
+        stamp, value = found
+        return stamp | self.bit if self.bit else stamp if self.stamp is None else self.stamp, value if self.value is None else self.value
 
 
 class Reading:
@@ -47,18 +65,37 @@ class Reading:
     back = {}  # acts that go back, and why, where replay names no cause
     pushes, forces, pops = (), (), ()  # first places
     fresh_ends = '0', '0'  # the words of tail and head of a fresh machine
+    weak = frozenset()  # places whose exchange the schedule may make fail
+    moments = {}  # of an answer, or of a call and its answer, the acts before the last of which a plain queue gives it: docs/PROMISES.md
 
-    def call_of(self, stand):
+    @classmethod
+    def call_of(cls, stand):
         """The name of a call that begins so, and its item."""
-        if stand.place in self.pops:
+        if stand.place in cls.pops:
             return 'pop', ''
-        if stand.place in self.pushes:
-            return ('force_push' if stand.place in self.forces or stand.kind == 'force' else 'push'), stand.words[-1]
+        if stand.place in cls.pushes:
+            return ('force_push' if stand.place in cls.forces or stand.kind == 'force' else 'push'), stand.words[-1]
         return LOOKERS[stand.place.rstrip('0123456789')], ''
 
     def taken(self, before, after):
         """The slots that an act made anew."""
         return ()
+
+    def ends_said(self, ends):
+        """The shared words decoded, by their names in a line, each as a text."""
+        return []
+
+    def word_said(self, stand):
+        """The words of the ends that a worker holds, decoded."""
+        return []
+
+    def awaited(self, ways, others):
+        """Of other workers and where they stand: those for whom one waits who goes round and stands so on the way."""
+        return [worker for worker, other in others if self.hand_of(other) is not None]
+
+    def decided(self, call, answer):
+        """The acts just before the last of which a plain queue gives that answer; else it does so just before the call's last act."""
+        return self.moments.get((call, answer)) or self.moments.get(answer, ())
 
 
 class Ring(Reading):
@@ -68,16 +105,17 @@ class Ring(Reading):
     back = {('P2', 'P1'): 'stamp', ('P3', 'P2'): 'lost', ('P6', 'P1'): 'moved', ('F6', 'P1'): 'lost',
             ('O2', 'O1'): 'stamp', ('O3', 'O2'): 'lost', ('O6', 'O1'): 'moved', **MOVED}
     pushes, pops = ('P1',), ('O1',)
+    weak = frozenset(('P3', 'F6', 'O3'))
     tail_claims, head_claims = (('P3', 'P4'), ('F7', 'F8')), (('O3', 'O4'), ('F6', 'F7'))
+    gave_tail = ('P1', 'P2'), ('P3', 'P2')
+    moments = {'pushed': tail_claims[:1], 'popped': head_claims[:1], 'full': gave_tail, 'displaced': gave_tail, 'len': LOADS_OF_HEAD}
 
-    def __init__(self, last, bits):
-        """last: what replay prints behind the lines of the entries."""
-        self.at_end = pairs_of(next(line for line in last if line.startswith('slots')))
+    def __init__(self, capacity, bits):
         self.mark = 1
-        while self.mark <= len(self.at_end):
+        while self.mark <= capacity:
             self.mark *= 2
         self.turn = 2**bits
-        self.fresh = {i: (i, 0) for i in range(len(self.at_end))}
+        self.fresh = {i: (i, 0) for i in range(capacity)}
 
     def ends(self, words):
         """The words of tail and head as they are shown, and whether the queue is closed."""
@@ -86,6 +124,21 @@ class Ring(Reading):
 
     def slot_of(self, word):
         return int(word) % self.mark
+
+    def decoded(self, end, word):
+        number = int(word)
+        return f'{end} {number}: lap {number // (2 * self.mark)}, slot {number % self.mark}' + ', closed' * (end == 'tail' and bool(number & self.mark))
+
+    def ends_said(self, ends):
+        return [self.decoded('head', ends['h']), self.decoded('tail', ends['t'])]
+
+    def word_said(self, stand):
+        held = {'P': ('tail',), 'F': ('tail',), 'O': ('head',)}.get(stand.place[0]) or {'len2': ('tail',), 'len3': ('tail', 'head'), 'empty2': ('head',), 'full2': ('tail',)}.get(stand.place, ())
+        return [] if stand.place == 'P1' else [self.decoded(end, word) for end, word in zip(held, stand.words)]
+
+    def awaited(self, ways, others):
+        looked_at = {self.slot_of(stand.words[0]) for stand in ways if stand.place in ('P2', 'O2')}
+        return [worker for worker, other in others if self.hand_of(other) in looked_at]
 
     def hand_of(self, stand):
         return self.slot_of(stand.words[0]) if stand.place in self.hands else None
@@ -104,9 +157,9 @@ class Ring(Reading):
         step = before.place, after.place
         return (('tail', after.words[1]),) if step in self.tail_claims else (('head', ''),) if step in self.head_claims else ()
 
-    def is_end(self, slots):
-        """Whether these are the slots that replay shows at its end."""
-        return [slots[i] for i in range(len(self.at_end))] == self.at_end
+    def is_end(self, slots, last):
+        """Whether these are the slots that replay shows behind the lines of the entries."""
+        return [slots[i] for i in self.fresh] == slots_in(last)
 
 
 class OneSlot(Reading):
@@ -116,14 +169,18 @@ class OneSlot(Reading):
     back = {('B1', 'B1'): 'lost', ('C1', 'C1'): 'lost'}
     pushes, forces, pops = ('A1', 'B1'), ('B1',), ('C1',)
     fresh_ends = None, None
+    moments = {answer: (('A1', 'A2'), ('B1', 'B2'), ('B1', 'B4'), ('C1', 'C2')) for answer in ('pushed', 'displaced', 'popped')}
     BITS = (1, 'L'), (2, 'P'), (4, 'C')  # locked, pushed, closed
 
-    def __init__(self, last, bits):
-        self.at_end = next((int(line.split()[1]) for line in last if line.startswith('value ')), 0)
+    def __init__(self, capacity, bits):
         self.fresh = {0: ('0', 0)}
 
     def ends(self, words):
         return None, None, bool(int(words[2][2:]) & 4)
+
+    def ends_said(self, ends):
+        bits = [name for bit, name in ((1, 'locked'), (2, 'pushed'), (4, 'closed')) if int(ends['s']) & bit]
+        return [f'state {ends["s"]}: ' + (' and '.join(filter(None, (', '.join(bits[:-1]), bits[-1]))) if bits else 'free')]
 
     def hand_of(self, stand):
         return 0 if stand.place in self.hands else None
@@ -139,8 +196,8 @@ class OneSlot(Reading):
         out = (('head', ''),) if after.place in ('B4', 'C2') else ()
         return out if after.place == 'C2' else (*out, ('tail', before.words[-1]))
 
-    def is_end(self, slots):
-        return slots[0][1] == self.at_end
+    def is_end(self, slots, last):
+        return slots[0][1] == next((int(line.split()[1]) for line in last if line.startswith('value ')), 0)
 
 
 class Unbounded(Reading):
@@ -153,16 +210,26 @@ class Unbounded(Reading):
             ('V2', 'V1'): 'end', ('V5', 'V1'): 'end', ('V3', 'V1'): 'end', ('V4', 'V5'): 'lost',
             ('V6', 'V6'): 'waits', ('V10', 'V10'): 'waits', **MOVED}
     pushes, pops = ('U1',), ('V1',)
+    weak = frozenset(('U7', 'V4'))
+    moments = {'pushed': (('U7', 'U9'), ('U7', 'U12')), 'popped': (('V4', 'V6'), ('V4', 'V10')), ('push', 'closed'): (('U1', 'U2'), ('U7', 'U8')), 'len': LOADS_OF_HEAD}
     SLOTS = 31
 
-    def __init__(self, last, bits):
-        self.at_end = {int(line.split()[1]): pairs_of(line) for line in last if line.startswith('block ')}
+    def __init__(self, capacity, bits):
         self.fresh = {}
-        self.states = {}
 
     def ends(self, words):
         tail = words[4][2:]
         return tail, words[2][2:], bool(int(tail) & 1)
+
+    def ends_said(self, ends):
+        return [f'{end} {ends[word]}' + ', marked' * (int(ends[word]) & 1) + f': position {int(ends[word]) // 2}, ' + ('no block' if ends[block] == '-' else f'block {ends[block]}')
+                for end, word, block in (('head', 'h', 'hb'), ('tail', 't', 'tb'))]
+
+    def awaited(self, ways, others):
+        """The push of the slot that it is to read, or who has the last slot of a block in hand and has not moved on the end."""
+        own = self.hand_of(ways[-1])
+        written = [worker for worker, other in others if own is not None and self.hand_of(other) == own]
+        return written or [worker for worker, other in others if (self.hand_of(other) or (0, 0))[1] == self.SLOTS - 1]
 
     def hand_of(self, stand):
         if stand.place in self.pushing:
@@ -177,14 +244,10 @@ class Unbounded(Reading):
         if before.place == 'U12':
             return Change(self.slot_of(held[2], held[1]), value=int(held[3]))
         if before.place == 'U13':
-            return self.set_bit(self.slot_of(held[2], held[1]), 1)
+            return Change(self.slot_of(held[2], held[1]), bit=1)
         if before.place == 'V12':
-            return self.set_bit(self.slot_of(held[1], held[0]), 2)
-        return self.set_bit((int(held[0]), int(held[1])), 4) if before.place == 'V14' else None
-
-    def set_bit(self, slot, bit):
-        self.states[slot] = self.states.get(slot, 0) | bit
-        return Change(slot, stamp=self.states[slot])
+            return Change(self.slot_of(held[1], held[0]), bit=2)
+        return Change((int(held[0]), int(held[1])), bit=4) if before.place == 'V14' else None
 
     def taken(self, before, after):
         if before.place == 'U3' and after.place in ('U4', 'U7'):
@@ -193,18 +256,16 @@ class Unbounded(Reading):
             block = int(after.words[2])
         else:
             return ()
-        slots = [(block, i) for i in range(self.SLOTS)]
-        for slot in slots:
-            self.states.pop(slot, None)
-        return slots
+        return [(block, i) for i in range(self.SLOTS)]
 
     def claims(self, before, after):
         if before.place == 'U7' and after.place in self.pushing:
             return (('tail', before.words[-1]),)
         return (('head', ''),) if before.place == 'V4' and after.place in self.popping else ()
 
-    def is_end(self, slots):
-        return all(slots.get((block, i), (0, 0)) == pair for block, pairs in self.at_end.items() for i, pair in enumerate(pairs))
+    def is_end(self, slots, last):
+        at_end = {int(line.split()[1]): pairs_of(line) for line in last if line.startswith('block ')}
+        return all(slots.get((block, i), (0, 0)) == pair for block, pairs in at_end.items() for i, pair in enumerate(pairs))
 
 
 READINGS = {'bounded': Ring, 'single': OneSlot, 'unbounded': Unbounded}
