@@ -49,7 +49,7 @@ all can be written, 3 not complete.
   --help        prints this
 ";
 
-/// At 48 bytes each, as words of 128 bits have them, they are below 2 GB.
+/// At some 50 bytes each, as words of 128 bits have them, they fit 2 GB (GiB).
 const MOST_STATES: u64 = 40_000_000;
 
 struct Options {
