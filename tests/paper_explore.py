@@ -67,10 +67,20 @@ class Ending(NamedTuple):
     waits: frozenset
 
 
-def entries_from(queue, state, calls):
+def tried(state, calls, alone):
+    """The workers whose entries are tried next. alone: None, and all are; or the places at which an act is taken before anybody else's entry, as a begin is then, the lowest worker's first."""
+    workers = state.machine.workers[:state.machine.count]
+    if alone is not None:
+        for number, worker in enumerate(workers):
+            if worker.place in alone if busy(worker) else state.begun[number] < len(calls[number]):
+                return [number]
+    return range(len(workers))
+
+
+def entries_from(queue, state, calls, alone):
     """Every entry that can come next, with the state after it."""
     machine = state.machine
-    for number in range(machine.count):
+    for number in tried(state, calls, alone):
         if busy(machine.workers[number]):
             for code in (ACT, FAILING):
                 refusal, after = queue.entries.step(machine, 16 * number + code, 0)
@@ -92,8 +102,8 @@ class TooMany(Exception):
     pass
 
 
-def search(queue, machine, calls, most):
-    """How many states there are, and the endings by what was answered. calls: of each worker (code, item)."""
+def search(queue, machine, calls, most, alone=None):
+    """How many states there are, and the endings by what was answered. calls: of each worker (code, item). alone: of a reduced search, places as `tried` takes them."""
     nobody = tuple(0 for _ in calls), tuple(() for _ in calls)
     first = State(machine, *nobody)
     # states first, then the cheapest way to each with each last worker
@@ -104,7 +114,7 @@ def search(queue, machine, calls, most):
         key = key_of(state)
         after[key] = []
         leads = {}
-        for entry, next_state in entries_from(queue, state, calls):
+        for entry, next_state in entries_from(queue, state, calls, alone):
             next_key = key_of(next_state)
             number, code = divmod(entry[0], 16)
             # an exchange that fails anyway is no failed one

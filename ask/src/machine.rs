@@ -1,6 +1,9 @@
 //! The machine that is asked: the ring of either edition or the one-slot queue, with its workers, as the proved library steps it (hosts/rust).
 
-use fernmoldew::{Answer, Call, Edition, OneSlot, Refusal, Ring, Workers, HEAD_WORDS, ONE_SLOT_HEAD_WORDS, ONE_SLOT_RECORDS_WORDS, ONE_SLOT_RECORD_WORDS, RECORD_WORDS, SLOT_WORDS};
+use fernmoldew::{
+    Answer, Call, Edition, OneSlot, Refusal, Ring, Workers, HEAD_WORDS, ONE_SLOT_HEAD_WORDS, ONE_SLOT_RECORDS_WORDS,
+    ONE_SLOT_RECORD_WORDS, RECORD_WORDS, SLOT_WORDS,
+};
 
 /// Which queue it is.
 #[derive(Clone, Copy, Debug, PartialEq, Eq)]
@@ -129,10 +132,13 @@ impl Machine {
                     head[at] = *word;
                 }
                 head[RING_METER] = 0;
-                let mut slots: Box<[u64; SLOT_WORDS]> = vec![0; SLOT_WORDS].into_boxed_slice().try_into().expect("as many words");
+                let mut slots: Box<[u64; SLOT_WORDS]> =
+                    vec![0; SLOT_WORDS].into_boxed_slice().try_into().expect("as many words");
                 slots[..2 * self.capacity].copy_from_slice(&shared[RING_ENDS.len()..]);
                 *ring = Ring::from_words(head, slots);
-                *workers = Workers::from_words(places.iter().flat_map(|[code, first, second]| [*code, *first, *second, 0, 0]).collect());
+                *workers = Workers::from_words(
+                    places.iter().flat_map(|[code, first, second]| [*code, *first, *second, 0, 0]).collect(),
+                );
             }
             Held::OneSlot(slot) => {
                 let mut head: [u64; ONE_SLOT_HEAD_WORDS] = *slot.head_words();

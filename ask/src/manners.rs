@@ -43,7 +43,11 @@ pub fn run(name: &str, program: impl FnOnce(Vec<OsString>) -> Result<u8, Told>) 
         Ok(status) => ExitCode::from(status),
         Err(told) => {
             if !told.line.is_empty() {
-                let begin = if told.line.starts_with("refused ") || told.line.starts_with("not complete") { String::new() } else { format!("{name}: ") };
+                let begin = if told.line.starts_with("refused ") || told.line.starts_with("not complete") {
+                    String::new()
+                } else {
+                    format!("{name}: ")
+                };
                 // standard error itself may be closed
                 let _ = writeln!(io::stderr(), "{begin}{}", told.line);
             }
@@ -74,7 +78,10 @@ impl Arguments {
     /// A number that follows an option, in decimal digits.
     pub fn number(&mut self, option: &OsStr) -> Result<u64, Told> {
         let word = self.value(option)?;
-        word.to_str().filter(|text| !text.is_empty() && text.bytes().all(|byte| byte.is_ascii_digit())).and_then(|text| text.parse().ok()).ok_or_else(|| no_use(&word))
+        word.to_str()
+            .filter(|text| !text.is_empty() && text.bytes().all(|byte| byte.is_ascii_digit()))
+            .and_then(|text| text.parse().ok())
+            .ok_or_else(|| no_use(&word))
     }
 }
 

@@ -31,9 +31,18 @@ enum Narrow {
     Shared,
 }
 
+/// Why not all that comes next of a state is found.
+enum Cut {
+    /// So many states as were allowed are there.
+    Most,
+    Narrow(Narrow),
+}
+
 impl Layout {
     fn new(world: &World) -> Layout {
-        let active = |bits| (0..world.workers()).filter(|worker| world.is_active(*worker)).map(|worker| (worker, bits)).collect();
+        let active = |bits| {
+            (0..world.workers()).filter(|worker| world.is_active(*worker)).map(|worker| (worker, bits)).collect()
+        };
         let usual = Layout { changes: 4, active: active(5), shared: 12 };
         if usual.bits() <= u64::BITS {
             return usual;
@@ -95,6 +104,7 @@ struct Search<W> {
     layout: Layout,
     fields: Vec<Field<W>>,
     table: Table<W>,
+    edges: Edges<W>,
     /// All states in the order in which they were found.
     found: Vec<W>,
     /// Where each layer begins; the last one is being made.
@@ -104,27 +114,82 @@ struct Search<W> {
     reduced: bool,
 }
 
-struct Successor<W> {
-    key: W,
-    hash: u64,
-    from: usize,
-    by: u32,
-    changes: u64,
+/// Whether a worker has an entry, and whether with its exchange failing it leads elsewhere.
+#[derive(Clone, Copy, PartialEq, Eq)]
+enum Leads {
+    Nowhere,
+    On,
+    OnAndElsewhere,
 }
 
-const BATCH: usize = 256;
-/// How far ahead places are fetched.
-const AHEAD: usize = 16;
+/// How a worker's entry leads on, from certain shared words and a part of it: what is another in the key, and the number of the shared words after it.
+#[derive(Clone, Copy)]
+struct Edge<W> {
+    differs: W,
+    shared: u32,
+    /// Known in this turn alone.
+    turn: u32,
+    leads: Leads,
+}
+
+/// The edges from the shared words at which the search is: a layer has the states of one number in a row, which is a turn.
+struct Edges<W> {
+    known: Vec<Edge<W>>,
+    /// Where those of each worker begin, by the number of its part.
+    first: Vec<usize>,
+    turn: u32,
+    shared: u32,
+}
+
+impl<W: Word> Edge<W> {
+    const NONE: Edge<W> = Edge { differs: W::ZERO, shared: 0, turn: 0, leads: Leads::Nowhere };
+}
+
+impl<W: Word> Edges<W> {
+    fn new(layout: &Layout) -> Edges<W> {
+        let mut count = 0;
+        let mut first = vec![];
+        for (_, bits) in &layout.active {
+            first.push(count);
+            count += 1 << bits;
+        }
+        Edges { known: vec![Edge::NONE; count], first, turn: 0, shared: u32::MAX }
+    }
+
+    #[inline]
+    fn turn_to(&mut self, shared: u32) {
+        if self.shared != shared {
+            self.shared = shared;
+            self.turn = self.turn.wrapping_add(1);
+            if self.turn == 0 {
+                self.known.fill(Edge::NONE);
+                self.turn = 1;
+            }
+        }
+    }
+}
+
+/// After so many states it is asked whether to go on.
+const BATCH: usize = 64;
 
 impl<W: Word> Search<W> {
     fn new(layout: Layout, reduced: bool) -> Search<W> {
-        let mut search = Search { fields: fields(&layout), table: Table::new(layout.noted(), 0), layout, found: vec![], layers: vec![0, 1], tried: 0, endings: HashMap::new(), reduced };
+        let mut search = Search {
+            fields: fields(&layout),
+            table: Table::new(layout.noted()),
+            edges: Edges::new(&layout),
+            layout,
+            found: vec![],
+            layers: vec![0, 1],
+            tried: 0,
+            endings: HashMap::new(),
+            reduced,
+        };
         // nobody went last, so that all go on for nothing; the state itself is number 0 throughout
         let everybody = ((1u128 << search.layout.active.len()) - 1) as u64;
         search.found.push(W::of(CLOSED) | search.note(0, everybody));
-        let (part, place) = search.table.find(W::ZERO, W::ZERO.hash_of());
-        *place = W::of(CLOSED);
-        search.table.filled(part);
+        *search.table.find(0, W::ZERO) = W::of(CLOSED);
+        search.table.filled(0);
         search
     }
 
@@ -163,9 +228,12 @@ impl<W: Word> Search<W> {
     }
 
     /// Searches on until nothing is left, so many states are there, or `goes_on` says no. Where the layout is too narrow, one that is not: nothing is lost, and the search goes on in it.
-    fn run(&mut self, world: &mut World, most: usize, goes_on: &mut dyn FnMut(usize, usize) -> bool) -> Result<Stop, Layout> {
-        let mut batch: Vec<Successor<W>> = Vec::with_capacity(2 * BATCH);
-        let mut ends = vec![];
+    fn run(
+        &mut self,
+        world: &mut World,
+        most: usize,
+        goes_on: &mut dyn FnMut(usize, usize) -> bool,
+    ) -> Result<Stop, Layout> {
         loop {
             let layer_end = self.layers[self.layers.len() - 1];
             if self.tried == layer_end {
@@ -178,82 +246,110 @@ impl<W: Word> Search<W> {
             if !goes_on(self.found.len(), self.tried) {
                 return Ok(self.stopped(world));
             }
-            batch.clear();
-            ends.clear();
-            let mut at = self.tried;
-            while at < layer_end && batch.len() < BATCH {
-                let before = batch.len();
-                if let Err(narrow) = self.successors(world, at, &mut batch) {
-                    let wider = self.layout.widened(narrow);
-                    self.settle(layer_end, false);
-                    return Err(wider);
-                }
-                if batch.len() == before {
-                    ends.push(at);
-                }
-                at += 1;
-            }
-            let colour = W::of(OPEN[self.layers.len() % 2]);
-            let noted = self.layout.noted();
-            let seen = W::of(3);
-            let (changes_shift, last_shift) = (COLOUR, COLOUR + self.layout.changes);
-            let changes_mask = (1u64 << self.layout.changes) - 1;
-            for successor in &batch {
-                let (part, place) = self.table.find(successor.key, successor.hash);
-                let word = *place;
-                let bit = W::of(1 << successor.by) << last_shift;
-                if word == W::ZERO {
-                    if self.found.len() == most {
-                        self.tried = successor.from;
-                        self.ended(world, &ends);
-                        return Ok(self.stopped(world));
-                    }
-                    *place = successor.key << noted | colour | W::of(successor.changes) << changes_shift | bit;
-                    self.found.push(successor.key << noted);
-                    self.table.filled(part);
-                } else if word & seen == colour {
-                    let changes = (word >> changes_shift).low() & changes_mask;
-                    if successor.changes < changes {
-                        *place = successor.key << noted | colour | W::of(successor.changes) << changes_shift | bit;
-                    } else if successor.changes == changes && word & bit == W::ZERO {
-                        *place = word | bit;
+            for _ in self.tried..layer_end.min(self.tried + BATCH) {
+                match self.successors(world, self.tried, most) {
+                    Ok(0) => self.ended(world, self.tried),
+                    Ok(_) => {}
+                    Err(Cut::Most) => return Ok(self.stopped(world)),
+                    // what was found of this state's successors is found once more
+                    Err(Cut::Narrow(narrow)) => {
+                        let wider = self.layout.widened(narrow);
+                        self.settle(layer_end, false);
+                        return Err(wider);
                     }
                 }
+                self.tried += 1;
             }
-            self.tried = at;
-            self.ended(world, &ends);
         }
     }
 
-    /// Everything that comes next of one state.
+    /// Finds everything that comes next of one state: how many entries do.
     #[inline]
-    fn successors(&self, world: &mut World, from: usize, batch: &mut Vec<Successor<W>>) -> Result<(), Narrow> {
+    fn successors(&mut self, world: &mut World, from: usize, most: usize) -> Result<u32, Cut> {
         let word = self.found[from];
         let (key, fewest, last) = (word >> self.layout.noted(), self.changes_of(word), self.last_of(word));
         let shared = self.shared_of(key);
-        let only = if self.reduced { (0..self.layout.active.len()).find(|at| world.is_alone(self.layout.active[*at].0, self.part_of(key, *at))) } else { None };
-        for (at, (worker, _)) in self.layout.active.iter().enumerate() {
+        self.edges.turn_to(shared);
+        let only = if self.reduced {
+            (0..self.layout.active.len()).find(|at| world.is_alone(self.layout.active[*at].0, self.part_of(key, *at)))
+        } else {
+            None
+        };
+        let mut entries = 0;
+        for at in 0..self.layout.active.len() {
             if only.is_some_and(|only| only != at) {
                 continue;
             }
             let part = self.part_of(key, at);
-            let Some((plain, is_weak)) = world.next(*worker, shared, part) else { continue };
-            let changes = fewest + u64::from(last >> at & 1 == 0);
-            if changes >> self.layout.changes != 0 {
-                return Err(Narrow::Changes);
+            let place = self.edges.first[at] + part as usize;
+            let mut edge = self.edges.known[place];
+            if edge.turn != self.edges.turn {
+                edge = self.learn(world, at, shared, part).map_err(Cut::Narrow)?;
+                self.edges.known[place] = edge;
             }
-            let losing = if is_weak { world.next_losing(*worker, shared, part) } else { None };
-            for next in std::iter::once(plain).chain(losing) {
-                if u64::from(next.part) >> self.layout.active[at].1 != 0 {
-                    return Err(Narrow::Part(at));
+            let changes = fewest + (!last >> at & 1);
+            match edge.leads {
+                Leads::Nowhere => continue,
+                _ if changes >> self.layout.changes != 0 => return Err(Cut::Narrow(Narrow::Changes)),
+                Leads::On => self.find(key ^ edge.differs, edge.shared, at, changes, most)?,
+                Leads::OnAndElsewhere => {
+                    self.find(key ^ edge.differs, edge.shared, at, changes, most)?;
+                    if let Some(next) = world.next_losing(self.layout.active[at].0, shared, part) {
+                        let edge = self.edge(at, shared, part, next).map_err(Cut::Narrow)?;
+                        self.find(key ^ edge.differs, edge.shared, at, changes, most)?;
+                    }
                 }
-                if u64::from(next.shared) >> self.layout.shared != 0 {
-                    return Err(Narrow::Shared);
-                }
-                let key = self.with(key, at, next.part, next.shared);
-                let hash = key.hash_of();
-                self.table.prefetch(hash);
-                batch.push(Successor { key, hash, from, by: at as u32, changes });
+            }
+            entries += 1;
+        }
+        Ok(entries)
+    }
+
+    #[cold]
+    fn learn(&self, world: &mut World, at: usize, shared: u32, part: u32) -> Result<Edge<W>, Narrow> {
+        match world.next(self.layout.active[at].0, shared, part) {
+            None => Ok(Edge { turn: self.edges.turn, ..Edge::NONE }),
+            Some((next, is_weak)) => {
+                let edge = self.edge(at, shared, part, next)?;
+                Ok(if is_weak { Edge { leads: Leads::OnAndElsewhere, ..edge } } else { edge })
+            }
+        }
+    }
+
+    fn edge(&self, at: usize, shared: u32, part: u32, next: Next) -> Result<Edge<W>, Narrow> {
+        if u64::from(next.part) >> self.layout.active[at].1 != 0 {
+            return Err(Narrow::Part(at));
+        }
+        if u64::from(next.shared) >> self.layout.shared != 0 {
+            return Err(Narrow::Shared);
+        }
+        let (own, all) = (self.fields[at], self.fields[self.layout.active.len()]);
+        let differs =
+            W::of(u64::from(part ^ next.part)) << own.shift | W::of(u64::from(shared ^ next.shared)) << all.shift;
+        Ok(Edge { differs, shared: next.shared, turn: self.edges.turn, leads: Leads::On })
+    }
+
+    /// A state is come to, by a worker's entry, with so many changes.
+    #[inline(always)]
+    fn find(&mut self, key: W, shared: u32, by: usize, changes: u64, most: usize) -> Result<(), Cut> {
+        let colour = W::of(OPEN[self.layers.len() % 2]);
+        let bit = W::of(1 << by) << (COLOUR + self.layout.changes);
+        let come_to = key << self.layout.noted() | colour | W::of(changes) << COLOUR | bit;
+        let place = self.table.find(shared, key);
+        let word = *place;
+        if word == W::ZERO {
+            if self.found.len() == most {
+                return Err(Cut::Most);
+            }
+            *place = come_to;
+            self.found.push(key << self.layout.noted());
+            self.table.filled(shared);
+        } else if word & W::of(3) == colour {
+            let fewest = (word >> COLOUR).low() & ((1 << self.layout.changes) - 1);
+            if changes < fewest {
+                *place = come_to;
+            } else if changes == fewest {
+                *place = word | bit;
             }
         }
         Ok(())
@@ -266,15 +362,13 @@ impl<W: Word> Search<W> {
         self.layers.push(self.found.len());
     }
 
-    /// Brings what is noted of states into `found`, from a place on.
+    /// Brings what is noted of states into `found`, from a place on, and these into the order of their shared words, whose number stands highest.
     fn settle(&mut self, from: usize, closes: bool) {
         let noted = self.layout.noted();
+        self.found[from..].sort_unstable();
         for at in from..self.found.len() {
-            if let Some(ahead) = self.found.get(at + AHEAD) {
-                self.table.prefetch((*ahead >> noted).hash_of());
-            }
             let key = self.found[at] >> noted;
-            let (_, place) = self.table.find(key, key.hash_of());
+            let place = self.table.find(self.shared_of(key), key);
             self.found[at] = *place;
             if closes {
                 *place = key << noted | W::of(CLOSED);
@@ -284,11 +378,21 @@ impl<W: Word> Search<W> {
 
     /// The same search in another layout; what is noted of the layer that is made stands in `found`.
     fn in_layout<V: Word>(self, layout: Layout) -> Search<V> {
-        let Search { layout: old, fields: old_fields, table, found, layers, tried, endings, reduced } = self;
-        drop(table);
+        let Search { layout: old, fields: old_fields, table, edges, found, layers, tried, endings, reduced } = self;
+        drop((table, edges));
         let fields = fields::<V>(&layout);
         let layer_end = layers[layers.len() - 1];
-        let mut search = Search { table: Table::new(layout.noted(), found.len()), layout, fields, found: Vec::with_capacity(found.len()), layers, tried, endings, reduced };
+        let mut search = Search {
+            table: Table::new(layout.noted()),
+            edges: Edges::new(&layout),
+            layout,
+            fields,
+            found: Vec::with_capacity(found.len()),
+            layers,
+            tried,
+            endings,
+            reduced,
+        };
         let (changes, workers) = ((1u64 << old.changes) - 1, ((1u128 << old.active.len()) - 1) as u64);
         for word in found {
             let mut key = V::ZERO;
@@ -301,14 +405,11 @@ impl<W: Word> Search<W> {
         }
         let noted = search.layout.noted();
         for at in 0..search.found.len() {
-            if let Some(ahead) = search.found.get(at + AHEAD) {
-                search.table.prefetch((*ahead >> noted).hash_of());
-            }
             let word = search.found[at];
             let key = word >> noted;
-            let (part, place) = search.table.find(key, key.hash_of());
-            *place = if at < layer_end { key << noted | V::of(CLOSED) } else { word };
-            search.table.filled(part);
+            let shared = search.shared_of(key);
+            *search.table.find(shared, key) = if at < layer_end { key << noted | V::of(CLOSED) } else { word };
+            search.table.filled(shared);
         }
         search
     }
@@ -320,7 +421,9 @@ impl<W: Word> Search<W> {
         self.layers.push(self.found.len());
         // what was found and not tried yet may have ended all calls, and then there is nothing to try
         let ends: Vec<usize> = (self.tried..self.found.len()).filter(|at| self.is_end(world, *at)).collect();
-        self.ended(world, &ends);
+        for at in ends {
+            self.ended(world, at);
+        }
         Stop::Short
     }
 
@@ -329,28 +432,39 @@ impl<W: Word> Search<W> {
         self.layout.active.iter().enumerate().all(|(at, (worker, _))| world.is_done(*worker, self.part_of(key, at)))
     }
 
-    /// Notes the endings of states, but for those that are not tried yet after a stop.
-    fn ended(&mut self, world: &World, ends: &[usize]) {
-        for at in ends.iter().copied() {
-            let entries = self.layers.partition_point(|begins| *begins <= at) - 1;
-            let word = self.found[at];
-            let key = word >> self.layout.noted();
-            let answers: Vec<u32> = self.layout.active.iter().enumerate().map(|(at, (worker, _))| world.answers_number(*worker, self.part_of(key, at))).collect();
-            let (shared, changes, last) = (self.shared_of(key), self.changes_of(word), self.last_of(word));
-            let rank = |search: &Search<W>, place: usize| search.last_of(search.found[place]).leading_zeros();
-            match self.endings.get(&answers) {
-                // of equal ones that whose last worker has the highest number: then schedules begin with the lowest
-                Some(known) if known.entries < entries || known.changes < changes || known.changes == changes && rank(self, known.last) <= last.leading_zeros() => {
-                    self.endings.get_mut(&answers).expect("it is there").shared.insert(shared);
-                }
-                Some(_) => {
-                    let known = self.endings.get_mut(&answers).expect("it is there");
-                    known.shared.insert(shared);
-                    (known.changes, known.last) = (changes, at);
-                }
-                None => {
-                    self.endings.insert(answers.clone(), Ending { answers, entries, changes, last: at, shared: HashSet::from([shared]) });
-                }
+    /// Notes the ending of a state that ends all calls.
+    fn ended(&mut self, world: &World, at: usize) {
+        let entries = self.layers.partition_point(|begins| *begins <= at) - 1;
+        let word = self.found[at];
+        let key = word >> self.layout.noted();
+        let answers: Vec<u32> = self
+            .layout
+            .active
+            .iter()
+            .enumerate()
+            .map(|(at, (worker, _))| world.answers_number(*worker, self.part_of(key, at)))
+            .collect();
+        let (shared, changes, last) = (self.shared_of(key), self.changes_of(word), self.last_of(word));
+        let rank = |search: &Search<W>, place: usize| search.last_of(search.found[place]).leading_zeros();
+        match self.endings.get(&answers) {
+            // of equal ones that whose last worker has the highest number: then schedules begin with the lowest
+            Some(known)
+                if known.entries < entries
+                    || known.changes < changes
+                    || known.changes == changes && rank(self, known.last) <= last.leading_zeros() =>
+            {
+                self.endings.get_mut(&answers).expect("it is there").shared.insert(shared);
+            }
+            Some(_) => {
+                let known = self.endings.get_mut(&answers).expect("it is there");
+                known.shared.insert(shared);
+                (known.changes, known.last) = (changes, at);
+            }
+            None => {
+                self.endings.insert(
+                    answers.clone(),
+                    Ending { answers, entries, changes, last: at, shared: HashSet::from([shared]) },
+                );
             }
         }
     }
@@ -439,10 +553,14 @@ impl<W: Word> Search<W> {
             let mut waits: Vec<Vec<u64>> = ending.shared.iter().map(|shared| world.contents(*shared)).collect();
             waits.sort();
             waits.dedup();
-            endings.push((Found { answers, acts: ending.entries - begins, changes: ending.changes, waits, schedule: None }, ending));
+            endings.push((
+                Found { answers, acts: ending.entries - begins, changes: ending.changes, waits, schedule: None },
+                ending,
+            ));
         }
         endings.sort_by_key(|(found, _)| {
-            let answers: Vec<Vec<(usize, u64)>> = found.answers.iter().map(|answers| answers.iter().map(|answer| rank_of(*answer)).collect()).collect();
+            let answers: Vec<Vec<(usize, u64)>> =
+                found.answers.iter().map(|answers| answers.iter().map(|answer| rank_of(*answer)).collect()).collect();
             (found.acts, found.changes, answers)
         });
         let chosen: Vec<usize> = match wanted {
@@ -455,7 +573,13 @@ impl<W: Word> Search<W> {
         for (at, schedule) in chosen.into_iter().zip(schedules) {
             endings[at].0.schedule = Some(schedule);
         }
-        Outcome { states, left, is_complete: stop == Stop::Complete, steps: world.steps, endings: endings.into_iter().map(|(found, _)| found).collect() }
+        Outcome {
+            states,
+            left,
+            is_complete: stop == Stop::Complete,
+            steps: world.steps,
+            endings: endings.into_iter().map(|(found, _)| found).collect(),
+        }
     }
 }
 
@@ -519,7 +643,13 @@ pub struct Outcome {
 }
 
 /// Searches, with at most so many states, until `goes_on` says no: it is told how many were found and how many of these tried.
-pub fn search(world: &mut World, reduced: bool, most: usize, wanted: Wanted, goes_on: &mut dyn FnMut(usize, usize) -> bool) -> Outcome {
+pub fn search(
+    world: &mut World,
+    reduced: bool,
+    most: usize,
+    wanted: Wanted,
+    goes_on: &mut dyn FnMut(usize, usize) -> bool,
+) -> Outcome {
     enum Either {
         Short(Search<u64>),
         Long(Search<u128>),
@@ -529,7 +659,11 @@ pub fn search(world: &mut World, reduced: bool, most: usize, wanted: Wanted, goe
         // each of these workers has three places at least: no memory has room for the search
         return Outcome { states: 1, left: 1, is_complete: false, steps: 0, endings: vec![] };
     }
-    let mut search = if layout.bits() <= u64::BITS { Either::Short(Search::new(layout, reduced)) } else { Either::Long(Search::new(layout, reduced)) };
+    let mut search = if layout.bits() <= u64::BITS {
+        Either::Short(Search::new(layout, reduced))
+    } else {
+        Either::Long(Search::new(layout, reduced))
+    };
     loop {
         search = match search {
             Either::Short(mut search) => match search.run(world, most, goes_on) {

@@ -5,7 +5,8 @@ use fernmoldew::{Answer, Call};
 use std::fmt;
 
 /// The names of calls and acts, in the order of their codes.
-pub const NAMES: [&str; 10] = ["push", "force_push", "pop", "len", "is_empty", "is_full", "close", "is_closed", "act", "fail"];
+pub const NAMES: [&str; 10] =
+    ["push", "force_push", "pop", "len", "is_empty", "is_full", "close", "is_closed", "act", "fail"];
 pub const ACT: u64 = 8;
 pub const FAIL: u64 = 9;
 
@@ -93,14 +94,20 @@ impl<'a> Line<'a> {
     }
 
     pub fn take_number(&mut self, expected: &str) -> Result<u64, Fault> {
-        let word = self.peek().filter(|word| word.bytes().all(|byte| byte.is_ascii_digit())).ok_or_else(|| self.fault(expected))?;
+        let word = self
+            .peek()
+            .filter(|word| word.bytes().all(|byte| byte.is_ascii_digit()))
+            .ok_or_else(|| self.fault(expected))?;
         let number = word.parse().map_err(|_| self.fault("a number that does not fit 64 bits"))?;
         self.next += 1;
         Ok(number)
     }
 
     pub fn take_worker(&mut self) -> Result<u64, Fault> {
-        let digits = self.peek().and_then(|word| word.strip_prefix('w')).filter(|digits| !digits.is_empty() && digits.bytes().all(|byte| byte.is_ascii_digit()));
+        let digits = self
+            .peek()
+            .and_then(|word| word.strip_prefix('w'))
+            .filter(|digits| !digits.is_empty() && digits.bytes().all(|byte| byte.is_ascii_digit()));
         let digits = digits.ok_or_else(|| self.fault(WORKER))?;
         match digits.parse() {
             Ok(number) if number <= MOST_WORKER => {
@@ -120,7 +127,10 @@ impl<'a> Line<'a> {
 
     /// A call's or an act's name and what belongs to it: the code, the item, how often.
     pub fn take_what(&mut self, expected: &str) -> Result<(u64, u64, u64), Fault> {
-        let code = self.peek().and_then(|word| NAMES.iter().position(|name| *name == word)).ok_or_else(|| self.fault(expected))? as u64;
+        let code = self
+            .peek()
+            .and_then(|word| NAMES.iter().position(|name| *name == word))
+            .ok_or_else(|| self.fault(expected))? as u64;
         self.next += 1;
         match code {
             0 | 1 => Ok((code, self.take_number(ITEM)?, 1)),
@@ -151,7 +161,11 @@ pub struct Head {
 }
 
 /// The head, from a text's lines: those that are read are gone. `end` is what a text that is over is told at.
-pub fn head<'a>(lines: &mut impl Iterator<Item = Line<'a>>, has_capacity: bool, end: (usize, usize)) -> Result<Head, Fault> {
+pub fn head<'a>(
+    lines: &mut impl Iterator<Item = Line<'a>>,
+    has_capacity: bool,
+    end: (usize, usize),
+) -> Result<Head, Fault> {
     let mut one = |name: &str| -> Result<u64, Fault> {
         let expected = format!("expected: {name} and a number");
         let Some(mut line) = lines.find(|line| !line.is_done()) else {

@@ -44,7 +44,9 @@ impl Memo {
     #[inline]
     fn slot(&self, key: u64) -> usize {
         let mask = self.slots.len() - 1;
-        let mut at = (key.wrapping_mul(0x9E37_79B9_7F4A_7C15) >> self.shift) as usize;
+        // of one shared number all stand close together
+        let mut at =
+            ((key >> 32).wrapping_mul(0x9E37_79B9_7F4A_7C15) >> self.shift) as usize + (key & 0xFFFF_FFFF) as usize;
         loop {
             let found = self.slots[at & mask].0;
             if found == key || found == UNKNOWN {
@@ -141,7 +143,13 @@ impl World {
         world.shared_number(from.shared());
         for (worker, calls) in calls.iter().enumerate() {
             let first = Part { place: from.place(worker), begun: 0, answers: 0 };
-            world.workers.push(Worker { calls: calls.clone(), parts: vec![first], numbers: HashMap::from([(first, 0)]), plain: Memo::new(), losing: Memo::new() });
+            world.workers.push(Worker {
+                calls: calls.clone(),
+                parts: vec![first],
+                numbers: HashMap::from([(first, 0)]),
+                plain: Memo::new(),
+                losing: Memo::new(),
+            });
         }
         Ok(world)
     }
@@ -301,7 +309,8 @@ impl World {
             let Next { shared, part } = next_of(known);
             return Some((shared, self.places[part as usize]));
         }
-        let left = self.step(shared, place, if losing { fernmoldew::losing_entry(0) } else { fernmoldew::act_entry(0) });
+        let left =
+            self.step(shared, place, if losing { fernmoldew::losing_entry(0) } else { fernmoldew::act_entry(0) });
         let value = left.map_or(NONE, |(shared, place)| key_of(shared, self.place_number(place)));
         self.taken[usize::from(losing)].put(key, value);
         left
@@ -356,7 +365,12 @@ fn alone_places(queue: Queue) -> Result<Vec<u64>, Refusal> {
     const ITEM: u64 = 1;
     let ways: &[(bool, Call, usize)] = match queue {
         Queue::Ring(_) => &[(false, Call::Push(ITEM), 3), (true, Call::ForcePush(ITEM), 4), (true, Call::Pop, 3)],
-        Queue::OneSlot => &[(false, Call::Push(ITEM), 1), (false, Call::ForcePush(ITEM), 1), (true, Call::ForcePush(ITEM), 2), (true, Call::Pop, 1)],
+        Queue::OneSlot => &[
+            (false, Call::Push(ITEM), 1),
+            (false, Call::ForcePush(ITEM), 1),
+            (true, Call::ForcePush(ITEM), 2),
+            (true, Call::Pop, 1),
+        ],
     };
     let mut codes = vec![];
     for (is_full, call, acts) in ways {

@@ -42,48 +42,10 @@ pub mod walk;
 pub mod walks;
 pub mod window;
 
-use std::ops::{Deref, DerefMut};
-
-/// As in the crate's lib.rs: makes the given function const if the given condition is true.
-macro_rules! const_fn {
-    (
-        const_if: #[cfg($($cfg:tt)+)];
-        $(#[$($attr:tt)*])*
-        $vis:vis const fn $($rest:tt)*
-    ) => {
-        #[cfg($($cfg)+)]
-        $(#[$($attr)*])*
-        $vis const fn $($rest)*
-        #[cfg(not($($cfg)+))]
-        $(#[$($attr)*])*
-        $vis fn $($rest)*
-    };
-}
-
-pub(crate) use const_fn;
-
 /// Stands for `crossbeam_utils::CachePadded`. Padding is about speed alone.
 pub struct CachePadded<T>(T);
 
-impl<T> CachePadded<T> {
-    pub const fn new(value: T) -> Self {
-        CachePadded(value)
-    }
-}
-
-impl<T> Deref for CachePadded<T> {
-    type Target = T;
-
-    fn deref(&self) -> &T {
-        &self.0
-    }
-}
-
-impl<T> DerefMut for CachePadded<T> {
-    fn deref_mut(&mut self) -> &mut T {
-        &mut self.0
-    }
-}
+include!("alike.rs");
 
 /// Why a push failed, as in the crate's lib.rs.
 pub enum PushError<T> {

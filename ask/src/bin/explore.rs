@@ -49,7 +49,7 @@ all can be written, 3 not complete.
   --help        prints this
 ";
 
-/// At 44 bytes each, as words of 128 bits have them, they are below 2 GB.
+/// At some 50 bytes each, as words of 128 bits have them, they fit 2 GB (GiB).
 const MOST_STATES: u64 = 40_000_000;
 
 struct Options {
@@ -67,7 +67,15 @@ fn options(words: Vec<OsString>) -> Result<Option<Options>, Told> {
         return Ok(None);
     }
     let mut words = Arguments::new(words);
-    let mut options = Options { queue: Queue::Ring(Edition::Source), edition: 1, reduced: false, states: MOST_STATES, json: false, ending: None, file: None };
+    let mut options = Options {
+        queue: Queue::Ring(Edition::Source),
+        edition: 1,
+        reduced: false,
+        states: MOST_STATES,
+        json: false,
+        ending: None,
+        file: None,
+    };
     let mut rings_own: Option<OsString> = None;
     while let Some(word) = words.take() {
         match word.to_str() {
@@ -76,7 +84,9 @@ fn options(words: Vec<OsString>) -> Result<Option<Options>, Told> {
                 options.queue = match name.to_str() {
                     Some("bounded") => Queue::Ring(Edition::Source),
                     Some("single") => Queue::OneSlot,
-                    Some("unbounded") => return Err(told("--queue unbounded: the library that it is made over has no unbounded queue")),
+                    Some("unbounded") => {
+                        return Err(told("--queue unbounded: the library that it is made over has no unbounded queue"))
+                    }
                     _ => return Err(no_use(&name)),
                 };
             }
@@ -88,7 +98,9 @@ fn options(words: Vec<OsString>) -> Result<Option<Options>, Told> {
                 let name = words.value(&word)?;
                 match name.to_str() {
                     Some("64") => {}
-                    Some("16") => return Err(told("--bits 16: the library that it is made over has no ring of sixteen bits")),
+                    Some("16") => {
+                        return Err(told("--bits 16: the library that it is made over has no ring of sixteen bits"))
+                    }
                     _ => return Err(no_use(&name)),
                 }
                 rings_own.get_or_insert(word);
@@ -159,7 +171,11 @@ fn asked(machine: &Machine, entries: &[[u64; 2]], calls: &[Vec<Call>]) -> Vec<Ve
         .iter()
         .enumerate()
         .map(|(worker, calls)| {
-            let begun = entries.iter().rev().find(|entry| entry[0] / 16 == worker as u64 && entry[0] % 16 < ACT).and_then(|entry| call_of(entry[0] % 16, entry[1]));
+            let begun = entries
+                .iter()
+                .rev()
+                .find(|entry| entry[0] / 16 == worker as u64 && entry[0] % 16 < ACT)
+                .and_then(|entry| call_of(entry[0] % 16, entry[1]));
             begun.filter(|_| machine.busy(worker)).into_iter().chain(calls.iter().copied()).collect()
         })
         .collect()
@@ -194,7 +210,13 @@ impl Report<'_> {
         let so_far = if self.outcome.is_complete { "" } else { " so far" };
         // a reduced search, or one that was broken off, has not tried every schedule of so few acts
         let at_most = if self.options.reduced || !self.outcome.is_complete { "at most " } else { "" };
-        format!("ending {} of {}{so_far}: {}, {at_most}{} of worker", at + 1, self.outcome.endings.len(), counted(*acts as u64, "act"), counted(*changes, "change"))
+        format!(
+            "ending {} of {}{so_far}: {}, {at_most}{} of worker",
+            at + 1,
+            self.outcome.endings.len(),
+            counted(*acts as u64, "act"),
+            counted(*changes, "change")
+        )
     }
 
     /// What each call answered, and what waits, a line each.
@@ -205,15 +227,29 @@ impl Report<'_> {
             .iter()
             .zip(&found.answers)
             .enumerate()
-            .flat_map(|(worker, (calls, answers))| calls.iter().zip(answers).map(move |(call, answer)| (worker, call_in_words(*call), answer_in_words(*answer))))
+            .flat_map(|(worker, (calls, answers))| {
+                calls
+                    .iter()
+                    .zip(answers)
+                    .map(move |(call, answer)| (worker, call_in_words(*call), answer_in_words(*answer)))
+            })
             .collect();
         let width = calls.iter().map(|call| call.1.len()).max().unwrap_or(0);
         let digits = calls.last().map_or(1, |call| call.0.to_string().len());
-        let mut lines: Vec<String> = calls.iter().map(|(worker, call, answer)| format!("w{worker:<digits$}  {call:<width$}   {answer}")).collect();
+        let mut lines: Vec<String> = calls
+            .iter()
+            .map(|(worker, call, answer)| format!("w{worker:<digits$}  {call:<width$}   {answer}"))
+            .collect();
         let waits: Vec<String> = found
             .waits
             .iter()
-            .map(|items| if items.is_empty() { "nothing".into() } else { items.iter().map(u64::to_string).collect::<Vec<_>>().join(" ") })
+            .map(|items| {
+                if items.is_empty() {
+                    "nothing".into()
+                } else {
+                    items.iter().map(u64::to_string).collect::<Vec<_>>().join(" ")
+                }
+            })
             .collect();
         lines.push(format!("waits {}", waits.join(", or ")));
         lines
@@ -271,7 +307,11 @@ impl Report<'_> {
             format!("{{\"answers\": {answers}, \"acts\": {}, \"changes\": {}, \"waits\": {waits}, \"schedule\": {schedule}}}", found.acts, found.changes)
         });
         let Outcome { states, left, is_complete, .. } = self.outcome;
-        let more = format!("{}{}", if self.options.reduced { "\"reduced\": true, " } else { "" }, if *is_complete { String::new() } else { format!("\"left\": {left}, ") });
+        let more = format!(
+            "{}{}",
+            if self.options.reduced { "\"reduced\": true, " } else { "" },
+            if *is_complete { String::new() } else { format!("\"left\": {left}, ") }
+        );
         format!("{{\"states\": {states}, \"complete\": {is_complete}, {more}\"endings\": {}}}\n", json::list(endings))
     }
 }
@@ -318,10 +358,12 @@ fn explore(words: Vec<OsString>) -> Result<u8, Told> {
     };
     let text = manners::input(options.file.as_deref())?;
     let name = manners::name_of(options.file.as_deref());
-    let scenario = scenario::read(&text, options.queue != Queue::OneSlot).map_err(|fault| told(format!("{name}: {fault}")))?;
+    let scenario =
+        scenario::read(&text, options.queue != Queue::OneSlot).map_err(|fault| told(format!("{name}: {fault}")))?;
     let (machine, before) = made(options.queue, &scenario)?;
     let asked = asked(&machine, &before, &scenario.calls);
-    let mut world = World::new(options.queue, scenario.head.capacity.unwrap_or(1), &machine, &scenario.calls).map_err(|refusal| refused(refusal, None))?;
+    let mut world = World::new(options.queue, scenario.head.capacity.unwrap_or(1), &machine, &scenario.calls)
+        .map_err(|refusal| refused(refusal, None))?;
     let wanted = match options.ending {
         _ if options.json => Wanted::All,
         Some(number) => Wanted::One(usize::try_from(number).unwrap_or(usize::MAX)),
@@ -329,7 +371,13 @@ fn explore(words: Vec<OsString>) -> Result<u8, Told> {
     };
     interrupts::catch();
     let mut watch = Watch::new();
-    let outcome = search::search(&mut world, options.reduced, usize::try_from(options.states).unwrap_or(usize::MAX), wanted, &mut |states, tried| watch.goes_on(states, tried));
+    let outcome = search::search(
+        &mut world,
+        options.reduced,
+        usize::try_from(options.states).unwrap_or(usize::MAX),
+        wanted,
+        &mut |states, tried| watch.goes_on(states, tried),
+    );
     watch.done();
     let report = Report { options: &options, scenario: &scenario, asked: &asked, before: &before, outcome: &outcome };
     for at in 0..outcome.endings.len() {
@@ -345,7 +393,10 @@ fn explore(words: Vec<OsString>) -> Result<u8, Told> {
                     1 => ", only 1".into(),
                     _ => format!(", only 1 to {count}"),
                 };
-                return Err(Told { status: if outcome.is_complete { manners::REFUSED } else { status }, line: format!("there is no ending {number}{which}") });
+                return Err(Told {
+                    status: if outcome.is_complete { manners::REFUSED } else { status },
+                    line: format!("there is no ending {number}{which}"),
+                });
             }
             manners::output(&report.ending(number as usize - 1))?;
             if !outcome.is_complete {
@@ -376,7 +427,11 @@ fn hold(report: &Report, at: usize) -> Result<(), Told> {
     }
     let changes = schedule.windows(2).filter(|pair| pair[0][0] / 16 != pair[1][0] / 16).count() as u64;
     let waits = machine.contents().ok();
-    if answers != found.answers || acts != found.acts || changes != found.changes || !waits.is_some_and(|waits| found.waits.contains(&waits)) {
+    if answers != found.answers
+        || acts != found.acts
+        || changes != found.changes
+        || !waits.is_some_and(|waits| found.waits.contains(&waits))
+    {
         return Err(told("a schedule that it found ends otherwise than it was found to end"));
     }
     Ok(())

@@ -139,38 +139,20 @@ fn from_nowhere_or_twice(log: &Log) -> Option<Shown> {
         *out += 1;
         let (begun, out) = (*begun, *out);
         let own = (call.item() == Some(item)) as u32;
-        let refused = |kept: &mut Vec<u32>| {
-            kept.extend(log.known().into_iter().filter(|other| {
-                let other = &log.calls[*other as usize];
-                other.item() == Some(item) && other.refused() && other.begin < call.end
-            }))
+        let (row, mut by, why) = if begun == own {
+            (1, vec![at as u32], format!("nobody had begun to hand in {item} by then"))
+        } else if out > begun {
+            let handed_out = |other: &Seen| other.out() == Some(item) && other.end <= call.end;
+            let by = log.known().into_iter().filter(|other| handed_out(&log.calls[*other as usize])).collect();
+            (2, by, format!("{item} was handed out {out} times by then, and handed in {begun} times at most"))
+        } else {
+            continue;
         };
-        if begun == own {
-            let mut by = vec![at as u32];
-            refused(&mut by);
-            return Some(Shown {
-                row: 1,
-                at: at as u32,
-                by,
-                why: format!("nobody had begun to hand in {item} by then"),
-            });
-        }
-        if out > begun {
-            let mut by: Vec<u32> = log
-                .known()
-                .into_iter()
-                .filter(|other| {
-                    log.calls[*other as usize].out() == Some(item) && log.calls[*other as usize].end <= call.end
-                })
-                .collect();
-            refused(&mut by);
-            return Some(Shown {
-                row: 2,
-                at: at as u32,
-                by,
-                why: format!("{item} was handed out {out} times by then, and handed in {begun} times at most"),
-            });
-        }
+        by.extend(log.known().into_iter().filter(|other| {
+            let other = &log.calls[*other as usize];
+            other.item() == Some(item) && other.refused() && other.begin < call.end
+        }));
+        return Some(Shown { row, at: at as u32, by, why });
     }
     None
 }

@@ -24,52 +24,16 @@ mod unbounded {
 
 use std::cell::UnsafeCell;
 use std::io::{self, BufWriter, Write};
-use std::ops::{Deref, DerefMut};
 use std::sync::atomic::{AtomicUsize, Ordering};
 use std::sync::{Arc, Barrier};
 use std::time::{Duration, Instant};
 use std::{env, process, thread};
 
-/// As in the crate's lib.rs.
-macro_rules! const_fn {
-    (
-        const_if: #[cfg($($cfg:tt)+)];
-        $(#[$($attr:tt)*])*
-        $vis:vis const fn $($rest:tt)*
-    ) => {
-        #[cfg($($cfg)+)]
-        $(#[$($attr)*])*
-        $vis const fn $($rest)*
-        #[cfg(not($($cfg)+))]
-        $(#[$($attr)*])*
-        $vis fn $($rest)*
-    };
-}
-
-pub(crate) use const_fn;
-
 /// `crossbeam_utils::CachePadded`: on a line of its own.
 #[repr(align(128))]
 pub struct CachePadded<T>(T);
 
-impl<T> CachePadded<T> {
-    pub const fn new(value: T) -> Self {
-        CachePadded(value)
-    }
-}
-
-impl<T> Deref for CachePadded<T> {
-    type Target = T;
-    fn deref(&self) -> &T {
-        &self.0
-    }
-}
-
-impl<T> DerefMut for CachePadded<T> {
-    fn deref_mut(&mut self) -> &mut T {
-        &mut self.0
-    }
-}
+include!("../../src/alike.rs");
 
 // As in the crate's lib.rs.
 pub enum PushError<T> {
