@@ -100,6 +100,7 @@ fn with_refusal(
         text_output::flush(out, p.at)
     };
     if at != text_output::LOST {
+        let answers = p.answers;
         replay_refusals::tell(
             name,
             fd,
@@ -110,6 +111,7 @@ fn with_refusal(
             p.place,
             crate::queue::before(o),
             o.edition,
+            &answers,
         );
     }
     at
