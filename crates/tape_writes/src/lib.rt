@@ -223,12 +223,17 @@ fn is_of_entry(w: Work) -> bool {
     w.capacity < 65536 && w.workers < 65536
 }
 
-fn tell_entry(w: Work, from: i32, name: &[u8], text: &[u8], n: usize) {
+fn first(text: &[u8], n: usize) -> &[u8] {
+    if n <= text.len() {
+        return &text[..n];
+    }
+    text
+}
+
+fn tell_entry(w: Work, from: i32, name: &[u8], why: &[u8]) {
     let due = replay_input::source::sum_of(w.reading);
     let begun = replay_input::source::begun(false, 0, 1, 0, text_sums::start(), due);
-    if n <= text.len() {
-        replay_refusals::tell_of(name, from, begun, w.place, &text[..n]);
-    }
+    replay_refusals::tell_of(name, from, begun, w.place, why)
 }
 
 // An entry with its line in the file.
@@ -236,7 +241,7 @@ fn tell_refused(w: Work, from: i32, name: &[u8]) {
     if is_of_entry(w) {
         let mut text = [0u8; 512];
         let n = tape_files::say::put_entry(&mut text, w.number, w.place);
-        return tell_entry(w, from, name, &text, n);
+        return tell_entry(w, from, name, first(&text, n));
     }
     tape_files::say::refused_schedule(w.number, w.place, w.capacity, w.workers)
 }

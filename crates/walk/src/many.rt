@@ -45,6 +45,10 @@ fn asked(o: Options, fd: i32, due: Sum) -> Asked {
     }
 }
 
+fn answers_in(m: [u64; bounded_text_words::WORDS]) -> [u64; replay_survey::answers::WORDS] {
+    replay_survey::answers::in_records(&m[bounded_text_words::RECORDS..bounded_text_words::WORDS])
+}
+
 // What is refused of an entry is told with its line, below; one of many here too, in its place.
 fn refused(out: &mut [u8], at: usize, many: bool, refusal: u64, place: u64) -> usize {
     if !many && replay_refusals::is_of_entry(refusal) {
@@ -60,23 +64,46 @@ fn play(o: Options, fd: i32, begun: Reading, whole: Whole, out: &mut [u8], at: u
     }
     let m = l.words;
     if l.refusal != 0 {
-        let records = &m[bounded_text_words::RECORDS..bounded_text_words::WORDS];
-        let answers = replay_survey::answers::in_records(records);
         return Played {
             at: refused(out, l.at, o.many, l.refusal, l.place),
             refused: true,
             refusal: l.refusal,
             place: l.place,
-            answers: answers,
+            answers: answers_in(m),
         };
     }
     walk_play::tell::walk(out, l.at, asked(o, fd, begun.due), m)
 }
 
+// A function of its own, since the check of a slice looks for its length among all that is in hand.
+fn tell_refused(
+    name: &[u8],
+    fd: i32,
+    many: bool,
+    begun: Reading,
+    whole: Whole,
+    refusal: u64,
+    place: u64,
+    edition: u64,
+    answers: [u64; replay_survey::answers::WORDS],
+) {
+    replay_refusals::tell(
+        name,
+        fd,
+        many,
+        begun,
+        whole,
+        refusal,
+        place,
+        0,
+        edition,
+        &answers,
+    )
+}
+
 fn tell_entry(o: Options, fd: i32, name: &[u8], begun: Reading, whole: Whole, p: Played) {
-    let answers = p.answers;
     if replay_refusals::is_of_entry(p.refusal) {
-        replay_refusals::tell(
+        tell_refused(
             name,
             fd,
             o.many,
@@ -84,9 +111,8 @@ fn tell_entry(o: Options, fd: i32, name: &[u8], begun: Reading, whole: Whole, p:
             whole,
             p.refusal,
             p.place,
-            0,
             o.edition,
-            &answers,
+            p.answers,
         );
     }
 }
