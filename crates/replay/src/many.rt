@@ -127,6 +127,7 @@ fn with_refusal(
         text_output::flush(out, p.at)
     };
     if at != text_output::LOST {
+        let answers = p.answers;
         tell_refused(
             name,
             fd,
@@ -137,7 +138,7 @@ fn with_refusal(
             p.place,
             crate::queue::before(o),
             o.edition,
-            p.answers,
+            answers,
         );
     }
     at

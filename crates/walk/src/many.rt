@@ -64,12 +64,13 @@ fn play(o: Options, fd: i32, begun: Reading, whole: Whole, out: &mut [u8], at: u
     }
     let m = l.words;
     if l.refusal != 0 {
+        let answers = answers_in(m);
         return Played {
             at: refused(out, l.at, o.many, l.refusal, l.place),
             refused: true,
             refusal: l.refusal,
             place: l.place,
-            answers: answers_in(m),
+            answers: answers,
         };
     }
     walk_play::tell::walk(out, l.at, asked(o, fd, begun.due), m)
@@ -103,6 +104,7 @@ fn tell_refused(
 
 fn tell_entry(o: Options, fd: i32, name: &[u8], begun: Reading, whole: Whole, p: Played) {
     if replay_refusals::is_of_entry(p.refusal) {
+        let answers = p.answers;
         tell_refused(
             name,
             fd,
@@ -112,7 +114,7 @@ fn tell_entry(o: Options, fd: i32, name: &[u8], begun: Reading, whole: Whole, p:
             p.refusal,
             p.place,
             o.edition,
-            p.answers,
+            answers,
         );
     }
 }
