@@ -196,6 +196,7 @@ def explained(numbers, edition=1, bits=64, lent=False, follow=None):
     if refusal:
         return lines + [refused(place, refusal)], True
     life, claims, history, differed, failed = Life(follow), Claims(), [], 0, 0
+    window = paper.Window(machine.ring) if bits == 16 else None
     for place, (first, item) in enumerate(zip(words[::2], words[1::2])):
         w, code = divmod(first, 16)
         refusal, after = paper.step(machine, first, item)
@@ -214,5 +215,7 @@ def explained(numbers, edition=1, bits=64, lent=False, follow=None):
             told = line(place, w, name_of(stood.place), sentence(w, stood, stands, machine.ring, after.ring, claim and claim[1]), because(paper.causes(history)) or lap)
         if follow is None or it:
             lines.append(told)
+        if window and code >= 8 and window.leaves(w, stood, stands):
+            lines.append(f'left the window at entry {place}')
         machine = after
     return lines + unmet(life) + ends(machine, claims.made, differed, failed), refusal != 0

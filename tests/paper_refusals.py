@@ -1,7 +1,11 @@
-"""A second reading of what replay says on standard error of a refused schedule: docs/GUIDE.md, "A refused entry", told from the schedule's text, and from none of the crates."""
+"""A second reading of what replay, walk and tape say on standard error of a refused schedule: docs/GUIDE.md, "A refused entry", told from the schedule's text, and from none
+of the crates. What a worker answered before is what the paper's machines answer."""
 
 import re
 
+import paper
+import paper_single
+import paper_unbounded
 from paper_entries import CALLS
 from paper_explain import REFUSED
 
@@ -26,6 +30,12 @@ def in_lines(out):
             found.append(refused)
             refused = 0, 0
     return found if out.endswith('%\n') else [refused]
+
+
+def in_walk(text):
+    """The same of what walk's judge prints of one schedule or of many; of a refusal of no entry (0, 0)."""
+    entries = [re.search(r'^refused (\d+): entry (\d+): ', part, re.M) for part in re.split(r'^%\n', text, flags=re.M)]
+    return [(int(entry[1]), int(entry[2])) if entry else (0, 0) for entry in entries]
 
 
 def shown(first, item):
@@ -61,18 +71,39 @@ def of_tape(numbers):
         yield None, f"entry {place}, '{shown(first, item)}'", first, item
 
 
-def besides(refusal, w, entries, place, workers):
+NUMBERED = ('Displaced', 'Popped', 'Len')
+
+
+def answered(queue, head, edition, entries, place, w):
+    """What the worker's last call answered when the entry at this place came."""
+    if queue == 'bounded':
+        run, (_, machine) = paper, paper.make(*head, edition, most=paper.MOST_LENT)
+    else:
+        run = {'single': paper_single, 'unbounded': paper_unbounded}[queue]
+        _, machine = run.make(*head)
+    for _, _, first, item in entries[:place]:
+        refusal, machine = run.step(machine, first, item)
+        assert refusal == 0
+    name, *number = machine.workers[w].answer
+    return ' '.join([name.lower(), *map(str, number if name in NUMBERED else ())])
+
+
+def besides(refusal, w, entries, place, workers, answer):
     if refusal == 3:
         return f': there are {workers}'
     own = [n for n, entry in enumerate(entries[:place]) if entry[2] // 16 == w]
     if refusal == 4:
         return f': with the call of entry {[n for n in own if entries[n][2] % 16 < 8][-1]}'
     if refusal == 5:
-        return f': it answered at entry {own[-1]}' if own else ': it has begun no call'
+        return f': it answered {answer()} at entry {own[-1]}' if own else ': it has begun no call'
     return ''
 
 
-def line_of(name, refusal, place, entries, head, edition):
+def where_of(name, line, what):
+    return f'{name if line is None else f"{name}:{line}"}: {what}: '
+
+
+def line_of(name, refusal, place, entries, head, edition, queue):
     """head is the capacity, of the ring alone, and the number of workers."""
     if refusal == 6:
         machine = ', '.join(f'{what} {number}' for what, number in zip(('capacity', 'workers', 'edition') if len(head) > 1 else ('workers',), (*head, edition)))
@@ -81,8 +112,8 @@ def line_of(name, refusal, place, entries, head, edition):
         return f'{name}: refused 11, {REFUSED[11]}\n'
     line, what, first, _ = entries[place]
     w = first // 16
-    where = name if line is None else f'{name}:{line}'
-    return f'{where}: {what}: refused {refusal}, {REFUSED[refusal].format(w=w)}{besides(refusal, w, entries, place, head[-1])}\n'
+    answer = lambda: answered(queue, head, edition, entries, place, w)
+    return f'{where_of(name, line, what)}refused {refusal}, {REFUSED[refusal].format(w=w)}{besides(refusal, w, entries, place, head[-1], answer)}\n'
 
 
 def schedules(text, many):
@@ -97,17 +128,30 @@ def schedules(text, many):
     yield some
 
 
-def said(name, text, refusals, many=False, before=0, edition=1):
-    """What is said of a text whose schedules were refused so; before: 1 of a queue without a capacity."""
-    told = ''
+def written(lines, before):
+    """What a schedule's first line or first numbers say, and its entries."""
+    is_in_words = lines[0][1][0][0].isalpha()
+    head = [int(words[-1]) for _, words in lines[:2 - before]] if is_in_words else [int(word) for _, words in lines for word in words][:2 - before]
+    return head, list((of_words if is_in_words else of_numbers)(lines, before))
+
+
+def said(name, text, refusals, many=False, queue='bounded', edition=1):
+    """What is said of a text whose schedules were refused so."""
+    told, before = '', int(queue != 'bounded')
     for lines, (refusal, place) in zip(schedules(text, many), refusals):
         if refusal:
-            is_in_words = lines[0][1][0][0].isalpha()
-            head = [int(words[-1]) for _, words in lines[:2 - before]] if is_in_words else [int(word) for _, words in lines for word in words][:2 - before]
-            entries = list((of_words if is_in_words else of_numbers)(lines, before))
-            told += line_of(name, refusal, place, entries, head, edition)
+            head, entries = written(lines, before)
+            told += line_of(name, refusal, place, entries, head, edition, queue)
     return told
 
 
-def said_of_tape(name, numbers, refusal, place, before=0, edition=1):
-    return line_of(name, refusal, place, list(of_tape(numbers)), numbers[before:2], edition) if refusal else ''
+def said_of_tape(name, numbers, refusal, place, queue='bounded', edition=1):
+    before = int(queue != 'bounded')
+    return line_of(name, refusal, place, list(of_tape(numbers)), numbers[before:2], edition, queue) if refusal else ''
+
+
+def said_by_tape(name, text, place, meaning):
+    """What tape write says of an entry that a tape can't carry; of an odd number of numbers there is none."""
+    _, entries = written(next(schedules(text, False)), 0)
+    line, what, *_ = entries[place]
+    return f'{where_of(name, line, what)}refused 17 at entry {place}: {meaning}\n'

@@ -81,6 +81,33 @@ fn one(o: Options, fd: i32, name: &[u8], from: Next, out: &mut [u8]) -> Next {
     replay_many::after(s, at, replay_many::worse(from.status, p.refused))
 }
 
+// A function of its own, since the check of a slice looks for its length among all that is in hand.
+fn tell_refused(
+    name: &[u8],
+    fd: i32,
+    many: bool,
+    begun: Reading,
+    whole: Whole,
+    refusal: u64,
+    place: u64,
+    before: usize,
+    edition: u64,
+    answers: [u64; replay_survey::answers::WORDS],
+) {
+    replay_refusals::tell(
+        name,
+        fd,
+        many,
+        begun,
+        whole,
+        refusal,
+        place,
+        before,
+        edition,
+        &answers,
+    )
+}
+
 // What is refused is told on standard error too, behind what was printed so far; of many the lines follow as they come.
 fn with_refusal(
     o: Options,
@@ -100,7 +127,8 @@ fn with_refusal(
         text_output::flush(out, p.at)
     };
     if at != text_output::LOST {
-        replay_refusals::tell(
+        let answers = p.answers;
+        tell_refused(
             name,
             fd,
             o.many,
@@ -110,6 +138,7 @@ fn with_refusal(
             p.place,
             crate::queue::before(o),
             o.edition,
+            answers,
         );
     }
     at

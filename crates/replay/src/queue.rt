@@ -94,12 +94,10 @@ pub fn play(
 ) -> Played {
     let queue = o.queue;
     if o.words {
-        return Played {
-            at: replay_words::tell(fd, o.many, begun, before(o), out, at),
-            refused: false,
-            refusal: 0,
-            place: 0,
-        };
+        return replay_survey::told(
+            replay_words::tell(fd, o.many, begun, before(o), out, at),
+            false,
+        );
     }
     if o.explain {
         return explained(o, fd, begun, whole, out, at);

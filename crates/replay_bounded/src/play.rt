@@ -109,7 +109,8 @@ fn finish(
     let q = tell_slots(out, p, head, slots);
     let t = contents(out, q, head, slots, records);
     let u = replay_bounded_lines::tell_counts(o, out, t, summary, because);
-    replay_survey::pieces::played(run, replay_survey::pieces::end(out, u, o.many))
+    let answers = replay_survey::answers::in_records(records);
+    replay_survey::pieces::played(run, replay_survey::pieces::end(out, u, o.many), answers)
 }
 
 fn play_on(

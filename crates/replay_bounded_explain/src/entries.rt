@@ -75,8 +75,10 @@ fn accepted(
         };
     }
     let causes = notes::noted(seen, records, c, e);
+    let p = told_if(shown, o, out, at, e, c, causes);
+    let q = notes::tell_window(seen, e, out, p);
     Going {
-        run: run_on(e.place, told_if(shown, o, out, at, e, c, causes)),
+        run: run_on(e.place, q),
         counts: notes::counted(c, e),
     }
 }

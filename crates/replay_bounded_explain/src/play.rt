@@ -106,7 +106,8 @@ fn finish(
 ) -> Played {
     let run = g.run;
     let p = tell_end(g, o, made, met, head, slots, records, out);
-    replay_survey::pieces::played(run, pieces::end(out, p, o.many))
+    let answers = replay_survey::answers::in_records(records);
+    replay_survey::pieces::played(run, pieces::end(out, p, o.many), answers)
 }
 
 // On a ring that was made, or refused by this number.

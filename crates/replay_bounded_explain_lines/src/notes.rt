@@ -22,6 +22,9 @@ pub struct Causes {
     pub hand: bool,
 }
 
+// The window's words stand first.
+const START: usize = replay_bounded_window::WORDS;
+
 // Of each worker: claims at its own end when it loaded or found a word, at the other end and whether another's hand was on a slot when it loaded a stamp, and whether
 // it is followed. Then of each slot: whether it has the item that is followed.
 const OWN: u64 = 0;
@@ -39,14 +42,14 @@ const WORKERS: u64 = 64;
 const SLOTS: u64 = 1024;
 
 // Last, whether it was followed at all.
-const MET: usize = 1280;
+const MET: usize = START + 1280;
 
-pub const NOTES: usize = 1281;
+pub const NOTES: usize = START + 1281;
 
 fn at_worker(w: u64, field: u64) -> usize {
     if w < WORKERS {
         if field < FIELDS {
-            return (w * FIELDS + field) as usize;
+            return START + (w * FIELDS + field) as usize;
         }
     }
     NOTES
@@ -54,7 +57,7 @@ fn at_worker(w: u64, field: u64) -> usize {
 
 fn at_slot(i: u64) -> usize {
     if i < SLOTS {
-        return (WORKERS * FIELDS + i) as usize;
+        return START + (WORKERS * FIELDS + i) as usize;
     }
     NOTES
 }
@@ -229,6 +232,15 @@ pub fn noted(notes: &mut [u64], records: &[u64], c: Counts, e: Entered) -> Cause
     let given = is_given(before[0], after[0]);
     put_if(given, notes, at_worker(w, OWN), own_of(c, before[0]));
     causes
+}
+
+// Behind the line of an entry that was accepted: whether it left the window of sixteen bits.
+pub fn tell_window(notes: &mut [u64], e: Entered, out: &mut [u8], at: usize) -> usize {
+    let ring = e.ring;
+    let before = e.before;
+    let after = e.after;
+    replay_bounded_window::after(notes, e.narrow, ring, e.first, 0, before, after);
+    replay_bounded_window::tell(out, at, notes, e.place)
 }
 
 fn up_if(n: u64, it: bool) -> u64 {

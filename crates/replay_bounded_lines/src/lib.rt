@@ -77,8 +77,9 @@ fn moment_if(asked: bool, out: &mut [u8], at: usize, a: Answers) -> usize {
 
 // left the window at entry N, behind the line of that entry
 fn window_if(asked: bool, out: &mut [u8], at: usize, a: Answers, place: u64) -> usize {
+    let window = a.window;
     if asked {
-        return replay_bounded_window::tell(out, at, a.window, place);
+        return replay_bounded_window::tell(out, at, &window, place);
     }
     at
 }

@@ -2,7 +2,6 @@
 use crate::Entered;
 use bounded_moments::Moment;
 use bounded_moments::Moments;
-use replay_bounded_window::Window;
 
 // Of the entry just run: it is an act that ends its call, and the moment of the answer.
 pub struct Ended {
@@ -14,7 +13,7 @@ pub struct Answers {
     pub moments: Moments,
     pub latest: Ended,
     // beyond it no answer has a moment
-    pub window: Window,
+    pub window: [u64; replay_bounded_window::WORDS],
 }
 
 fn not_ended() -> Ended {
@@ -29,11 +28,11 @@ pub fn none(capacity: u64) -> Answers {
     Answers {
         moments: bounded_moments::start(capacity),
         latest: not_ended(),
-        window: replay_bounded_window::start(),
+        window: [0; replay_bounded_window::WORDS],
     }
 }
 
-fn refused(a: Answers, window: Window) -> Answers {
+fn refused(a: Answers, window: [u64; replay_bounded_window::WORDS]) -> Answers {
     let moments = a.moments;
     Answers {
         moments: moments,
@@ -42,7 +41,7 @@ fn refused(a: Answers, window: Window) -> Answers {
     }
 }
 
-fn begun(a: Answers, window: Window) -> Answers {
+fn begun(a: Answers, window: [u64; replay_bounded_window::WORDS]) -> Answers {
     let moments = a.moments;
     let kept = bounded_moments::begun(moments);
     Answers {
@@ -53,7 +52,13 @@ fn begun(a: Answers, window: Window) -> Answers {
 }
 
 // One more act of worker w, from record to record.
-fn acted(a: Answers, window: Window, w: u64, before: [u64; 5], after: [u64; 5]) -> Answers {
+fn acted(
+    a: Answers,
+    window: [u64; replay_bounded_window::WORDS],
+    w: u64,
+    before: [u64; 5],
+    after: [u64; 5],
+) -> Answers {
     let moments = a.moments;
     let stood = bounded_codes::place_in(before[0], before[1], before[2]);
     let stands = bounded_codes::place_in(after[0], after[1], after[2]);
@@ -76,15 +81,8 @@ pub fn after(a: Answers, e: Entered, narrow: bool) -> Answers {
     let after = e.after;
     let kind = crate::kind_of(e);
     let ring = e.ring;
-    let window = replay_bounded_window::after(
-        a.window,
-        narrow,
-        ring,
-        e.first,
-        e.refusal,
-        before,
-        after,
-    );
+    let mut window = a.window;
+    replay_bounded_window::after(&mut window, narrow, ring, e.first, e.refusal, before, after);
     match kind {
         crate::REFUSED => refused(a, window),
         crate::BEGUN => begun(a, window),
@@ -116,7 +114,8 @@ fn row_of(m: Moment) -> Row {
 // at=J or at=J+; an answer whose moment is still to come there is none (`Answered` of bounded_demands); at=- beyond the window
 pub fn tell(out: &mut [u8], at: usize, a: Answers) -> usize {
     let e = a.latest;
-    let left = replay_bounded_window::is_left(a.window);
+    let window = a.window;
+    let left = replay_bounded_window::is_left(&window);
     if !e.ends {
         return at;
     }

@@ -2,34 +2,56 @@
 use bounded_machine::Tally;
 use bounded_words::Claim;
 
-// Sixteen words each: of each worker whether it holds a word of an end, 1 or 0, and the claims at tail and at head when it got it; then the claims so far; whether the window
-// was left, and that by the latest entry. Words and no fields, since the check of a loop that carries them counts fields.
-const TAILS: usize = 16;
+// The words that a run keeps, the first of a slice that the caller lends, each 0 before the first entry: the claims so far; whether the window was left, and that by the
+// latest entry. Then of each worker whether it holds a word of an end, 1 or 0, and the claims at tail and at head when it got it. Words and no fields, since the check of a
+// loop that carries them counts fields.
+const TAIL: usize = 0;
 
-const HEADS: usize = 32;
+const HEAD: usize = 1;
 
-const TAIL: usize = 48;
+const LEFT: usize = 2;
 
-const HEAD: usize = 49;
+const LEAVES: usize = 3;
 
-const LEFT: usize = 50;
+const WORKERS: usize = 4;
 
-const LEAVES: usize = 51;
+// of a worker
+const HOLDS: u64 = 0;
 
-const WORDS: usize = 52;
+const TAILS: u64 = 1;
 
-pub struct Window {
-    pub words: [u64; WORDS],
+const HEADS: u64 = 2;
+
+const FIELDS: u64 = 3;
+
+// Of sixteen workers: no record of a sixteen-bit machine is lent.
+pub const WORDS: usize = 52;
+
+fn get(words: &[u64], i: usize) -> u64 {
+    if i < words.len() {
+        return words[i];
+    }
+    0
 }
 
-// Before the first entry.
-pub fn start() -> Window {
-    Window { words: [0; WORDS] }
+fn put(words: &mut [u64], i: usize, n: u64) {
+    if i < words.len() {
+        words[i] = n;
+    }
 }
 
-pub fn is_left(w: Window) -> bool {
-    let words = w.words;
-    words[LEFT] == 1
+// Where a worker's field stands; nowhere, where no word is kept of it.
+fn at_worker(w: u64, field: u64) -> usize {
+    if w < 16 {
+        if field < FIELDS {
+            return WORKERS + (w * FIELDS + field) as usize;
+        }
+    }
+    usize::MAX
+}
+
+pub fn is_left(words: &[u64]) -> bool {
+    get(words, LEFT) == 1
 }
 
 // "a turn less two capacities", a turn being capacity × 65,536 / lap claims; of no ring no window is left
@@ -60,28 +82,29 @@ fn tallied(tail: u64, head: u64, from: [u64; 5], to: [u64; 5]) -> Tally {
     bounded_stock::tally(t, stood, stands)
 }
 
-fn with_claims(before: [u64; WORDS], t: Tally) -> [u64; WORDS] {
+fn put_claims(words: &mut [u64], t: Tally) {
     let tail = t.tail;
     let head = t.head;
-    let mut words = before;
-    words[TAIL] = tail.0;
-    words[HEAD] = head.0;
-    words
+    put(words, TAIL, tail.0);
+    put(words, HEAD, head.0);
 }
 
-fn with_word(before: [u64; WORDS], i: usize, far: u64) -> [u64; WORDS] {
-    let mut words = before;
-    if i < TAILS {
-        if far < 2 {
-            words[i] = 0;
-        }
-        if far == 2 {
-            words[i] = 1;
-            words[TAILS + i] = words[TAIL];
-            words[HEADS + i] = words[HEAD];
-        }
+// The worker got a word of an end.
+fn put_word(words: &mut [u64], w: u64) {
+    let tail = get(words, TAIL);
+    let head = get(words, HEAD);
+    put(words, at_worker(w, HOLDS), 1);
+    put(words, at_worker(w, TAILS), tail);
+    put(words, at_worker(w, HEADS), head);
+}
+
+fn put_far(words: &mut [u64], w: u64, far: u64) {
+    if far < 2 {
+        return put(words, at_worker(w, HOLDS), 0);
     }
-    words
+    if far == 2 {
+        put_word(words, w)
+    }
 }
 
 // So many claims since others.
@@ -89,82 +112,66 @@ fn since(now: u64, then: u64) -> u64 {
     std::num::wrapping_sub_u64(now, then)
 }
 
-fn is_out(length: u64, holds: u64, tails: u64, heads: u64) -> bool {
-    holds == 1 && (length <= tails || length <= heads)
+// Whether the worker holds a word for so many claims at an end, or more.
+fn is_out(words: &[u64], length: u64, w: u64) -> bool {
+    let tails = since(get(words, TAIL), get(words, at_worker(w, TAILS)));
+    let heads = since(get(words, HEAD), get(words, at_worker(w, HEADS)));
+    get(words, at_worker(w, HOLDS)) == 1 && (length <= tails || length <= heads)
 }
 
-// Whether a worker holds a word for so many claims at an end, or more.
-fn is_any_out(words: [u64; WORDS], length: u64) -> bool {
-    let tail = words[TAIL];
-    let head = words[HEAD];
-    let mut i = 0;
+fn is_any_out(words: &[u64], length: u64) -> bool {
+    let mut w = 0;
     let mut out = false;
-    while i < TAILS {
-        if is_out(
-            length,
-            words[i],
-            since(tail, words[TAILS + i]),
-            since(head, words[HEADS + i]),
-        ) {
+    while w < 16 {
+        if is_out(words, length, w) {
             out = true;
         }
-        i += 1;
+        w += 1;
     }
     out
 }
 
-fn judged(before: [u64; WORDS], length: u64) -> [u64; WORDS] {
-    let mut words = before;
-    words[LEAVES] = 0;
-    if words[LEFT] == 0 {
-        if is_any_out(before, length) {
-            words[LEFT] = 1;
-            words[LEAVES] = 1;
-        }
+fn judge(words: &mut [u64], length: u64) {
+    if is_left(words) {
+        return;
     }
-    words
+    if is_any_out(words, length) {
+        put(words, LEFT, 1);
+        put(words, LEAVES, 1);
+    }
 }
 
-fn acted(
-    words: [u64; WORDS],
-    length: u64,
-    first: u64,
-    from: [u64; 5],
-    to: [u64; 5],
-) -> [u64; WORDS] {
-    let claimed = with_claims(words, tallied(words[TAIL], words[HEAD], from, to));
-    let now = with_word(claimed, (first / 16) as usize, far_of(to));
-    judged(now, length)
+fn act(words: &mut [u64], length: u64, w: u64, from: [u64; 5], to: [u64; 5]) {
+    let t = tallied(get(words, TAIL), get(words, HEAD), from, to);
+    put_claims(words, t);
+    put_far(words, w, far_of(to));
+    judge(words, length);
 }
 
 // An entry of this first word, refused by this number or by none, on a ring with these words and of sixteen bits or not, which led its worker from one record to the
 // other. Words of 64 bits do not come round.
 pub fn after(
-    w: Window,
+    words: &mut [u64],
     narrow: bool,
     ring: [u64; 8],
     first: u64,
     refusal: u64,
     from: [u64; 5],
     to: [u64; 5],
-) -> Window {
+) {
     if !narrow {
-        return w;
+        return;
     }
-    let mut words = w.words;
-    words[LEAVES] = 0;
+    put(words, LEAVES, 0);
     if refusal != 0 || first % 16 < 8 {
-        return Window { words: words };
+        return;
     }
-    Window {
-        words: acted(words, length_of(ring[2], ring[1]), first, from, to),
-    }
+    act(words, length_of(ring[2], ring[1]), first / 16, from, to)
 }
 
 // The line behind that of the entry at this place, if that left the window.
-pub fn tell(out: &mut [u8], at: usize, w: Window, place: u64) -> usize {
-    let words = w.words;
-    if words[LEAVES] == 1 {
+pub fn tell(out: &mut [u8], at: usize, words: &[u64], place: u64) -> usize {
+    if get(words, LEAVES) == 1 {
         let p = text_output::form(out, at, b"left the window at entry #\n", &[place]);
         return text_output::settle(out, p);
     }

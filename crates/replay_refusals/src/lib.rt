@@ -254,7 +254,7 @@ fn is_in_words(r: Reading) -> bool {
 
 // NAME:LINE: and of a tape NAME:
 fn place(out: &mut [u8], name: &[u8], is_tape: bool, line: u64) -> usize {
-    let p = text_options::shown(out, 0, name);
+    let p = text_names::shown(out, 0, name);
     if is_tape || line == 0 {
         return text_output::text(out, p, b": ");
     }
@@ -311,12 +311,33 @@ fn written(out: &mut [u8], at: usize, l: Look, target: u64) -> usize {
     text_output::form(out, at, b"entry #, '# #'", &[entry, l.first, l.second])
 }
 
+// it answered closed at entry 14
+fn answered(out: &mut [u8], at: usize, w: usize, answers: &[u64], entry: u64) -> usize {
+    let p = text_output::text(out, at, b": it answered ");
+    let q = text_output::nth(
+        out,
+        p,
+        b"|pushed |empty |closed |yes |no |full |closed |displaced # |popped # |len # |",
+        get(answers, up(w, w)) as usize,
+        &[get(answers, up(up(w, w), 1))],
+    );
+    text_output::form(out, q, b"at entry #", &[entry])
+}
+
 // What the schedule says of the worker besides.
-fn besides(out: &mut [u8], at: usize, refusal: u64, w: u64, notes: &[u64], workers: u64) -> usize {
+fn besides(
+    out: &mut [u8],
+    at: usize,
+    refusal: u64,
+    w: u64,
+    notes: &[u64],
+    workers: u64,
+    answers: &[u64],
+) -> usize {
     let i = (w % WORKERS) as usize;
     let last = get(notes, up(LAST, i));
     let begun = get(notes, up(BEGUN, i));
-    let form = b"||: there are #|: with the call of entry #|: it answered at entry #|";
+    let form = b"||: there are #|: with the call of entry #|";
     if refusal == 3 {
         return text_output::nth(out, at, form, 2, &[workers]);
     }
@@ -324,7 +345,7 @@ fn besides(out: &mut [u8], at: usize, refusal: u64, w: u64, notes: &[u64], worke
         return text_output::nth(out, at, form, 3, &[std::num::wrapping_sub_u64(begun, 1)]);
     }
     if refusal == 5 && last != 0 {
-        return text_output::nth(out, at, form, 4, &[std::num::wrapping_sub_u64(last, 1)]);
+        return answered(out, at, i, answers, std::num::wrapping_sub_u64(last, 1));
     }
     if refusal == 5 {
         return text_output::text(out, at, b": it has begun no call");
@@ -346,7 +367,7 @@ fn out(text: &mut [u8], at: usize) {
 
 // Of the whole: there is no machine, or no pair for a number.
 fn tell_whole(name: &[u8], refusal: u64, whole: Whole, before: usize, edition: u64) {
-    let mut text = [0u8; 9216];
+    let mut text = [0u8; replay_input::say::LINE];
     let p = place(&mut text, name, true, 0);
     let q = refused(&mut text, p, refusal, 0);
     let numbers = [whole.capacity, whole.workers, edition];
@@ -366,16 +387,36 @@ fn tell_whole(name: &[u8], refusal: u64, whole: Whole, before: usize, edition: u
     out(&mut text, r)
 }
 
-fn tell_entry(name: &[u8], l: Look, target: u64, refusal: u64, notes: &[u64], workers: u64) {
-    let mut text = [0u8; 9216];
+// NAME:LINE: what was written there:
+fn entry(text: &mut [u8], name: &[u8], l: Look, target: u64) -> usize {
     let r = l.reading;
+    let p = place(text, name, r.is_tape, l.line);
+    let q = written(text, p, l, target);
+    text_output::text(text, q, b": ")
+}
+
+fn entry_if(text: &mut [u8], name: &[u8], l: Look, target: u64) -> usize {
+    if l.found {
+        return entry(text, name, l, target);
+    }
+    place(text, name, true, 0)
+}
+
+fn tell_entry(
+    name: &[u8],
+    l: Look,
+    target: u64,
+    refusal: u64,
+    notes: &[u64],
+    workers: u64,
+    answers: &[u64],
+) {
+    let mut text = [0u8; replay_input::say::LINE];
     let w = l.first / 16;
-    let p = place(&mut text, name, r.is_tape, l.line);
-    let q = written(&mut text, p, l, target);
-    let s = text_output::text(&mut text, q, b": ");
-    let t = refused(&mut text, s, refusal, w);
-    let u = besides(&mut text, t, refusal, w, notes, workers);
-    out(&mut text, u)
+    let p = entry(&mut text, name, l, target);
+    let q = refused(&mut text, p, refusal, w);
+    let r = besides(&mut text, q, refusal, w, notes, workers, answers);
+    out(&mut text, r)
 }
 
 // The file's line, what was written there and why it is refused. A file that has changed meanwhile may have no such entry: then nothing is said.
@@ -389,6 +430,7 @@ pub fn tell(
     place: u64,
     before: usize,
     edition: u64,
+    answers: &[u64],
 ) {
     if refusal == 6 || refusal == 11 {
         return tell_whole(name, refusal, whole, before, edition);
@@ -399,6 +441,27 @@ pub fn tell(
     let target = more(place, 1);
     let l = looked(fd, many, begun, target, &mut bytes, &mut list, &mut notes);
     if l.found {
-        tell_entry(name, l, target, refusal, &notes, whole.workers);
+        tell_entry(name, l, target, refusal, &notes, whole.workers, answers);
+    }
+}
+
+// Of an entry that is refused for what this text says, the same line up to there. Where a file that has changed has no such entry, it has its name alone.
+pub fn tell_of(name: &[u8], fd: i32, begun: Reading, entry_place: u64, why: &[u8]) {
+    let mut text = [0u8; replay_input::say::LINE];
+    let mut bytes = [0u8; replay_input::source::BYTES];
+    let mut list = [1u64; replay_input::source::NUMBERS];
+    let mut notes = [0u64; NOTES];
+    let target = more(entry_place, 1);
+    let l = looked(fd, false, begun, target, &mut bytes, &mut list, &mut notes);
+    let p = entry_if(&mut text, name, l, target);
+    let q = text_output::text(&mut text, p, why);
+    out(&mut text, q)
+}
+
+// Whether this number refuses an entry, and no whole.
+pub fn is_of_entry(refusal: u64) -> bool {
+    match refusal {
+        3 | 4 | 5 | 7 | 8 | 9 => true,
+        _ => false,
     }
 }

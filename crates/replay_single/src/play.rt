@@ -164,7 +164,8 @@ fn finish(g: Going, o: Asked, out: &mut [u8]) -> Played {
     let q = single_text::text::value(out, p, m);
     let t = contents(out, q, m);
     let u = tell_summary(s, o.summary, out, t);
-    replay_survey::pieces::played(run, replay_survey::pieces::end(out, u, o.many))
+    let answers = single_text::answers(m);
+    replay_survey::pieces::played(run, replay_survey::pieces::end(out, u, o.many), answers)
 }
 
 fn all(

@@ -1,4 +1,5 @@
 // A schedule read once before it is run: whether every number is one, how many there are, and the first entry that can't be read. Then it is read piece by piece.
+pub mod answers;
 pub mod pieces;
 
 use queue_entries::Finding;
@@ -28,12 +29,24 @@ pub struct Whole {
     pub workers: u64,
 }
 
-// A schedule that was run: where the text to be written goes on, and whether it was refused; by which number, and at which place.
+// A schedule that was run: where the text to be written goes on, and whether it was refused; by which number, and at which place; what each worker answered last.
 pub struct Played {
     pub at: usize,
     pub refused: bool,
     pub refusal: u64,
     pub place: u64,
+    pub answers: [u64; answers::WORDS],
+}
+
+// Of which no entry was refused; the whole may be.
+pub fn told(at: usize, refused: bool) -> Played {
+    Played {
+        at: at,
+        refused: refused,
+        refusal: 0,
+        place: 0,
+        answers: answers::none(),
+    }
 }
 
 // The k-th entry among those after so many pairs.

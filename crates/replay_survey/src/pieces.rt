@@ -122,13 +122,14 @@ pub fn is_reported(r: Run, quiet: bool) -> bool {
     quiet || r.whole
 }
 
-// A run that is over, whose text goes on at this place.
-pub fn played(r: Run, at: usize) -> Played {
+// A run that is over, whose text goes on at this place and whose workers answered this last.
+pub fn played(r: Run, at: usize, answers: [u64; crate::answers::WORDS]) -> Played {
     Played {
         at: at,
         refused: r.refusal != 0,
         refusal: r.refusal,
         place: r.place,
+        answers: answers,
     }
 }
 

@@ -103,7 +103,8 @@ fn finish(g: Going, o: Options, out: &mut [u8]) -> Played {
     let p = tell_whole(run, o.quiet, m, out);
     let q = unbounded_text::machine::blocks(out, p, m);
     let t = contents(out, q, m);
-    replay_survey::pieces::played(run, replay_survey::pieces::end(out, t, o.many))
+    let answers = unbounded_text::machine::answers(m);
+    replay_survey::pieces::played(run, replay_survey::pieces::end(out, t, o.many), answers)
 }
 
 fn all(

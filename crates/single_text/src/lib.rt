@@ -2,6 +2,7 @@
 use single_machine::Machine;
 use single_places::Answer;
 use single_places::Place;
+use single_places::Worker;
 
 pub mod alike;
 pub mod build;
@@ -24,4 +25,24 @@ pub fn place_of(m: Machine, w: u64) -> Place {
         return record.place;
     }
     Place::Idle(Answer::Nothing)
+}
+
+fn answers_of(workers: [Worker; queue_entries::WORKERS]) -> [u64; 128] {
+    let mut list = [0u64; 128];
+    let mut w = 0;
+    while w < queue_entries::WORKERS {
+        let record = workers[w];
+        let place = record.place;
+        let c = single_codes::code_of(place);
+        list[2 * w] = c.code;
+        list[2 * w + 1] = c.first;
+        w += 1;
+    }
+    list
+}
+
+// Of each worker what it answered last, by its code (single_codes) and its number.
+pub fn answers(m: Machine) -> [u64; 128] {
+    let workers = m.workers;
+    answers_of(workers)
 }

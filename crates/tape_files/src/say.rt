@@ -23,11 +23,10 @@ pub fn abandoned(name: &[u8]) {
 }
 
 // refused N at WHERE PLACE: and what it means.
-fn refused(number: u64, form: &[u8], place: u64) {
-    let mut text = [0u8; 512];
-    let p = text_output::form(&mut text, 0, form, &[number, place]);
-    let q = text_output::nth(
-        &mut text,
+fn put_refused(text: &mut [u8], number: u64, form: &[u8], place: u64) -> usize {
+    let p = text_output::form(text, 0, form, &[number, place]);
+    text_output::nth(
+        text,
         p,
         b"an odd number of words|cut short|unknown tag, wrong length or place, or mixed variant|\
         code not allowed under its tag|bytes after the end|output buffer too short|\
@@ -35,9 +34,14 @@ fn refused(number: u64, form: &[u8], place: u64) {
         an entry that cannot be read: code above 9, or an item where none may be|",
         meaning(number),
         &[],
-    );
-    let r = text_output::byte(&mut text, q, b'\n');
-    error(&text, r);
+    )
+}
+
+fn refused(number: u64, form: &[u8], place: u64) {
+    let mut text = [0u8; 512];
+    let p = put_refused(&mut text, number, form, place);
+    let q = text_output::byte(&mut text, p, b'\n');
+    error(&text, q);
 }
 
 // The place of a refusal's meaning in the list, which begins with 11; 9 stands last.
@@ -56,6 +60,18 @@ fn meaning(number: u64) -> usize {
 
 pub fn refused_tape(number: u64, byte: u64) {
     refused(number, b"refused # at byte #: ", byte);
+}
+
+// Of an entry, put into this text; answers how long it is.
+pub fn put_entry(text: &mut [u8], number: u64, entry: u64) -> usize {
+    put_refused(text, number, b"refused # at entry #: ", entry)
+}
+
+// An odd number of numbers: a whole schedule of the ring has an even one, of any other queue an odd one.
+pub fn refused_odd() {
+    said(
+        b"refused 11 at entry 0: an odd number of words; a schedule of another queue has no capacity: put a 1 before it\n",
+    );
 }
 
 // Of the whole schedule: entry 0.

@@ -218,6 +218,34 @@ fn is_sound(w: Work, from: i32, name: &[u8]) -> bool {
     replay_input::say::is_sound(b"tape", name, from, false, w.reading, numbers_of(w), hints)
 }
 
+// Whether what is refused is an entry, and not how the machine is made.
+fn is_of_entry(w: Work) -> bool {
+    w.capacity < 65536 && w.workers < 65536
+}
+
+fn first(text: &[u8], n: usize) -> &[u8] {
+    if n <= text.len() {
+        return &text[..n];
+    }
+    text
+}
+
+fn tell_entry(w: Work, from: i32, name: &[u8], why: &[u8]) {
+    let due = replay_input::source::sum_of(w.reading);
+    let begun = replay_input::source::begun(false, 0, 1, 0, text_sums::start(), due);
+    replay_refusals::tell_of(name, from, begun, w.place, why)
+}
+
+// An entry with its line in the file.
+fn tell_refused(w: Work, from: i32, name: &[u8]) {
+    if is_of_entry(w) {
+        let mut text = [0u8; 512];
+        let n = tape_files::say::put_entry(&mut text, w.number, w.place);
+        return tell_entry(w, from, name, first(&text, n));
+    }
+    tape_files::say::refused_schedule(w.number, w.place, w.capacity, w.workers)
+}
+
 fn status_of(w: Work, from: i32, name: &[u8]) -> u8 {
     if w.stuck {
         return 2;
@@ -226,11 +254,11 @@ fn status_of(w: Work, from: i32, name: &[u8]) -> u8 {
         return 2;
     }
     if w.left == 1 {
-        tape_files::say::refused_schedule(11, 0, 0, 0);
+        tape_files::say::refused_odd();
         return 1;
     }
     if w.number != 0 {
-        tape_files::say::refused_schedule(w.number, w.place, w.capacity, w.workers);
+        tell_refused(w, from, name);
         return 1;
     }
     0

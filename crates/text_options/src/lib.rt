@@ -435,34 +435,10 @@ pub fn needs_beside(a: Arguments, n: usize, other: usize, third: usize) -> Argum
 
 // ---- what is wrong, in one line
 
-fn hex(n: u8) -> u8 {
-    if n < 10 { b'0' + n } else { b'W' + n % 16 }
-}
-
-// What moves a terminal's cursor is spelled.
-fn shown_byte(out: &mut [u8], at: usize, b: u8) -> usize {
-    if 31 < b && b != 127 {
-        return text_output::byte(out, at, b);
-    }
-    let p = text_output::text(out, at, b"\\x");
-    let q = text_output::byte(out, p, hex(b / 16));
-    text_output::byte(out, q, hex(b % 16))
-}
-
-pub fn shown(out: &mut [u8], at: usize, word: &[u8]) -> usize {
-    let mut p = at;
-    let mut i = 0;
-    while i < word.len() {
-        p = shown_byte(out, p, word[i]);
-        i += 1;
-    }
-    p
-}
-
 fn argument(out: &mut [u8], at: usize, i: usize) -> usize {
     let mut word = io::buffer();
     let n = os::arg(i, &mut word);
-    shown(out, at, &word[..n])
+    text_names::shown(out, at, &word[..n])
 }
 
 fn value_in_word(word: &[u8], is_behind: bool) -> &[u8] {
@@ -477,7 +453,7 @@ fn value_in_word(word: &[u8], is_behind: bool) -> &[u8] {
 fn value_at(out: &mut [u8], at: usize, option_at: usize, i: usize) -> usize {
     let mut word = io::buffer();
     let n = os::arg(i, &mut word);
-    shown(out, at, value_in_word(&word[..n], option_at == i))
+    text_names::shown(out, at, value_in_word(&word[..n], option_at == i))
 }
 
 // How far a part of a row goes, and where the text goes on behind it.
@@ -594,9 +570,12 @@ pub fn out(fd: i32, text: &[u8], n: usize) -> bool {
     io::write_all(fd, part(text, 0, n))
 }
 
+// Room for an option and its value as they were given.
+const LINE: usize = 2 * text_names::ROOM + 512;
+
 // PROGRAM: what is wrong, on standard error; of an option of another program this.
 pub fn complain(program: &[u8], table: &[u8], a: Arguments, foreign: &[u8]) {
-    let mut text = [0u8; 9216];
+    let mut text = [0u8; LINE];
     let w = a.wrong;
     let p = text_output::text(&mut text, 0, program);
     let q = text_output::text(&mut text, p, b": ");

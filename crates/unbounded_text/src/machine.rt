@@ -6,6 +6,7 @@ use unbounded_places::Block;
 use unbounded_places::Ends;
 use unbounded_places::Place;
 use unbounded_places::Slot;
+use unbounded_places::Worker;
 
 // What a line says of a machine: handing this on is cheaper than the machine.
 pub struct Standing {
@@ -148,4 +149,48 @@ pub fn contents(out: &mut [u8], at: usize, list: &[u64], t: Told) -> usize {
         }
         Told::Refused(refusal) => text_output::form(out, p, b" refused #\n", &[refusal]),
     }
+}
+
+// The code that a host's words of the other queues have for an answer, by its number in the order of the enum.
+fn code_of(answer: u64) -> u64 {
+    match answer {
+        0 => 0,
+        1 => 1,
+        2 => 7,
+        3 => 9,
+        4 => 2,
+        5 => 3,
+        6 => 10,
+        7 => 4,
+        _ => 5,
+    }
+}
+
+// The code and the number of an answer; of a worker that is busy both are 0.
+fn answer_of(p: Place) -> [u64; 2] {
+    let c = unbounded_text_places::code::of(p);
+    if c[0] == 0 {
+        return [code_of(c[5]), c[6]];
+    }
+    [0, 0]
+}
+
+fn answers_of(workers: [Worker; queue_entries::WORKERS]) -> [u64; 128] {
+    let mut list = [0u64; 128];
+    let mut w = 0;
+    while w < queue_entries::WORKERS {
+        let record = workers[w];
+        let place = record.place;
+        let a = answer_of(place);
+        list[2 * w] = a[0];
+        list[2 * w + 1] = a[1];
+        w += 1;
+    }
+    list
+}
+
+// Of each worker what it answered last, by its code and its number.
+pub fn answers(m: Machine) -> [u64; 128] {
+    let workers = m.workers;
+    answers_of(workers)
 }

@@ -45,26 +45,78 @@ fn asked(o: Options, fd: i32, due: Sum) -> Asked {
     }
 }
 
+fn answers_in(m: [u64; bounded_text_words::WORDS]) -> [u64; replay_survey::answers::WORDS] {
+    replay_survey::answers::in_records(&m[bounded_text_words::RECORDS..bounded_text_words::WORDS])
+}
+
+// What is refused of an entry is told with its line, below; one of many here too, in its place.
+fn refused(out: &mut [u8], at: usize, many: bool, refusal: u64, place: u64) -> usize {
+    if !many && replay_refusals::is_of_entry(refusal) {
+        return at;
+    }
+    walk_play::refused::tell(out, at, many, refusal, &[place])
+}
+
 fn play(o: Options, fd: i32, begun: Reading, whole: Whole, out: &mut [u8], at: usize) -> Played {
     let l = crate::load::load(o.edition, fd, o.many, begun, whole, at);
     if replay_input::source::is_lost(l.at) {
-        return Played {
-            at: l.at,
-            refused: false,
-            refusal: 0,
-            place: 0,
-        };
+        return replay_survey::told(l.at, false);
     }
+    let m = l.words;
     if l.refusal != 0 {
+        let answers = answers_in(m);
         return Played {
-            at: walk_play::refused::tell(out, l.at, o.many, l.refusal, &[l.place]),
+            at: refused(out, l.at, o.many, l.refusal, l.place),
             refused: true,
             refusal: l.refusal,
             place: l.place,
+            answers: answers,
         };
     }
-    let m = l.words;
     walk_play::tell::walk(out, l.at, asked(o, fd, begun.due), m)
+}
+
+// A function of its own, since the check of a slice looks for its length among all that is in hand.
+fn tell_refused(
+    name: &[u8],
+    fd: i32,
+    many: bool,
+    begun: Reading,
+    whole: Whole,
+    refusal: u64,
+    place: u64,
+    edition: u64,
+    answers: [u64; replay_survey::answers::WORDS],
+) {
+    replay_refusals::tell(
+        name,
+        fd,
+        many,
+        begun,
+        whole,
+        refusal,
+        place,
+        0,
+        edition,
+        &answers,
+    )
+}
+
+fn tell_entry(o: Options, fd: i32, name: &[u8], begun: Reading, whole: Whole, p: Played) {
+    if replay_refusals::is_of_entry(p.refusal) {
+        let answers = p.answers;
+        tell_refused(
+            name,
+            fd,
+            o.many,
+            begun,
+            whole,
+            p.refusal,
+            p.place,
+            o.edition,
+            answers,
+        );
+    }
 }
 
 fn mark(out: &mut [u8], at: usize, many: bool) -> usize {
@@ -88,10 +140,12 @@ fn one(o: Options, fd: i32, name: &[u8], from: Next, out: &mut [u8]) -> Next {
         from.sum,
         replay_input::source::sum_of(s.reading),
     );
-    let p = play(o, fd, begun, replay_survey::refused_whole(s), out, from.at);
+    let whole = replay_survey::refused_whole(s);
+    let p = play(o, fd, begun, whole, out, from.at);
     if replay_input::say::is_read(b"walk", name, p.at) {} else {
         return replay_many::stop(UNREADABLE);
     }
+    tell_entry(o, fd, name, begun, whole, p);
     let at = mark(out, p.at, o.many);
     replay_many::after(s, at, replay_many::worse(from.status, p.refused))
 }

@@ -20,12 +20,7 @@ pub struct Asked {
 }
 
 fn played(at: usize, refused: bool) -> Played {
-    Played {
-        at: at,
-        refused: refused,
-        refusal: 0,
-        place: 0,
-    }
+    replay_survey::told(at, refused)
 }
 
 // By the code of its place: 0 to 10 are those of idle workers.
