@@ -1,2 +1,4 @@
 pub mod Laws
 pub mod Fits
+pub mod Judged
+pub mod Near

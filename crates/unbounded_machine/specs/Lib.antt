@@ -5,3 +5,4 @@ pub mod Turn
 pub mod Contents
 pub mod Run
 pub mod History
+pub mod Judged
