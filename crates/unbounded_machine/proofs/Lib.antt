@@ -1,4 +1,2 @@
 pub mod Laws
 pub mod Fits
-pub mod Judged
-pub mod Near

@@ -5,4 +5,3 @@ pub mod Turn
 pub mod Contents
 pub mod Run
 pub mod History
-pub mod Judged
