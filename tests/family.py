@@ -9,7 +9,7 @@ root = Path(__file__).resolve().parent.parent
 KIT = {'check', 'libc', 'io', 'os', 'bytes', 'std'}
 QUEUES = ('bounded', 'single', 'unbounded')
 PROGRAMS = ('replay', 'tape', 'walk', 'bench')
-LAYERS = ('words|places|acts|pushes|forces|pops|lookers|table|machine|entries|runs|orders|step_machine|step_record|sixteen_bits|narrow|lent|lent_by_value|'
+LAYERS = ('words|places|acts|pushes|forces|pops|lookers|table|views|machine|judged|entries|runs|orders|step_machine|step_record|sixteen_bits|narrow|lent|lent_by_value|'
           'codes|rows|slices|host|host_step|stock|causes|moments|sequences|walks')
 
 # what a name says, and of which queue; the first pattern that fits decides

@@ -1,1 +1,2 @@
 pub mod Aims
+pub mod Looks

@@ -59,6 +59,9 @@ module _ (m : Machine) (u : brokenOf sizes m ≡ false) where
       let b = passes (recordsFit sizes (m .blocks) (m .count) (m .workers)) (not (dropFits sizes (m .ends) (m .blocks) (m .workers))) (a .1) in
       (a .0, b .0, not-false _ (b .1))
 
+  pub unbroken-limits : inLimits (m .count) workersMost ≡ true
+  unbroken-limits = tests .0
+
   pub unbroken-count : m .count ≤ workersMost
   unbroken-count = limit-most (m .count) workersMost true (sym (tests .0)) refl
 

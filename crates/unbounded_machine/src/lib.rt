@@ -147,7 +147,7 @@ fn record_fits(blocks: [Block; unbounded_words::BLOCKS], p: Place, counted: bool
     }
 }
 
-fn records_fit(
+pub fn records_fit(
     blocks: [Block; unbounded_words::BLOCKS],
     count: u64,
     workers: [Worker; queue_entries::WORKERS],

@@ -1,6 +1,8 @@
 // A schedule on any machine: 6, 11 and 9 of the whole, then the one loop that all entries go through.
 ghost use mathlib.Core.Path.{_≡_};
 ghost use Rattle.unbounded_words.specs.Words.{sizes};
+ghost use mathlib.Core.Bool.{false};
+ghost use Rattle.unbounded_machine.specs.Broken.{brokenIn};
 ghost use Rattle.unbounded_machine.specs.Machine.{machineOf};
 ghost use Rattle.unbounded_machine.specs.Run.{ran, runFrom, runOf};
 use queue_entries::Finding;
@@ -37,7 +39,8 @@ fn ran(
     }
 }
 
-// Entry by entry, to the last or to the first refusal.
+// Entry by entry, to the last or to the first refusal. Whether the machine is sound is judged after each by what it can have changed: its worker's record;
+// with its block's header changed all records; with nobody busy `Drop`'s walk.
 fn run_from(
     mut ends: Ends,
     mut blocks: [Block; unbounded_words::BLOCKS],
@@ -47,20 +50,23 @@ fn run_from(
     mut meter: u64,
     schedule: &[u64],
 ) -> Ran
+    requires { ⌜ brokenIn sizes ends blocks workers count ≡ false ⌝ }
     ensures { λ r. ⌜ r ≡ runFrom sizes (machineOf ends blocks slots workers count meter) 0 (now (schedule .entry)) ⌝ }
 {
+    let mut busy = unbounded_judged::busy_in(workers);
+    let mut sound = true;
     let n = schedule.len() / 2;
     let mut i = 0;
     while i < n {
-        let aim = unbounded_entries::aim_of(
-            ends,
-            blocks,
-            workers,
-            count,
-            meter,
-            schedule[2 * i],
-            schedule[2 * i + 1],
-        );
+        let ask = unbounded_entries::ask_of(sound, count, schedule[2 * i], schedule[2 * i + 1]);
+        let asker = ask.worker;
+        let standing = workers[asker as usize];
+        let way = unbounded_entries::way_of(ask, standing, meter);
+        let mut lowest = way.block;
+        if way.takes {
+            lowest = unbounded_machine::lowest_free(blocks);
+        }
+        let aim = unbounded_entries::aim_of(way, lowest);
         let refusal = aim.refusal;
         if 0 < refusal {
             return ran(refusal, i, ends, blocks, slots, workers, count, meter);
@@ -83,6 +89,19 @@ fn run_from(
         blocks[k as usize] = block_after;
         slots[j as usize] = slot_after;
         workers[w as usize] = worker_after;
+        let look = unbounded_entries::look_at(worker_after);
+        let spot = look.block;
+        let x = blocks[spot as usize];
+        sound = unbounded_entries::fits_at(look, x);
+        if unbounded_entries::same_header(g, block_after) {} else {
+            sound = unbounded_machine::records_fit(blocks, count, workers);
+        }
+        busy = unbounded_entries::tally(busy, order, look.busy);
+        if busy == 0 {
+            let walked = unbounded_machine::walk(ends, blocks);
+            let met = walked.sound;
+            sound = unbounded_judged::both(sound, met);
+        }
         meter = aim.meter;
         i += 1;
     }

@@ -1,5 +1,6 @@
-//! schedule [--tape] MODE CAPACITY WORKERS ACTS: a schedule with so many act entries, on standard output, as text or as a tape of the first variant.
+//! schedule [--tape] MODE CAPACITY WORKERS ACTS [WAITING]: a schedule with so many act entries, on standard output, as text or as a tape of the first variant.
 //! single or unbounded in place of CAPACITY: a schedule of that queue, as text.
+//! WAITING: worker 0 pushes so many items first (its acts are not counted), and where a push or a pop is drawn it is the one that keeps so many waiting.
 //! MODE calls: one call after another, each to its end. MODE mixed: workers act in random turns, and one weak exchange in eight fails.
 
 use plain::{single, unbounded, Machine, Queue};
@@ -62,19 +63,31 @@ impl<W: Write> Writing<W> {
     }
 }
 
-fn write<Q: Queue>(mixed: bool, made: Result<Q, u64>, capacity: Option<u64>, workers: u64, acts: u64, to: &mut Writing<impl Write>) -> io::Result<()> {
+fn write<Q: Queue>(mixed: bool, made: Result<Q, u64>, capacity: Option<u64>, workers: u64, acts: u64, waiting: Option<u64>, to: &mut Writing<impl Write>) -> io::Result<()> {
     let mut m = made.unwrap_or_else(|refusal| {
         eprintln!("schedule: no such machine: refusal {refusal}");
         exit(1)
     });
     to.made(capacity, workers)?;
     let mut random = Random(0x9E37_79B9_7F4A_7C15 ^ capacity.unwrap_or(0) ^ workers << 32);
-    let (mut w, mut done) = (0, 0);
+    let (mut w, mut done, mut stock) = (0, 0, 0);
+    while stock < waiting.unwrap_or(0) {
+        let (code, item) = if m.idle(0) { (0, 1 + stock) } else { (8, 0) };
+        to.entry(0, code, item)?;
+        m.step(code, item);
+        if m.idle(0) {
+            stock += 1;
+        }
+    }
     while done < acts {
         let (code, item) = if m.idle(w) {
             let code = call(&mut random);
             // of the unbounded queue, which has no force_push, a pop, so that it does not grow
             let code = if Q::unreadable(code, 0) { 2 } else { code };
+            let code = match waiting {
+                Some(least) if code < 3 => if stock <= least { stock += 1; 0 } else { stock -= 1; 2 },
+                _ => code,
+            };
             (code, if code < 2 { 1 + random.below(9_999) } else { 0 })
         } else {
             done += 1;
@@ -96,17 +109,18 @@ fn main() {
         args.remove(0);
     }
     let words: Vec<&str> = args.iter().map(String::as_str).collect();
-    let (mode, queue, workers, acts) = match words[..] {
-        [mode @ ("calls" | "mixed"), queue, workers, acts] => (mode, queue, workers.parse(), acts.parse()),
+    let (mode, queue, workers, acts, waiting) = match words[..] {
+        [mode @ ("calls" | "mixed"), queue, workers, acts] => (mode, queue, workers.parse(), acts.parse(), Ok(None)),
+        [mode @ ("calls" | "mixed"), queue, workers, acts, waiting] => (mode, queue, workers.parse(), acts.parse(), waiting.parse().map(Some)),
         _ => usage(),
     };
-    let (Ok(workers), Ok(acts)) = (workers, acts) else { usage() };
+    let (Ok(workers), Ok(acts), Ok(waiting)) = (workers, acts, waiting) else { usage() };
     let mut to = Writing { out: BufWriter::with_capacity(1 << 16, io::stdout().lock()), tape };
     let mixed = mode == "mixed";
     let written = match (queue, queue.parse()) {
-        ("single", _) if !tape => write(mixed, single::Machine::new(workers), None, workers, acts, &mut to),
-        ("unbounded", _) if !tape => write(mixed, unbounded::Machine::new(workers), None, workers, acts, &mut to),
-        (_, Ok(capacity)) => write(mixed, Machine::of_at_most(64, capacity, workers, 1), Some(capacity), workers, acts, &mut to),
+        ("single", _) if !tape => write(mixed, single::Machine::new(workers), None, workers, acts, waiting, &mut to),
+        ("unbounded", _) if !tape => write(mixed, unbounded::Machine::new(workers), None, workers, acts, waiting, &mut to),
+        (_, Ok(capacity)) => write(mixed, Machine::of_at_most(64, capacity, workers, 1), Some(capacity), workers, acts, waiting, &mut to),
         _ => usage(),
     };
     if written.is_err() {
@@ -115,6 +129,6 @@ fn main() {
 }
 
 fn usage() -> ! {
-    eprintln!("usage: schedule [--tape] calls|mixed CAPACITY|single|unbounded WORKERS ACTS");
+    eprintln!("usage: schedule [--tape] calls|mixed CAPACITY|single|unbounded WORKERS ACTS [WAITING]");
     exit(2)
 }

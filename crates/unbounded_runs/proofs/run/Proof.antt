@@ -1,4 +1,4 @@
-use mathlib.Core.Path.{_∙_}
+use mathlib.Core.Path.{sym, _∙_}
 use borrow.Author.Needs.{needs}
 use Rattle.unbounded_runs.proofs.Turns.{broken-run, odd-run, unread-run, read-run}
 use Rattle.unbounded_runs.proofs.run.Statement.{statement}
@@ -48,7 +48,7 @@ enum-told c = search needs
 
 -- src/lib.rt:109:29
 run-from-requires : tie.Need-run-from-requires
-run-from-requires c κs = search needs
+run-from-requires c κs = sym (c .before .before .before .before .before .broken-in .ensures) ∙ c .before .before .before .before .if1 .left
 
 -- src/lib.rt:92:1
 returns-3 : tie.Need-returns-3
