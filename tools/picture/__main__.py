@@ -2,16 +2,19 @@
 
 import os
 import signal
-import stat
 import sys
-import tempfile
 
-from drawing import Picture
-from page import html_of, svg_of
-from run import MOST, Replay, Told, run_of
+from files import copy_of, is_kept, printed, say, written
+from of_log import judged, log_page, log_scene
+from of_run import scene_of
+from of_run_page import page_of
+from run import MOST, Replay, run_of
+from svg import svg_of
+from told import Told
 
 HELP = f'''picture [-o NAME.svg|NAME.html] [--from N] [--to N] [--queue NAME] [--edition N] [--bits N] [--lent]
         [--tape] [FILE]
+picture --log [-o NAME.svg|NAME.html] [--from N] [--to N] [--queue NAME] [--edition N] [FILE]
 
 Draws the run of a schedule: an SVG, or an HTML page that needs no network and nothing beside
 itself. The schedule is read from FILE, or from standard input, and run by replay; replay --help
@@ -19,19 +22,29 @@ says how it is written.
 
 Time goes right, an entry a column. A lane for each worker: a circle where a call begins, a box for
 each act with the place that it is done at, solid while a slot is in the worker's hand, with a notch
-and the cause where it goes back, and the answer at its end. Below, the claims of tail and head as
-two lines of steps, a thick red one while the queue is closed; between them a bar for each item,
-from its claim at tail to the claim at head that takes it. Below, a lane for each slot (the first
-four and the last four where there are more than 8; of the unbounded queue those that something
-happens to): whose hand, stamp or state, value. The page has zoom (buttons, or the wheel with Ctrl),
-search for an item, the line of replay for the column under the cursor (arrow keys go on from
-there), and a table of all entries.
+and the cause where it goes back, the answer at its end, and a diamond at its moment, where a plain
+queue gives that answer. Below, what waits in that plain queue, a cell a change. Below, the claims
+of tail and head as two lines of steps, a thick one while the queue is closed; between them a bar
+for each item, from its claim at tail to the claim at head that takes it. Below, a lane for each
+slot (the first four and the last four where there are more than 8; of the unbounded queue those
+that something happens to): whose hand, stamp or state, value. Moments are those of replay
+--moments: with --lent and of the other queues there are none.
+
+On the page time alone is zoomed; a strip shows the whole run, and where one is. A pane has the
+state after the entry under the mouse: both ends decoded, workers, slots, what is new marked. A
+click pins it. Keys: arrows go an entry back or on (with Shift ten), n and p to the next retry,
+claim, answer or refusal, + - 0 1 zoom, / searches for an item, Esc lets go. #e12 in the address is
+entry 12. Below is a table of all entries, which needs no script.
 
   -o NAME     writes this file, whole or not at all: .svg or .html; one that is there keeps its
               mode, and in place of a link comes the file; without it the SVG goes to standard
               output
   --from N    the first entry that is drawn (0 if not given)
-  --to N      the last one (the run's last if not given); at most {MOST:,} entries are drawn
+  --to N      the last one (the run's last if not given); at most {MOST['svg']:,} entries are drawn, on
+              a page {MOST['html']:,}
+  --log       FILE is a log of calls and answers, as possible --help says. Where it is possible, the
+              schedule that possible finds is drawn; where not, the log, and the answers that cannot
+              stand together stand out
   --queue single, --queue unbounded, --edition 2, --bits 16, --lent, --tape   for replay, as its
               help says
   --version   prints the version
@@ -40,13 +53,14 @@ there), and a table of all entries.
 A value may stand behind an = too, as in --to=99. What follows a word -- is a name.
 
 A refused schedule is drawn up to its refusal, which is shown.
-Status: 0 drawn, 1 drawn up to a refusal, or a tape that is refused, 2 input or arguments cannot be
-read, or not all can be written.
+Status: 0 drawn, 1 drawn up to a refusal, or an impossible log, or a tape that is refused, 2 input
+or arguments cannot be read, or not all can be written, 3 a log that is drawn and not decided.
 '''
 WITH_VALUE = ('-o', '--from', '--to', '--queue', '--edition', '--bits')
-ALONE = ('--lent', '--tape')
+ALONE = ('--lent', '--tape', '--log')
 VERSION = 'picture 0.1.0 of Fernmoldew, the port of concurrent-queue 2.5.0\n'
 FOR_REPLAY = ('--queue', '--edition', '--bits', '--lent', '--tape')
+NOT_FOR_LOGS = ('--bits', '--lent', '--tape')
 
 
 def number_of(option, word):
@@ -80,98 +94,6 @@ def read(words):
     return options, file
 
 
-def mode_for(name):
-    """That of the file which is there, or of a new one; None of what is no file, as a pipe, and is written as it stands. A link is not followed."""
-    try:
-        mode = os.lstat(name).st_mode
-    except FileNotFoundError:
-        mode = stat.S_IFLNK
-    if stat.S_ISREG(mode):
-        return stat.S_IMODE(mode)
-    if not stat.S_ISLNK(mode):
-        return None
-    mask = os.umask(0)
-    os.umask(mask)
-    return 0o666 & ~mask
-
-
-def written(name, said):
-    """Under another name first, so that a file is there whole or as it was."""
-    try:
-        mode = mode_for(name)
-        if mode is None:
-            with open(name, 'wb') as file:
-                file.write(said)
-            return
-        handle, other = tempfile.mkstemp(prefix='.picture-', dir=os.path.dirname(os.path.abspath(name)))
-    except OSError as wrong:
-        raise Told(f'{name}: {wrong.strerror}')
-    try:
-        with open(handle, 'wb') as file:
-            os.fchmod(file.fileno(), mode)
-            file.write(said)
-            file.flush()
-            os.fsync(file.fileno())
-        os.replace(other, name)
-    except BaseException as wrong:
-        os.unlink(other)
-        if isinstance(wrong, OSError):
-            raise Told(f'{name}: {wrong.strerror}')
-        raise
-
-
-def printed(said):
-    try:
-        with open(1, 'wb', closefd=False) as file:
-            file.write(said)
-    except BrokenPipeError:
-        pass
-    except OSError as wrong:
-        raise Told(f'standard output: {wrong.strerror}')
-
-
-def is_kept(file):
-    """Whether it can be read as often as one likes, by its name, or is left to replay to complain of: a pipe cannot, nor what is open here under a number."""
-    try:
-        mode = os.stat(file).st_mode
-    except OSError:
-        return True
-    return (stat.S_ISREG(mode) or stat.S_ISDIR(mode)) and not os.path.abspath(file).startswith(('/dev/', '/proc/'))
-
-
-def copy_of(file):
-    """What is read once, standard input if no file is named, in a temporary file."""
-    name = file or 'standard input'
-    try:
-        copy = tempfile.TemporaryFile()
-    except OSError:
-        raise Told(f'{name}: there is no folder for temporary files (TMPDIR, /tmp)')
-    try:
-        given = os.open(file, os.O_RDONLY) if file else 0
-        while piece := os.read(given, 1 << 20):
-            try:
-                copy.write(piece)
-                copy.flush()
-            except OSError as wrong:
-                raise Told(f'{name}: its temporary file: {wrong.strerror}')
-    except OSError as wrong:
-        raise Told(f'{name}: {wrong.strerror}')
-    return copy
-
-
-def shown(said):
-    """On one line, with nothing that a terminal would take for a command."""
-    return ''.join(c if c.isprintable() else f'\\x{ord(c) - 0xdc00:02x}' if '\udc80' <= c <= '\udcff' else c.encode('unicode_escape').decode() for c in said)
-
-
-def say(said):
-    """A line on standard error, if there is one."""
-    try:
-        os.write(2, f'{shown(said)}\n'.encode())
-    except OSError:
-        pass
-
-
 def main(starter, words):
     asked = words[:words.index('--')] if '--' in words else words
     for text, names in ((HELP, ('--help', '-h')), (VERSION, ('--version',))):
@@ -186,20 +108,42 @@ def main(starter, words):
     name = chosen.get('-o')
     if name is not None and not name.endswith(('.svg', '.html')):
         raise Told(f'{name}: a picture is kept as .svg or .html')
+    for option in NOT_FOR_LOGS if '--log' in chosen else ():
+        if option in chosen:
+            raise Told(f'{option} does not go with --log (see --help)')
     if name is None and os.isatty(1):
         raise Told('standard output is a terminal: name a file, as -o run.html')
-    queue = chosen.get('--queue', 'bounded')
+    kind = 'html' if name and name.endswith('.html') else 'svg'
     for_replay = [word for option, value in options if option in FOR_REPLAY for word in (option, value) if word]
-    replay = Replay(starter, for_replay, file, None if file is not None and is_kept(file) else copy_of(file))
+    given = None if file is not None and is_kept(file) else copy_of(file)
+    said, status = (log_drawn if '--log' in chosen else run_drawn)(starter, options, for_replay, file, given, first, last, kind)
+    said = said.encode(errors='replace')
+    written(name, said) if name else printed(said)
+    return status
+
+
+def run_drawn(starter, options, for_replay, file, given, first, last, kind, more=()):
+    """What replay runs, as text of this kind, and the status."""
+    replay = Replay(starter, for_replay, file, given)
     try:
-        run = run_of(replay, queue, options, first, last)
+        run = run_of(replay, dict(options).get('--queue', 'bounded'), options, first, last, MOST[kind])
     finally:
         if replay.noted:
             say(replay.noted)
-    picture = Picture(run)
-    said = (html_of if name and name.endswith('.html') else svg_of)(picture).encode(errors='replace')
-    written(name, said) if name else printed(said)
-    return 1 if run.refusal and (run.refusal[0] is None or run.refusal[0] <= run.last or not run.acts) else 0
+    scene = scene_of(run)
+    scene.said += more
+    is_refused = run.refusal and (run.refusal[0] is None or run.refusal[0] <= run.last or not run.acts)
+    return page_of(run, scene) if kind == 'html' else svg_of(scene), 1 if is_refused else 0
+
+
+def log_drawn(starter, options, for_possible, file, given, first, last, kind):
+    """What possible finds; where it finds none, the log."""
+    verdict = judged(for_possible, file, given)
+    if verdict.schedule:
+        options = options + [(option, '') for option in verdict.options if option == '--lent']
+        return run_drawn(starter, options, verdict.options, file or 'standard input', verdict.schedule, first, last, kind, ['possible: a schedule that gives these answers'])
+    scene, rows = log_scene(verdict, first, last)
+    return log_page(scene, rows) if kind == 'html' else svg_of(scene), verdict.status
 
 
 class Ended(BaseException):

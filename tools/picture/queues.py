@@ -60,6 +60,14 @@ class Reading:
         """The slots that an act made anew."""
         return ()
 
+    def decoded(self, word):
+        """An end's word as a reader says it."""
+        return word
+
+    def word_of(self, stand):
+        """The words that a worker who stands so has loaded, decoded; its item is no such word."""
+        return ''
+
 
 class Ring(Reading):
     """The ring, at either width, its records lent or not."""
@@ -86,6 +94,15 @@ class Ring(Reading):
 
     def slot_of(self, word):
         return int(word) % self.mark
+
+    def decoded(self, word):
+        number = int(word)
+        return f'{word}: lap {number // (2 * self.mark)}, slot {self.slot_of(word)}' + ', closed' * bool(number & self.mark)
+
+    def word_of(self, stand):
+        if stand.place in self.pushes:
+            return ''
+        return '; '.join(map(self.decoded, stand.words if stand.place == 'len3' else stand.words[:1]))
 
     def hand_of(self, stand):
         return self.slot_of(stand.words[0]) if stand.place in self.hands else None
@@ -125,13 +142,17 @@ class OneSlot(Reading):
     def ends(self, words):
         return None, None, bool(int(words[2][2:]) & 4)
 
+    def state(self, word):
+        return f'{word} {"".join(letter for bit, letter in self.BITS if int(word) & bit)}'.strip()
+
+    def word_of(self, stand):
+        return self.state(stand.words[0]) if stand.place in self.pops else ''
+
     def hand_of(self, stand):
         return 0 if stand.place in self.hands else None
 
     def change(self, before, words):
-        state = int(words[2][2:])
-        bits = ''.join(letter for bit, letter in self.BITS if state & bit)
-        return Change(0, f'{state} {bits}'.strip(), int(before.words[-1]) if before.place in ('A2', 'B2', 'B4') else None)
+        return Change(0, self.state(words[2][2:]), int(before.words[-1]) if before.place in ('A2', 'B2', 'B4') else None)
 
     def claims(self, before, after):
         if before.place not in ('A1', 'B1', 'C1') or after.place not in self.hands:
@@ -171,6 +192,12 @@ class Unbounded(Reading):
 
     def slot_of(self, block, word):
         return int(block), int(word) // 2 % (self.SLOTS + 1)
+
+    def decoded(self, word):
+        return f'{word}: position {int(word) // 2}, offset {int(word) // 2 % (self.SLOTS + 1)}' + ', marked' * (int(word) % 2)
+
+    def word_of(self, stand):
+        return ','.join(stand.words[:-1] if stand.place[0] == 'U' else stand.words)
 
     def change(self, before, words):
         held = before.words
