@@ -87,7 +87,7 @@ class Browser:
         return found['result'].get('value')
 
     def key(self, key, shift=False):
-        more = {'text': key} if len(key) == 1 else {}
+        more = {'text': key} if len(key) == 1 else {'text': '\r'} if key == 'Enter' else {}
         about = {'key': key, 'windowsVirtualKeyCode': KEYS.get(key, ord(key[0].upper())), 'modifiers': 8 if shift else 0}
         self.ask('Input.dispatchKeyEvent', type='keyDown', **about, **more)
         self.ask('Input.dispatchKeyEvent', type='keyUp', **about)

@@ -57,7 +57,7 @@ class Drawing {
   seen(left, wide, zoom) {
     const {sizes, high} = this.data;
     const begin = 2 * left, end = 2 * (left + wide / zoom);
-    const view = {begin, end, wide, zoom, x: at => Math.min(Math.max((at - begin) * zoom / 2, -2), wide + 2)};
+    const view = {begin, end, wide, zoom, far: at => (at - begin) * zoom / 2, x: at => Math.min(Math.max((at - begin) * zoom / 2, -2), wide + 2)};
     const parts = [], each = (name, draw) => eachSeen(this[name], begin, end, i => draw(this[name], i));
     each('areas', (marks, i) => parts.push(rect(view.x(marks.begin[i]), marks.y[i], view.x(marks.end[i]) - view.x(marks.begin[i]), marks.high[i], this.pool[marks.kind[i]])));
     parts.push(`<path d="${this.data.rules.map(y => `M0 ${y}H${wide}`).join('')}" class="idle"/>`);
@@ -178,8 +178,9 @@ class Drawing {
     if (view.zoom < FAR && right - left < ROOM) return '';
     const said = fitted(right - left, this.ways[ways], wide);
     if (!said || !isCut && said !== this.ways[ways][0]) return '';
-    const room = right - left - said.length * wide;
+    const long = said.length * wide, share = {start: 0, middle: .5, end: 1}[how.anchor];
+    const x = view.far(begin) + how.pad + share * (view.far(end) - view.far(begin) - 2 * how.pad - long);  // in its span, were all of it seen
     const kind = how.sticky ? how.kind + (begin < view.begin || !begin ? ' dim' : ' bold') : how.kind;
-    return text(left + room * {start: 0, middle: .5, end: 1}[how.anchor], y, said, kind + (this.found >= 0 && item === this.found ? ' found' : ''));
+    return text(Math.min(Math.max(x, left), right - long), y, said, kind + (this.found >= 0 && item === this.found ? ' found' : ''));
   }
 }

@@ -5,7 +5,7 @@ from collections import defaultdict
 from run import REFUSALS
 from scene import CELL, THIN, Answer, Bar, Box, Diamond, Join, Scene, Step, lanes_of
 
-MOST_SLOTS, MOST_ROWS, FEW_ROWS, ROW, CHART = 8, 16, 4, 15, 260
+MOST_SLOTS, MOST_ROWS, FEW_ROWS, ROW, CHART = 8, 8, 4, 15, 260
 NO_MOMENTS = 'replay names no moments here'
 
 
@@ -117,7 +117,7 @@ class Drawn:
         base, rows = heads, max(tails - heads, 1)
         wraps = rows > max(MOST_ROWS, waiting)
         rows = max(waiting + 2, FEW_ROWS) if wraps else rows
-        row = ROW if rows <= MOST_ROWS + 2 else CHART / rows
+        row = min(ROW, CHART / rows)
         top = y + 2
         floor = top + 15 + rows * row
 

@@ -29,6 +29,7 @@ class Page {
 
   get wide() { return this.scroll.clientWidth; }
   get left() { return this.scroll.scrollLeft / this.zoom; }
+  // All of a run within the window; of a short one the columns are as wide as reads well. The overview has this width too.
   get least() { return Math.min(this.wide / this.data.columns, 1.5 * this.data.sizes.col); }
   get most() { return Math.min(LARGEST, PIXELS / this.data.columns); }
 
@@ -64,7 +65,7 @@ class Page {
     const every = this.every(), first = Math.ceil((data.first + left) / every) * every - data.first, heads = [], grid = [];
     for (let column = first; column < end; column += every) {
       const x = (column + .5 - left) * zoom, head = this.head(column), half = head.length * data.sizes.small / 2 + 1;
-      heads.push(text(Math.min(Math.max(x, half), wide - half), 12, head, 'mid small dim'));
+      if (x + half <= wide) heads.push(text(Math.max(x, half), 12, head, 'mid small dim'));
       if (zoom < 12) grid.push(`M${number(x)} 0V${data.high}`);
     }
     if (zoom >= 12) for (let column = Math.ceil(left); column < end; column++) grid.push(`M${number((column - left) * zoom)} 0V${data.high}`);
@@ -76,7 +77,7 @@ class Page {
     }
     drawn.innerHTML = `<path d="${grid.join('')}" class="grid"/>${this.drawing.seen(left, shown, zoom)}${now}`;
     byId('axis').innerHTML = heads.join('');
-    const part = this.wide / data.columns, seen = byId('seen');
+    const part = this.least, seen = byId('seen');
     seen.setAttribute('x', number(left * part));
     seen.setAttribute('width', number(Math.max((end - left) * part, 3)));
     byId('here').setAttribute('d', this.now === null ? '' : `M${number((this.now + .5) * part)} 0V30`);
@@ -92,7 +93,7 @@ class Page {
 
   // Retries as they are dense, closed times, refusals: of all of the run.
   overview() {
-    const {data, wide} = this, part = wide / data.columns, counts = new Float32Array(Math.ceil(wide) + 1), parts = [];
+    const {data, wide} = this, part = this.least, counts = new Float32Array(Math.ceil(wide) + 1), parts = [];
     const {areas, boxes} = this.drawing;
     for (let i = 0; i < areas.size; i++) parts.push(rect(areas.begin[i] / 2 * part, 0, Math.max((areas.end[i] - areas.begin[i]) / 2 * part, 1.5), 30, 'shut'));
     for (let i = 0; i < boxes.size; i++) if (boxes.notch[i]) counts[Math.floor(boxes.begin[i] / 2 * part)]++;
@@ -199,7 +200,7 @@ class Page {
     }, {passive: false});
     const overview = byId('overview'), drag = event => {
       if (!(event.buttons & 1)) return;
-      scroll.scrollLeft = (event.clientX - overview.getBoundingClientRect().left) / this.wide * this.data.columns * this.zoom - this.wide / 2;
+      scroll.scrollLeft = (event.clientX - overview.getBoundingClientRect().left) / this.least * this.zoom - this.wide / 2;
     };
     overview.addEventListener('pointerdown', drag);
     overview.addEventListener('pointermove', drag);

@@ -100,9 +100,10 @@ class Strip:
         said = fitted(right - left, *ways, wide=wide)
         if not said or not is_cut and said != ways[0]:
             return ''
-        room = right - left - len(said) * wide
+        long, share = len(said) * wide, {'start': 0, 'middle': .5, 'end': 1}[how.anchor]
+        x = (begin - self.left) * COL / 2 + how.pad + share * ((end - begin) * COL / 2 - 2 * how.pad - long)  # in its span, were all of it in the strip
         kind = how.kind + (' dim' if begin < self.left or not begin else ' bold') * how.sticky
-        return text(left + room * {'start': 0, 'middle': .5, 'end': 1}[how.anchor], y, said, kind)
+        return text(min(max(x, left), right - long), y, said, kind)
 
     @staticmethod
     def group(kind, item, data, drawn):
