@@ -9,8 +9,9 @@ from dataclasses import dataclass
 from pathlib import Path
 from typing import NamedTuple, Optional
 
+from files import say
 from page import html_of
-from run import name_of
+from run import UNPROVED, name_of
 from scene import THIN, Answer, Bar, Box, Scene, lanes_of
 from svg import line, rect
 from told import Told
@@ -56,6 +57,9 @@ def judged(options, file, given):
         said = (done.stderr.strip().splitlines() or [f'possible ended with status {done.returncode}'])[-1]
         said = said[len('possible: '):] if said.startswith('possible: ') else said
         raise Told(said[2:] if not given and said.startswith('./') else said)
+    for line in done.stderr.splitlines():
+        if line.startswith(UNPROVED):
+            say(line)
     found, name = json.loads(done.stdout), name_of(file or 'standard input')
     if found['possible']:
         schedule = tempfile.TemporaryFile()

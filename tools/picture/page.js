@@ -210,6 +210,7 @@ class Page {
     });
     const zooms = {in: () => this.zoomTo(this.zoom * 1.25), out: () => this.zoomTo(this.zoom / 1.25), whole: () => this.zoomTo(0), near: () => this.zoomTo(this.data.sizes.col)};
     for (const id in zooms) byId(id).addEventListener('click', zooms[id]);
+    byId('kind').addEventListener('change', () => byId('kind').blur());  // so that n and p are heard at once
     byId('item').addEventListener('input', () => this.find(false));
     byId('tools').addEventListener('submit', event => { event.preventDefault(); this.find(true); });
     const keys = {
