@@ -142,8 +142,8 @@ def log_drawn(starter, options, for_possible, file, given, first, last, kind):
     if verdict.schedule:
         options = options + [(option, '') for option in verdict.options if option == '--lent']
         return run_drawn(starter, options, verdict.options, file or 'standard input', verdict.schedule, first, last, kind, ['possible: a schedule that gives these answers'])
-    scene, rows = log_scene(verdict, first, last)
-    return log_page(scene, rows) if kind == 'html' else svg_of(scene), verdict.status
+    scene, *told = log_scene(verdict, first, last, MOST[kind])
+    return log_page(scene, *told) if kind == 'html' else svg_of(scene), verdict.status
 
 
 class Ended(BaseException):

@@ -10,7 +10,7 @@ from pathlib import Path
 from typing import NamedTuple, Optional
 
 from files import say
-from page import html_of
+from page import KINDS, html_of
 from run import UNPROVED, name_of
 from scene import THIN, Answer, Bar, Box, Scene, lanes_of
 from svg import line, rect
@@ -105,12 +105,14 @@ def calls_of(text):
     return calls, head
 
 
-def log_scene(verdict, first, last):
-    """The scene, and the table's rows: an event a column."""
+def log_scene(verdict, first, last, most):
+    """The scene, the table's rows, and of what kind each is: an event a column."""
     calls, events = calls_of(verdict.text)
     first, last = first or 0, len(events) - 1 if last is None else min(last, len(events) - 1)
     if first > last:
         raise Told(f'{verdict.name}: nothing from event {first}: ' + (f'its events are 0 to {len(events) - 1}' if events else 'it has none'))
+    if last - first >= most:
+        raise Told(f'{verdict.name}: {last - first + 1:,} events, at most {most:,} are drawn: choose a part, as --from {first} --to {first + most - 1}')
     shown = events[first:last + 1]
     calls = [call for call in calls if call.begun <= last and (call.ended is None or call.ended >= first)]
     end = 2 * len(shown)
@@ -135,12 +137,13 @@ def log_scene(verdict, first, last):
                 scene.boxes.append(Box(stop, lane.bar, 'end', edge=True, item=item))
                 scene.answers.append(Answer(begin, stop + 1, until, lane.bar + 13, lane.below, (call.answer,), ''.join(re.findall(r'\d+', call.answer)[:1])))
     scene.height = int(y + 4)
-    rows = []
+    rows, kinds = [], []
     for column, (head, call) in enumerate(shown):
         is_begin = call.begun == first + column
         said = call.said if is_begin else f'{call.answer or "?"} (of {call.said})'
         rows.append((str(head), f'w{call.worker}', 'part' if id(call) in is_part else '', f'{"calls" if is_begin else "has returned:"} {said}'))
-    return scene.sort(), rows
+        kinds.append(0 if is_begin else KINDS['answer'])
+    return scene.sort(), rows, kinds
 
 
 LEGEND = (
@@ -150,5 +153,5 @@ LEGEND = (
 )
 
 
-def log_page(scene, rows):
-    return html_of(scene, rows, COLUMNS, lambda pool: {'kinds': [4] * len(rows)})
+def log_page(scene, rows, kinds):
+    return html_of(scene, rows, COLUMNS, lambda pool: {'kinds': kinds})

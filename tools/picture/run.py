@@ -196,7 +196,7 @@ def run_of(replay, queue, options, first, last, most=MOST['svg']):
     said = ''.join(f', {option[2:]} {value}'.rstrip() for option, value in options if option in ('--edition', '--bits', '--lent'))
     run = Run(name, what + said, reading.stamp, entries, first, end, reading.decoded)
     if made:
-        run.what, run.refusal = f'no {what.split()[-1]} was made', (None, made)
+        run.what, run.refusal = f'no {what.partition(" of ")[0]} was made', (None, made)
         return run
     if refused:
         run.refusal = (ended, refused)

@@ -29,7 +29,6 @@ STYLES = {
     'item': Style('', pad=4),
     'hand': Style('on', 'middle'),
     'shut': Style('red clear', pad=3),
-    'why': Style('red', pad=4),
 }
 
 
