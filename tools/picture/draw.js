@@ -71,7 +71,7 @@ class Drawing {
     else for (const steps of this.lines) this.drawSteps(steps, view, parts);
     each('boxes', (marks, i) => parts.push(zoom < sizes.box - 6 ? this.tick(marks, i, view) : this.box(marks, i, view)));
     if (zoom >= FAR) each('diamonds', (marks, i) => {
-      const x = view.x(marks.begin[i]), tall = Math.min(7, 3 + zoom / 4);
+      const tall = Math.min(7, 3 + zoom / 4), x = marks.begin[i] ? view.x(marks.begin[i]) : Math.max(view.x(0), 5);
       parts.push(`<path d="M${number(x)} ${number(marks.y[i] - tall)}l${number(tall * .57)} ${number(tall)}l${number(-tall * .57)} ${number(tall)}l${number(-tall * .57)} ${number(-tall)}z" class="moment"/>`);
     });
     each('labels', (marks, i) => parts.push(this.label(view, marks.begin[i], marks.end[i], marks.y[i], this.pool[marks.style[i]], marks.ways[i], marks.item[i], true)));

@@ -15,12 +15,13 @@ class Cell(NamedTuple):
     closed: bool
 
     def ways(self):
-        """From the longest to the shortest."""
-        end = ' closed' * self.closed
-        if not self.count:
-            return f'nothing{end}', f'-{end}', '-'
-        more = ' ..' * (self.count > len(self.items))
-        return ' '.join(self.items) + more + end, f'{self.items[0]} .. ({self.count}){end}', f'({self.count})'
+        """From the longest to the shortest; that it is closed is seen too."""
+        items = ' '.join(self.items) + ' ..' * (self.count > len(self.items))
+        if self.count < 2:
+            shorter = (items,) if items else ('nothing', '-')
+        else:
+            shorter = items, f'{self.items[0]} .. ({self.count})', f'({self.count})'
+        return (f'{shorter[0]} closed', *shorter) if self.closed else shorter
 
 
 def cells_of(run):

@@ -135,7 +135,7 @@ class Strip:
             hit = f'<rect x="{(column - first) * COL}" width="{COL}" height="{high}" class="hit"><title>{title}</title></rect>'
             yield self.group('entry', box.item, box.data, (line(self.x(box.at), 0, self.x(box.at), high, 'stop') if box.kind == 'refused' else '') + box_of(box, self.x(box.at)) + hit)
         for one in self.marks['diamonds']:
-            yield self.group('at', '', one.data, diamond(self.x(one.at), one.y))
+            yield self.group('at', '', one.data, diamond(min(max(self.x(one.at), 5), self.wide - 5), one.y))  # at an edge too it is whole
         for label in self.marks['labels']:
             yield self.placed(label.begin, label.end, label.y, label.style, label.ways)
         for answer in self.marks['answers']:
