@@ -117,7 +117,7 @@ def log_scene(verdict, first, last, most):
     calls = [call for call in calls if call.begun <= last and (call.ended is None or call.ended >= first)]
     end = 2 * len(shown)
     is_part = {id(call) for call in calls if any(call.line == lines[0] for lines in verdict.lines)}
-    scene = Scene(verdict.name, [f'a log of {len(calls):,} call{"s" * (len(calls) != 1)}'], first, len(shown), verdict.said, heads={column: head for column, (head, _) in enumerate(shown)}, legend=LEGEND if verdict.lines else LEGEND[:2])
+    scene = Scene(verdict.name, [f'a log of {len(calls):,} call{"s" * (len(calls) != 1)}'], first, len(shown), verdict.said, heads={column: str(head) for column, (head, _) in enumerate(shown)}, legend=LEGEND if verdict.lines else LEGEND[:2])
     workers = max([call.worker for call in calls], default=-1) + 1
     lanes, y = lanes_of(scene, 2, workers, {call.worker for call in calls})
     mine = {}

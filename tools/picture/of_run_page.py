@@ -42,8 +42,8 @@ def told_of(run):
         return {
             'kinds': kinds, 'ends': ends, 'acts': {'worker': [act.worker for act in acts], 'after': [pool.place(stands(act)) for act in acts]},
             'before': {worker: pool.place(stands(act)) for worker, act in run.before_acts.items()},
-            'slots': [[slot_name(slot), *stand] for slot, stand in sorted(run.slots.items())],
-            'changes': [[entry - run.first, slot_name(slot), stamp, value] for entry, slot, stamp, value in run.changes],
+            'slots': [[slot_name(slot), *map(str, stand)] for slot, stand in sorted(run.slots.items())],  # as text: a script's numbers are shorter than words
+            'changes': [[entry - run.first, slot_name(slot), str(stamp), str(value)] for entry, slot, stamp, value in run.changes],
         }
     return told
 

@@ -10,7 +10,7 @@ class State {
     });
     this.slots = new Map(data.slots.map(([name, ...fresh]) => [name, {fresh, at: [], said: []}]));
     for (const [column, slot, stamp, value] of data.changes) {
-      if (!this.slots.has(slot)) this.slots.set(slot, {fresh: [0, 0], at: [], said: []});
+      if (!this.slots.has(slot)) this.slots.set(slot, {fresh: ['0', '0'], at: [], said: []});
       const changes = this.slots.get(slot);
       changes.at.push(column);
       changes.said.push([stamp, value]);
