@@ -1,97 +1,93 @@
-"""The two files that a picture is kept as: an SVG, strips one below another; and an HTML page, which needs nothing beside itself."""
+"""A scene as an HTML page that needs nothing beside itself: a table of all columns, and the marks, packed, for a script to draw what is seen of them."""
 
+import base64
+import json
+import zlib
 from html import escape
-from pathlib import Path
 
-from drawing import CELL, COL, LABELS, SMALL, line, rect, refusal_of, slot_name, text
+from parts import kept
+from scene import AXIS, BOX, CELL, CHAR, COL, LABELS, SMALL, STRIP, STYLES
+from svg import SAMPLE, legend_of, names_of
 
-HERE = Path(__file__).resolve().parent
-
-
-def kept(name):
-    return (HERE / name).read_text()
-
-
-def said_of(run):
-    """The line below the title."""
-    part = f'{run.count:,} entr{"y" if run.count == 1 else "ies"}'
-    if run.acts and len(run.acts) != run.count:
-        part = f'entries {run.first} to {run.last} of {run.count:,}'
-    left = [] if run.left is None else [f'left the window at entry {run.left}']
-    return '; '.join([run.what, part, *left, *([run.ending] if run.ending else [])])
+CHUNK = 250  # rows of the table that a browser lays out together
+KINDS = {'retry': 1, 'claim': 2, 'answer': 4, 'refusal': 8}
+KEYS = (('← →', 'an entry back or on, with Shift ten'), ('n p', 'the next one, or the one before'), ('+ −', 'nearer, further out'), ('0 1', 'whole, near'),
+        ('/', 'search for an item'), ('Home End', 'first, last entry'), ('click', 'pins an entry; Esc lets go'), ('Ctrl wheel', 'zooms'))
 
 
-# Samples of what is drawn, each 28 by 20, and what they mean
-LEGEND = (
-    ('<circle cx="13" cy="10" r="5" class="bar"/>', 'a call begins'),
-    (rect(2, 1, 22, CELL, 'bar') + text(13, 14, 'P2', 'mid'), 'an act, at its place'),
-    (rect(2, 1, 22, CELL, 'held') + text(13, 14, 'P4', 'mid on'), 'a slot in hand'),
-    (rect(2, 1, 22, CELL, 'bar') + text(13, 12.5, 'O6', 'mid') + f'<path d="M7 {CELL + 1}L13 {CELL - 4}L19 {CELL + 1}z" class="notch"/>', 'goes back, and why'),
-    (rect(2, 1, 22, CELL, 'bar') + text(13, 14, 'P5', 'mid') + line(25, 0, 25, CELL + 2, 'edge'), 'answers'),
-    (rect(2, 4, 24, 12, 'life'), 'an item, from tail claim to head claim'),
-    (line(2, 10, 26, 10, 'tail closed'), 'closed'),
-)
+class Pool:
+    """Strings, each once, by their place."""
+
+    def __init__(self):
+        self.places = {}
+
+    def place(self, said):
+        return self.places.setdefault(said, len(self.places))
 
 
-def svg_of(picture):
-    run = picture.run
-    wide = max([LABELS + (end - at) * COL for at, end in picture.strips] or [600]) + 8
-    samples, x = [], 8
-    for drawn, said in LEGEND:
-        samples.append(f'<g transform="translate({x:.0f} 0)">{drawn}{text(31, 14, said, "small")}</g>')
-        x += 31 + len(said) * SMALL + 14
-    wide = max(wide, int(x))
-    top = 44 + (16 if run.refusal else 0)
-    gap = 14
-    high = top + len(picture.strips) * (picture.height + gap) + 30
-    parts = [
-        f'<svg xmlns="http://www.w3.org/2000/svg" viewBox="0 0 {wide} {high}" width="{wide}" height="{high}" role="img">',
-        f'<title>{escape(run.name, quote=False)}: {escape(said_of(run), quote=False)}</title>',
-        f'<style>{kept("style.css")}</style>',
-        rect(0, 0, wide, high, 'paper'),
-        text(8, 18, run.name, 'title'), text(8, 34, said_of(run)),
-    ]
-    if run.refusal:
-        parts.append(text(8, 50, refusal_of(run), 'red'))
-    labels = ''.join(picture.labels())
-    for index, (at, end) in enumerate(picture.strips):
-        y = top + index * (picture.height + gap)
-        parts.append(f'<g transform="translate(0 {y})">{labels}</g>')
-        parts.append(f'<svg x="{LABELS}" y="{y}" width="{(end - at) * COL}" height="{picture.height}" class="strip">')
-        parts += picture.strip(index)
-        parts.append('</svg>')
-    parts.append(f'<g transform="translate(0 {high - 27})">{"".join(samples)}</g>')
-    parts.append('</svg>\n')
-    return '\n'.join(parts)
+def packed(marks, pool, **columns):
+    """A list of marks as columns: where each begins, from the one before it; where it ends, from there; what is said by its place in the pool."""
+    begins = [mark[0] for mark in marks]
+    found = {'begin': [one - other for one, other in zip(begins, [0, *begins])]}
+    for name, field in columns.items():
+        values = [getattr(mark, field) for mark in marks]
+        if name in ('end', 'onward'):
+            values = [value - begin for value, begin in zip(values, begins)] if name == 'end' else values
+        elif values and isinstance(values[0], tuple):
+            values = [pool.place('\n'.join(value)) for value in values]
+        elif values and isinstance(values[0], str):
+            values = [pool.place(value) for value in values]
+        elif values and isinstance(values[0], bool):
+            values = [int(value) for value in values]
+        else:
+            values = [round(value, 1) for value in values]
+        found[name] = values
+    return found
 
 
-def done_by(run, act):
-    """What an entry did, in a few words."""
-    if run.refusal and run.refusal[0] == act.entry:
-        return refusal_of(run).partition(' ')[2].partition(' ')[2]
-    if not act.place:
-        return f'begins {act.call.name} {act.call.item}'.strip()
-    return f'act at {act.place}' + (f'; goes back: {", ".join(act.causes)}' if act.causes else '') + (f'; answers {act.answer}' if act.answer else '')
+def data_of(scene, told):
+    """What the script has: marks, sizes, and how things stand (told, by whoever made the scene)."""
+    pool = Pool()
+    for kind in ('bar', 'aside', 'plain', 'plain shut', 'life', 'held', 'held band', 'part'):  # in the order in which they cover one another
+        pool.place(kind)
+    data = {
+        'first': scene.first, 'columns': scene.columns, 'high': scene.height, 'heads': scene.heads, 'rules': scene.rules, 'chunk': CHUNK,
+        'sizes': {'col': COL, 'cell': CELL, 'box': BOX, 'char': CHAR, 'small': SMALL, 'strip': STRIP, 'labels': LABELS, 'axis': AXIS},
+        'styles': {name: style._asdict() for name, style in STYLES.items()},
+        'areas': packed(scene.areas, pool, end='end', y='y', high='high', kind='kind'),
+        'joins': packed(scene.joins, pool, top='top', bottom='bottom', item='item'),
+        'bars': packed(scene.bars, pool, end='end', y='y', high='high', kind='kind', item='item'),
+        'boxes': packed(scene.boxes, pool, y='y', kind='kind', said='said', notch='notch', edge='edge', item='item'),
+        'diamonds': packed(scene.diamonds, pool, y='y'),
+        'labels': packed(scene.labels, pool, end='end', y='y', style='style', ways='ways', item='item'),
+        'answers': packed(scene.answers, pool, end='end', onward='onward', y='y', below='below', ways='ways', item='item'),
+        'lines': [packed(steps, pool, y='y', joined='joined', kind='kind') for steps in scene.lines],
+        'far': packed(scene.far, pool, y='y'), 'top': scene.top, 'floor': scene.floor,
+        'kinds': [], 'acts': {'worker': [], 'after': []}, 'before': {}, 'ends': [], 'slots': [], 'changes': [], **told(pool),
+    }
+    data['pool'] = list(pool.places)
+    deflate = zlib.compressobj(6, zlib.DEFLATED, -15)
+    whole = deflate.compress(json.dumps(data, separators=(',', ':')).encode()) + deflate.flush()
+    return base64.b64encode(whole).decode()
 
 
-def html_of(picture):
-    run = picture.run
-    samples = ''.join(f'<li><svg viewBox="0 0 28 20" width="28" height="20" aria-hidden="true">{drawn}</svg> {said}</li>' for drawn, said in LEGEND)
-    name = escape(run.name)
-    strips = []
-    for index, (at, end) in enumerate(picture.strips):
-        wide = (end - at) * COL
-        strips.append(
-            f'<div class="strip"><svg class="again" aria-hidden="true" viewBox="0 0 {LABELS} {picture.height}" style="--w:{LABELS}"><use href="#labels"/></svg>'
-            f'<svg class="columns" viewBox="0 0 {wide} {picture.height}" style="--w:{wide}" aria-hidden="true">' + '\n'.join(picture.strip(index)) + '</svg></div>')
-    rows = []
-    for act in run.acts:
-        worker = '' if act.worker is None else f'w{act.worker}'
-        hand = '' if act.hand is None else slot_name(act.hand)
-        cells = worker, escape(done_by(run, act), quote=False), hand, f'<code>{escape(run.lines.get(act.entry, ""), quote=False)}</code>'
-        rows.append(f'<tr id="e{act.entry}"><th scope="row">{act.entry}</th>' + ''.join(f'<td>{cell}</td>' for cell in cells) + '</tr>')
-    refusal = f'<p class="refusal" role="alert">{escape(refusal_of(run))}</p>' if run.refusal else ''
+def rows_of(rows):
+    """End tags that a browser needs not are left out: a row is as short as can be."""
+    for at in range(0, len(rows), CHUNK):
+        yield '<tbody>'
+        for row in rows[at:at + CHUNK]:
+            yield '<tr><th>' + '<td>'.join(escape(cell, quote=False).replace('&gt;', '>') for cell in row)
+
+
+def html_of(scene, rows, columns, told, stamp='stamp'):
+    """rows: a row of the table a column, each of as many cells as there are names of columns."""
+    name = escape(scene.title)
+    samples = ''.join(f'<li><svg viewBox="0 0 {SAMPLE[0]} {SAMPLE[1]}" width="{SAMPLE[0]}" height="{SAMPLE[1]}" aria-hidden="true">{drawn}</svg> {said}' for drawn, said in legend_of(scene))
+    alarm = f'<p class="refusal" role="alert">{escape(scene.alarm)}</p>' if scene.alarm else ''
+    kinds = ''.join(f'<option value="{bit}">{kind}' for kind, bit in {'any of these': sum(KINDS.values()), **KINDS}.items())
+    keys = ''.join(f'<dt><kbd>{key}</kbd><dd>{said}' for key, said in KEYS)
     return kept('page.html').format(
-        title=name, said=escape(said_of(run)), refusal=refusal, style=kept('style.css') + kept('page.css'), script=kept('page.js'),
-        labels=''.join(picture.labels()), labels_wide=LABELS, high=picture.height, strips='\n'.join(strips), rows='\n'.join(rows),
-        legend=samples)
+        title=name, said='<br>'.join(map(escape, scene.said)), alarm=alarm, style=kept('style.css') + kept('page.css'), script=kept('draw.js') + kept('state.js') + kept('page.js'),
+        kinds=kinds, keys=keys, legend=samples, names=names_of(scene), wide=LABELS, high=scene.height, stamp=stamp, axis=columns[0].lower(),
+        caption='All entries drawn, in order' if columns[0] == 'Entry' else 'All of the log, in order',
+        columns=''.join(f'<th scope="col">{column}' for column in columns), rows='\n'.join(rows_of(rows)), data=data_of(scene, told))

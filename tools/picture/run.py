@@ -6,9 +6,10 @@ from dataclasses import dataclass, field
 from typing import NamedTuple, Optional
 
 from manners import Told
+from plain import cells_of
 from queues import IDLE, READINGS, slots_in, stand_of
 
-MOST = 20_000  # entries of one picture
+MOST = {'svg': 20_000, 'html': 200_000}  # entries of one picture
 LEFT = 'left the window at entry '
 REFUSALS = {
     1: 'a capacity of 0 or above 1,024', 2: 'too many workers, or none', 3: 'no such worker', 4: 'a call begun by a busy worker',
@@ -25,19 +26,23 @@ class Call:
     begun: int
     ended: Optional[int] = None
     answer: str = ''
+    moment: Optional[int] = None  # in half columns from entry 0: 2J just before entry J, 2J + 2 directly after it
 
 
 class Act(NamedTuple):
-    """An entry of the drawn part: the place that it was done at, or '' of a begin; why it goes back, if it does; how its worker stands after it.
-    The item is its call's, of a pop the one that it has claimed."""
+    """An entry of the drawn part: the place that it was done at, or '' of a begin; why it goes back, if it does; whether it claims; how its worker stands after it:
+    what it has in hand, where it goes on, the words that it has loaded. The item is its call's, of a pop the one that it has claimed."""
     entry: int
     worker: int
     call: Optional[Call]
-    place: str
-    causes: tuple
-    hand: object
-    answer: str
-    item: str
+    place: str = ''
+    causes: tuple = ()
+    claims: bool = False
+    hand: object = None
+    answer: str = ''
+    item: str = ''
+    onward: str = ''
+    word: str = ''
 
 
 @dataclass
@@ -76,6 +81,7 @@ class Run:
     count: int
     first: int
     last: int
+    decoded: object  # an end's word, as a reader says it
     acts: list = field(default_factory=list)
     calls: list = field(default_factory=list)
     hands: list = field(default_factory=list)
@@ -85,30 +91,37 @@ class Run:
     slots: dict = field(default_factory=dict)  # before the drawn part
     changes: list = field(default_factory=list)  # entry, slot, stamp, value
     refusal: Optional[tuple] = None  # entry or None, number
+    stranger: Optional[int] = None  # the worker of a refused entry that there is none of
+    before_acts: dict = field(default_factory=dict)  # each worker's last act before the drawn part
+    has_moments: bool = False
+    plain: list = field(default_factory=list)  # the plain queue's cells (plain.py)
     left: Optional[int] = None  # the entry that left the window of sixteen-bit words: from there on no item is followed
     lines: dict = field(default_factory=dict)
     ending: str = ''
     workers: int = 0
 
 
-def lines_to_show(replay, first, last):
-    """The line that the cursor shows over an entry: of `replay --explain` where this replay has it; else there is none, and its plain line is shown."""
-    if not re.search(r'(?m)^ *--explain\b', '\n'.join(replay.all('--help')[0])):
-        return {}
-    found, entry = {}, 0
-    for line in replay.lines('--explain'):
-        if entry > last:
+def explained(run, lines):
+    """What `replay --explain` says of each drawn entry, without its number, and how many workers it says that there are."""
+    entry = 0
+    for line in lines:
+        if entry > run.last:
             break
-        if line.lstrip(' ').startswith(f'{entry} '):
-            if entry >= first:
-                found[entry] = line.strip()
+        if line.startswith('made: '):
+            run.workers = int(re.search(r'(\d+) workers?\b', line)[1])
+        elif line.lstrip(' ').startswith(f'{entry} '):
+            if entry >= run.first:
+                run.lines[entry] = line.split(maxsplit=1)[1].rstrip()
             entry += 1
-    return found
 
 
-def run_of(replay, queue, options, first, last):
+def name_of(file):
+    return ''.join(letter if letter.isprintable() else '?' for letter in file)
+
+
+def run_of(replay, queue, options, first, last, most=MOST['svg']):
     """The run from entry FIRST to LAST, or to its end."""
-    name = ''.join(letter if letter.isprintable() else '?' for letter in replay.name)
+    name = name_of(replay.name)
     quiet, _ = replay.all('--quiet')
     words = quiet[1].split()
     ended, refused = int(words[0]), int(words[1])
@@ -118,14 +131,14 @@ def run_of(replay, queue, options, first, last):
     if first and first >= entries:
         raise Told(f'{name}: nothing from entry {first}: ' + (f'its entries are 0 to {entries - 1}' if entries else 'no entry is run'))
     end = entries - 1 if last is None else min(last, entries - 1)
-    if end - first >= MOST:
-        raise Told(f'{name}: {end - first + 1:,} entries, at most {MOST:,} are drawn: choose a part, as --from {first} --to {first + MOST - 1}')
+    if end - first >= most:
+        raise Told(f'{name}: {end - first + 1:,} entries, at most {most:,} are drawn: choose a part, as --from {first} --to {first + most - 1}')
     reading = READINGS[queue](len(slots_in(quiet)), 16 if ('--bits', '16') in options else 64)
     what = {'bounded': f'ring of {len(reading.fresh)} slot{"s" * (len(reading.fresh) != 1)}', 'single': 'one-slot queue', 'unbounded': 'unbounded queue'}[queue]
     said = ''.join(f', {option[2:]} {value}'.rstrip() for option, value in options if option in ('--edition', '--bits', '--lent'))
-    run = Run(name, what + said, reading.stamp, entries, first, end)
+    run = Run(name, what + said, reading.stamp, entries, first, end, reading.decoded)
     if made:
-        run.what, run.refusal = f'no {what.split()[-1]} was made', (None, made)
+        run.what, run.refusal = f'no {what.partition(" of ")[0]} was made', (None, made)
         return run
     if refused:
         run.refusal = (ended, refused)
@@ -133,8 +146,9 @@ def run_of(replay, queue, options, first, last):
         contents = next(line for line in quiet if line.startswith('contents'))
         run.ending = {'contents': 'nothing waits', 'contents refused 4': 'a worker is busy at the end'}.get(contents, contents.replace('contents', 'waits:', 1))
     more = ('--causes', '--moments') if queue == 'bounded' and ('--lent', '') not in options else ()
+    run.has_moments = bool(more)
     if entries:
-        run.lines = lines_to_show(replay, first, end)
+        explained(run, replay.lines('--explain'))
         fold(run, reading, replay.lines(*more), {} if more else reading.back, quiet)
     return run
 
@@ -162,17 +176,15 @@ def fold(run, reading, lines, back, quiet):
         drawn = entry >= first
         number, _, text = words[column].partition('=')
         worker = int(number[1:])
-        if drawn and entry not in run.lines:
-            run.lines[entry] = line.strip()
-        if text != '-':
-            run.workers = max(run.workers, worker + 1)
         if words[1] != '0':
-            run.acts.append(Act(entry, worker if text != '-' else None, calls.get(worker), '', (), None, '', ''))
+            if text == '-':
+                run.stranger = worker
+            run.acts.append(Act(entry, worker, calls.get(worker)))
             run.levels.append(level)
             break
         before, after = stands.get(worker, IDLE), stand_of(text)
         stands[worker] = after
-        place, causes = '', ()
+        place, causes, ends = '', (), ()
         if before.idle:
             calls[worker] = call = Call(worker, *reading.call_of(after), entry)
             items[worker] = call.item
@@ -189,7 +201,8 @@ def fold(run, reading, lines, back, quiet):
                     slots[change.slot] = now
                     if drawn:
                         run.changes.append((entry, change.slot, *now))
-            for end, item in reading.claims(before, after):
+            ends = reading.claims(before, after)
+            for end, item in ends:
                 if end == 'tail':
                     if run.left is None:
                         lives.append(Life(tails, item, worker, entry))
@@ -204,8 +217,11 @@ def fold(run, reading, lines, back, quiet):
                     if drawn:
                         run.lives.append(life)
             for word in words[column + 1:]:
-                if word.startswith('because='):
-                    causes = tuple(word[len('because='):].split(','))
+                name, _, said = word.partition('=')
+                if name == 'because':
+                    causes = tuple(said.split(','))
+                elif name == 'at' and said != '-':
+                    call.moment = 2 * int(said.rstrip('+')) + 2 * said.endswith('+')
             if (before.place, after.place) in back:
                 causes = (back[before.place, after.place],)
         hand = reading.hand_of(after)
@@ -226,11 +242,15 @@ def fold(run, reading, lines, back, quiet):
                 run.calls.append(call)
         tail, head, closed = reading.ends(words)
         level = Level(tail, head, tails, heads, closed)
+        act = Act(entry, worker, call, place, causes, bool(ends), hand, answer, items[worker], after.place, reading.word_of(after))
         if drawn:
-            run.acts.append(Act(entry, worker, call, place, causes, hand, answer, items[worker]))
+            run.acts.append(act)
             run.levels.append(level)
+        else:
+            run.before_acts[worker] = act
     run.calls += calls.values()
     run.hands += hands.values()
     run.lives += lives
+    run.plain = cells_of(run)
     if entry == run.count - 1 and not reading.is_end(slots, quiet):
         raise Told(f'{run.name}: the slots that replay ends with are not those of its lines')

@@ -81,12 +81,24 @@ class Reading:
         """The slots that an act made anew."""
         return ()
 
-    def ends_said(self, ends):
-        """The shared words decoded, by their names in a line, each as a text."""
-        return []
+    def decoded(self, word):
+        """An end's word as a reader says it."""
+        return word
+
+    def loaded(self, stand):
+        """The words of the ends that a worker holds, each with its end."""
+        return ()
+
+    def word_of(self, stand):
+        """The words that a worker who stands so has loaded, on one line; its item is no such word."""
+        return '; '.join(self.decoded(word) for _, word in self.loaded(stand))
 
     def word_said(self, stand):
         """The words of the ends that a worker holds, decoded."""
+        return [f'{end} {self.decoded(word)}' for end, word in self.loaded(stand)]
+
+    def ends_said(self, ends):
+        """The shared words decoded, by their names in a line, each as a text."""
         return []
 
     def awaited(self, ways, others):
@@ -125,16 +137,18 @@ class Ring(Reading):
     def slot_of(self, word):
         return int(word) % self.mark
 
-    def decoded(self, end, word):
+    def decoded(self, word):
         number = int(word)
-        return f'{end} {number}: lap {number // (2 * self.mark)}, slot {number % self.mark}' + ', closed' * (end == 'tail' and bool(number & self.mark))
+        return f'{word}: lap {number // (2 * self.mark)}, slot {self.slot_of(word)}' + ', closed' * bool(number & self.mark)
 
     def ends_said(self, ends):
-        return [self.decoded('head', ends['h']), self.decoded('tail', ends['t'])]
+        return [f'{end} {self.decoded(ends[end[0]])}' for end in ('head', 'tail')]
 
-    def word_said(self, stand):
+    def loaded(self, stand):
+        if stand.place in self.pushes:
+            return ()
         held = {'P': ('tail',), 'F': ('tail',), 'O': ('head',)}.get(stand.place[0]) or {'len2': ('tail',), 'len3': ('tail', 'head'), 'empty2': ('head',), 'full2': ('tail',)}.get(stand.place, ())
-        return [] if stand.place == 'P1' else [self.decoded(end, word) for end, word in zip(held, stand.words)]
+        return zip(held, stand.words)
 
     def awaited(self, ways, others):
         looked_at = {self.slot_of(stand.words[0]) for stand in ways if stand.place in ('P2', 'O2')}
@@ -170,7 +184,7 @@ class OneSlot(Reading):
     pushes, forces, pops = ('A1', 'B1'), ('B1',), ('C1',)
     fresh_ends = None, None
     moments = {answer: (('A1', 'A2'), ('B1', 'B2'), ('B1', 'B4'), ('C1', 'C2')) for answer in ('pushed', 'displaced', 'popped')}
-    BITS = (1, 'L'), (2, 'P'), (4, 'C')  # locked, pushed, closed
+    BITS = (1, 'locked'), (2, 'pushed'), (4, 'closed')
 
     def __init__(self, capacity, bits):
         self.fresh = {0: ('0', 0)}
@@ -178,17 +192,24 @@ class OneSlot(Reading):
     def ends(self, words):
         return None, None, bool(int(words[2][2:]) & 4)
 
+    def bits_of(self, word):
+        return [name for bit, name in self.BITS if int(word) & bit]
+
+    def state(self, word):
+        return f'{word} {"".join(name[0].upper() for name in self.bits_of(word))}'.strip()
+
     def ends_said(self, ends):
-        bits = [name for bit, name in ((1, 'locked'), (2, 'pushed'), (4, 'closed')) if int(ends['s']) & bit]
+        bits = self.bits_of(ends['s'])
         return [f'state {ends["s"]}: ' + (' and '.join(filter(None, (', '.join(bits[:-1]), bits[-1]))) if bits else 'free')]
+
+    def word_of(self, stand):
+        return self.state(stand.words[0]) if stand.place in self.pops else ''
 
     def hand_of(self, stand):
         return 0 if stand.place in self.hands else None
 
     def change(self, before, words):
-        state = int(words[2][2:])
-        bits = ''.join(letter for bit, letter in self.BITS if state & bit)
-        return Change(0, f'{state} {bits}'.strip(), int(before.words[-1]) if before.place in ('A2', 'B2', 'B4') else None)
+        return Change(0, self.state(words[2][2:]), int(before.words[-1]) if before.place in ('A2', 'B2', 'B4') else None)
 
     def claims(self, before, after):
         if before.place not in ('A1', 'B1', 'C1') or after.place not in self.hands:
@@ -222,8 +243,7 @@ class Unbounded(Reading):
         return tail, words[2][2:], bool(int(tail) & 1)
 
     def ends_said(self, ends):
-        return [f'{end} {ends[word]}' + ', marked' * (int(ends[word]) & 1) + f': position {int(ends[word]) // 2}, ' + ('no block' if ends[block] == '-' else f'block {ends[block]}')
-                for end, word, block in (('head', 'h', 'hb'), ('tail', 't', 'tb'))]
+        return [f'{end} {self.decoded(ends[word])}, ' + ('no block' if ends[block] == '-' else f'block {ends[block]}') for end, word, block in (('head', 'h', 'hb'), ('tail', 't', 'tb'))]
 
     def awaited(self, ways, others):
         """The push of the slot that it is to read, or who has the last slot of a block in hand and has not moved on the end."""
@@ -236,8 +256,17 @@ class Unbounded(Reading):
             return self.slot_of(stand.words[2], stand.words[1])
         return self.slot_of(stand.words[1], stand.words[0]) if stand.place in self.popping else None
 
+    def offset_of(self, word):
+        return int(word) // 2 % (self.SLOTS + 1)
+
     def slot_of(self, block, word):
-        return int(block), int(word) // 2 % (self.SLOTS + 1)
+        return int(block), self.offset_of(word)
+
+    def decoded(self, word):
+        return word + ', marked' * (int(word) % 2) + f': position {int(word) // 2}, offset {self.offset_of(word)}'
+
+    def word_of(self, stand):
+        return ','.join(stand.words[:-1] if stand.place[0] == 'U' else stand.words)
 
     def change(self, before, words):
         held = before.words
