@@ -1,4 +1,4 @@
-"""A second reading of `walk --explain`, from docs/GUIDE.md ("Endings in words"): the endings of a walk, the words for each, and the first of the shortest ways
+"""A second reading of `walk --explain`, from docs/REFERENCE.md ("Endings in words"): the endings of a walk, the words for each, and the first of the shortest ways
 there as a schedule. The sequences are those of tests/paper_walk.py, a schedule's words those of tests/paper_words.py; nothing is from the crates."""
 
 import paper

@@ -1,4 +1,4 @@
-"""A second reading of `replay --explain` of the ring: the sentences of docs/GUIDE.md ("A run in plain words"), told over the machine of tests/paper.py, and from none
+"""A second reading of `replay --explain` of the ring: the sentences of docs/REFERENCE.md ("A run in plain words"), told over the machine of tests/paper.py, and from none
 of the crates. A claim's number is counted, and with 64 bits held to the word that was claimed; causes are looked up in the history; an item is followed by the claim that
 took it in."""
 

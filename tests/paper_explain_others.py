@@ -1,4 +1,4 @@
-"""A second reading of `replay --explain` of the one-slot and the unbounded queue: the sentences of docs/GUIDE.md ("Other queues in plain words"), told over the machines of
+"""A second reading of `replay --explain` of the one-slot and the unbounded queue: the sentences of docs/REFERENCE.md ("Other queues in plain words"), told over the machines of
 tests/paper_single.py and tests/paper_unbounded.py, and from none of the crates. Claims of the one-slot queue are counted along the run, those of the unbounded queue are
 positions without the blocks' ends; an item is followed by the claim that took it in."""
 

@@ -1,4 +1,4 @@
-"""A second reading of what replay, walk and tape say on standard error of a refused schedule: docs/GUIDE.md, "A refused entry", told from the schedule's text, and from none
+"""A second reading of what replay, walk and tape say on standard error of a refused schedule: docs/REFERENCE.md, "A refused entry", told from the schedule's text, and from none
 of the crates. What a worker answered before is what the paper's machines answer."""
 
 import re

@@ -14,7 +14,7 @@ TOO_LARGE = 'a number that does not fit 64 bits'
 MISSING = ('the capacity is missing', 'the number of workers is missing')
 
 
-# docs/GUIDE.md, "Status and errors": what a program says besides, of a mark without --many, of a tape's first byte, of workers where the capacity should be.
+# docs/REFERENCE.md, "Status and errors": what a program says besides, of a mark without --many, of a tape's first byte, of workers where the capacity should be.
 HINTS = {
     'replay': ('; several schedules are read with --many', '; a tape is read with --tape', '; a schedule without one is of another --queue'),
     'walk': ('; several schedules are read with --many', '; tape read prints a tape as a schedule', '; walk has the ring alone, which has one'),

@@ -2,7 +2,7 @@
 entry or `act N` a line: `w0 push 101`, `w1 act 4`, `w0 fail`, `w2 pop`. Blank lines and comments may stand anywhere. The first thing that is no comment
 decides: a digit is the form in numbers (tests/paper_text.py), a letter this one.
 
-What that leaves open is taken from docs/GUIDE.md ("Schedules in words"): a fault is told where the word at fault begins, or, where a word is missing, where the line
+What that leaves open is taken from docs/REFERENCE.md ("Schedules in words"): a fault is told where the word at fault begins, or, where a word is missing, where the line
 or what stands before its comment ends; a word that is a number but for its size is told as such; capacity comes first, then workers.
 """
 

@@ -1,4 +1,4 @@
-//! Texts in words: lines of words with their columns, what is expected where something else stands, schedules read and printed. The words are those of schedules (docs/GUIDE.md,
+//! Texts in words: lines of words with their columns, what is expected where something else stands, schedules read and printed. The words are those of schedules (docs/REFERENCE.md,
 //! "Schedules in words"), as replay reads them.
 
 use fernmoldew::{Answer, Call};

@@ -1,6 +1,6 @@
 /* A whole program under a fuzzer. Of its bytes those before the first newline are the arguments, with a space between two; the rest is what it reads, from
  * standard input or from whatever file it is told to open. The program's main and what it asks of the system are named program_.. in its module. A run that
- * breaks a promise of docs/GUIDE.md, "Status and errors", is ended as a crash is. */
+ * breaks a promise of docs/REFERENCE.md, "Status and errors", is ended as a crash is. */
 #define _GNU_SOURCE
 #include <errno.h>
 #include <stdint.h>

@@ -81,7 +81,7 @@ def told_of(line):
     if told['result'] == GONE:
         return f'{name}: is not there, and its record is\n'
     if told['result'] == REFUSED:
-        return f'{name}: refused {told["refused"]}{" as recorded" * (told["record"] == "same")}: {MEANINGS.get(told["refused"], "see docs/GUIDE.md")}\n'
+        return f'{name}: refused {told["refused"]}{" as recorded" * (told["record"] == "same")}: {MEANINGS.get(told["refused"], "see docs/REFERENCE.md")}\n'
     if told['result'] == DIFFERS:
         sides = ('nothing' if told[side] is None else shown(told[side]) for side in ('recorded', 'now'))
         return '{}: differs at line {}: recorded {}: now {}\n'.format(name, told['line'], *sides)

@@ -11,7 +11,7 @@ NO_MOMENTS = 'replay names no moments here'
 
 def refusal_of(run):
     entry, refused = run.refusal
-    why = f'refused {refused}: {REFUSALS.get(refused, "see docs/GUIDE.md")}'
+    why = f'refused {refused}: {REFUSALS.get(refused, "see docs/REFERENCE.md")}'
     return why if entry is None else f'entry {entry} {why}'
 
 
