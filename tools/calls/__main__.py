@@ -60,9 +60,6 @@ class Asked:
             if getattr(self, asked[2:]) and clash:
                 raise Told(f'{clash} does not go with {asked} (see --help)')
 
-    def is_ring(self):
-        return self.queue == 'bounded'
-
 
 class Started:
     """replay at work: its lines, and at its end the status."""
@@ -196,7 +193,7 @@ class Schedule:
     def __init__(self, asked, head):
         made = [int(word) for word in head.replace(',', ' ').split() if word.isdigit()] if head.startswith('made: a ring') else [0]
         self.name = asked.file or 'standard input'
-        self.fold = Fold(READINGS[asked.queue](made[0], 16 if asked.narrow else 64), asked.is_ring() and not asked.lent)
+        self.fold = Fold(READINGS[asked.queue](made[0], 16 if asked.narrow else 64))
         self.head, self.last, self.words, self.left, self.chosen = head, [], [], None, asked.chosen
 
     def read(self, numbers, explained):
