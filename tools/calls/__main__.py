@@ -4,7 +4,7 @@ import json
 import subprocess
 import sys
 
-from calls import LEFT, Fold, line_of, options_for, plain_lines, said_of, table
+from calls import LEFT, Fold, beside_numbers, line_of, options_for, plain_lines, said_of, table
 from manners import Told, copy_of, is_kept, number_of, options_among, printed, run
 from queues import IDLE, READINGS, pairs_of
 
@@ -274,7 +274,7 @@ def by_calls(starter, asked, out):
         if given is not None:
             words.run.wait()
         with Started([*starter, *more, *rest], given, is_heard=False) as numbers:
-            told, explained = iter(numbers), iter(said)
+            told, explained = iter(numbers), beside_numbers(said)
             schedule = 0
             while (head := next(explained, None)) is not None:
                 read = Schedule(asked, head).read(told, explained)

@@ -65,6 +65,11 @@ def said_of(text):
     return Said(text, *found.groups()) if found else None
 
 
+def beside_numbers(lines):
+    """Lines of --explain, one for each of the numbers: that the window is left is said in both, and read there."""
+    return (line for line in lines if not line.startswith(LEFT))
+
+
 def lost_by(said):
     """How an exchange was lost, or None."""
     return 'differed' if re.search(r'\d(?:, [a-z ,]+)?(?:, not \w+)?: lost\b|, marked: lost\b', said.what) else 'schedule' if ' failed by the schedule' in said.what else None
@@ -223,7 +228,7 @@ def options_for(queue, lent):
 def calls_told(program, text, capacity):
     """The table of a schedule's calls and the plain queue along it, of one that is run to its end or up to a refusal."""
     fold = Fold(READINGS[program.queue](capacity, 16 if program.narrow else 64))
-    words = iter(program.run(text, '--explain')[1:])
+    words = beside_numbers(program.run(text, '--explain')[1:])
     for line in program.run(text, *options_for(program.queue, program.lent)):
         numbers = line_of(line)
         fold.add(line, said_of(next(words)) if numbers and numbers.worker is not None else None)
