@@ -4,7 +4,7 @@ import json
 import subprocess
 import sys
 
-from calls import LEFT, Fold, line_of, options_for, plain_lines, said_of, table
+from calls import LEFT, Fold, beside_numbers, line_of, options_for, plain_lines, said_of, table
 from manners import Told, copy_of, is_kept, number_of, options_among, printed, run
 from queues import IDLE, READINGS, pairs_of
 
@@ -59,9 +59,6 @@ class Asked:
             clash = next((option for option in given if option in NOT_WITH[asked]), None)
             if getattr(self, asked[2:]) and clash:
                 raise Told(f'{clash} does not go with {asked} (see --help)')
-
-    def is_ring(self):
-        return self.queue == 'bounded'
 
 
 class Started:
@@ -196,7 +193,7 @@ class Schedule:
     def __init__(self, asked, head):
         made = [int(word) for word in head.replace(',', ' ').split() if word.isdigit()] if head.startswith('made: a ring') else [0]
         self.name = asked.file or 'standard input'
-        self.fold = Fold(READINGS[asked.queue](made[0], 16 if asked.narrow else 64), asked.is_ring() and not asked.lent)
+        self.fold = Fold(READINGS[asked.queue](made[0], 16 if asked.narrow else 64))
         self.head, self.last, self.words, self.left, self.chosen = head, [], [], None, asked.chosen
 
     def read(self, numbers, explained):
@@ -277,7 +274,7 @@ def by_calls(starter, asked, out):
         if given is not None:
             words.run.wait()
         with Started([*starter, *more, *rest], given, is_heard=False) as numbers:
-            told, explained = iter(numbers), iter(said)
+            told, explained = iter(numbers), beside_numbers(said)
             schedule = 0
             while (head := next(explained, None)) is not None:
                 read = Schedule(asked, head).read(told, explained)

@@ -26,8 +26,8 @@ queue gives that answer. Below, what waits in that plain queue, a cell a change.
 of tail and head as two lines of steps, a thick one while the queue is closed; between them a bar
 for each item, from its claim at tail to the claim at head that takes it. Below, a lane for each
 slot (the first four and the last four where there are more than 8; of the unbounded queue those
-that something happens to): whose hand, stamp or state, value. Moments are those of replay
---moments: with --lent and of the other queues there are none.
+that something happens to): whose hand, stamp or state, value. Moments are those of replay --calls,
+of every queue: an answer that has none there has no diamond.
 
 On the page time alone is zoomed; a strip shows the whole run, and where one is. A pane has the
 state after the entry under the mouse: both ends decoded, workers, slots, what is new marked. A

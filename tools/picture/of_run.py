@@ -6,7 +6,6 @@ from run import REFUSALS
 from scene import CELL, THIN, Answer, Bar, Box, Diamond, Join, Scene, Step, lanes_of
 
 MOST_SLOTS, MOST_ROWS, FEW_ROWS, ROW, CHART = 8, 8, 4, 15, 260
-NO_MOMENTS = 'replay names no moments here'
 
 
 def refusal_of(run):
@@ -25,8 +24,7 @@ def said_of(run):
     if run.acts and len(run.acts) != run.count:
         part = f'entries {run.first} to {run.last} of {run.count:,}'
     left = [] if run.left is None else [f'left the window at entry {run.left}']
-    moments = [NO_MOMENTS] if run.acts and not run.has_moments else []
-    return '; '.join([run.what, part, *left, *moments, *([run.ending] if run.ending else [])])
+    return '; '.join([run.what, part, *left, *([run.ending] if run.ending else [])])
 
 
 class Drawn:

@@ -5,12 +5,12 @@ from collections import deque
 from dataclasses import dataclass, field
 from typing import NamedTuple, Optional
 
+from calls import LEFT, Moments
 from manners import Told
 from plain import cells_of
 from queues import IDLE, READINGS, slots_in, stand_of
 
 MOST = {'svg': 20_000, 'html': 200_000}  # entries of one picture
-LEFT = 'left the window at entry '
 REFUSALS = {
     1: 'a capacity of 0 or above 1,024', 2: 'too many workers, or none', 3: 'no such worker', 4: 'a call begun by a busy worker',
     5: 'an act of an idle worker', 6: 'no sound machine', 7: 'no act left on the meter', 8: 'code 9 where no weak exchange comes next',
@@ -93,7 +93,6 @@ class Run:
     refusal: Optional[tuple] = None  # entry or None, number
     stranger: Optional[int] = None  # the worker of a refused entry that there is none of
     before_acts: dict = field(default_factory=dict)  # each worker's last act before the drawn part
-    has_moments: bool = False
     plain: list = field(default_factory=list)  # the plain queue's cells (plain.py)
     left: Optional[int] = None  # the entry that left the window of sixteen-bit words: from there on no item is followed
     lines: dict = field(default_factory=dict)
@@ -146,7 +145,6 @@ def run_of(replay, queue, options, first, last, most=MOST['svg']):
         contents = next(line for line in quiet if line.startswith('contents'))
         run.ending = {'contents': 'nothing waits', 'contents refused 4': 'a worker is busy at the end'}.get(contents, contents.replace('contents', 'waits:', 1))
     more = ('--causes', '--moments') if queue == 'bounded' and ('--lent', '') not in options else ()
-    run.has_moments = bool(more)
     if entries:
         explained(run, replay.lines('--explain'))
         fold(run, reading, replay.lines(*more), {} if more else reading.back, quiet)
@@ -155,7 +153,7 @@ def run_of(replay, queue, options, first, last, most=MOST['svg']):
 
 def fold(run, reading, lines, back, quiet):
     """back: why an act goes back, where the lines name no cause. quiet: what replay shows at its end."""
-    stands, calls, hands, items, lives = {}, {}, {}, {}, deque()
+    stands, calls, hands, items, lives, moments = {}, {}, {}, {}, deque(), Moments(reading)
     slots = dict(reading.fresh)
     tails = heads = 0
     level = Level(*reading.fresh_ends, 0, 0, False)
@@ -188,6 +186,7 @@ def fold(run, reading, lines, back, quiet):
         if before.idle:
             calls[worker] = call = Call(worker, *reading.call_of(after), entry)
             items[worker] = call.item
+            moments.begin(worker)
         else:
             place, call = before.place, calls[worker]
             for slot in reading.taken(before, after):
@@ -216,12 +215,15 @@ def fold(run, reading, lines, back, quiet):
                     items[worker] = call.item or life.item
                     if drawn:
                         run.lives.append(life)
+            moment = moments.add(entry, worker, call.name, before, after, ends)
             for word in words[column + 1:]:
                 name, _, said = word.partition('=')
                 if name == 'because':
                     causes = tuple(said.split(','))
-                elif name == 'at' and said != '-':
-                    call.moment = 2 * int(said.rstrip('+')) + 2 * said.endswith('+')
+                elif name == 'at':
+                    moment = said
+            if moment not in (None, '-'):
+                call.moment = 2 * int(moment.rstrip('+')) + 2 * moment.endswith('+')
             if (before.place, after.place) in back:
                 causes = (back[before.place, after.place],)
         hand = reading.hand_of(after)

@@ -1,7 +1,7 @@
 """A run by its calls, and the plain queue along it: replay's lines of numbers, folded, beside its lines in plain words.
 
 Which act is whose, where a worker stands, what was lost and why are replay's. So is the moment of an answer where replay names it; where it names none (the one-slot
-and the unbounded queue, records that are lent) it is looked up by the table of docs/PROMISES.md, which the readings have (queues.py)."""
+and the unbounded queue, records that are lent) it is looked up by the table of docs/PROMISES.md (`Moments`), which the readings have (queues.py)."""
 
 import re
 from collections import deque
@@ -65,6 +65,11 @@ def said_of(text):
     return Said(text, *found.groups()) if found else None
 
 
+def beside_numbers(lines):
+    """Lines of --explain, one for each of the numbers: that the window is left is said in both, and read there."""
+    return (line for line in lines if not line.startswith(LEFT))
+
+
 def lost_by(said):
     """How an exchange was lost, or None."""
     return 'differed' if re.search(r'\d(?:, [a-z ,]+)?(?:, not \w+)?: lost\b|, marked: lost\b', said.what) else 'schedule' if ' failed by the schedule' in said.what else None
@@ -95,10 +100,43 @@ class Call:
     differed: int = 0
     failed: int = 0
     retries: list = field(default_factory=list)  # each an entry and its causes
-    acts: list = field(default_factory=list)  # each an entry and the places from and to
 
-    def own(self, ways):
-        return next((entry for entry, *way in reversed(self.acts) if tuple(way) in ways), None)
+
+class Moments:
+    """Where a plain queue gives each answer, along a run, by the table of docs/PROMISES.md. Asked where replay names no moment."""
+    LOOKS = {'is_empty': (('empty1', 'empty2'), 'tail'), 'is_full': (('full1', 'full2'), 'head')}  # a no that is not so yet at the look is so from the next claim of that end on
+
+    def __init__(self, reading):
+        self.reading, self.waiting = reading, 0
+        self.acts = {}  # by worker: of its call the last act of each way, with how much waited just before
+        self.since = {}  # by worker: the first claim since its look
+        self.looking = {'tail': set(), 'head': set()}  # workers whose look no claim of that end has followed
+
+    def begin(self, worker):
+        self.acts[worker] = {}
+
+    def add(self, entry, worker, call, before, after, claims):
+        """An act of a call of that name. Where it answers, the answer's moment as --moments writes it, '-' where the plain queue gives that answer at none; else None."""
+        way = before.place, after.place
+        self.acts[worker][way] = entry, self.waiting
+        for end, _ in claims:
+            self.waiting += 1 if end == 'tail' else -1
+            self.since.update(dict.fromkeys(self.looking[end], entry))
+            self.looking[end].clear()
+        look, end = self.LOOKS.get(call, (None, None))
+        if way == look:
+            self.looking[end].add(worker)
+            self.since.pop(worker, None)
+        return self.moment(entry, worker, call, after.kind) if after.idle else None
+
+    def moment(self, entry, worker, call, answer):
+        acts = self.acts[worker]
+        look, _ = self.LOOKS.get(call, (None, None))
+        if answer == 'no' and look in acts:
+            looked, waited = acts[look]
+            is_so = waited > 0 if call == 'is_empty' else waited < len(self.reading.fresh)
+            return f'{looked}' if is_so else f'{self.since[worker]}+' if worker in self.since else '-'
+        return str(max((acts[way][0] for way in self.reading.decided(call, answer) if way in acts), default=entry))
 
 
 class Change(NamedTuple):
@@ -110,17 +148,15 @@ class Change(NamedTuple):
 
 
 class Plain:
-    """The plain queue along a run: what waits, and how much waited just before each entry."""
+    """The plain queue along a run: what waits, and each change."""
 
     def __init__(self, reading):
         self.reading = reading
-        self.waits, self.before, self.changes, self.closed = deque(), [], [], False
+        self.waits, self.changes, self.closed = deque(), [], False
         self.lost = False  # from the entry on that leaves the window of sixteen-bit words no item is followed
 
-    def add(self, line, before):
-        if before is None:
-            return
-        for end, item in self.reading.claims(before, line.stand):
+    def add(self, line, claims):
+        for end, item in claims:
             if end == 'tail':
                 self.waits.append(int(item))
                 self.changes.append(Change(line.entry, 'in', int(item), line.worker))
@@ -132,38 +168,14 @@ class Plain:
             self.changes.append(Change(line.entry, 'closed' if closed else 'open again', None, line.worker))
         self.closed = closed
 
-    def first_after(self, entry, what):
-        """Directly after the first such change since, or None."""
-        found = None
-        for change in reversed(self.changes):
-            if change.entry <= entry:
-                break
-            if change.what == what:
-                found = f'{change.entry}+'
-        return found
-
-    def moment(self, call):
-        """Of a call that has just answered, by the table; '-' where the plain queue gives that answer at none."""
-        if call.name == 'is_empty' and call.answer == 'no':
-            loaded = call.own([('empty1', 'empty2')])
-            if loaded is not None:
-                return f'{loaded}' if self.before[loaded] else self.first_after(loaded, 'in') or '-'
-        if call.name == 'is_full' and call.answer == 'no':
-            loaded = call.own([('full1', 'full2')])
-            if loaded is not None:
-                return f'{loaded}' if self.before[loaded] < len(self.reading.fresh) else self.first_after(loaded, 'out') or '-'
-        found = call.own(self.reading.decided(call.name, call.answer))
-        return f'{call.ended if found is None else found}'
-
 
 class Fold:
     """The calls of one schedule, entry by entry."""
 
-    def __init__(self, reading, is_named):
-        """is_named: replay names moments, causes and losses on its lines."""
-        self.reading, self.is_named = reading, is_named
+    def __init__(self, reading):
+        self.reading = reading
         self.calls, self.open, self.stands = [], {}, {}
-        self.plain = Plain(reading)
+        self.plain, self.moments = Plain(reading), Moments(reading)
         self.refusal = None
 
     def add(self, text, said=None):
@@ -176,7 +188,6 @@ class Fold:
         if line.refused:
             self.refusal = line.entry, line.refused
             return line
-        self.plain.before.append(len(self.plain.waits))
         before = self.stands.get(line.worker, IDLE)
         self.stands[line.worker] = line.stand
         if before.idle:
@@ -184,17 +195,17 @@ class Fold:
             call = Call(line.worker, name, int(item) if item else None, line.entry)
             self.calls.append(call)
             self.open[line.worker] = call
+            self.moments.begin(line.worker)
             return line
-        call = self.open[line.worker]
-        call.acts.append((line.entry, before.place, line.stand.place))
-        self.plain.add(line, before)
+        call, claims = self.open[line.worker], self.reading.claims(before, line.stand)
+        self.plain.add(line, claims)
         self.count(call, line, said)
+        moment = self.moments.add(line.entry, line.worker, call.name, before, line.stand, claims)
         if line.stand.idle:
             call.ended, call.answer = line.entry, line.stand.kind
             call.value = int(line.stand.words[0]) if line.stand.words else None
-            call.moment = line.at() if self.is_named and line.at() else self.plain.moment(call)
+            call.moment = line.at() or moment
             del self.open[line.worker]
-            call.acts = []
         return line
 
     def count(self, call, line, said):
@@ -216,8 +227,8 @@ def options_for(queue, lent):
 
 def calls_told(program, text, capacity):
     """The table of a schedule's calls and the plain queue along it, of one that is run to its end or up to a refusal."""
-    fold = Fold(READINGS[program.queue](capacity, 16 if program.narrow else 64), program.queue == 'bounded' and not program.lent)
-    words = iter(program.run(text, '--explain')[1:])
+    fold = Fold(READINGS[program.queue](capacity, 16 if program.narrow else 64))
+    words = beside_numbers(program.run(text, '--explain')[1:])
     for line in program.run(text, *options_for(program.queue, program.lent)):
         numbers = line_of(line)
         fold.add(line, said_of(next(words)) if numbers and numbers.worker is not None else None)
