@@ -1,7 +1,7 @@
 //! explore: everything that can happen in a scenario.
 
 use ask::machine::{Machine, Queue};
-use ask::manners::{self, no_use, told, Arguments, Told};
+use ask::manners::{self, misused, told, Argument, Arguments, Told};
 use ask::scenario::{self, Scenario};
 use ask::search::{self, Found, Outcome, Wanted};
 use ask::words::{answer_in_words, call_in_words, call_of, schedule_in_words, ACT};
@@ -24,13 +24,13 @@ begins at any time after its worker's last one has ended; calls under way go on.
 is run first. It is read from SCENARIO, or from standard input.
 
   N states, complete: nothing is left to try
-                     how many states there are; a state is the words and places, what was answered so
-                     far and how many calls each worker has begun
+                     how many states there are; a state is the words and places, what was answered
+                     so far and how many calls each worker has begun
   not complete: N states seen, M still to try
                      and the endings found so far
   ending K of E: A acts, C changes of worker
-                     what each call answered; the fewest acts that lead there, and with so few acts the
-                     fewest changes of worker between one entry and the next, from 'then' on
+                     what each call answered; the fewest acts that lead there, and with so few acts
+                     the fewest changes of worker between one entry and the next, from 'then' on
   waits ITEMS, or ITEMS
                      what can be in the queue then, front first
 
@@ -40,13 +40,17 @@ all can be written, 3 not complete.
   --queue NAME  bounded (if not given) or single
   --edition N   of the ring: 1 the source's (if not given), 2 the one whose force_push keeps a close
   --bits N      of the ring: 64 (if not given); the library has no ring of 16 bits
-  --reduced     leaves out orders that lead to the same endings: a call begins at once, and an act on
-                the value of a slot in hand is done at once. Endings, what waits and the fewest acts
-                are the same; states are fewer, changes of worker may be more
+  --reduced     leaves out orders that lead to the same endings: a call begins at once, and an act
+                on the value of a slot in hand is done at once. Endings, what waits and the fewest
+                acts are the same; states are fewer, changes of worker may be more
   --states N    stops at so many states: 40000000 if not given, which fits 2 GB
-  --json        one object: states, complete, endings; each with answers, acts, changes, waits, schedule
+  --json        one object: states, complete, endings; each with answers, acts, changes, waits,
+                schedule
   --ending N    prints the schedule of the N-th ending, from 1, in words, for replay
-  --help        prints this
+  --version     prints the version
+  -h, --help    prints this
+
+A value may stand behind an = too, as in --states=1000. What follows a word -- is a name.
 ";
 
 /// At some 50 bytes each, as words of 128 bits have them, they fit 2 GB (GiB).
@@ -62,10 +66,7 @@ struct Options {
     file: Option<OsString>,
 }
 
-fn options(words: Vec<OsString>) -> Result<Option<Options>, Told> {
-    if words.iter().any(|word| word == "--help") {
-        return Ok(None);
-    }
+fn options(words: Vec<OsString>) -> Result<Options, Told> {
     let mut words = Arguments::new(words);
     let mut options = Options {
         queue: Queue::Ring(Edition::Source),
@@ -76,60 +77,55 @@ fn options(words: Vec<OsString>) -> Result<Option<Options>, Told> {
         ending: None,
         file: None,
     };
-    let mut rings_own: Option<OsString> = None;
-    while let Some(word) = words.take() {
-        match word.to_str() {
-            Some("--queue") => {
-                let name = words.value(&word)?;
+    let mut rings_own: Option<String> = None;
+    while let Some(word) = words.take()? {
+        let option = match word {
+            Argument::Name(name) if options.file.is_some() => return Err(Arguments::too_many(&name)),
+            Argument::Name(name) => {
+                options.file = Some(name);
+                continue;
+            }
+            Argument::Option(option) => option,
+        };
+        match option.as_str() {
+            "--queue" => {
+                let (name, other) = words.value(&option, "one of bounded, single")?;
                 options.queue = match name.to_str() {
                     Some("bounded") => Queue::Ring(Edition::Source),
                     Some("single") => Queue::OneSlot,
                     Some("unbounded") => {
                         return Err(told("--queue unbounded: the library that it is made over has no unbounded queue"))
                     }
-                    _ => return Err(no_use(&name)),
+                    _ => return Err(other),
                 };
             }
-            Some("--edition") => {
-                options.edition = words.number(&word)?;
-                rings_own.get_or_insert(word);
+            "--edition" => {
+                options.edition = words.number(&option, "a number", 0)?;
+                rings_own.get_or_insert(option);
             }
-            Some("--bits") => {
-                let name = words.value(&word)?;
+            "--bits" => {
+                let (name, other) = words.value(&option, "64")?;
                 match name.to_str() {
                     Some("64") => {}
                     Some("16") => {
                         return Err(told("--bits 16: the library that it is made over has no ring of sixteen bits"))
                     }
-                    _ => return Err(no_use(&name)),
+                    _ => return Err(other),
                 }
-                rings_own.get_or_insert(word);
+                rings_own.get_or_insert(option);
             }
-            Some("--reduced") => options.reduced = true,
-            Some("--states") => {
-                options.states = words.number(&word)?;
-                if options.states == 0 {
-                    return Err(told("--states 0: the first state is one"));
-                }
-            }
-            Some("--json") => options.json = true,
-            Some("--ending") => {
-                let number = words.number(&word)?;
-                if number == 0 {
-                    return Err(no_use(&OsString::from("0")));
-                }
-                options.ending = Some(number);
-            }
-            Some(text) if text.starts_with('-') || text.is_empty() => return Err(no_use(&word)),
-            _ if options.file.is_some() => return Err(no_use(&word)),
-            _ => options.file = Some(word),
+            "--reduced" => options.reduced = true,
+            "--states" => options.states = words.number(&option, "a number from 1", 1)?,
+            "--json" => options.json = true,
+            "--ending" => options.ending = Some(words.number(&option, "a number from 1", 1)?),
+            _ => return Err(words.unknown(&option)),
         }
     }
     if options.json && options.ending.is_some() {
-        return Err(no_use(&OsString::from("--ending")));
+        return Err(misused("--ending does not go with --json"));
     }
     match (options.queue, rings_own) {
-        (Queue::OneSlot, Some(word)) => return Err(no_use(&word)),
+        (Queue::OneSlot, Some(option)) => return Err(misused(format!("{option} does not go with --queue single"))),
         (Queue::OneSlot, None) => {}
         (Queue::Ring(_), _) => {
             options.queue = Queue::Ring(match options.edition {
@@ -139,7 +135,7 @@ fn options(words: Vec<OsString>) -> Result<Option<Options>, Told> {
             })
         }
     }
-    Ok(Some(options))
+    Ok(options)
 }
 
 /// As walk tells a refusal.
@@ -352,10 +348,10 @@ impl Watch {
 }
 
 fn explore(words: Vec<OsString>) -> Result<u8, Told> {
-    let Some(options) = options(words)? else {
-        manners::output(HELP)?;
+    if manners::is_told("explore", HELP, &words)? {
         return Ok(0);
-    };
+    }
+    let options = options(words)?;
     let text = manners::input(options.file.as_deref())?;
     let name = manners::name_of(options.file.as_deref());
     let scenario =

@@ -11,7 +11,7 @@ pub mod schedule;
 pub mod search;
 
 use crate::json;
-use crate::manners::{self, Arguments, Told};
+use crate::manners::{self, misused, Argument, Arguments, Told};
 use crate::words::{self, Head};
 use log::Log;
 use part::Part;
@@ -90,55 +90,56 @@ const LINES: usize = 40;
 
 /// The program: its status.
 pub fn program(arguments: Vec<OsString>) -> Result<u8, Told> {
+    if manners::is_told("possible", help::HELP, &arguments)? {
+        return Ok(0);
+    }
     let mut arguments = Arguments::new(arguments);
     let (mut file, mut single, mut edition, mut states, mut as_json) = (None, false, None, STATES, false);
-    while let Some(word) = arguments.take() {
-        match word.to_str() {
-            Some("--help") => {
-                manners::output(help::HELP)?;
-                return Ok(0);
+    while let Some(word) = arguments.take()? {
+        let option = match word {
+            Argument::Name(name) if file.is_some() => return Err(Arguments::too_many(&name)),
+            Argument::Name(name) => {
+                file = Some(name);
+                continue;
             }
-            Some("--json") => as_json = true,
-            Some("--states") => {
-                states = arguments.number(&word)?;
-                if states == 0 {
-                    return Err(manners::no_use("0".as_ref()));
-                }
-            }
-            Some("--edition") => {
-                let number = arguments.value(&word)?;
+            Argument::Option(option) => option,
+        };
+        match option.as_str() {
+            "--json" => as_json = true,
+            "--states" => states = arguments.number(&option, "a number from 1", 1)?,
+            "--edition" => {
+                let (number, other) = arguments.value(&option, "1 or 2")?;
                 edition = Some(match number.to_str() {
                     Some("1") => Rule::Source,
                     Some("2") => Rule::CloseHolds,
-                    _ => return Err(manners::no_use(&number)),
+                    _ => return Err(other),
                 });
             }
-            Some("--queue") => {
-                let name = arguments.value(&word)?;
+            "--queue" => {
+                let (name, other) = arguments.value(&option, "one of bounded, single")?;
                 single = match name.to_str() {
                     Some("bounded") => false,
                     Some("single") => true,
                     Some("unbounded") => {
                         return Err(manners::told("--queue unbounded: not yet; its words cannot be linked"))
                     }
-                    _ => return Err(manners::no_use(&name)),
+                    _ => return Err(other),
                 };
             }
-            Some("--bits") => {
-                let bits = arguments.value(&word)?;
+            "--bits" => {
+                let (bits, other) = arguments.value(&option, "64")?;
                 match bits.to_str() {
                     Some("64") => {}
                     Some("16") => return Err(manners::told("--bits 16: not yet; its words cannot be linked")),
-                    _ => return Err(manners::no_use(&bits)),
+                    _ => return Err(other),
                 }
             }
-            Some(option) if option.starts_with('-') && option != "-" => return Err(manners::no_use(&word)),
-            _ if file.is_some() => return Err(manners::no_use(&word)),
-            _ => file = Some(word),
+            "-" if file.is_none() => file = Some("-".into()),
+            _ => return Err(arguments.unknown(&option)),
         }
     }
     if single && edition.is_some() {
-        return Err(manners::no_use("--edition".as_ref()));
+        return Err(misused("--edition does not go with --queue single"));
     }
     let file = file.filter(|file| file != "-");
     let rule = if single { Rule::OneSlot } else { edition.unwrap_or(Rule::Source) };
