@@ -199,6 +199,13 @@ class Schedule:
         self.fold = Fold(READINGS[asked.queue](made[0], 16 if asked.narrow else 64), asked.is_ring() and not asked.lent)
         self.head, self.last, self.words, self.left, self.chosen = head, [], [], None, asked.chosen
 
+    def beside(self, explained, begun):
+        """The next line in plain words, which is to begin so."""
+        words = next(explained, '')
+        if not words.lstrip().startswith(begun):
+            raise Told(f'{self.name}: changed while it was read')
+        return words
+
     def read(self, numbers, explained):
         """Up to the line % that ends it, or the end."""
         for text in numbers:
@@ -208,15 +215,13 @@ class Schedule:
             if line and line.worker is not None:
                 if line.entry >= MOST:
                     raise Told(f'{self.name}: more than {MOST:,} entries, which are not told by their calls')
-                words = next(explained, '')
-                if not words.lstrip().startswith(f'{line.entry} '):
-                    raise Told(f'{self.name}: changed while it was read')
+                words = self.beside(explained, f'{line.entry} ')
                 self.fold.add(text, said_of(words))
                 if line.refused:
                     self.words.append(words)
             elif text.startswith(LEFT):
                 self.fold.add(text)
-                self.left = text
+                self.left = self.beside(explained, text)
             else:
                 self.last.append(text)
         for text in explained:
