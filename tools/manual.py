@@ -18,7 +18,8 @@ PROGRAMS = ('archive', 'explore', 'picture', 'possible', 'replay', 'runs', 'shri
 
 # Options that a program's starter has, and what it starts does not have in its help; the usages that have them.
 OF_STARTER = {'replay': (('--explain', '--calls'), [
-    ('--from N', 'with --explain or --calls, only the lines or rows of entry N and behind it'), ('--to N', 'the same, of entry N and before it'), ('--worker K', 'the same, of worker K'),
+    ('--from N', 'with --explain or --calls, only what entry N and later ones did'), ('--to N', 'with --explain or --calls, only what entry N and earlier ones did'),
+    ('--worker K', 'with --explain or --calls, only what worker K did'),
 ])}
 
 
