@@ -185,6 +185,17 @@ def ends(machine, made, differed, failed):
     return (standing or ['busy: nobody']) + waits(machine, made) + [f'exchanges lost: {differed} because the words differed, {failed} by the schedule']
 
 
+def part_of(lines, first=0, last=10**9, worker=None):
+    """Of a schedule's lines those of entries FIRST to LAST, of this worker, and all that are no entry's; so is a refusal's."""
+    found = []
+    for told in lines:
+        place, whose, *_ = *told.split(), '', ''
+        is_entry = place.isdigit() and whose.startswith('w')
+        if not is_entry or first <= int(place) <= last and worker in (None, int(whose[1:])):
+            found.append(told)
+    return found
+
+
 def explained(numbers, edition=1, bits=64, lent=False, follow=None):
     """The lines of a schedule, and whether it was refused."""
     capacity, count, *words = numbers

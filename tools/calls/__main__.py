@@ -1,4 +1,5 @@
-"""replay --calls, replay --json: a run by its calls, or its lines as JSON. What happened is what replay prints; it is started with the words that are left."""
+"""replay --calls, replay --json, a part of replay --explain: a run by its calls, its lines as JSON, some of its lines in plain words. What happened is what replay
+prints; it is started with the words that are left."""
 
 import json
 import subprocess
@@ -6,12 +7,13 @@ import sys
 
 from calls import LEFT, Fold, beside_numbers, line_of, options_for, plain_lines, said_of, table
 from manners import Told, copy_of, is_kept, number_of, options_among, printed, run
+from part import passed_on
 from queues import IDLE, READINGS, pairs_of
 
 MOST = 1_000_000  # entries of a schedule that is told by its calls
 NAMES = {'h': 'head', 't': 'tail', 'm': 'meter', 's': 'state', 'hb': 'head_block', 'tb': 'tail_block'}
 WITH_VALUE = ('--queue', '--edition', '--bits', '--follow')
-CHOOSE = ('--from', '--to', '--worker')  # of the rows; without --calls they are left to replay
+CHOOSE = ('--from', '--to', '--worker')  # of the rows of --calls, of the lines of --explain
 NOT_WITH = {
     '--calls': ('--quiet', '--causes', '--moments', '--losses', '--stock', '--summary', '--words-of', '--explain', '--follow'),
     '--json': ('--words-of', '--explain', '--follow'),
@@ -25,7 +27,6 @@ class Asked:
         self.calls = self.json = self.many = False
         self.rest, self.queue, self.narrow, self.lent = [], 'bounded', False, False
         given, name, words, self.chosen = [], None, list(words), {}
-        chooses = '--calls' in options_among(words)
         while words:
             word = words.pop(0)
             option, equals, value = word.partition('=')
@@ -38,7 +39,7 @@ class Asked:
                     raise Told(f'{option} takes no value: {word} (see --help)')
                 setattr(self, option[2:], True)
                 continue
-            if chooses and option in CHOOSE:
+            if option in CHOOSE:
                 if not (equals or words):
                     raise Told(f'{option} wants a number (see --help)')
                 self.chosen[option] = number_of(option, value if equals else words.pop(0))
@@ -59,6 +60,13 @@ class Asked:
             clash = next((option for option in given if option in NOT_WITH[asked]), None)
             if getattr(self, asked[2:]) and clash:
                 raise Told(f'{clash} does not go with {asked} (see --help)')
+        if self.chosen and not self.calls and '--explain' not in given:
+            raise Told(f'{next(iter(self.chosen))} needs --explain or --calls (see --help)')
+
+    def is_chosen(self, worker, first, last):
+        """Of a worker's entries FIRST to LAST, None while they go on."""
+        chosen = self.chosen
+        return worker == chosen.get('--worker', worker) and first <= chosen.get('--to', first) and (last is None or last >= chosen.get('--from', 0))
 
 
 class Started:
@@ -194,7 +202,7 @@ class Schedule:
         made = [int(word) for word in head.replace(',', ' ').split() if word.isdigit()] if head.startswith('made: a ring') else [0]
         self.name = asked.file or 'standard input'
         self.fold = Fold(READINGS[asked.queue](made[0], 16 if asked.narrow else 64))
-        self.head, self.last, self.words, self.left, self.chosen = head, [], [], None, asked.chosen
+        self.head, self.last, self.words, self.left, self.is_chosen = head, [], [], None, asked.is_chosen
 
     def read(self, numbers, explained):
         """Up to the line % that ends it, or the end."""
@@ -221,11 +229,6 @@ class Schedule:
                 break
             self.words.append(text)
         return self
-
-    def is_chosen(self, worker, first, last):
-        """Of a worker's entries FIRST to LAST, None while they go on."""
-        chosen = self.chosen
-        return worker == chosen.get('--worker', worker) and first <= chosen.get('--to', first) and (last is None or last >= chosen.get('--from', 0))
 
     @property
     def calls(self):
@@ -293,6 +296,8 @@ def main(words):
     if {'--help', '-h', '--version'} & {*options_among(words)}:
         return subprocess.run([*starter, *words]).returncode
     asked, out = Asked(words), Out()
+    if not (asked.calls or asked.json):
+        return passed_on([*starter, *asked.rest], asked.is_chosen)
     status = (by_calls if asked.calls else lines_as_json)(starter, asked, out)
     out.end()
     return status
