@@ -48,6 +48,20 @@ def snake(name):
     return word.replace("-", "_")
 
 
+OWN = {os.path.basename(d) for d in glob.glob("crates/*")}
+USE = re.compile(r"\buse ([^\s;{]+?)\.\{([^}]*)\}")
+
+
+def of_a_library(text):
+    """The words that a file imports from a library: they keep the library's spelling."""
+    words = set()
+    for m in USE.finditer(text):
+        steps = m[1].split(".")
+        if steps[0] != "Rattle" or steps[1] not in OWN:
+            words.update(w.split(" as ")[0].strip() for w in m[2].split(","))
+    return words
+
+
 def read(path):
     with open(path, encoding="utf-8") as f:
         return f.read()
@@ -121,10 +135,10 @@ def main():
     if "--look" in sys.argv:
         return
 
-    def turn(text, only_camel=False):
+    def turn(text, only_camel=False, keep=()):
         def one(m):
             w = m[0]
-            if w in table and not (only_camel and not is_camel(w)):
+            if w in table and w not in keep and not (only_camel and not is_camel(w)):
                 return table[w]
             return w
 
@@ -132,11 +146,12 @@ def main():
 
     def antt_text(t):
         out, at = [], 0
+        keep = of_a_library(t)
         for m in COMMENT.finditer(t):
-            out.append(turn(t[at : m.start()]))
+            out.append(turn(t[at : m.start()], keep=keep))
             out.append(spans(m[0]))
             at = m.end()
-        out.append(turn(t[at:]))
+        out.append(turn(t[at:], keep=keep))
         return "".join(out)
 
     def spans(t):

@@ -1,4 +1,6 @@
 // The face whose records are lent, for bench/run to link: a ring is made with so many records, a schedule is run on them, and what came of it is told in numbers.
+#![tactic(auto)]
+
 use bounded_orders::Metered;
 use bounded_places::Worker;
 

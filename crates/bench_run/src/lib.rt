@@ -1,4 +1,6 @@
 // `run` on words in memory, for bench/run to link: a machine is made, a schedule is run on it, and what came of it is told in numbers.
+#![tactic(auto)]
+
 use bounded_machine::{Machine, Ran};
 
 // place, head, tail, meter

@@ -1,4 +1,6 @@
 // `run` of the unbounded queue on words in memory, for bench/run to link: a machine is made, a schedule is run on it, and what came of it is told in numbers.
+#![tactic(auto)]
+
 use unbounded_machine::Ran;
 
 // place, head, tail, meter

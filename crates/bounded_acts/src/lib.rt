@@ -1,5 +1,7 @@
 // One act: the action of the source at a worker's place, with the local decisions up to the next. Here are the definitions of all of them
 // (specs/Acts.antt) and what several places share; the acts themselves: bounded_pushes, bounded_forces, bounded_pops, bounded_lookers.
+#![tactic(auto)]
+
 ghost use Rattle.std.specs.Prelude.{◌≡◌};
 ghost use Rattle.bounded_words.specs.Words.{plus};
 ghost use Rattle.bounded_acts.specs.Acts.{goes, losing, exchange_of, stamp_to, value_to, count_of, Within};
@@ -8,7 +10,7 @@ use bounded_places::{Ends, Exchange, Loss, Place, Slot};
 use bounded_words::{Fixed, Stamp, Width};
 
 // What an act leaves: the two ends, the slot at its worker's word, the place its worker goes to, and what it lost.
-#[derive(Drop)]
+#[derive(Clone, Copy)]
 pub struct Acted {
     pub ends: Ends,
     pub slot: Slot,

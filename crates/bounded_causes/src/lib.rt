@@ -1,4 +1,6 @@
 // Why a call goes back to an earlier place, kept along a run: document 02's item 9.
+#![tactic(auto)]
+
 ghost use Rattle.std.specs.Prelude.{◌≡◌, true, false, cond};
 ghost use Rattle.bounded_causes.specs.Causes.{stand_of, goes_back_of, claims_tail, claims_head, deed_of, untouched, since_with, own_act, other_act, watch_with, start, watch_of, others_hold, watched_of, own_in, other_in, scheduled, causes_of, named_of};
 
@@ -8,7 +10,7 @@ use bounded_places::{Loss, Moved, Place, Stand};
 pub const WATCHED: usize = 64;
 
 // What an act did.
-#[derive(Drop)]
+#[derive(Clone, Copy)]
 pub struct Deed {
     // a claim at tail, at head
     pub tail: bool,
@@ -23,7 +25,7 @@ pub struct Deed {
 }
 
 // What was done to the ends since some act.
-#[derive(Drop)]
+#[derive(Clone, Copy)]
 pub struct Since {
     pub tail: bool,
     pub head: bool,
@@ -31,7 +33,7 @@ pub struct Since {
 }
 
 // Of one worker.
-#[derive(Drop)]
+#[derive(Clone, Copy)]
 pub struct Watch {
     // since it loaded or found the word that it works with
     pub word: Since,
@@ -43,12 +45,12 @@ pub struct Watch {
     pub hand: bool,
 }
 
-#[derive(Drop)]
+#[derive(Clone, Copy)]
 pub struct Watches {
     pub each: [Watch; WATCHED],
 }
 
-#[derive(Drop)]
+#[derive(Clone, Copy)]
 pub struct Causes {
     pub schedule: bool,
     pub own: bool,
@@ -56,7 +58,7 @@ pub struct Causes {
     pub hand: bool,
 }
 
-#[derive(Drop)]
+#[derive(Clone, Copy)]
 pub struct Named {
     pub watches: Watches,
     pub back: bool,

@@ -5,7 +5,7 @@ use mathlib.Core.Bool.{Bool, true, false, cond, not}
 use native.Mathlib.Omega.{arith}
 use native.Mathlib.Decide.{dec_lt}
 use lib.Dec.{ltb, leb, eqb}
-use borrow.Author.Tests.{eq_eqb, ne_eqb, lt-ltb, le-ltb, le-leb, lt-leb}
+use borrow.Author.Tests.{eq-eqb, ne_eqb, lt-ltb, le-ltb, le-leb, lt-leb}
 use Rattle.bounded_words.specs.Words.{stamp}
 use Rattle.bounded_places.specs.declared.Held.{Held}
 use Rattle.bounded_places.specs.declared.Held.TheVariants as held
@@ -135,15 +135,15 @@ module _ (c a b : ℕ) where
 
   -- the weak exchanges: O3, P3 of either call, F6
   pub weak_o3 : c ≡ 17 → true ≡ (view_of (place_in c a b)).weak
-  weak_o3 e = sym (weak_is c a b ∙ rw (eq_eqb c 17 e) refl)
+  weak_o3 e = sym (weak_is c a b ∙ rw (eq-eqb c 17 e) refl)
 
   module _ (n : c ≡ 17 → ⊥) where
     pub weak_push : c ≡ 24 → true ≡ (view_of (place_in c a b)).weak
-    weak_push e = sym (weak_is c a b ∙ rw (ne_eqb c 17 n, eq_eqb c 24 e) refl)
+    weak_push e = sym (weak_is c a b ∙ rw (ne_eqb c 17 n, eq-eqb c 24 e) refl)
 
     module _ (m : c ≡ 24 → ⊥) where
       pub weak_force : c ≡ 25 → true ≡ (view_of (place_in c a b)).weak
-      weak_force e = sym (weak_is c a b ∙ rw (ne_eqb c 17 n, ne_eqb c 24 m, eq_eqb c 25 e) refl)
+      weak_force e = sym (weak_is c a b ∙ rw (ne_eqb c 17 n, ne_eqb c 24 m, eq-eqb c 25 e) refl)
 
       pub weak_f6 : (c ≡ 25 → ⊥) → eqb c 28 ≡ (view_of (place_in c a b)).weak
       weak_f6 k = sym (weak_is c a b ∙ rw (ne_eqb c 17 n, ne_eqb c 24 m, ne_eqb c 25 k) refl)
@@ -154,11 +154,11 @@ module _ (c a b : ℕ) where
 
   module _ (h : 15 ≤ c) where
     pub held_tail : c ≡ 20 → held.Tail (stamp a) ≡ (view_of (place_in c a b)).held
-    held_tail e = sym (held_is c a b ∙ rw (le-ltb c 15 h, eq_eqb c 20 e) refl)
+    held_tail e = sym (held_is c a b ∙ rw (le-ltb c 15 h, eq-eqb c 20 e) refl)
 
     module _ (n : c ≡ 20 → ⊥) where
       pub held_both : c ≡ 21 → held.Both (stamp a) (stamp b) ≡ (view_of (place_in c a b)).held
-      held_both e = sym (held_is c a b ∙ rw (le-ltb c 15 h, ne_eqb c 20 n, eq_eqb c 21 e) refl)
+      held_both e = sym (held_is c a b ∙ rw (le-ltb c 15 h, ne_eqb c 20 n, eq-eqb c 21 e) refl)
 
       module _ (m : c ≡ 21 → ⊥) where
         pub held_end : c < 33 → held.End (stamp a) ≡ (view_of (place_in c a b)).held
@@ -174,7 +174,7 @@ turned (suc a) = ne_eqb 0 (suc a) (λ e. omega (arith, e)) ∙ sym (ne_eqb (suc 
 
 allowed : (a : ℕ) (h : Bool) → eqb (cond h a 0) a ≡ may_be a h
 unfolding may_be
-allowed a true = eq_eqb a a refl
+allowed a true = eq-eqb a a refl
 allowed a false = turned a
 
 module _ (c a b : ℕ) where
@@ -187,7 +187,7 @@ module _ (c a b : ℕ) where
     unfolding stands_for triple
     stands_by =
         ap (λ (x : Coded). same_as x c a b) (find 39 (Rule a b) (every a b) c l).words
-        ∙ ap (λ (t : Bool). cond t (cond (eqb (cond (within c 6 33) a 0) a) (eqb (cond (within c 21 33) b 0) b) false) false) (eq_eqb c c refl)
+        ∙ ap (λ (t : Bool). cond t (cond (eqb (cond (within c 6 33) a 0) a) (eqb (cond (within c 21 33) b 0) b) false) false) (eq-eqb c c refl)
         ∙ (λ i. cond (allowed a (within c 6 33) i) (allowed b (within c 21 33) i) false)
 
     module _ (h : Bool) (eh : h ≡ within c 6 33) (m : Bool) (em : m ≡ may_be a h) where

@@ -3,7 +3,7 @@ use Prim.Native.Nat.{ℕ}
 use mathlib.Core.Path.{◌≡◌, refl, sym, ap, ◌∙◌}
 use mathlib.Core.Bool.{true}
 use lib.Dec.{eqb}
-use borrow.Author.Tests.{eq_eqb, eqb_true}
+use borrow.Author.Tests.{eq-eqb, eqb-true}
 use Rattle.queue_entries.proofs.Pick.{both_left, both_right}
 use Rattle.bounded_places.specs.declared.Place.{Place}
 use Rattle.bounded_codes.specs.declared.Coded.{Coded}
@@ -16,7 +16,7 @@ unfolding stands_for
 written_stands p = ap (λ (q : Place). same_as (code_of q) (code_of p).code (code_of p).first (code_of p).second) (read_back p) ∙ itself (code_of p)
   where
     itself : (x : Coded) → same_as x x.code x.first x.second ≡ true
-    itself x = rw (eq_eqb x.code x.code refl, eq_eqb x.first x.first refl, eq_eqb x.second x.second refl) refl
+    itself x = rw (eq-eqb x.code x.code refl, eq-eqb x.first x.first refl, eq-eqb x.second x.second refl) refl
 
 -- and words that stand for a place are its words
 pub written_back : (n a b : ℕ) → stands_for n a b ≡ true → code_of (place_in n a b) ≡ triple n a b
@@ -24,7 +24,7 @@ unfolding stands_for triple
 written_back n a b h =
     let x = code_of (place_in n a b) in
     let rest = both_right (eqb x.code n) _ h in
-    let ec = eqb_true x.code n (both_left (eqb x.code n) _ h) in
-    let ea = eqb_true x.first a (both_left (eqb x.first a) _ rest) in
-    let eb = eqb_true x.second b (both_right (eqb x.first a) _ rest) in
+    let ec = eqb-true x.code n (both_left (eqb x.code n) _ h) in
+    let ea = eqb-true x.first a (both_left (eqb x.first a) _ rest) in
+    let eb = eqb-true x.second b (both_right (eqb x.first a) _ rest) in
     λ i. record { code = ec i; first = ea i; second = eb i }

@@ -1,4 +1,6 @@
 // A worker's place as three words, its code and the two words that it holds, and back (specs/Codes.antt has the table).
+#![tactic(auto)]
+
 ghost use Rattle.std.specs.Prelude.{◌≡◌};
 ghost use Rattle.bounded_places.specs.Places.{view_of};
 ghost use Rattle.bounded_codes.specs.Codes.{triple, answer_code, kind_code, code_of, answer_in, held_in, place_in, within, may_be};
@@ -6,7 +8,7 @@ ghost use Rattle.bounded_codes.specs.Codes.{triple, answer_code, kind_code, code
 use bounded_places::{Answer, Held, Kind, Place};
 use bounded_words::Stamp;
 
-#[derive(Drop)]
+#[derive(Clone, Copy)]
 pub struct Coded {
     pub code: u64,
     pub first: u64,

@@ -6,7 +6,7 @@ use mathlib.Core.List.{List, [], ◌∷◌}
 use native.Mathlib.Omega.{arith}
 use lib.Dec.{ltb, eqb}
 use lib.ListN.{length}
-use borrow.Author.Tests.{ltb-true, lt-ltb, eq_eqb, ne_eqb, eqb_true}
+use borrow.Author.Tests.{ltb-true, lt-ltb, eq-eqb, ne_eqb, eqb-true}
 use Rattle.queue_entries.specs.Limits.{workers_most, meter_most, in_limits}
 use Rattle.queue_entries.specs.Schedules.{schedule_by}
 use Rattle.queue_entries.specs.declared.Call.{Call}
@@ -159,7 +159,7 @@ run_broken bits m s b = rw b
 
 run_odd : (bits : Width) (m : Machine) (s : List ℕ) → broken_of m ≡ false → length s % 2 ≡ 1 → run_of_by (act_of bits) m s ≡ ran 11 0 m
 unfolding schedule_by
-run_odd bits m s b odd = rw (b, eq_eqb (length s % 2) 1 odd)
+run_odd bits m s b odd = rw (b, eq-eqb (length s % 2) 1 odd)
 
 pub refused_exactly : RefusedExactly sixty_four
 refused_exactly =

@@ -6,7 +6,7 @@ use mathlib.Core.List.{List, [], ◌∷◌}
 use native.Mathlib.Omega.{arith}
 use lib.Dec.{ltb, eqb}
 use lib.ListN.{length}
-use borrow.Author.Tests.{eqb_true}
+use borrow.Author.Tests.{eqb-true}
 use Rattle.queue_entries.specs.Limits.{workers_most, meter_most, in_limits}
 use Rattle.queue_entries.specs.declared.Finding.{Finding}
 use Rattle.queue_entries.specs.declared.Finding.TheVariants.{AllRead, UnreadableAt}
@@ -56,7 +56,7 @@ wider [] k n i h = absurd (true≢false (sym h))
 wider (x ∷ l) k n i h = go (wider l k n (both_right (has k x) (within l k) i)) (eqb n x) refl
   where
     go : (has l n ≡ true → has k n ≡ true) → (b : Bool) → eqb n x ≡ b → has k n ≡ true
-    go rest true e = subst (λ (z : ℕ). has k z ≡ true) (sym (eqb_true n x e)) (both_left (has k x) (within l k) i)
+    go rest true e = subst (λ (z : ℕ). has k z ≡ true) (sym (eqb-true n x e)) (both_left (has k x) (within l k) i)
     go rest false e = rest (rw e at h)
 
 module _ (l : List ℕ) where

@@ -7,7 +7,7 @@ use native.Mathlib.Omega.{arith}
 use native.Mathlib.Nat.{zero-mod}
 use lib.Dec.{ltb}
 use lib.ListN.{length, get_or-replicate}
-use borrow.Author.Tests.{ne_eqb, eq_eqb, lt-ltb}
+use borrow.Author.Tests.{ne_eqb, eq-eqb, lt-ltb}
 use Rattle.queue_entries.specs.Limits.{workers_most, in_limits}
 use Rattle.queue_entries.specs.declared.Entry.{Entry}
 use Rattle.queue_entries.specs.declared.Entry.TheVariants.{Unreadable, Asks}
@@ -184,7 +184,7 @@ run_unbroken bits m s h =
 
 fixed_by_rule : (c e : ℕ) → by_rule (fixed_of c e) ≡ true
 unfolding by_rule
-fixed_by_rule c e = simp (eq_eqb (mark_of c) (mark_of c) refl, eq_eqb (lap_of c) (lap_of c) refl)
+fixed_by_rule c e = simp (eq-eqb (mark_of c) (mark_of c) refl, eq-eqb (lap_of c) (lap_of c) refl)
 
 inside_of_plain : (f : Fixed) (w : Stamp) → Plain f w → inside f w ≡ true
 unfolding inside

@@ -1,4 +1,6 @@
 // The rows of force_push alone. The definitions: crate bounded_acts.
+#![tactic(auto)]
+
 ghost use Rattle.std.specs.Prelude.{◌≡◌};
 ghost use Rattle.bounded_words.specs.Words.{Fair, minus, next_of};
 ghost use Rattle.bounded_acts.specs.Acts.{tail_to, head_to, forced_tail, act_f6, act_f7, act_f8, act_f9};

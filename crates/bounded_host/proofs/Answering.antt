@@ -6,7 +6,7 @@ use mathlib.Core.List.{List, ◌∷◌}
 use native.Mathlib.Omega.{arith}
 use lib.Dec.{eqb}
 use lib.ListN.{length, get_or, replicate}
-use borrow.Author.Tests.{eq_eqb, ne_eqb, eqb_true}
+use borrow.Author.Tests.{eq-eqb, ne_eqb, eqb-true}
 use Rattle.queue_entries.specs.declared.Told.{Told}
 use Rattle.queue_entries.specs.declared.Told.TheVariants.{Number, Refused}
 use Rattle.queue_entries.specs.Told.{told}
@@ -154,7 +154,7 @@ module _ (h ss rs : List ℕ) (s : Bool) (es : s ≡ shaped (words h ss rs)) (ca
       refusal_is = ap (λ (m : Made). m.refusal) asked ∙ go (eqb refusal 0) refl
         where
           go : (b : Bool) → eqb refusal 0 ≡ b → (cond b (made_from 0 (fresh_of capacity n edition)) (made_from refusal blank)).refusal ≡ refusal
-          go true e = sym (eqb_true refusal 0 e)
+          go true e = sym (eqb-true refusal 0 e)
           go false e = refl
 
       so_made : make_words (words h ss rs) capacity edition ≡ host.made_from (words h ss rs) (make_lent (records_in rs) capacity edition)
@@ -167,7 +167,7 @@ module _ (h ss rs : List ℕ) (s : Bool) (es : s ≡ shaped (words h ss rs)) (ca
 
       module _ (z : made.refusal ≡ 0) where
         none_refused : eqb refusal 0 ≡ true
-        none_refused = eq_eqb refusal 0 (sym refusal_is ∙ z)
+        none_refused = eq-eqb refusal 0 (sym refusal_is ∙ z)
 
         ring_is : made.ring ≡ metered_of (fresh_with n capacity n edition)
         unfolding refusal made_of made_from fresh_with

@@ -1,6 +1,8 @@
 // The face that a host in C or Rust links (hosts/): ring and records are words in its memory, lent for each call as three slices. `specs/Host.antt` says what each function answers;
 // a refused call changes no word. One entry by itself is crate bounded_host_step: the compiler puts an entry into the one place that asks for it, and there is one in
 // each of the two archives.
+#![tactic(auto)]
+
 ghost use Rattle.std.specs.Prelude.{◌≡◌};
 ghost use Rattle.bounded_rows.specs.Rows.{words, after};
 ghost use Rattle.bounded_host.specs.Host.{reply_of, broken_refusal, make_words, ended, run_words, capacity_words, listed, contents_words};
@@ -11,7 +13,7 @@ use queue_entries::Told;
 
 // The number of a refusal, 0 where there is none; and what the call is asked for: an entry's place, a count, a capacity.
 #[repr(C)]
-#[derive(Drop)]
+#[derive(Clone, Copy)]
 pub struct Reply {
     pub refusal: u64,
     pub number: u64,

@@ -1,5 +1,7 @@
 // One entry of the face that a host in C or Rust links, an archive of its own (crates/bounded_host says why). `specs/Step.antt` says what it answers; a refused entry changes no
 // word.
+#![tactic(auto)]
+
 ghost use Rattle.std.specs.Prelude.{◌≡◌};
 ghost use Rattle.bounded_rows.specs.Rows.{words, after};
 ghost use Rattle.bounded_host_step.specs.Step.{step_words_of};

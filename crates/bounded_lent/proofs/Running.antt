@@ -6,7 +6,7 @@ use mathlib.Core.List.{List, ◌∷◌}
 use native.Mathlib.Omega.{arith}
 use lib.Dec.{eqb, leb, ltb}
 use lib.ListN.{length, get_or, drop, length-set}
-use borrow.Author.Tests.{eqb_true, eqb_false, ne_eqb}
+use borrow.Author.Tests.{eqb-true, eqb-false, ne_eqb}
 use Rattle.queue_entries.specs.declared.Entry.{Entry}
 use Rattle.queue_entries.specs.declared.Entry.TheVariants.{Unreadable, Asks}
 use Rattle.queue_entries.specs.declared.Verdict.{Verdict}
@@ -82,11 +82,11 @@ module _ (l : Metered) (ys : List Worker) (s : List ℕ) (whole : Report) (n : �
     where
       go : (b : Bool) → eqb whole.refusal 0 ≡ b → Going 0 l ys
       go false h =
-          let ne = eqb_false whole.refusal 0 h in
+          let ne = eqb-false whole.refusal 0 h in
           stopped (is-n ∙ sym (is_refused whole.refusal whole.place ne))
           (ap gone_of (judged_stops (λ (d : Did). d.refusal) (λ (d : Did). d.machine) turn_of ran (λ (m : Machine). broken_lent l ys) (held l ys) s whole e ne))
       go true h =
-          let z = eqb_true whole.refusal 0 h in
+          let z = eqb-true whole.refusal 0 h in
           let g = judged_goes (λ (d : Did). d.refusal) (λ (d : Did). d.machine) turn_of ran (λ (m : Machine). broken_lent l ys) (held l ys) s whole e z in
           let p : whole.place ≡ n = not_refused whole.refusal whole.place z ∙ sym is-n in
           running (record { to_end = λ i. report (z i) (p i); long = g.long ∙ ap (λ (k : ℕ). 2 * k) p; sound = g.sound; rest = ap gone_of g.rest })

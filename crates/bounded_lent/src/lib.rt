@@ -1,5 +1,7 @@
 // A ring and worker records in the host's memory, lent for each entry (document 02, item 11). Each function here takes the one record and the one slot apart,
 // calls a covered function of crate bounded_step_record or bounded_orders on them by value, and stores them back.
+#![tactic(auto)]
+
 ghost use Rattle.std.specs.Prelude.{◌≡◌, false};
 ghost use Rattle.bounded_words.specs.Words.{Fair};
 ghost use Rattle.bounded_orders.specs.Orders.{filled};

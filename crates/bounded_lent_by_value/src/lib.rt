@@ -1,4 +1,6 @@
 // The lent face for callers that keep ring and records by value, as programs do: both go in by value, are lent for one step or for a schedule, and come out by value.
+#![tactic(auto)]
+
 ghost use Rattle.std.specs.Prelude.{◌≡◌};
 ghost use Rattle.bounded_lent_by_value.specs.Lends.{at_most_of, lends_of, passes_of};
 
@@ -6,7 +8,7 @@ use bounded_orders::{Metered, Report};
 use bounded_places::Worker;
 
 // What a step leaves, and the number of its refusal; 0 where it was not refused.
-#[derive(Drop)]
+#[derive(Clone, Copy)]
 pub struct Stepped {
     pub refusal: u64,
     pub ring: Metered,
@@ -14,7 +16,7 @@ pub struct Stepped {
 }
 
 // What a schedule leaves, and what it reports.
-#[derive(Drop)]
+#[derive(Clone, Copy)]
 pub struct Passed {
     pub report: Report,
     pub ring: Metered,

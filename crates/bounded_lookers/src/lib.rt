@@ -1,4 +1,6 @@
 // len, is_empty, is_full, close and is_closed. The definitions: crate bounded_acts.
+#![tactic(auto)]
+
 ghost use Rattle.std.specs.Prelude.{◌≡◌};
 ghost use Rattle.bounded_words.specs.Words.{Fair, with_mark};
 ghost use Rattle.bounded_places.specs.declared.Place.TheVariants.{Idle};

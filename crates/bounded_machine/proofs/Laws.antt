@@ -4,7 +4,7 @@ use mathlib.Core.Path.{◌≡◌, refl, sym, ap, ◌∙◌}
 use mathlib.Core.Bool.{Bool, true, false, not}
 use mathlib.Core.List.{List}
 use lib.Dec.{eqb}
-use borrow.Author.Tests.{eqb_true}
+use borrow.Author.Tests.{eqb-true}
 use lib.ListN.{replicate}
 use Rattle.queue_entries.specs.Limits.{workers_most, in_limits}
 use Rattle.queue_entries.proofs.Pick.{yes, no, on, off, equal, other, both_left, both_right}
@@ -67,8 +67,8 @@ spot_at f h w i e x = x.is ∙ ap (spot_of f) (sym e)
 pub rule_facts : (f : Fixed) → by_rule f ≡ true → (f.mark ≡ mark_of f.capacity) × (f.lap ≡ lap_of f.capacity)
 unfolding by_rule
 rule_facts f h = (
-  eqb_true f.mark (mark_of f.capacity) (both_left (eqb f.mark (mark_of f.capacity)) (eqb f.lap (lap_of f.capacity)) h),
-  eqb_true f.lap (lap_of f.capacity) (both_right (eqb f.mark (mark_of f.capacity)) (eqb f.lap (lap_of f.capacity)) h),
+  eqb-true f.mark (mark_of f.capacity) (both_left (eqb f.mark (mark_of f.capacity)) (eqb f.lap (lap_of f.capacity)) h),
+  eqb-true f.lap (lap_of f.capacity) (both_right (eqb f.mark (mark_of f.capacity)) (eqb f.lap (lap_of f.capacity)) h),
 )
 
 pub ruled_of : (f : Fixed) → in_limits f.capacity slots_most ≡ true → by_rule f ≡ true → Ruled f

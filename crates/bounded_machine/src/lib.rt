@@ -1,4 +1,6 @@
 // The machine: a ring, its workers' records and the meter; and what each rule asks of it.
+#![tactic(auto)]
+
 ghost use Rattle.std.specs.Prelude.{◌≡◌, ◌≤◌, ◌<◌, true};
 ghost use Rattle.queue_entries.specs.Limits.{workers_most, meter_most};
 ghost use Rattle.bounded_words.specs.Limits.{slots_most};
@@ -16,7 +18,7 @@ use bounded_words::{Claim, Fixed, Stamp};
 use queue_entries::{Order, Verdict};
 
 // A ring by value: its two ends, its constants and its slots.
-#[derive(Drop)]
+#[derive(Clone, Copy)]
 pub struct Ring {
     pub head: Stamp,
     pub tail: Stamp,
@@ -27,7 +29,7 @@ pub struct Ring {
     pub slots: [Slot; bounded_words::SLOTS],
 }
 
-#[derive(Drop)]
+#[derive(Clone, Copy)]
 pub struct Machine {
     pub ring: Ring,
     pub workers: [Worker; queue_entries::WORKERS],
@@ -38,14 +40,14 @@ pub struct Machine {
 }
 
 // A machine, and the number of the refusal; 0 where it was not refused.
-#[derive(Drop)]
+#[derive(Clone, Copy)]
 pub struct Did {
     pub refusal: u64,
     pub machine: Machine,
 }
 
 // What a schedule reports: the refusal and the entry's place, or 0 and the count of its entries.
-#[derive(Drop)]
+#[derive(Clone, Copy)]
 pub struct Ran {
     pub refusal: u64,
     pub place: u64,
@@ -53,7 +55,7 @@ pub struct Ran {
 }
 
 // One act of a run.
-#[derive(Drop)]
+#[derive(Clone, Copy)]
 pub struct Event {
     pub worker: u64,
     pub before: Place,
@@ -62,7 +64,7 @@ pub struct Event {
 }
 
 // How many claims there were at each end, and how many values were read out.
-#[derive(Drop)]
+#[derive(Clone, Copy)]
 pub struct Tally {
     pub tail: Claim,
     pub head: Claim,

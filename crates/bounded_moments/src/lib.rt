@@ -1,4 +1,6 @@
 // At which moment an answer is the plain queue's, kept along a run: what an answer means.
+#![tactic(auto)]
+
 ghost use Rattle.std.specs.Prelude.{◌≡◌, true, if◌then◌else◌, slice_set};
 ghost use Rattle.bounded_causes.specs.Causes.{claims_tail, claims_head};
 ghost use Rattle.bounded_machine.specs.History.{untaken_of};
@@ -9,7 +11,7 @@ use bounded_places::{Answer, Moved, Place};
 use bounded_words::Claim;
 
 // When the plain queue gives the answer of a call, by the acts so far.
-#[derive(Drop)]
+#[derive(Clone, Copy)]
 pub enum Moment {
     // just before the entry at this place of the schedule
     Before(u64),
@@ -22,7 +24,7 @@ pub enum Moment {
 }
 
 // What an act makes of its own call's moment.
-#[derive(Drop)]
+#[derive(Clone, Copy)]
 pub enum Timing {
     // just before the act
     Now,
@@ -35,12 +37,12 @@ pub enum Timing {
 }
 
 // Of a worker's call, under way or its last. A struct, since the walk covers no field that is an array of enums.
-#[derive(Drop)]
+#[derive(Clone, Copy)]
 pub struct OfWorker {
     pub moment: Moment,
 }
 
-#[derive(Drop)]
+#[derive(Clone, Copy)]
 pub struct Moments {
     // that of the next entry
     pub place: u64,
@@ -50,7 +52,7 @@ pub struct Moments {
     pub each: [OfWorker; bounded_causes::WATCHED],
 }
 
-#[derive(Drop)]
+#[derive(Clone, Copy)]
 pub struct Named {
     pub moments: Moments,
     // the act ends its call

@@ -1,5 +1,7 @@
 // The public face of sixteen bits: what a user calls. Each function widens the machine, does what is asked at that width, and narrows what it leaves; the rules
 // are the one machine's.
+#![tactic(auto)]
+
 ghost use Rattle.std.specs.Prelude.{◌≡◌, length};
 ghost use Rattle.queue_entries.specs.Told.{told};
 ghost use Rattle.bounded_machine.specs.Broken.{broken_of};

@@ -6,7 +6,7 @@ use mathlib.Core.List.{List}
 use native.Mathlib.Omega.{arith}
 use lib.Dec.{eqb}
 use lib.ListN.{length}
-use borrow.Author.Tests.{eqb_false}
+use borrow.Author.Tests.{eqb-false}
 use Rattle.queue_entries.specs.declared.Finding.{Finding}
 use Rattle.queue_entries.specs.declared.Finding.TheVariants.{AllRead, UnreadableAt}
 use Rattle.queue_entries.specs.Entries.{entry_of}
@@ -54,7 +54,7 @@ module _ {M D R : Type 0} (refusal : D → ℕ) (machine : D → M) (turn : M �
           let k = met false eb false eo AllRead ef in
           let through : whole ≡ report 0 (length s / 2) = k.0 ∙ sym (reads_through s) in
           let half : whole.place ≡ length s / 2 = ap (λ (r : Report). r.place) through in
-          let odd = eqb_false (length s % 2) 1 eo in
+          let odd = eqb-false (length s % 2) 1 eo in
           running (ap (λ (r : Report). r.refusal) through) eb (even_long half odd) k.1
         where
           even_long : whole.place ≡ length s / 2 → (length s % 2 ≡ 1 → ⊥) → length s ≡ 2 * whole.place

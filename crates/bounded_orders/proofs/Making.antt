@@ -6,7 +6,7 @@ use mathlib.Core.List.{List, [], ◌∷◌}
 use native.Mathlib.Omega.{arith}
 use lib.Dec.{eqb}
 use lib.ListN.{length}
-use borrow.Author.Tests.{eq_eqb, ne_eqb}
+use borrow.Author.Tests.{eq-eqb, ne_eqb}
 use Rattle.queue_entries.specs.Limits.{in_limits}
 use Rattle.queue_entries.specs.Schedules.{run_by, search_by, schedule_by}
 use Rattle.queue_entries.specs.Entries.{entry_of}

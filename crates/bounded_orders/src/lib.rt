@@ -1,4 +1,6 @@
 // What the faces share, whoever keeps ring and records: making, schedules, capacity and contents, but for the records. One entry is bounded_step_record'.
+#![tactic(auto)]
+
 ghost use Rattle.std.specs.Prelude.{◌≡◌, true, false};
 ghost use Rattle.bounded_orders.specs.Orders.{ring_fits_lent, make_refusal_with, made_from, made_of, unless_refused, judged_of, capacity_told, filled, contents_by, contents_on};
 ghost use Rattle.queue_entries.specs.declared.Told.TheVariants.{Refused};
@@ -11,21 +13,21 @@ use bounded_words::Fixed;
 use queue_entries::{Finding, Told};
 
 // What a host keeps beside the records: the ring, and the accepted acts since it was made.
-#[derive(Drop)]
+#[derive(Clone, Copy)]
 pub struct Metered {
     pub ring: Ring,
     pub meter: u64,
 }
 
 // A ring that was made, and the number of the refusal; 0 where it was not refused.
-#[derive(Drop)]
+#[derive(Clone, Copy)]
 pub struct Made {
     pub refusal: u64,
     pub ring: Metered,
 }
 
 // What a schedule reports: the refusal and the entry's place, or 0 and the count of its entries.
-#[derive(Drop)]
+#[derive(Clone, Copy)]
 pub struct Report {
     pub refusal: u64,
     pub place: u64,

@@ -1,4 +1,6 @@
 // Where a worker stands, what it has loaded, and what a call answers: document 01, "Acts".
+#![tactic(auto)]
+
 ghost use Rattle.std.specs.Prelude.{◌≡◌, true, false};
 ghost use Rattle.bounded_words.specs.Words.{Fair};
 ghost use Rattle.bounded_places.specs.Places.{says_yes, idle, works, holds, counts, looks, view_of, inside, fits_of, begin_of};
@@ -7,14 +9,14 @@ use bounded_words::{Fixed, Stamp};
 use queue_entries::Call;
 
 // A slot of a ring.
-#[derive(Drop)]
+#[derive(Clone, Copy)]
 pub struct Slot {
     pub stamp: Stamp,
     pub value: u64,
 }
 
 // The two words that every call works with.
-#[derive(Drop)]
+#[derive(Clone, Copy)]
 pub struct Ends {
     // Never marked. Values are popped here.
     pub head: Stamp,
@@ -23,14 +25,14 @@ pub struct Ends {
 }
 
 // Which of the two calls stands at P1, P2 or P3.
-#[derive(Drop)]
+#[derive(Clone, Copy)]
 pub enum Kind {
     Push,
     Force,
 }
 
 // What a call answered. Closed and Full hand the caller's item back; PopClosed is pop's Closed.
-#[derive(Drop)]
+#[derive(Clone, Copy)]
 pub enum Answer {
     Nothing,
     Pushed,
@@ -47,7 +49,7 @@ pub enum Answer {
 
 // Where a worker stands: the action that it takes next, with the words that it has loaded and the item of its call. t is a tail, h a head
 // that it loaded or found.
-#[derive(Drop)]
+#[derive(Clone, Copy)]
 pub enum Place {
     // No call under way: the last answer.
     Idle(Answer),
@@ -102,7 +104,7 @@ pub enum Place {
 
 // How an exchange ended: won; lost because the words differed, with the word found; or lost by the schedule. Where both apply it is the
 // first kind of loss.
-#[derive(Drop)]
+#[derive(Clone, Copy)]
 pub enum Exchange {
     Won,
     Differed(Stamp),
@@ -110,7 +112,7 @@ pub enum Exchange {
 }
 
 // What an act lost: nothing, if it was no exchange or a won one.
-#[derive(Drop)]
+#[derive(Clone, Copy)]
 pub enum Loss {
     Nothing,
     ByWords,
@@ -119,7 +121,7 @@ pub enum Loss {
 
 // The record of a worker: its place, and how many exchanges its present call, or its last one if it is idle, has lost because the words
 // differed and by the schedule.
-#[derive(Drop)]
+#[derive(Clone, Copy)]
 pub struct Worker {
     pub place: Place,
     pub differed: u64,
@@ -127,7 +129,7 @@ pub struct Worker {
 }
 
 // The loaded words of a place that document 01's "Broken" speaks of.
-#[derive(Drop)]
+#[derive(Clone, Copy)]
 pub enum Held {
     Nothing,
     // t or h of push, force_push and pop
@@ -139,7 +141,7 @@ pub enum Held {
 }
 
 // An end of the ring: the one that an act moved, or a call's own.
-#[derive(Drop)]
+#[derive(Clone, Copy)]
 pub enum Moved {
     Neither,
     Tail,
@@ -147,7 +149,7 @@ pub enum Moved {
 }
 
 // What going back asks of a place.
-#[derive(Drop)]
+#[derive(Clone, Copy)]
 pub struct Stand {
     // the call's own end
     pub end: Moved,
@@ -164,7 +166,7 @@ pub struct Stand {
 }
 
 // What every rule asks of a place: its row of the one table of places.
-#[derive(Drop)]
+#[derive(Clone, Copy)]
 pub struct View {
     pub busy: bool,
     // its action is a weak exchange

@@ -1,4 +1,6 @@
 // The rows of pop. The definitions: crate bounded_acts.
+#![tactic(auto)]
+
 ghost use Rattle.std.specs.Prelude.{◌≡◌};
 ghost use Rattle.bounded_words.specs.Words.{Fair, next_of};
 ghost use Rattle.bounded_acts.specs.Acts.{head_to, act_o2, act_o3, act_o5, act_o6};

@@ -5,7 +5,7 @@ use mathlib.Core.Bool.{Bool, true, false, cond}
 use mathlib.Core.List.{List, [], ◌∷◌, ◌++◌}
 use native.Mathlib.Omega.{arith}
 use lib.Dec.{eqb, ltb}
-use borrow.Author.Tests.{eqb_false}
+use borrow.Author.Tests.{eqb-false}
 use Rattle.queue_entries.specs.Limits.{workers_most, in_limits}
 use Rattle.queue_entries.specs.Entries.{entry_of}
 use Rattle.queue_entries.specs.Schedules.{search_by}
@@ -76,7 +76,7 @@ module _ (bits : Width) where
 
         go : (b : Bool) → eqb d.refusal 0 ≡ b → Led d
         go true e = subst (λ (b : Bool). Leads m (cond b (first ∷ second ∷ []) []) d.machine) (sym e) (e, refl)
-        go false e = subst (λ (b : Bool). Leads m (cond b (first ∷ second ∷ []) []) d.machine) (sym e) (sym (turn_kept bits m first second (eqb_false d.refusal 0 e)))
+        go false e = subst (λ (b : Bool). Leads m (cond b (first ∷ second ∷ []) []) d.machine) (sym e) (sym (turn_kept bits m first second (eqb-false d.refusal 0 e)))
 
     refused_leads : (k : ℕ) → eqb k 0 ≡ false → Led (refused k m)
     unfolding refused

@@ -8,8 +8,8 @@ use native.Mathlib.Omega.{arith}
 use native.Mathlib.Decide.{ℕ_discrete}
 use lib.Dec.{eqb}
 use lib.ListN.{length, get_or, set, length-set}
-use lib.Seq.{get_or-set_same, get_or_set_other}
-use borrow.Author.Tests.{eq_eqb, ne_eqb}
+use lib.Seq.{get_or-set_same, get_or-set_other}
+use borrow.Author.Tests.{eq-eqb, ne_eqb}
 use Rattle.queue_entries.specs.Limits.{all}
 use Rattle.bounded_machine.specs.declared.Event.{Event}
 use Rattle.bounded_machine.proofs.Kept.{every, all_of}
@@ -26,7 +26,7 @@ placed_else xs w x d P l new old j = go (ℕ_discrete j w)
   where
     go : Dec (j ≡ w) → P j (get_or (set xs w x) j d)
     go (yes e) = rw e (subst (P w) (sym (get_or-set_same xs w x d l)) new)
-    go (no ne) = subst (P j) (sym (get_or_set_other xs w j x d ne)) (old j ne)
+    go (no ne) = subst (P j) (sym (get_or-set_other xs w j x d ne)) (old j ne)
 
 pub watches_end : (ws : Watches) (h : List Event) (e : Event)
     → watches_from ws (h ++ e ∷ []) ≡ (named_of (watches_from ws h) e.worker e.before e.after e.loss).watches
@@ -50,7 +50,7 @@ module _ (w : ℕ) (others : Bool) (d : Deed) (xs : List Watch) where
       go rest (yes e) =
           let in_list : n < length (watched_to n w others d xs) = omega (arith, to_long n) in
           rw e (get_or-set_same (watched_to n w others d xs) n (watch_with (eqb n w) others d (watch_of xs n)) unwatched in_list)
-      go rest (no ne) = get_or_set_other (watched_to n w others d xs) n i (watch_with (eqb n w) others d (watch_of xs n)) unwatched ne ∙ rest (omega arith)
+      go rest (no ne) = get_or-set_other (watched_to n w others d xs) n i (watch_with (eqb n w) others d (watch_of xs n)) unwatched ne ∙ rest (omega arith)
 
 -- another's hand is one of these
 pub others_free : (xs : List Watch) (w : ℕ) → others_hold xs w ≡ false → (v : ℕ) → v < watched_most → v ≢ w → (watch_of xs v).hand ≡ false
@@ -75,7 +75,7 @@ module _ (w : ℕ) (d : Deed) (xs : List Watch) (long : length xs ≡ watched_mo
 
   pub watched_own : w < watched_most → watch_of (watched_of w d xs) w ≡ own_act (others_hold xs w) d (watch_of xs w)
   unfolding watched_of
-  watched_own few = to_at w (others_hold xs w) d xs watched_most w (omega arith) few ∙ simp (eq_eqb w w refl)
+  watched_own few = to_at w (others_hold xs w) d xs watched_most w (omega arith) few ∙ simp (eq-eqb w w refl)
 
   pub watched_else : (v : ℕ) → v < watched_most → v ≢ w → watch_of (watched_of w d xs) v ≡ other_act d (watch_of xs v)
   unfolding watched_of
@@ -87,5 +87,5 @@ module _ (w : ℕ) (d : Deed) (xs : List Watch) (long : length xs ≡ watched_mo
   others_stay none = ap not (all_of watched_most 0 (λ (i : ℕ). cond (eqb i w) true (not (watch_of (watched_of w d xs) i).hand)) (λ i l g. each i (omega arith) (ℕ_discrete i w)))
     where
       each : (i : ℕ) → i < watched_most → Dec (i ≡ w) → cond (eqb i w) true (not (watch_of (watched_of w d xs) i).hand) ≡ true
-      each i few (yes e) = simp (eq_eqb i w e)
+      each i few (yes e) = simp (eq-eqb i w e)
       each i few (no ne) = simp (ne_eqb i w ne) (ap (λ (x : Watch). not x.hand) (watched_else i few ne) ∙ ap not (others_free xs w none i few ne))

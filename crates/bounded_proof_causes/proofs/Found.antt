@@ -4,7 +4,7 @@ use mathlib.Core.Bool.{Bool, true, false, cond, true≢false}
 use Prim.Native.Nat.{ℕ, ◌+◌, ◌*◌, ◌%◌, ◌≤◌, ◌<◌}
 use native.Mathlib.Omega.{arith}
 use native.Mathlib.Nat.{add-mod_right}
-use borrow.Author.Tests.{eqb_true, eqb_false, eq_eqb}
+use borrow.Author.Tests.{eqb-true, eqb-false, eq-eqb}
 use Rattle.bounded_words.specs.declared.Stamp.{Stamp}
 use Rattle.bounded_words.specs.declared.Fixed.{Fixed}
 use Rattle.bounded_words.specs.declared.Width.{Width}
@@ -33,7 +33,7 @@ loose_of (Hand st k w) free = free w refl
 
 pub same_self : (a b : Stamp) → a ≡ b → same a b ≡ true
 unfolding same
-same_self a b e = eq_eqb a.0 b.0 (ap (λ (z : Stamp). z.0) e)
+same_self a b e = eq-eqb a.0 b.0 (ap (λ (z : Stamp). z.0) e)
 
 clash : {A : Type 0} (b : Bool) → b ≡ true → b ≡ false → A
 clash b p q = absurd (true≢false (sym p ∙ q))
@@ -60,7 +60,7 @@ module _ (bits : Width) (c mark n ed : ℕ) (g : Ground bits c mark n) (s : Shar
     tail_is : tail_word c mark n s.tail b ≡ Word m → s.tail ≡ m
     tail_is e =
         let r : Near (n * c) s.tail m = omega (arith, turn) in
-        eqb_true _ _ (unmarked b _ (sym (Stamps.same_tail bits c mark n g s.tail m b r) ∙ same_self _ _ e))
+        eqb-true _ _ (unmarked b _ (sym (Stamps.same_tail bits c mark n g s.tail m b r) ∙ same_self _ _ e))
 
     pub sees_tail : (x : Cell) → CellOk c s i x → Loose x → SeesTail bits f (ends_of_ring c mark n s b) (slot_of_ring c mark n x v) (Word m)
     sees_tail (Await k) o l =
@@ -71,7 +71,7 @@ module _ (bits : Width) (c mark n ed : ℕ) (g : Ground bits c mark n) (s : Shar
               let e : s.tail ≡ m = tail_is q in
               let z : k % c ≡ s.tail % c = o.0 ∙ sym at ∙ ap (λ (y : ℕ). y % c) (sym e) in
               let w : k ≡ s.tail = near_one c s.tail k some o.1 (omega (arith, inv.low, o.2)) z in
-              eqb_false k m (sym (Stamps.stamp_same bits c mark n g false k m (o.0 ∙ sym at) r) ∙ h) (w ∙ e);
+              eqb-false k m (sym (Stamps.stamp_same bits c mark n g false k m (o.0 ∙ sym at) r) ∙ h) (w ∙ e);
           full = λ d. clash _ d (Stamps.stamp_behind bits c mark n g ed false k m (o.0 ∙ sym at) (λ e. absurd (true≢false (sym e))));
         }
     sees_tail (Hold k) o l =
@@ -83,15 +83,15 @@ module _ (bits : Width) (c mark n ed : ℕ) (g : Ground bits c mark n) (s : Shar
               let e : s.tail ≡ m = tail_is q in
               let z : (k + c) % c ≡ s.tail % c = add-mod_right k c ∙ o.0 ∙ sym at ∙ ap (λ (y : ℕ). y % c) (sym e) in
               let w : k + c ≡ s.tail = near_one c s.tail (k + c) some (omega (arith, inv.high, o.1)) (omega (arith, o.2)) z in
-              eqb_false (k + c) m (sym past ∙ d) (w ∙ e);
+              eqb-false (k + c) m (sym past ∙ d) (w ∙ e);
           full =
               λ d.
-              let w : k + c ≡ m = eqb_true (k + c) m (sym past ∙ d) in
+              let w : k + c ≡ m = eqb-true (k + c) m (sym past ∙ d) in
               let e : s.head ≡ k = omega (arith, inv.high, o.1) in
               let near : Near (n * c) (s.head + c) m = omega (arith, turn) in
               let near' : Near (n * c) s.head k = omega (arith, turn) in (
-                Stamps.behind_is bits c mark n g ed s.head m near ∙ eq_eqb (s.head + c) m (omega arith),
-                ap (λ (y : ℕ). same (Word s.head) (minus bits (Word y) (2 * mark))) (sym w) ∙ Stamps.before_is bits c mark n g s.head k near' ∙ eq_eqb s.head k e,
+                Stamps.behind_is bits c mark n g ed s.head m near ∙ eq-eqb (s.head + c) m (omega arith),
+                ap (λ (y : ℕ). same (Word s.head) (minus bits (Word y) (2 * mark))) (sym w) ∙ Stamps.before_is bits c mark n g s.head k near' ∙ eq-eqb s.head k e,
               );
         }
 
@@ -100,7 +100,7 @@ module _ (bits : Width) (c mark n ed : ℕ) (g : Ground bits c mark n) (s : Shar
     head_is : Word s.head ≡ Word m → s.head ≡ m
     head_is e =
         let r : Near (n * c) s.head m = omega (arith, turn) in
-        eqb_true _ _ (sym (Stamps.same_is bits c mark n g s.head m r) ∙ same_self _ _ e)
+        eqb-true _ _ (sym (Stamps.same_is bits c mark n g s.head m r) ∙ same_self _ _ e)
 
     pub sees_head : (x : Cell) → CellOk c s i x → Loose x → SeesHead bits f (ends_of_ring c mark n s b) (slot_of_ring c mark n x v) (Word m)
     sees_head (Await k) o l =
@@ -112,10 +112,10 @@ module _ (bits : Width) (c mark n ed : ℕ) (g : Ground bits c mark n) (s : Shar
               let e : s.head ≡ m = head_is q in
               let z : k % c ≡ s.head % c = o.0 ∙ sym at ∙ ap (λ (y : ℕ). y % c) (sym e) in
               let w : k ≡ s.head = near_one c s.head k some (omega (arith, inv.low, o.1)) o.2 z in
-              eqb_false k m (sym here ∙ d) (w ∙ e);
+              eqb-false k m (sym here ∙ d) (w ∙ e);
           empty =
               λ d.
-              let w : k ≡ m = eqb_true k m (sym here ∙ d) in
+              let w : k ≡ m = eqb-true k m (sym here ∙ d) in
               let e : s.tail ≡ m = omega (arith, inv.low, o.1) in
               same_self _ _ (Stamps.unmarked_tail bits c mark n g ed s.tail b ∙ ap Word e);
         }
@@ -127,6 +127,6 @@ module _ (bits : Width) (c mark n ed : ℕ) (g : Ground bits c mark n) (s : Shar
               let e : s.head ≡ m = head_is q in
               let z : k % c ≡ s.head % c = o.0 ∙ sym at ∙ ap (λ (y : ℕ). y % c) (sym e) in
               let w : k ≡ s.head = near_one c s.head k some o.1 (omega (arith, inv.high, o.2)) z in
-              eqb_false k m (sym (Stamps.stamp_past bits c mark n g true k m (o.0 ∙ sym at) r) ∙ p) (w ∙ e);
+              eqb-false k m (sym (Stamps.stamp_past bits c mark n g true k m (o.0 ∙ sym at) r) ∙ p) (w ∙ e);
           empty = λ d. clash _ d (Stamps.stamp_same bits c mark n g true k m (o.0 ∙ sym at) r);
         }

@@ -3,7 +3,7 @@ use mathlib.Core.Path.{◌≡◌, refl, sym, ap, ◌∙◌}
 use mathlib.Core.Logic.{◌≢◌}
 use mathlib.Core.Bool.{Bool, true, false, cond, true≢false}
 use Prim.Native.Nat.{ℕ}
-use borrow.Author.Tests.{eqb_true}
+use borrow.Author.Tests.{eqb-true}
 use Rattle.queue_entries.specs.declared.Call.{Call}
 use Rattle.queue_entries.specs.declared.Call.TheVariants as call
 use Rattle.bounded_words.specs.declared.Stamp.{Stamp}
@@ -225,7 +225,7 @@ module _ (bits : Width) (f : Fixed) (e u : Ends) (d : Deed) (x : Watch) (tail : 
 
 same_is : (a b : Stamp) → same a b ≡ true → a ≡ b
 unfolding same
-same_is a b h = ap stamp (eqb_true a.0 b.0 h)
+same_is a b h = ap stamp (eqb-true a.0 b.0 h)
 
 clash : {A : Type 0} (b : Bool) → b ≡ true → b ≡ false → A
 clash b p q = absurd (true≢false (sym p ∙ q))

@@ -8,7 +8,7 @@ use Prim.Native.Nat.{ℕ, ◌<◌}
 use native.Mathlib.Decide.{ℕ_discrete}
 use lib.Dec.{eqb}
 use lib.ListN.{length, length-replicate}
-use borrow.Author.Tests.{eq_eqb, ne_eqb}
+use borrow.Author.Tests.{eq-eqb, ne_eqb}
 use Rattle.queue_rows.proofs.Alike.{all_alike}
 use Rattle.bounded_machine.specs.declared.Event.{Event}
 use Rattle.bounded_causes.specs.declared.Deed.{Deed}
@@ -43,20 +43,20 @@ abbrev resets : (Deed → Bool) → ℕ → Event → Bool
 resets such w e = cond (eqb e.worker w) (such (deed e)) false
 
 reset_off : (such : Deed → Bool) (w : ℕ) (e : Event) → resets such w e ≡ false → e.worker ≡ w → such (deed e) ≡ false
-reset_off such w e h q = sym (simp (eq_eqb e.worker w q)) ∙ h
+reset_off such w e h q = sym (simp (eq-eqb e.worker w q)) ∙ h
 
 reset_none : (such : Deed → Bool) (w : ℕ) (e : Event) → (e.worker ≡ w → such (deed e) ≡ false) → resets such w e ≡ false
 reset_none such w e k = go (ℕ_discrete e.worker w)
   where
     go : Dec (e.worker ≡ w) → resets such w e ≡ false
-    go (yes q) = simp (eq_eqb e.worker w q) (k q)
+    go (yes q) = simp (eq-eqb e.worker w q) (k q)
     go (no n) = simp (ne_eqb e.worker w n)
 
 reset_on : (such : Deed → Bool) (w : ℕ) (e : Event) → resets such w e ≡ true → (e.worker ≡ w) × (such (deed e) ≡ true)
 reset_on such w e h = go (ℕ_discrete e.worker w)
   where
     go : Dec (e.worker ≡ w) → (e.worker ≡ w) × (such (deed e) ≡ true)
-    go (yes q) = (q, sym (simp (eq_eqb e.worker w q)) ∙ h)
+    go (yes q) = (q, sym (simp (eq-eqb e.worker w q)) ∙ h)
     go (no n) = absurd (true≢false (sym h ∙ simp (ne_eqb e.worker w n)))
 
 -- ---- done since
@@ -129,7 +129,7 @@ module _ (such : Deed → Bool) (w : ℕ) (so : List Event → Event → Type 0)
           let q : e.worker ≡ w = subst (λ (a : Event). a.worker ≡ w) l.one z.by in
           let d : such (deed e) ≡ true = subst (λ (a : Event). such (deed a) ≡ true) l.one z.did in
           let s : so h e = subst (so h) l.one (subst (λ (y : List Event). so y z.act) l.whole z.holds) in
-          simp (eq_eqb e.worker w q, d) (now.1 s)
+          simp (eq-eqb e.worker w q, d) (now.1 s)
       go (inr l) =
           let n = none_less such w l.left e (subst (NoneBy such w) l.grown z.last) in
           simp (reset_none such w e n.1)
@@ -193,7 +193,7 @@ kept_more w few h e long = ap (λ (ws : Watches). watch_of ws.each w) (watches_e
     go : Dec (e.worker ≡ w) → watch_of (watched_of e.worker (deed e) (watches h).each) w ≡ bits w e (watches h).each
     go (yes q) =
         subst (λ (v : ℕ). watch_of (watched_of v (deed e) (watches h).each) w ≡ bits w e (watches h).each) (sym q)
-        (watched_own w (deed e) (watches h).each long few ∙ own_kept (others_hold (watches h).each w) (deed e) (watch_of (watches h).each w) ∙ simp (eq_eqb e.worker w q))
+        (watched_own w (deed e) (watches h).each long few ∙ own_kept (others_hold (watches h).each w) (deed e) (watch_of (watches h).each w) ∙ simp (eq-eqb e.worker w q))
     go (no n) =
         watched_else e.worker (deed e) (watches h).each long w few (λ q. n (sym q)) ∙ simp (ne_eqb e.worker w n)
 

@@ -1,1 +1,3 @@
 // Every retry has a cause, proved (proofs/). No code.
+#![tactic(auto)]
+

@@ -4,7 +4,7 @@ use mathlib.Core.List.{List, [], ◌++◌, append-nil}
 use Prim.Native.Nat.{ℕ, ◌+◌, ◌*◌, ◌-◌, ◌≤◌, ◌<◌}
 use native.Mathlib.Omega.{arith}
 use native.Mathlib.Nat.{mul-le-mul_right}
-use lib.ListN.{length, length_append}
+use lib.ListN.{length, length-append}
 use Rattle.queue_entries.specs.Limits.{meter_most}
 use Rattle.queue_entries.specs.declared.Entry.{Entry}
 use Rattle.bounded_words.specs.declared.Fixed.{Fixed}
@@ -37,7 +37,7 @@ pub metered_kept : (bits : Width) (c : ℕ) (m : Machine) (h : List Event) (en :
 unfolding begun acted_by stored
 metered_kept bits c m h en next acts o (began w call l idle) = record { meter = o.meter ∙ ap length (sym (append-nil h)); few = o.few; rule = o.rule }
 metered_kept bits c m h en next acts o (did w lose l busy early) =
-    record { meter = omega (arith, o.meter, length_append h acts); few = omega arith; rule = o.rule }
+    record { meter = omega (arith, o.meter, length-append h acts); few = omega arith; rule = o.rule }
 
 fresh_metered : (records c workers edition : ℕ) → Metered c (fresh_with records c workers edition) []
 unfolding fresh_with

@@ -5,7 +5,7 @@ use mathlib.Core.List.{List}
 use Prim.Native.Nat.{ℕ, ◌+◌, ◌*◌, ◌<◌}
 use native.Mathlib.Omega.{arith}
 use lib.ListN.{get_or}
-use borrow.Author.Tests.{eqb_true}
+use borrow.Author.Tests.{eqb-true}
 use Rattle.queue_entries.specs.Limits.{meter_most}
 use Rattle.queue_entries.specs.declared.Order.TheVariants.{Act}
 use Rattle.queue_entries.specs.declared.Entry.TheVariants.{Asks}
@@ -109,7 +109,7 @@ module _ (bits : Width) (c n workers : ℕ) (base : Base bits c n workers) (m : 
         ap (λ (x : Stamp). same x (W c (mark_of c) n o.0)) (sym unmarked_is) ∙ ap (same (unmarked_of F E.tail)) (sym o.1) ∙ e in
         let young = young_in bits c n workers base m h r window w (ap (λ (p : Place). holds (holding_at p)) at) in
         let near : Near (n * c) r.ring.tail o.0 = omega (arith, young, o.3, o.2, inv.low, inv.high) in
-        let q : r.ring.tail ≡ o.0 = eqb_true _ _ (sym (same_is bits c (mark_of c) n base.ground r.ring.tail o.0 near) ∙ z) in
+        let q : r.ring.tail ≡ o.0 = eqb-true _ _ (sym (same_is bits c (mark_of c) n base.ground r.ring.tail o.0 near) ∙ z) in
         let even : r.ring.tail ≡ r.ring.head = omega (arith, o.2, inv.low) in
         unmarked_is ∙ ap (W c (mark_of c) n) even
 
@@ -122,7 +122,7 @@ module _ (bits : Width) (c n workers : ℕ) (base : Base bits c n workers) (m : 
         let z : lap_behind bits F (W c (mark_of c) n r.ring.head) (W c (mark_of c) n o.0) ≡ true = ap (lap_behind bits F E.head) (sym u) ∙ e in
         let young = young_in bits c n workers base m h r window w (ap (λ (p : Place). holds (holding_at p)) at) in
         let near : Near (n * c) (r.ring.head + c) o.0 = omega (arith, young, o.4, o.3, inv.low, inv.high, turn_long c (mark_of c) n base.ground.laws) in
-        let q : r.ring.head + c ≡ o.0 = eqb_true _ _ (sym (behind_is bits c (mark_of c) n base.ground m.ring.edition r.ring.head o.0 near) ∙ z) in
+        let q : r.ring.head + c ≡ o.0 = eqb-true _ _ (sym (behind_is bits c (mark_of c) n base.ground m.ring.edition r.ring.head o.0 near) ∙ z) in
         let even : r.ring.tail ≡ o.0 = omega (arith, o.3, inv.high) in
         ap (lap_behind bits F E.head) (unmarked_is ∙ ap (W c (mark_of c) n) even) ∙ z
 

@@ -7,7 +7,7 @@ use Prim.Native.Nat.{ℕ, ◌+◌, ◌%◌, ◌<◌}
 use native.Mathlib.Omega.{arith}
 use native.Mathlib.Nat.{add-mod_right}
 use native.Mathlib.Decide.{ℕ_discrete}
-use lib.ListN.{length, get_or, length_append}
+use lib.ListN.{length, get_or, length-append}
 use Rattle.queue_entries.specs.declared.Entry.{Entry}
 use Rattle.bounded_words.specs.declared.Fixed.{Fixed}
 use Rattle.bounded_words.specs.declared.Width.{Width}
@@ -51,7 +51,7 @@ last_behind : {A : Type 0} (xs : List A) (y : A) (before : List A) (z : A) (behi
 last_behind xs y before z [] e w = refl
 last_behind xs y before z (b ∷ behind) e w =
     let p : length (xs ++ y ∷ []) ≡ length (before ++ z ∷ b ∷ behind) = ap length e in
-    absurd (omega (arith, length_append xs (y ∷ []), length_append before (z ∷ b ∷ behind), ap length w))
+    absurd (omega (arith, length-append xs (y ∷ []), length-append before (z ∷ b ∷ behind), ap length w))
 
 claims_more : (h : List Event) (e : Event) → NoClaims h → moved_of e.after ≡ Neither → NoClaims (h ++ e ∷ [])
 claims_more [] e n q = (q, tt)

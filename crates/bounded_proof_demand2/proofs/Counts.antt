@@ -9,8 +9,8 @@ use native.Mathlib.Nat.{mod-lt, div-add-mod'}
 use native.Mathlib.Decide.{dec_lt}
 use lib.Arith.{digits_mod}
 use lib.Dec.{ltb, eqb}
-use lib.ListN.{length, length_append}
-use borrow.Author.Tests.{ltb-true, ltb-false, eqb_true, eqb_false}
+use lib.ListN.{length, length-append}
+use borrow.Author.Tests.{ltb-true, ltb-false, eqb-true, eqb-false}
 use Rattle.bounded_words.specs.declared.Width.{Width}
 use Rattle.bounded_places.specs.declared.Moved.{Moved}
 use Rattle.bounded_places.specs.declared.Moved.TheVariants.{Neither, Tail, Head}
@@ -48,8 +48,8 @@ tally_from (e ∷ h) t =
     let reads = reads_at e.before in
     let a = tally_from h (read_on reads (history.counted x t)) in
     let b = by_act reads x t e.worker in (
-      omega (arith, a.0, b.0, length_append (tail_by x e.worker) (tailers_of h)),
-      omega (arith, a.1, b.1, length_append (head_by x e.worker) (takers_of h)),
+      omega (arith, a.0, b.0, length-append (tail_by x e.worker) (tailers_of h)),
+      omega (arith, a.1, b.1, length-append (head_by x e.worker) (takers_of h)),
     )
 
 -- one act more
@@ -109,8 +109,8 @@ numbers_count c j k some low high = go (dec_lt (j % c + (k - j)) c)
         (λ b. either (λ (z : ℕ). z ≡ k - j) (ltb (k % c) (j % c)) (c - j % c + k % c) _
         (λ d. absurd (omega (arith, ltb-true (k % c) (j % c) d)))
         (λ d. either (λ (z : ℕ). z ≡ k - j) (eqb k j) 0 c
-        (λ q. omega (arith, eqb_true k j q))
-        (λ q. let ne : k ≢ j = eqb_false k j q in absurd (omega (arith, ltb-false (j % c) (k % c) b)))))
+        (λ q. omega (arith, eqb-true k j q))
+        (λ q. let ne : k ≢ j = eqb-false k j q in absurd (omega (arith, ltb-false (j % c) (k % c) b)))))
 
     count_over : (k % c + c ≡ j % c + (k - j)) → counted c j k ≡ k - j
     count_over e =
@@ -119,7 +119,7 @@ numbers_count c j k some low high = go (dec_lt (j % c + (k - j)) c)
         (λ b. either (λ (z : ℕ). z ≡ k - j) (ltb (k % c) (j % c)) (c - j % c + k % c) _
         (λ d. omega (arith, ltb-true (k % c) (j % c) d, mod-lt j some))
         (λ d. either (λ (z : ℕ). z ≡ k - j) (eqb k j) 0 c
-        (λ q. absurd (omega (arith, eqb_true k j q, mod-lt j some)))
+        (λ q. absurd (omega (arith, eqb-true k j q, mod-lt j some)))
         (λ q. omega (arith, ltb-false (k % c) (j % c) d))))
 
     go : Dec (j % c + (k - j) < c) → counted c j k ≡ k - j

@@ -5,7 +5,7 @@ use mathlib.Core.List.{List, [], ◌∷◌, append-nil}
 use Prim.Native.Nat.{ℕ}
 use native.Mathlib.Omega.{arith}
 use lib.Dec.{eqb}
-use borrow.Author.Tests.{eq_eqb}
+use borrow.Author.Tests.{eq-eqb}
 use lib.ListN.{length}
 use Rattle.queue_entries.specs.Limits.{workers_most}
 use Rattle.queue_entries.specs.Schedules.{run_by, history_by}
@@ -121,7 +121,7 @@ pub act_by_act : (bits : Width) → ActByAct (of_width bits)
 unfolding run_by history_by ran
 act_by_act bits m s first second even e taken =
     let o = onward bits s (first ∷ second ∷ []) m 0 even e in
-    let t : eqb (turn_at bits (run_at bits m 0 s).machine first second).refusal 0 ≡ true = eq_eqb _ 0 taken in (
+    let t : eqb (turn_at bits (run_at bits m 0 s).machine first second).refusal 0 ≡ true = eq-eqb _ 0 taken in (
       ap (λ (z : Ran). z.machine) o.run ∙ rw t,
       o.acts ∙ rw (t, append-nil (events_of bits (run_at bits m 0 s).machine (entry_of first second) (turn_at bits (run_at bits m 0 s).machine first second).machine)),
     )

@@ -6,9 +6,9 @@ use mathlib.Core.List.{List, [], ◌∷◌, ◌++◌, append_assoc, append-nil}
 use Prim.Native.Nat.{ℕ, ◌+◌, ◌*◌, ◌≤◌, ◌<◌, ◌-◌}
 use native.Mathlib.Omega.{arith}
 use lib.Dec.{eqb}
-use lib.ListN.{length, length_append}
-use lib.Seq.{get_or_set_other}
-use borrow.Author.Tests.{eqb_true, ne_eqb}
+use lib.ListN.{length, length-append}
+use lib.Seq.{get_or-set_other}
+use borrow.Author.Tests.{eqb-true, ne_eqb}
 use Rattle.queue_entries.specs.Schedules.{run_by, history_by}
 use Rattle.queue_entries.specs.declared.Order.TheVariants.{Act}
 use Rattle.queue_entries.specs.declared.Entry.{Entry}
@@ -58,10 +58,10 @@ turn_stays : (bits : Width) (m : Machine) (en : Entry) (next : Machine) (acts : 
 unfolding begun acted_by stored
 turn_stays bits m en next acts w (began v call l idle) o busy =
     let far : w ≢ v = λ e. true≢false (sym busy ∙ ap (λ (z : ℕ). (view_of (stood m z)).busy) e ∙ idle) in
-    ap (λ (z : Worker). z.place) (get_or_set_other m.workers v w (beginner (begin_of call)) idler far)
+    ap (λ (z : Worker). z.place) (get_or-set_other m.workers v w (beginner (begin_of call)) idler far)
 turn_stays bits m en next acts w (did v lose l b early) o busy =
     let far : w ≢ v = λ e. o.0 (sym e) in
-    ap (λ (z : Worker). z.place) (get_or_set_other m.workers v w _ idler far)
+    ap (λ (z : Worker). z.place) (get_or-set_other m.workers v w _ idler far)
 
 one_stays : (bits : Width) (m : Machine) (first second w : ℕ) → (turn_at bits m first second).refusal ≡ 0
     → Unmoved w (events_of bits m (entry_of first second) (turn_at bits m first second).machine) → (view_of (stood m w)).busy ≡ true
@@ -84,7 +84,7 @@ run_stays bits (first ∷ second ∷ rest) m place w o busy =
         → stood (cond b (run_at bits (turn_at bits m first second).machine (place + 1) rest) (ran (turn_at bits m first second).refusal place m)).machine w ≡ stood m w
     go more true e u =
         let p = unmoved_split w (events_of bits m (entry_of first second) (turn_at bits m first second).machine) (history_at bits (turn_at bits m first second).machine rest) u in
-        let q = one_stays bits m first second w (eqb_true _ 0 e) p.0 busy in
+        let q = one_stays bits m first second w (eqb-true _ 0 e) p.0 busy in
         more p.1 (ap (λ (z : Place). (view_of z).busy) q ∙ busy) ∙ q
     go more false e u = refl
 
@@ -94,7 +94,7 @@ unfolding tailers_of
 tailers_append [] b = omega arith
 tailers_append (e ∷ a) b =
     let x = tail_by (moved_of e.after) e.worker in
-    omega (arith, length_append x (tailers_of (a ++ b)), length_append x (tailers_of a), tailers_append a b)
+    omega (arith, length-append x (tailers_of (a ++ b)), length-append x (tailers_of a), tailers_append a b)
 
 -- an answer of len, taken apart
 len_said : (b : Bool) (e : Ends) (z : Slot) (k n : ℕ) → (cond b (goes e z (Idle (Len k))) (goes e z Len1)).place ≡ Idle (Len n) → (b ≡ true) × (n ≡ k)

@@ -5,7 +5,7 @@ use mathlib.Core.List.{List, [], ◌∷◌, ◌++◌, append-nil}
 use Prim.Native.Nat.{ℕ, ◌+◌, ◌<◌}
 use native.Mathlib.Omega.{arith}
 use native.Mathlib.Decide.{dec_lt, ℕ_discrete}
-use lib.ListN.{length, get_or, length_append, get_or-append}
+use lib.ListN.{length, get_or, length-append, get_or-append}
 use lib.Seq.{get_or-append_seam}
 use Rattle.bounded_demands.specs.Notions.{LatestIn}
 use Rattle.bounded_proof_invariant.proofs.Upd.{upd, upd_at, upd_else}
@@ -46,7 +46,7 @@ listed_same l count f h = rw (append-nil l) h
 
 pub listed_more : (l : List ℕ) (count : ℕ) (f : ℕ → ℕ) (x : ℕ) → Listed l count f → Listed (l ++ x ∷ []) (count + 1) (upd f count x)
 listed_more l count f x h =
-    record { long = length_append l (x ∷ []) ∙ omega (arith, h.long); at = λ k b. each k b (ℕ_discrete k count) }
+    record { long = length-append l (x ∷ []) ∙ omega (arith, h.long); at = λ k b. each k b (ℕ_discrete k count) }
   where
     each : (k : ℕ) → k < count + 1 → Dec (k ≡ count) → get_or (l ++ x ∷ []) k 0 ≡ upd f count x k
     each k b (yes e) = rw (upd_at f count k x e, e, ← h.long) (get_or-append_seam l x [] 0)

@@ -6,7 +6,7 @@ use mathlib.Core.List.{List, [], ◌∷◌, ◌++◌, append_assoc, append-nil}
 use Prim.Native.Nat.{ℕ, suc, ◌+◌, ◌%◌, ◌≤◌, ◌<◌}
 use native.Mathlib.Omega.{arith}
 use native.Mathlib.Decide.{ℕ_discrete}
-use lib.ListN.{length, get_or, drop, length_append}
+use lib.ListN.{length, get_or, drop, length-append}
 use lib.Seq.{drop-append-le, drop-cons}
 use Rattle.bounded_places.specs.Places.{view_of}
 use Rattle.bounded_places.specs.declared.Answer.TheVariants.{Nothing, Pushed, Full, Closed, Displaced, Popped, Empty, PopClosed, Len, Yes, No}
@@ -413,7 +413,7 @@ module _ (c : ℕ) (s : Shared) (inv : Inv c s) (w i : ℕ) (small : i < c) (e :
   fifo_now Heading z =
       let some : length (takers_of h) < length (items_of h) =
       omega (arith, log.lists.takers_are.long, log.lists.items_are.long, heading c s w i small inv e fits z) in
-      let one : length (takers_of h ++ w ∷ []) ≡ suc (length (takers_of h)) = length_append (takers_of h) (w ∷ []) ∙ omega arith in
+      let one : length (takers_of h ++ w ∷ []) ≡ suc (length (takers_of h)) = length-append (takers_of h) (w ∷ []) ∙ omega arith in
       let y : waiting h' ≡ drop (suc (length (takers_of h))) (items_of h) =
       waiting_now Heading z ∙ ap (λ (l : List ℕ). drop (length (takers_of h ++ w ∷ [])) l) (append-nil (items_of h)) ∙ ap (λ (k : ℕ). drop k (items_of h)) one in
       let front : waiting h ≡ get_or (items_of h) (length (takers_of h)) 0 ∷ waiting h' =

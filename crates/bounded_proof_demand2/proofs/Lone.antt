@@ -8,8 +8,8 @@ use native.Mathlib.Omega.{arith}
 use native.Mathlib.Nat.{mul-le-mul_right}
 use native.Mathlib.Decide.{ℕ_discrete}
 use lib.ListN.{length, length-set}
-use lib.Seq.{get_or-set_same, get_or_set_other}
-use borrow.Author.Tests.{eq_eqb}
+use lib.Seq.{get_or-set_same, get_or-set_other}
+use borrow.Author.Tests.{eq-eqb}
 use Rattle.queue_entries.specs.Limits.{workers_most}
 use Rattle.queue_entries.specs.declared.Call.{Call}
 use Rattle.queue_entries.specs.declared.Call.TheVariants as call
@@ -212,7 +212,7 @@ module _ (bits : Width) (c : ℕ) (m : Machine) (h : List Event) (o : Lone c m h
         one = o.one;
         seat = omega (arith, o.seat, length-set m.workers w (beginner (begin_of q)));
         rule = o.rule;
-        others = λ v ne. ap (λ (r : Worker). (view_of r.place).busy) (get_or_set_other m.workers w v (beginner (begin_of q)) idler (λ e. ne (e ∙ z))) ∙ o.others v ne;
+        others = λ v ne. ap (λ (r : Worker). (view_of r.place).busy) (get_or-set_other m.workers w v (beginner (begin_of q)) idler (λ e. ne (e ∙ z))) ∙ o.others v ne;
         own = λ held. absurd (true≢false (sym held ∙ ap (λ (p : Place). holds (holding_at p)) there ∙ begins_without q));
       }
 
@@ -242,7 +242,7 @@ module _ (bits : Width) (c : ℕ) (m : Machine) (h : List Event) (o : Lone c m h
 
     else_stood : (v : ℕ) → v ≢ 0 → stood next v ≡ stood m v
     unfolding acted_by stored
-    else_stood v ne = ap (λ (y : Worker). y.place) (get_or_set_other m.workers w v _ idler (λ e. ne (e ∙ zero_is)))
+    else_stood v ne = ap (λ (y : Worker). y.place) (get_or-set_other m.workers w v _ idler (λ e. ne (e ∙ zero_is)))
 
     made_now : holds (holding_at (stood next 0)) ≡ true → Made (stood next 0) (since 0 (h ++ new ∷ []))
     made_now held =
@@ -251,7 +251,7 @@ module _ (bits : Width) (c : ℕ) (m : Machine) (h : List Event) (o : Lone c m h
         let k : Made q (cond (is_new (holding_at q)) [] (since 0 h ++ new ∷ [])) =
         made_more (stood m w) q (since 0 h) new went (leads_on bits (fixed_on m.ring) (ends_on m.ring) _ (stood m w) lose busy) was (holding_at q) refl
         (ap (λ (p : Place). holds (holding_at p)) (sym at) ∙ held) in
-        let own : gives_to 0 new ≡ is_new (holding_at q) = ap (λ (b : Bool). cond b (is_new (holding_at new.after)) false) (eq_eqb w 0 zero_is) ∙ ap (λ (p : Place). is_new (holding_at p)) went in
+        let own : gives_to 0 new ≡ is_new (holding_at q) = ap (λ (b : Bool). cond b (is_new (holding_at new.after)) false) (eq-eqb w 0 zero_is) ∙ ap (λ (p : Place). is_new (holding_at p)) went in
         let z : since 0 (h ++ new ∷ []) ≡ cond (is_new (holding_at q)) [] (since 0 h ++ new ∷ []) = since_end 0 [] h new ∙ ap (λ (b : Bool). cond b [] (since 0 h ++ new ∷ [])) own in
         subst (λ (p : Place). Made p (since 0 (h ++ new ∷ []))) (sym at) (subst (Made q) (sym z) k)
 

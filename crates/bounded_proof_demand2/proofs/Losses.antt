@@ -7,8 +7,8 @@ use Prim.Native.Nat.{ℕ, ◌+◌, ◌<◌}
 use native.Mathlib.Omega.{arith}
 use native.Mathlib.Decide.{ℕ_discrete}
 use lib.ListN.{length, set, length-set}
-use lib.Seq.{get_or-set_same, get_or_set_other}
-use borrow.Author.Tests.{eq_eqb, ne_eqb}
+use lib.Seq.{get_or-set_same, get_or-set_other}
+use borrow.Author.Tests.{eq-eqb, ne_eqb}
 use Rattle.queue_entries.specs.declared.Call.{Call}
 use Rattle.queue_entries.specs.declared.Call.TheVariants as call
 use Rattle.queue_entries.specs.declared.Entry.{Entry}
@@ -111,8 +111,8 @@ module _ (found expected : Stamp) where
 
   alike : (lose : Bool) → found ≡ expected → loss_of (exchange_of found expected lose) ≡ cond lose BySchedule Nothing
   unfolding exchange_of same
-  alike true e = simp (eq_eqb found.0 expected.0 (ap (λ (z : Stamp). z.0) e))
-  alike false e = simp (eq_eqb found.0 expected.0 (ap (λ (z : Stamp). z.0) e))
+  alike true e = simp (eq-eqb found.0 expected.0 (ap (λ (z : Stamp). z.0) e))
+  alike false e = simp (eq-eqb found.0 expected.0 (ap (λ (z : Stamp). z.0) e))
 
 pub ends_told : (bits : Width) → EndsTold bits (loss_at bits)
 ends_told bits m w =
@@ -170,7 +170,7 @@ module _ (bits : Width) (kind : Loss → ℕ) (count : Worker → ℕ) (none : (
     one_changes : (r : Worker) (acts : List Event) → Counts r (lost_by kind v (h ++ acts)) → ((w : ℕ) → w ≢ v → lost_by kind w (h ++ acts) ≡ lost_by kind w h)
         → (w : ℕ) → Dec (w ≡ v) → Counts (record_of_worker (set m.workers v r) w) (lost_by kind w (h ++ acts))
     one_changes r acts new rest w (yes e) = rw (e, get_or-set_same m.workers v r idler (o.seats v l)) new
-    one_changes r acts new rest w (no ne) = rw (get_or_set_other m.workers v w r idler ne, rest w ne) (o.counts w)
+    one_changes r acts new rest w (no ne) = rw (get_or-set_other m.workers v w r idler ne, rest w ne) (o.counts w)
 
     begun_counting : (c : Call) → (view_of (stood m v)).busy ≡ false → Counting (begun m v (begin_of c)) (h ++ [])
     unfolding begun
@@ -198,7 +198,7 @@ module _ (bits : Width) (kind : Loss → ℕ) (count : Worker → ℕ) (none : (
 
       own : Counts after (lost_by kind v (h ++ new ∷ []))
       own =
-          rw (lost_end kind v _ h new, eq_eqb v v refl, went)
+          rw (lost_end kind v _ h new, eq-eqb v v refl, went)
           (acted_counts (record_of_worker m.workers v) (lost_by kind v h) (act_at (act_of bits) m (stood m v) lose).place (loss_at bits m v lose) (o.counts v) busy)
 
       acted_counting : Counting next (h ++ new ∷ [])

@@ -9,7 +9,7 @@ use native.Mathlib.Decide.{dec_lt, ℕ_discrete}
 use lib.Dec.{ltb}
 use lib.ListN.{length, get_or, set, length-set, get_or-eq_default}
 use borrow.Author.Tests.{ltb-true}
-use lib.Seq.{get_or-set_same, get_or_set_other}
+use lib.Seq.{get_or-set_same, get_or-set_other}
 use Rattle.queue_entries.specs.Limits.{meter_most}
 use Rattle.queue_entries.specs.declared.Call.{Call}
 use Rattle.queue_entries.specs.declared.Call.TheVariants as call
@@ -90,7 +90,7 @@ set_places ws w r P l new old j = go (ℕ_discrete j w)
   where
     go : Dec (j ≡ w) → P j (place_of (set ws w r) j)
     go (yes e) = rw e (subst (λ (z : Worker). P w z.place) (sym (get_or-set_same ws w r idler l)) new)
-    go (no ne) = subst (λ (z : Worker). P j z.place) (sym (get_or_set_other ws w j r idler ne)) (old j ne)
+    go (no ne) = subst (λ (z : Worker). P j z.place) (sym (get_or-set_other ws w j r idler ne)) (old j ne)
 
 pub idle_is : (p : Place) → (view_of p).busy ≡ false → (a : Answer) × (p ≡ Idle a)
 idle_is (Idle a) h = (a, refl)
@@ -300,7 +300,7 @@ module _ (bits : Width) (c n workers : ℕ) (base : Base bits c n workers) (s : 
           let in_list : spot < length m.ring.slots = omega (arith, spot_small, base.few, pic.slots_long) in
           rw e (get_or-set_same m.ring.slots spot result.slot (slot 0 0) in_list ∙ stepped.slot)
       slots_next i l (no ne) =
-          get_or_set_other m.ring.slots spot i result.slot (slot 0 0) ne ∙ pic.slots i l
+          get_or-set_other m.ring.slots spot i result.slot (slot 0 0) ne ∙ pic.slots i l
           ∙ sym (rw (cell_course c s next w spot coursed i ne, val_course c s next w spot coursed i ne))
 
       back_next : (i : ℕ) → i < c → (j : ℕ) → Mine j (next.cell i) → HandAt mark (look c (place_of (set m.workers w new_record) j)) i

@@ -7,9 +7,9 @@ use native.Mathlib.Omega.{arith}
 use native.Mathlib.Nat.{mod-eq_of_lt, mul-le-mul_left, mul-le-mul_right, div-mul_cancel}
 use native.Mathlib.Decide.{dec_lt, ℕ_discrete}
 use lib.Dec.{ltb, eqb}
-use lib.ListN.{length, get_or, set, replicate, length_append, length-set, length-replicate}
-use lib.Seq.{get_or-set_same, get_or_set_other}
-use borrow.Author.Tests.{eqb_true, eq_eqb, ne_eqb, le-leb, lt-ltb}
+use lib.ListN.{length, get_or, set, replicate, length-append, length-set, length-replicate}
+use lib.Seq.{get_or-set_same, get_or-set_other}
+use borrow.Author.Tests.{eqb-true, eq-eqb, ne_eqb, le-leb, lt-ltb}
 use Rattle.queue_entries.specs.Schedules.{run_by, history_by}
 use Rattle.queue_entries.specs.Limits.{meter_most, in_limits}
 use Rattle.queue_entries.specs.declared.Call.{Call}
@@ -121,7 +121,7 @@ stamped_at (suc k) l i b h = go (λ (z : i < k). stamped_at k l i (omega arith) 
     go rest (yes e) =
         let in_list : k < length (stamped k l) = omega (arith, stamped_long k l) in
         rw e (get_or-set_same (stamped k l) k (slot k 0) (slot 0 0) in_list)
-    go rest (no ne) = get_or_set_other (stamped k l) k i (slot k 0) (slot 0 0) ne ∙ rest (omega arith)
+    go rest (no ne) = get_or-set_other (stamped k l) k i (slot k 0) (slot 0 0) ne ∙ rest (omega arith)
 
 pub fresh_long : (c : ℕ) → length (fresh_slots c) ≡ slots_most
 unfolding fresh_slots empty_slots
@@ -150,7 +150,7 @@ limits_true k most some few = rw (ne_eqb k 0 (λ e. omega arith)) (le-leb k most
 
 rule_true : (c ed : ℕ) → by_rule (fixed_of c ed) ≡ true
 unfolding by_rule
-rule_true c ed = rw (eq_eqb (mark_of c) (mark_of c) refl) (eq_eqb (lap_of c) (lap_of c) refl)
+rule_true c ed = rw (eq-eqb (mark_of c) (mark_of c) refl) (eq-eqb (lap_of c) (lap_of c) refl)
 
 idle_fits : (c ed : ℕ) (r : Worker) (b : Bool) → r ≡ idler → record_fits (fixed_of c ed) 0 r b ≡ true
 unfolding record_fits place_fits
@@ -294,7 +294,7 @@ module _ (bits : Width) (W P : Machine → List Event → Type 0)
           (h ++ cond b (events_of bits m (entry_of first second) (turn_at bits m first second).machine ++ history_at bits (turn_at bits m first second).machine rest) [])
       go more true e =
           rw (← append_assoc h (events_of bits m (entry_of first second) (turn_at bits m first second).machine) (history_at bits (turn_at bits m first second).machine rest))
-          (more (later first second rest m h e each) (one_entry m h first second p (now (first ∷ second ∷ rest) m h each) (eqb_true _ 0 e)))
+          (more (later first second rest m h e each) (one_entry m h first second p (now (first ∷ second ∷ rest) m h each) (eqb-true _ 0 e)))
       go more false e = rw (append-nil h) p
 
 -- What is kept on any machine.
@@ -369,7 +369,7 @@ module _ (bits : Width) (c n workers : ℕ) (base : Base bits c n workers) where
 
       since_own : since w (h ++ new ∷ []) ≡ cond (is_new (holding_at (result bits c n workers base r.ring m pic w l lose busy).place)) [] (since w h ++ new ∷ [])
       since_own =
-          let own : gives_to w new ≡ is_new (holding_at new.after) = ap (λ (b : Bool). cond b (is_new (holding_at new.after)) false) (eq_eqb w w refl) in
+          let own : gives_to w new ≡ is_new (holding_at new.after) = ap (λ (b : Bool). cond b (is_new (holding_at new.after)) false) (eq-eqb w w refl) in
           since_end w [] h new ∙ ap (λ (b : Bool). cond b [] (since w h ++ new ∷ [])) (own ∙ ap (λ (p : Place). is_new (holding_at p)) went)
 
       dated_did : (early : m.meter < meter_most) (j : ℕ) → Dated u ((acted_pictured bits c n workers base r.ring m pic w l lose busy young early).ages j) (since j (h ++ new ∷ []))
@@ -407,7 +407,7 @@ module _ (bits : Width) (c n workers : ℕ) (base : Base bits c n workers) where
             (alone bits c n workers base r.ring m pic w l lose busy) (holding bits c n workers base r.ring m pic w l lose busy fit));
         metered =
             acted_meter bits m w (stood m w) lose ∙ ap (λ (k : ℕ). k + 1) r.metered
-            ∙ sym (length_append h (event_of bits m w lose (acted bits m w (stood m w) lose) ∷ []));
+            ∙ sym (length-append h (event_of bits m w lose (acted bits m w (stood m w) lose) ∷ []));
         dated = dated_did m h r w l lose busy fit early;
       }
 

@@ -6,7 +6,7 @@ use Prim.Native.Nat.{ℕ, ◌+◌, ◌%◌}
 use native.Mathlib.Omega.{arith}
 use lib.Dec.{eqb}
 use lib.ListN.{length}
-use borrow.Author.Tests.{eqb_false}
+use borrow.Author.Tests.{eqb-false}
 use Rattle.queue_entries.specs.Schedules.{run_by, history_by}
 use Rattle.queue_entries.specs.Entries.{entry_of}
 use Rattle.bounded_words.specs.declared.Width.{Width}
@@ -42,7 +42,7 @@ onward bits (first ∷ second ∷ rest) t m place even e =
               ∙ sym (append_assoc (events_of bits m (entry_of first second) (turn_at bits m first second).machine) (history_at bits (turn_at bits m first second).machine rest)
               (history_at bits (run_at bits (turn_at bits m first second).machine (place + 1) rest).machine t)));
         }
-    go more false q z = absurd (eqb_false _ 0 q z)
+    go more false q z = absurd (eqb-false _ 0 q z)
 
 -- The machine does not depend on the place of the first entry.
 pub any_place : (bits : Width) (s : List ℕ) (m : Machine) (i j : ℕ) → (run_at bits m i s).machine ≡ (run_at bits m j s).machine

@@ -3,7 +3,7 @@ use mathlib.Core.Path.{◌≡◌, refl, sym, ap, ◌∙◌}
 use mathlib.Core.Bool.{Bool, true, true≢false}
 use mathlib.Core.List.{List, [], ◌++◌}
 use Prim.Native.Nat.{ℕ}
-use borrow.Author.Tests.{eq_eqb, eqb_true}
+use borrow.Author.Tests.{eq-eqb, eqb-true}
 use Rattle.queue_entries.specs.declared.Entry.{Entry}
 use Rattle.bounded_words.specs.declared.Stamp.{Stamp}
 use Rattle.bounded_words.specs.declared.Fixed.{Fixed}
@@ -32,7 +32,7 @@ use Rattle.bounded_proof_demand2.proofs.Reached.{along_any}
 
 same_is : (a b : Stamp) → same a b ≡ true → a ≡ b
 unfolding same
-same_is a b h = ap stamp (eqb_true a.0 b.0 h)
+same_is a b h = ap stamp (eqb-true a.0 b.0 h)
 
 module _ (bits : Width) (f : Fixed) (r : Ruled f) (two : f.edition ≡ 2) (e : Ends) (s : Slot) (marked : marked_of f e.tail ≡ true) where
   abbrev Marked : Acted → Type 0
@@ -41,7 +41,7 @@ module _ (bits : Width) (f : Fixed) (r : Ruled f) (two : f.edition ≡ 2) (e : E
   -- F7's word, from a marked tail
   forced : (t : Stamp) → Plain f t → marked_of f (forced_tail bits f e.tail t) ≡ true
   unfolding forced_tail
-  forced t p = rw (eq_eqb f.edition 2 two, marked) (mark_marked f r bits (next_of bits f t) (next_plain f r bits t p))
+  forced t p = rw (eq-eqb f.edition 2 two, marked) (mark_marked f r bits (next_of bits f t) (next_plain f r bits t p))
 
   still_marked : (p : Place) (lose : Bool) → fits_of f (view_of p).held ≡ true → Marked (act_of bits f e s p lose)
   unfolding goes losing tail_to head_to

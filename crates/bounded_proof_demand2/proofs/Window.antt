@@ -5,7 +5,7 @@ use mathlib.Core.List.{List, [], ◌∷◌, ◌++◌}
 use Prim.Native.Nat.{ℕ, ◌+◌, ◌*◌, ◌-◌, ◌≤◌, ◌<◌}
 use native.Mathlib.Omega.{arith}
 use lib.Arith.{digits_div}
-use lib.ListN.{length, length_append}
+use lib.ListN.{length, length-append}
 use Rattle.bounded_words.specs.declared.Width.{Width}
 use Rattle.bounded_words.specs.Words.{width_of}
 use Rattle.bounded_places.specs.declared.Place.{Place}
@@ -39,7 +39,7 @@ since_few w acts (e ∷ h) = go (gives_to w e) (λ l. since_few w l h)
   where
     go : (b : Bool) → ((l : List Event) → length (since_from w l h) ≤ length l + length h) → length (since_from w (cond b [] (acts ++ e ∷ [])) h) ≤ length acts + length (e ∷ h)
     go true rest = omega (arith, rest [])
-    go false rest = omega (arith, rest (acts ++ e ∷ []), length_append acts (e ∷ []))
+    go false rest = omega (arith, rest (acts ++ e ∷ []), length-append acts (e ∷ []))
 
 abbrev pub tails : Moved → ℕ
 tails x = length (tail_by x 0)
@@ -67,8 +67,8 @@ claims_few (e ∷ h) =
     let x = moved_of e.after in
     let o = one_claim x e.worker in
     let r = claims_few h in (
-      omega (arith, o.0, r.0, length_append (tail_by x e.worker) (tailers_of h)),
-      omega (arith, o.1, r.1, length_append (head_by x e.worker) (takers_of h)),
+      omega (arith, o.0, r.0, length-append (tail_by x e.worker) (tailers_of h)),
+      omega (arith, o.1, r.1, length-append (head_by x e.worker) (takers_of h)),
     )
 
 pub since_claims : (w : ℕ) (h : List Event) → ((tally (since_from w [] h)).tail.0 ≤ length h) × ((tally (since_from w [] h)).head.0 ≤ length h)

@@ -6,7 +6,7 @@ use Prim.Native.Nat.{ℕ, ◌+◌, ◌*◌, ◌≤◌, ◌<◌}
 use native.Mathlib.Omega.{arith}
 use native.Mathlib.Decide.{dec_lt}
 use lib.Dec.{eqb}
-use borrow.Author.Tests.{eq_eqb}
+use borrow.Author.Tests.{eq-eqb}
 use Rattle.bounded_words.specs.declared.Stamp.{Stamp}
 use Rattle.bounded_words.specs.declared.Fixed.{Fixed}
 use Rattle.bounded_words.specs.declared.Width.{Width}
@@ -87,7 +87,7 @@ loads_of bits f e s p d =
 
 pub same_self : (w : Stamp) → same w w ≡ true
 unfolding same
-same_self w = eq_eqb w.0 w.0 refl
+same_self w = eq-eqb w.0 w.0 refl
 
 pub clear_is : (f : Fixed) (w : Stamp) → marked_of f w ≡ false → unmarked_of f w ≡ w
 unfolding unmarked_of

@@ -5,7 +5,7 @@ use Prim.Native.Nat.{ℕ, ◌+◌, ◌*◌, ◌%◌, ◌≤◌, ◌<◌}
 use native.Mathlib.Omega.{arith}
 use native.Mathlib.Nat.{add-mod_right, mod-lt}
 use lib.Dec.{eqb}
-use borrow.Author.Tests.{eqb_true, eqb_false, eq_eqb, ne_eqb}
+use borrow.Author.Tests.{eqb-true, eqb-false, eq-eqb, ne_eqb}
 use Rattle.bounded_words.specs.declared.Stamp.{Stamp}
 use Rattle.bounded_words.specs.declared.Fixed.{Fixed}
 use Rattle.bounded_words.specs.declared.Width.{Width}
@@ -102,9 +102,9 @@ module _ (bits : Width) (c mark n ed : ℕ) (g : Ground bits c mark n) (s : Shar
 
     lapped : m ≤ s.tail → s.tail + c < m + n * c → lap_behind bits f (Word s.head) (Word m) ≡ true → same (unmarked_of f (tail_word c mark n s.tail b)) (Word m) ≡ true
     lapped le late h =
-        let q : s.head + c ≡ m = eqb_true _ _ (sym (behind_is m le (omega (arith, inv.low))) ∙ h) in
+        let q : s.head + c ≡ m = eqb-true _ _ (sym (behind_is m le (omega (arith, inv.low))) ∙ h) in
         let e : s.tail ≡ m = omega (arith, inv.high) in
-        tail_is b m le (omega arith) ∙ eq_eqb _ _ e
+        tail_is b m le (omega arith) ∙ eq-eqb _ _ e
 
     pub finds_tail : m ≤ s.tail → s.tail + c < m + n * c → (x : Cell) → CellOk c s i x → Loose x → FindsTail bits f (ends_of_ring c mark n s b) (slot_of_ring c mark n x v) (Word m)
     finds_tail le late (Await k) o l =
@@ -114,14 +114,14 @@ module _ (bits : Width) (c mark n ed : ℕ) (g : Ground bits c mark n) (s : Shar
         record {
           decides =
               λ q h d.
-              let e : s.tail ≡ m = eqb_true _ _ (sym (tail_is b m le (omega arith)) ∙ q) in
+              let e : s.tail ≡ m = eqb-true _ _ (sym (tail_is b m le (omega arith)) ∙ q) in
               let z : k % c ≡ s.tail % c = o.0 ∙ sym at ∙ ap (λ (y : ℕ). y % c) (sym e) in
               let w : k ≡ s.tail = near_one c s.tail k some o.1 (omega (arith, inv.low, o.2)) z in
-              eqb_false k m (sym here ∙ h) (w ∙ e);
+              eqb-false k m (sym here ∙ h) (w ∙ e);
           full = λ d. clash _ d past;
           free =
               λ h.
-              let w : k ≡ m = eqb_true k m (sym here ∙ h) in
+              let w : k ≡ m = eqb-true k m (sym here ∙ h) in
               behind_is m le (omega (arith, inv.low)) ∙ ne_eqb (s.head + c) m (λ q. omega (arith, o.2));
           lapped = lapped le late;
         }
@@ -133,16 +133,16 @@ module _ (bits : Width) (c mark n ed : ℕ) (g : Ground bits c mark n) (s : Shar
         record {
           decides =
               λ q h d.
-              let e : s.tail ≡ m = eqb_true _ _ (sym (tail_is b m le (omega arith)) ∙ q) in
+              let e : s.tail ≡ m = eqb-true _ _ (sym (tail_is b m le (omega arith)) ∙ q) in
               let z : (k + c) % c ≡ s.tail % c = add-mod_right k c ∙ o.0 ∙ sym at ∙ ap (λ (y : ℕ). y % c) (sym e) in
               let w : k + c ≡ s.tail = near_one c s.tail (k + c) some (omega (arith, inv.high, o.1)) (omega (arith, o.2)) z in
-              eqb_false (k + c) m (sym past ∙ d) (w ∙ e);
+              eqb-false (k + c) m (sym past ∙ d) (w ∙ e);
           full =
               λ d.
-              let w : k + c ≡ m = eqb_true (k + c) m (sym past ∙ d) in
+              let w : k + c ≡ m = eqb-true (k + c) m (sym past ∙ d) in
               let e : s.head ≡ k = omega (arith, inv.high, o.1) in (
-                behind_is m le (omega (arith, inv.low)) ∙ eq_eqb (s.head + c) m (omega arith),
-                ap (λ (y : ℕ). same (Word s.head) (minus bits (Word y) (2 * mark))) (sym w) ∙ before_is k (omega arith) (omega (arith, turn, some)) ∙ eq_eqb s.head k e,
+                behind_is m le (omega (arith, inv.low)) ∙ eq-eqb (s.head + c) m (omega arith),
+                ap (λ (y : ℕ). same (Word s.head) (minus bits (Word y) (2 * mark))) (sym w) ∙ before_is k (omega arith) (omega (arith, turn, some)) ∙ eq-eqb s.head k e,
               );
           free = λ h. clash _ h here;
           lapped = lapped le late;
@@ -155,14 +155,14 @@ module _ (bits : Width) (c mark n ed : ℕ) (g : Ground bits c mark n) (s : Shar
         record {
           decides =
               λ q p d.
-              let e : s.head ≡ m = eqb_true _ _ (sym (head_is m le (omega arith)) ∙ q) in
+              let e : s.head ≡ m = eqb-true _ _ (sym (head_is m le (omega arith)) ∙ q) in
               let z : k % c ≡ s.head % c = o.0 ∙ sym at ∙ ap (λ (y : ℕ). y % c) (sym e) in
               let w : k ≡ s.head = near_one c s.head k some (omega (arith, inv.low, o.1)) o.2 z in
-              eqb_false k m (sym here ∙ d) (w ∙ e);
+              eqb-false k m (sym here ∙ d) (w ∙ e);
           empty =
               λ d.
-              let w : k ≡ m = eqb_true k m (sym here ∙ d) in
-              tail_is b m (omega (arith, inv.low)) (omega (arith, inv.high)) ∙ eq_eqb s.tail m (omega (arith, inv.low, o.1));
+              let w : k ≡ m = eqb-true k m (sym here ∙ d) in
+              tail_is b m (omega (arith, inv.low)) (omega (arith, inv.high)) ∙ eq-eqb s.tail m (omega (arith, inv.low, o.1));
         }
     finds_head le late (Hold k) o l =
         let r : Near (n * c) k m = omega (arith, turn, inv.low, inv.high, o.1, o.2) in
@@ -171,10 +171,10 @@ module _ (bits : Width) (c mark n ed : ℕ) (g : Ground bits c mark n) (s : Shar
         record {
           decides =
               λ q p d.
-              let e : s.head ≡ m = eqb_true _ _ (sym (head_is m le (omega arith)) ∙ q) in
+              let e : s.head ≡ m = eqb-true _ _ (sym (head_is m le (omega arith)) ∙ q) in
               let z : k % c ≡ s.head % c = o.0 ∙ sym at ∙ ap (λ (y : ℕ). y % c) (sym e) in
               let w : k ≡ s.head = near_one c s.head k some o.1 (omega (arith, inv.high, o.2)) z in
-              eqb_false k m (sym past ∙ p) (w ∙ e);
+              eqb-false k m (sym past ∙ p) (w ∙ e);
           empty = λ d. clash _ d here;
         }
 
@@ -182,11 +182,11 @@ module _ (bits : Width) (c mark n ed : ℕ) (g : Ground bits c mark n) (s : Shar
     hand_free : m ≤ s.head → s.head + c < m + n * c → (st : Stage) (k : ℕ) → k % c ≡ i → HandOk c s i st k → same (slot_word c mark n (taking st) k) (Word m) ≡ true → s.head ≡ m
     hand_free le late Fill k a o h =
         let r : Near (n * c) k m = omega (arith, turn, some, inv.low, inv.high, o.0, o.1) in
-        let e : k ≡ m = eqb_true k m (sym (Stamps.stamp_same bits c mark n g false k m (a ∙ sym at) r) ∙ h) in
+        let e : k ≡ m = eqb-true k m (sym (Stamps.stamp_same bits c mark n g false k m (a ∙ sym at) r) ∙ h) in
         omega (arith, o.0)
     hand_free le late Filled k a o h =
         let r : Near (n * c) k m = omega (arith, turn, some, inv.low, inv.high, o.0, o.1) in
-        let e : k ≡ m = eqb_true k m (sym (Stamps.stamp_same bits c mark n g false k m (a ∙ sym at) r) ∙ h) in
+        let e : k ≡ m = eqb-true k m (sym (Stamps.stamp_same bits c mark n g false k m (a ∙ sym at) r) ∙ h) in
         omega (arith, o.0)
     hand_free le late Take k a o h =
         let r : Near (n * c) k m = omega (arith, turn, some, inv.low, inv.high, o.0, o.1) in
@@ -207,7 +207,7 @@ module _ (bits : Width) (c mark n ed : ℕ) (g : Ground bits c mark n) (s : Shar
     finds_head_beside le late (Hold k) o l = finds_head le late (Hold k) o tt
     finds_head_beside le late (Hand st k w) o l =
         record {
-          decides = λ q p d. l (eqb_true _ _ (sym (head_is m le (omega arith)) ∙ q));
+          decides = λ q p d. l (eqb-true _ _ (sym (head_is m le (omega arith)) ∙ q));
           empty = λ d. absurd (l (hand_free le late st k o.0 o.1 d));
         }
 
@@ -220,7 +220,7 @@ module _ (bits : Width) (c mark n ed : ℕ) (g : Ground bits c mark n) (s : Shar
   won_tail b m w late o h =
       let r : Near (n * c) s.tail m = omega (arith, turn, o.0) in
       let q = unless b _ (sym (Stamps.same_tail bits c mark n g s.tail m b r) ∙ h) in
-      let e : s.tail ≡ m = eqb_true _ _ q.1 in
+      let e : s.tail ≡ m = eqb-true _ _ q.1 in
       let k = cell_at m (Await m) (o.1 e) in (
         Stamps.marked_tail bits c mark n g ed s.tail b ∙ q.0,
         rw (Stamps.unmarked_tail bits c mark n g ed s.tail b)
@@ -230,20 +230,20 @@ module _ (bits : Width) (c mark n ed : ℕ) (g : Ground bits c mark n) (s : Shar
   won_head : (b : Bool) (m w : ℕ) → s.head < m + n * c → ViewOk c s w (Holds m) → same (Word s.head) (Word m) ≡ true
       → same (unmarked_of f (tail_word c mark n s.tail b)) (Word s.head) ≡ false
   won_head b m w late o h =
-      let e : s.head ≡ m = eqb_true _ _ (sym (head_is m o.0 late) ∙ h) in
+      let e : s.head ≡ m = eqb-true _ _ (sym (head_is m o.0 late) ∙ h) in
       let k = cell_at m (Hold m) (o.1 e) in
       tail_is b s.head inv.low (omega (arith, turn, inv.high, g.laws.some)) ∙ ne_eqb s.tail s.head (λ (z : s.tail ≡ s.head). omega (arith, k.2))
 
   last_load : (b : Bool) (m : ℕ) → m ≤ s.head → s.head + c < m + n * c → same (unmarked_of f (tail_word c mark n s.tail b)) (Word m) ≡ true
       → same (unmarked_of f (tail_word c mark n s.tail b)) (Word s.head) ≡ true
   last_load b m le late h =
-      let e : s.tail ≡ m = eqb_true _ _ (sym (tail_is b m (omega (arith, inv.low)) (omega (arith, inv.high))) ∙ h) in
-      tail_is b s.head inv.low (omega (arith, turn, inv.high, g.laws.some)) ∙ eq_eqb s.tail s.head (omega (arith, inv.low))
+      let e : s.tail ≡ m = eqb-true _ _ (sym (tail_is b m (omega (arith, inv.low)) (omega (arith, inv.high))) ∙ h) in
+      tail_is b s.head inv.low (omega (arith, turn, inv.high, g.laws.some)) ∙ eq-eqb s.tail s.head (omega (arith, inv.low))
 
   same_index : (m : ℕ) (t : Stamp) → t ≡ Word (m + c) → m ≤ s.head → s.head < m + n * c → same (Word s.head) (minus bits (Word (m + c)) (2 * mark)) ≡ true
       → index_of f t ≡ index_of f (Word s.head)
   same_index m t q le late h =
-      let e : s.head ≡ m = eqb_true _ _ (sym (before_is m le late) ∙ h) in
+      let e : s.head ≡ m = eqb-true _ _ (sym (before_is m le late) ∙ h) in
       lap_slot bits c mark n g t m q ∙ ap (λ (y : ℕ). y % c) (sym e) ∙ sym (word_slot bits c mark n g (Word s.head) s.head refl)
 
   pub finds : (w i : ℕ) (age : Age) (b : Bool) (p : Place) → i < c → i ≡ spot_of f (view_of p).held → Stands c mark n s w age (look c p)
@@ -286,7 +286,7 @@ module _ (bits : Width) (c mark n ed : ℕ) (g : Ground bits c mark n) (s : Shar
         → same (unmarked_of f (tail_word c mark n s.tail b)) t ≡ true → (s.tail % c ≡ i → Loose (s.cell i)) → FindsTail bits f (ends_of_ring c mark n s b) (slot_of_ring c mark n (s.cell i) (s.val i)) t
     tail_beside k t x at o y in-date free =
         let here : o.0 % c ≡ i = sym (word_slot bits c mark n g t o.0 o.1) ∙ sym at in
-        let e : s.tail ≡ o.0 = eqb_true _ _ (sym (tail_is b o.0 o.2 (omega (arith, o.3, y refl))) ∙ (rw o.1 at in-date)) in
+        let e : s.tail ≡ o.0 = eqb-true _ _ (sym (tail_is b o.0 o.2 (omega (arith, o.3, y refl))) ∙ (rw o.1 at in-date)) in
         rw o.1 (finds_tail i o.0 (s.val i) b here o.2 (omega (arith, o.3, y refl)) (s.cell i) (inv.cells i small) (free (ap (λ (z : ℕ). z % c) e ∙ here)))
 
     head_beside : (h : Stamp) → i ≡ spot_of f (view_of (O2 h)).held → Stands c mark n s w age (look c (O2 h)) → Recent c mark n s age (look c (O2 h))

@@ -8,8 +8,8 @@ use native.Mathlib.Omega.{arith}
 use native.Mathlib.Decide.{ℕ_discrete}
 use lib.Dec.{eqb}
 use lib.ListN.{length}
-use lib.Seq.{get_or-set_same, get_or_set_other}
-use borrow.Author.Tests.{eq_eqb, ne_eqb, eqb_true, eqb_false}
+use lib.Seq.{get_or-set_same, get_or-set_other}
+use borrow.Author.Tests.{eq-eqb, ne_eqb, eqb-true, eqb-false}
 use Rattle.queue_entries.specs.Schedules.{run_by}
 use Rattle.queue_entries.specs.declared.Entry.{Entry}
 use Rattle.queue_entries.specs.Entries.{entry_of}
@@ -72,7 +72,7 @@ hand_some p t hand_o5 = omega arith
 
 begun_else : (m : Machine) (w v : ℕ) (q : Place) → v ≢ w → stood (begun m w q) v ≡ stood m v
 unfolding begun
-begun_else m w v q ne = ap (λ (z : Worker). z.place) (get_or_set_other m.workers w v _ idler ne)
+begun_else m w v q ne = ap (λ (z : Worker). z.place) (get_or-set_other m.workers w v _ idler ne)
 
 -- entries that are all accepted are passed as a schedule runs them
 pub as_run : (records : ℕ) (bits : Width) (m : Machine) (place : ℕ) (entries : List ℕ) → (run_at bits m place entries).refusal ≡ 0
@@ -90,7 +90,7 @@ as_run records bits m place (first ∷ second ∷ rest) e = go (as_run records b
         → (cond b (run_at bits next (place + 1) rest) (ran (turn_at bits m first second).refusal place m)).refusal ≡ 0
         → passed (with_records records bits) next rest ≡ (cond b (run_at bits next (place + 1) rest) (ran (turn_at bits m first second).refusal place m)).machine
     go more true q z = more z
-    go more false q z = absurd (eqb_false _ 0 q z)
+    go more false q z = absurd (eqb-false _ 0 q z)
 
 -- an entry's part of the count
 abbrev part : Width → ℕ → Machine → ℕ → ℕ → ℕ
@@ -125,7 +125,7 @@ module _ (bits : Width) (w : ℕ) where
         go : Dec (v ≡ w) → Was m w (acted bits m v (stood m v) lose) (cond (eqb v w) 1 0)
         go (yes e) =
             let seat : w < length m.workers = omega (arith, o.seats, few_workers m o.unbroken) in
-            rw (eq_eqb v w e, e)
+            rw (eq-eqb v w e, e)
             (own (subst (After (stood m w)) (sym (acted_own bits m w (stood m w) lose seat)) (hand_act bits (fixed_on m.ring) (ends_on m.ring) _ (stood m w) t lose hand)) refl)
         go (no ne) = rw (ne_eqb v w ne) (other (acted_else bits m v w (stood m v) lose (λ z. ne (sym z))) refl)
 
@@ -135,13 +135,13 @@ module _ (bits : Width) (w : ℕ) where
       where
         go : (b : Bool) → eqb (turn_at bits m first second).refusal 0 ≡ b → Turn m first second
         go true e =
-            let d = turned bits m (entry_of first second) (eqb_true _ 0 e) in
+            let d = turned bits m (entry_of first second) (eqb-true _ 0 e) in
             record {
               sound = record { records = o.records; unbroken = turn_of_unbroken bits m o.unbroken first second; seats = turned_seats bits m (entry_of first second) _ _ d ∙ o.seats };
               was = rw e (accepted_was (entry_of first second) _ _ d);
             }
         go false e =
-            let q : (turn_at bits m first second).machine ≡ m = turn_kept bits m first second (eqb_false _ 0 e) in
+            let q : (turn_at bits m first second).machine ≡ m = turn_kept bits m first second (eqb-false _ 0 e) in
             record { sound = subst Sound (sym q) o; was = rw e (other (ap (λ (z : Machine). stood z w) q) refl) }
 
   -- one entry more before it

@@ -2,7 +2,7 @@
 use mathlib.Core.Path.{◌≡◌, refl, sym, ap, ◌∙◌}
 use mathlib.Core.Bool.{Bool, true, false, cond, true≢false}
 use Prim.Native.Nat.{ℕ}
-use borrow.Author.Tests.{eqb_true}
+use borrow.Author.Tests.{eqb-true}
 use Rattle.bounded_words.specs.declared.Stamp.{Stamp}
 use Rattle.bounded_words.specs.declared.Fixed.{Fixed}
 use Rattle.bounded_words.specs.declared.Width.{Width}
@@ -33,7 +33,7 @@ twice false x y = refl
 
 same_is : (a b : Stamp) → same a b ≡ true → a ≡ b
 unfolding same
-same_is a b h = ap stamp (eqb_true a.0 b.0 h)
+same_is a b h = ap stamp (eqb-true a.0 b.0 h)
 
 -- One act at the slot i, in which s is; v is the value in the slot at head.
 module _ (bits : Width) (f : Fixed) (e : Ends) (s : Slot) (i v : ℕ) (first : i ≡ index_of f e.head → v ≡ s.value) where

@@ -8,7 +8,7 @@ use native.Mathlib.Nat.{mod-lt}
 use lib.Dec.{eqb}
 use lib.ListN.{length, get_or, length-drop}
 use lib.Seq.{get_or-drop}
-use borrow.Author.Tests.{eq_eqb, ne_eqb, eqb_true, eqb_false}
+use borrow.Author.Tests.{eq-eqb, ne_eqb, eqb-true, eqb-false}
 use Rattle.queue_entries.specs.declared.Call.{Call}
 use Rattle.queue_entries.specs.declared.Call.TheVariants as call
 use Rattle.bounded_words.specs.declared.Stamp.{Stamp}
@@ -45,8 +45,8 @@ as_one : (a b j k : ℕ) → (a ≡ b → j ≡ k) → (j ≡ k → a ≡ b) →
 as_one a b j k to from = go (eqb j k) refl
   where
     go : (t : Bool) → eqb j k ≡ t → eqb a b ≡ t
-    go true e = eq_eqb a b (from (eqb_true j k e))
-    go false e = ne_eqb a b (λ q. eqb_false j k e (to q))
+    go true e = eq-eqb a b (from (eqb-true j k e))
+    go false e = ne_eqb a b (λ q. eqb-false j k e (to q))
 
 -- a call only begun has nothing in hand
 begun_empty : (c mark j : ℕ) (q : Call) → HandAt mark (look c (begin_of q)) j → ⊥

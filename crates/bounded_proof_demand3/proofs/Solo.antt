@@ -8,7 +8,7 @@ use native.Mathlib.Omega.{arith}
 use native.Mathlib.Decide.{ℕ_discrete}
 use lib.Dec.{ltb, eqb}
 use lib.ListN.{length, get_or, set}
-use lib.Seq.{get_or-set_same, get_or_set_other}
+use lib.Seq.{get_or-set_same, get_or-set_other}
 use borrow.Author.Tests.{lt-ltb}
 use Rattle.queue_entries.specs.Schedules.{run_by, history_by}
 use Rattle.queue_entries.specs.Limits.{meter_most}
@@ -68,7 +68,7 @@ rank bits m w = rank_of bits (fixed_on m.ring) (ends_on m.ring) (stood m w)
 -- another worker stands where it stood
 pub acted_else : (bits : Width) (m : Machine) (w v : ℕ) (p : Place) (lose : Bool) → v ≢ w → stood (acted bits m w p lose) v ≡ stood m v
 unfolding acted_by stored
-acted_else bits m w v p lose ne = ap (λ (z : Worker). z.place) (get_or_set_other m.workers w v _ idler ne)
+acted_else bits m w v p lose ne = ap (λ (z : Worker). z.place) (get_or-set_other m.workers w v _ idler ne)
 
 pub acted_meter : (bits : Width) (m : Machine) (w : ℕ) (p : Place) (lose : Bool) → (acted bits m w p lose).meter ≡ m.meter + 1
 unfolding acted_by stored
@@ -139,7 +139,7 @@ module _ (bits : Width) (c n workers : ℕ) (base : Base bits c n workers) (s : 
 
       slot_there : (j : ℕ) → result.slot ≡ own_slot m p → Dec (j ≡ i) → get_or (set m.ring.slots i result.slot) j (slot 0 0) ≡ get_or m.ring.slots j (slot 0 0)
       slot_there j same (yes e) = rw e (get_or-set_same m.ring.slots i result.slot (slot 0 0) long ∙ same)
-      slot_there j same (no ne) = get_or_set_other m.ring.slots i j result.slot (slot 0 0) ne
+      slot_there j same (no ne) = get_or-set_other m.ring.slots i j result.slot (slot 0 0) ne
 
       first : i ≡ index_of (fixed_on m.ring) m.ring.head → value_at m m.ring.head ≡ (own_slot m p).value
       first e = ap (λ (j : ℕ). (get_or m.ring.slots j (slot 0 0)).value) (sym e)

@@ -6,7 +6,7 @@ use native.Mathlib.Omega.{arith}
 use native.Mathlib.Nat.{mod-eq_of_lt, add-mod_right, mul-le-mul_right}
 use native.Mathlib.Decide.{dec_lt}
 use lib.Dec.{ltb, eqb}
-use borrow.Author.Tests.{lt-ltb, le-ltb, eq_eqb, ne_eqb, eqb_true, eqb_false}
+use borrow.Author.Tests.{lt-ltb, le-ltb, eq-eqb, ne_eqb, eqb-true, eqb-false}
 use Rattle.bounded_words.specs.declared.Stamp.{Stamp}
 use Rattle.bounded_words.specs.declared.Fixed.{Fixed}
 use Rattle.bounded_words.specs.declared.Width.{Width}
@@ -38,8 +38,8 @@ test_is : (x y j k : ℕ) → (j ≡ k → x ≡ y) → (x ≡ y → j ≡ k) �
 test_is x y j k to from = go (eqb j k) refl
   where
     go : (b : Bool) → eqb j k ≡ b → eqb x y ≡ b
-    go true e = eq_eqb x y (to (eqb_true j k e))
-    go false e = ne_eqb x y (λ q. eqb_false j k e (from q))
+    go true e = eq-eqb x y (to (eqb-true j k e))
+    go false e = ne_eqb x y (λ q. eqb-false j k e (from q))
 
 module _ (bits : Width) (c mark n : ℕ) (g : Ground bits c mark n) where
   -- sums
@@ -100,7 +100,7 @@ module _ (bits : Width) (c mark n : ℕ) (g : Ground bits c mark n) where
 
   pub marked_tail : (ed k : ℕ) (b : Bool) → marked_of (fixed c mark ed) (tail_word c mark n k b) ≡ b
   unfolding marked_of
-  marked_tail ed k true = eq_eqb ((word c mark n k + mark) / mark % 2) 1 (set_word c mark n g.laws k)
+  marked_tail ed k true = eq-eqb ((word c mark n k + mark) / mark % 2) 1 (set_word c mark n g.laws k)
   marked_tail ed k false = ne_eqb (word c mark n k / mark % 2) 1 (λ e. omega (arith, clear_word c mark n g.laws k))
 
   pub unmarked_tail : (ed k : ℕ) (b : Bool) → unmarked_of (fixed c mark ed) (tail_word c mark n k b) ≡ W c mark n k
@@ -174,10 +174,10 @@ module _ (bits : Width) (c mark n : ℕ) (g : Ground bits c mark n) where
   -- two words of tail
   pub tails_one : (j k : ℕ) (b d : Bool) → Near (n * c) j k → same (tail_word c mark n j b) (tail_word c mark n k d) ≡ true → j ≡ k
   unfolding same
-  tails_one j k false false r e = word_one c mark n g.laws j k r (eqb_true (word c mark n j) (word c mark n k) e)
+  tails_one j k false false r e = word_one c mark n g.laws j k r (eqb-true (word c mark n j) (word c mark n k) e)
   tails_one j k true true r e =
-      let q : word c mark n j + mark ≡ word c mark n k + mark = eqb_true (word c mark n j + mark) (word c mark n k + mark) e in
+      let q : word c mark n j + mark ≡ word c mark n k + mark = eqb-true (word c mark n j + mark) (word c mark n k + mark) e in
       let p : word c mark n j ≡ word c mark n k = omega arith in
       word_one c mark n g.laws j k r p
-  tails_one j k true false r e = absurd (never_marked j k (eqb_true (word c mark n j + mark) (word c mark n k) e))
-  tails_one j k false true r e = absurd (never_marked k j (sym (eqb_true (word c mark n j) (word c mark n k + mark) e)))
+  tails_one j k true false r e = absurd (never_marked j k (eqb-true (word c mark n j + mark) (word c mark n k) e))
+  tails_one j k false true r e = absurd (never_marked k j (sym (eqb-true (word c mark n j) (word c mark n k + mark) e)))

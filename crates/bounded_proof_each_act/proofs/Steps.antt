@@ -5,7 +5,7 @@ use Prim.Native.Nat.{ℕ, ◌+◌, ◌*◌, ◌%◌, ◌≤◌, ◌<◌}
 use native.Mathlib.Omega.{arith}
 use native.Mathlib.Nat.{add-mod_right}
 use lib.Dec.{eqb}
-use borrow.Author.Tests.{eqb_true, eq_eqb}
+use borrow.Author.Tests.{eqb-true, eq-eqb}
 use Rattle.bounded_words.specs.declared.Stamp.{Stamp}
 use Rattle.bounded_words.specs.declared.Fixed.{Fixed}
 use Rattle.bounded_words.specs.declared.Width.{Width}
@@ -195,7 +195,7 @@ module _ (bits : Width) (c mark n ed : ℕ) (g : Ground bits c mark n) (s : Shar
   waits : (m : ℕ) → m % c ≡ i → Near (n * c) (number (s.cell i)) m → same S.stamp (Word m) ≡ true → s.tail ≡ m → s.cell i ≡ Await m
   waits m at r h e =
       let q = unless (full (s.cell i)) _ (sym (Stamps.stamp_same bits c mark n g (full (s.cell i)) (number (s.cell i)) m (same_slot m at) r) ∙ h) in
-      see_free c s inv i m (s.cell i) ok_here q.0 (eqb_true _ _ q.1) e
+      see_free c s inv i m (s.cell i) ok_here q.0 (eqb-true _ _ q.1) e
 
   p2 : (b : Bool) (k : Kind) (m x : ℕ) → m % c ≡ i → m ≤ s.tail → Late m → Does b (P2 k (Word m) x) (act_p2 bits f (E b) S k (Word m) x)
   p2 b k m x at le late =
@@ -219,7 +219,7 @@ module _ (bits : Width) (c mark n ed : ℕ) (g : Ground bits c mark n) (s : Shar
           let r : full (s.cell i) ≡ true → Near (n * c) (number (s.cell i) + c) m =
           λ h. omega (arith, near, number_full c s inv i (s.cell i) ok_here h, turn, inv.low, inv.high, late) in
           let q = when (full (s.cell i)) _ (sym (Stamps.stamp_behind bits c mark n g ed (full (s.cell i)) (number (s.cell i)) m (same_slot m at) r) ∙ d) in
-          let e : number (s.cell i) + c ≡ m = eqb_true _ _ q.1 in
+          let e : number (s.cell i) + c ≡ m = eqb-true _ _ q.1 in
           let at_j : number (s.cell i) % c ≡ i = number_slot c s inv i (s.cell i) ok_here in
           still b (P2 Force (Word m) x) (F6 (Word m) x) no_hand refl tt (
             number (s.cell i),
@@ -267,7 +267,7 @@ module _ (bits : Width) (c mark n ed : ℕ) (g : Ground bits c mark n) (s : Shar
       found h =
           let r : Near (n * c) s.tail m = omega (arith, turn, o.0, late) in
           let q = unless b _ (sym (Stamps.same_tail bits c mark n g s.tail m b r) ∙ h) in
-          (q.0, eqb_true _ _ q.1)
+          (q.0, eqb-true _ _ q.1)
 
       won : same (E b).tail (Word m) ≡ true → Does b (P3 k (Word m) x) (goes (tail_to (E b) (next_of bits f (Word m))) S (P4 (Word m) x))
       won h =
@@ -329,7 +329,7 @@ module _ (bits : Width) (c mark n ed : ℕ) (g : Ground bits c mark n) (s : Shar
       full_true : lap_behind bits f (E b).head (Word m) ≡ true → lap_behind bits f (E b).head (unmarked_of f (E b).tail) ≡ true
       full_true h =
           let r : Near (n * c) (s.head + c) m = omega (arith, turn, inv.low, inv.high, late) in
-          let q : s.head + c ≡ m = eqb_true _ _ (sym (Stamps.behind_is bits c mark n g ed s.head m r) ∙ h) in
+          let q : s.head + c ≡ m = eqb-true _ _ (sym (Stamps.behind_is bits c mark n g ed s.head m r) ∙ h) in
           let e : s.tail ≡ m = omega (arith, inv.high) in
           rw (Stamps.unmarked_tail bits c mark n g ed s.tail b, e) h
 
@@ -363,7 +363,7 @@ module _ (bits : Width) (c mark n ed : ℕ) (g : Ground bits c mark n) (s : Shar
           → Does b (F6 (Word (m + c)) x) (goes (head_to (E b) (minus bits (next_of bits f (Word (m + c))) (2 * mark))) S (F7 (Word (m + c)) x))
       won h =
           let r : Near (n * c) s.head m = omega (arith, turn, inv.low, o.0, late) in
-          let e : s.head ≡ m = eqb_true _ _ (sym (Stamps.before_is bits c mark n g s.head m r) ∙ h) in
+          let e : s.head ≡ m = eqb-true _ _ (sym (Stamps.before_is bits c mark n g s.head m r) ∙ h) in
           let here : s.cell i ≡ Hold s.head = ap s.cell (sym at) ∙ o.1 e ∙ ap Hold (sym e) in
           rw (← e) (won_grab b x (ap (λ (z : ℕ). z % c) e ∙ at) here (omega (arith, o.2)))
 
@@ -397,7 +397,7 @@ module _ (bits : Width) (c mark n ed : ℕ) (g : Ground bits c mark n) (s : Shar
   f7 : (b : Bool) (m x : ℕ) → m % c ≡ i → ViewOk c s w (Owns Grab m) → Does b (F7 (Word (m + c)) x) (act_f7 bits f (E b) S (Word (m + c)) x)
   f7 b m x at o =
       rw (Stamps.forced_is bits c mark n g ed s.tail (m + c) b)
-      (forces b (cond (eqb ed 2) b false) (λ two shut. ap (λ (z : Bool). cond z b false) (eq_eqb ed 2 two) ∙ shut) m x at o)
+      (forces b (cond (eqb ed 2) b false) (λ two shut. ap (λ (z : Bool). cond z b false) (eq-eqb ed 2 two) ∙ shut) m x at o)
 
   f8 : (b : Bool) (m x : ℕ) → m % c ≡ i → ViewOk c s w (Keeps Swap m x (m + c)) → Does b (F8 (Word (m + c)) x) (act_f8 (E b) S (Word (m + c)) x)
   unfolding goes value_to
@@ -451,7 +451,7 @@ module _ (bits : Width) (c mark n ed : ℕ) (g : Ground bits c mark n) (s : Shar
       holds h e =
           let r : Near (n * c) (number (s.cell i)) m = omega (arith, number_near c s inv i (s.cell i) ok_here, turn, inv.low, inv.high, late) in
           let q = when (full (s.cell i)) _ (sym (Stamps.stamp_past bits c mark n g (full (s.cell i)) (number (s.cell i)) m (same_slot m at) r) ∙ h) in
-          rw at (see_full c s inv i m (s.cell i) ok_here q.0 (eqb_true _ _ q.1) e)
+          rw at (see_full c s inv i m (s.cell i) ok_here q.0 (eqb-true _ _ q.1) e)
 
       rests : same S.stamp (Word m) ≡ true → s.tail ≡ m → s.cell (m % c) ≡ Await m
       rests h e =
@@ -486,7 +486,7 @@ module _ (bits : Width) (c mark n ed : ℕ) (g : Ground bits c mark n) (s : Shar
       found : same (E b).head (Word m) ≡ true → s.head ≡ m
       found h =
           let r : Near (n * c) s.head m = omega (arith, turn, o.0, late) in
-          eqb_true _ _ (sym (Stamps.same_is bits c mark n g s.head m r) ∙ h)
+          eqb-true _ _ (sym (Stamps.same_is bits c mark n g s.head m r) ∙ h)
 
       won : same (E b).head (Word m) ≡ true → Does b (O3 (Word m)) (goes (head_to (E b) (next_of bits f (Word m))) S (O4 (Word m)))
       won h =
@@ -545,7 +545,7 @@ module _ (bits : Width) (c mark n ed : ℕ) (g : Ground bits c mark n) (s : Shar
       found h =
           let r : Near (n * c) s.tail m = omega (arith, turn, o.0, inv.low, inv.high, late) in
           let z : same (Word s.tail) (Word m) ≡ true = rw (Stamps.unmarked_tail bits c mark n g ed s.tail b) at h in
-          eqb_true _ _ (sym (Stamps.same_is bits c mark n g s.tail m r) ∙ z)
+          eqb-true _ _ (sym (Stamps.same_is bits c mark n g s.tail m r) ∙ z)
 
       even : same (unmarked_of f (E b).tail) (Word m) ≡ true → s.tail ≡ s.head
       even h = omega (arith, found h, o.0, inv.low)

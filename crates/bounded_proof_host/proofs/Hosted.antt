@@ -6,7 +6,7 @@ use mathlib.Core.List.{List, [], ◌∷◌, ◌++◌}
 use native.Mathlib.Omega.{arith}
 use lib.Dec.{eqb, ltb}
 use lib.ListN.{length, length-set, length-replicate}
-use borrow.Author.Tests.{eqb_true, eqb_false}
+use borrow.Author.Tests.{eqb-true, eqb-false}
 use Rattle.queue_entries.specs.Limits.{workers_most}
 use Rattle.queue_entries.specs.declared.Entry.{Entry}
 use Rattle.queue_entries.specs.declared.Entry.TheVariants.{Unreadable, Asks}
@@ -158,7 +158,7 @@ refused_make w capacity edition =
     either (λ (x : After). (x.answer ≡ 0 → ⊥) → x.words ≡ w) (shaped w) (made_from w (make_lent (records_in w.records) capacity edition)) (after 6 w)
     (λ b. either (λ (x : After). (x.answer ≡ 0 → ⊥) → x.words ≡ w) (eqb (make_lent (records_in w.records) capacity edition).answer 0)
     (after_of (make_lent (records_in w.records) capacity edition)) (after (make_lent (records_in w.records) capacity edition).answer w)
-    (λ z h. absurd (h (eqb_true (make_lent (records_in w.records) capacity edition).answer 0 z))) (λ z h. refl))
+    (λ z h. absurd (h (eqb-true (make_lent (records_in w.records) capacity edition).answer 0 z))) (λ z h. refl))
     (λ b h. refl)
 
 -- ---- as the machine that holds its records
@@ -338,8 +338,8 @@ module _ (w : Words) (capacity edition : ℕ) (made : (make_words w capacity edi
       by_tests a b = cond a (cond b (after_of x) (after x.answer w)) (after 6 w)
 
       go : (a : Bool) → shaped w ≡ a → (b : Bool) → eqb x.answer 0 ≡ b → Fresh
-      go true ea true eb = record { accepted_too = eqb_true x.answer 0 eb; words_are = λ i. (by_tests (ea i) (eb i)).words }
-      go true ea false eb = absurd (eqb_false x.answer 0 eb (sym (λ i. (by_tests (ea i) (eb i)).answer) ∙ made))
+      go true ea true eb = record { accepted_too = eqb-true x.answer 0 eb; words_are = λ i. (by_tests (ea i) (eb i)).words }
+      go true ea false eb = absurd (eqb-false x.answer 0 eb (sym (λ i. (by_tests (ea i) (eb i)).answer) ∙ made))
       go false ea b eb = let six : ◌≡◌ {A = ℕ} 6 0 = sym (λ i. (by_tests (ea i) (eb i)).answer) ∙ made in absurd (omega (arith, six))
 
   fresh_slots : length x.ring.ring.slots ≡ slots_most

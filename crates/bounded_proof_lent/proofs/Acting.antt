@@ -7,8 +7,8 @@ use mathlib.Core.List.{List}
 use native.Mathlib.Omega.{arith}
 use lib.Dec.{ltb, eqb}
 use lib.ListN.{length}
-use lib.Seq.{get_or_set_other}
-use borrow.Author.Tests.{ne_eqb, eqb_true}
+use lib.Seq.{get_or-set_other}
+use borrow.Author.Tests.{ne_eqb, eqb-true}
 use Rattle.queue_entries.specs.declared.Entry.{Entry}
 use Rattle.queue_entries.specs.declared.Entry.TheVariants.{Unreadable, Asks}
 use Rattle.queue_entries.specs.declared.Verdict.{Verdict}
@@ -37,8 +37,8 @@ module _ (m : Machine) (v : ℕ) where
   carried_kept : (w : ℕ) → v ≢ w → (d : Verdict) → Kept (carried SixtyFour m w (place_of m.workers w) d)
   unfolding refused accepted begun acted_by stored
   carried_kept w ne (Refuse k) = refl
-  carried_kept w ne (Start c) = get_or_set_other m.workers w v _ idler ne
-  carried_kept w ne (Move lose) = get_or_set_other m.workers w v _ idler ne
+  carried_kept w ne (Start c) = get_or-set_other m.workers w v _ idler ne
+  carried_kept w ne (Move lose) = get_or-set_other m.workers w v _ idler ne
 
   turn_kept : (n : ℕ) → v ≢ n → (x : Entry) → Who n x → Kept (turn SixtyFour m x)
   unfolding refused

@@ -5,7 +5,7 @@ use mathlib.Core.Bool.{Bool, true, false, cond, not}
 use mathlib.Core.List.{List, [], ◌∷◌}
 use lib.Dec.{ltb, eqb}
 use lib.ListN.{length}
-use borrow.Author.Tests.{eq_eqb, eqb_true}
+use borrow.Author.Tests.{eq-eqb, eqb-true}
 use Rattle.queue_entries.specs.Limits.{in_limits}
 use Rattle.queue_entries.specs.Schedules.{schedule_by}
 use Rattle.queue_numbers.specs.Numbers.{on, first_of}
@@ -29,7 +29,7 @@ module _ (ys : List Worker) (capacity edition : ℕ) where
   -- the answer of a making is the number of its refusal
   answered : (b : Bool) (number : ℕ) → eqb number 0 ≡ b → (cond b (lent_of (accepted (fresh_with (length ys) capacity (length ys) edition))) (lent number (metered_of blank) ys)).answer ≡ number
   unfolding accepted
-  answered true number h = sym (eqb_true number 0 h)
+  answered true number h = sym (eqb-true number 0 h)
   answered false number h = refl
 
   make_exactly : (make_lent ys capacity edition).answer
@@ -59,7 +59,7 @@ module _ (l : Metered) (ys : List Worker) where
 
   run_odd : (s : List ℕ) → broken_lent l ys ≡ false → length s % 2 ≡ 1 → (run_lent l ys s).report ≡ report 11 0
   unfolding run_lent schedule_by ran
-  run_odd s b odd = rw (b, eq_eqb (length s % 2) 1 odd)
+  run_odd s b odd = rw (b, eq-eqb (length s % 2) 1 odd)
 
   contents_exactly : (buffer : List ℕ) → refusal_of (contents_lent l ys buffer).answer ≡ first_of
       (on 6 (broken_lent l ys) ∷ on 4 (not (all_idle ys)) ∷ on 10 (ltb (length buffer) (count_on l.ring)) ∷ [])

@@ -6,8 +6,8 @@ use mathlib.Core.List.{List, [], ◌∷◌, ◌++◌}
 use native.Mathlib.Omega.{arith}
 use native.Mathlib.Decide.{dec_lt}
 use lib.Dec.{ltb, leb, eqb}
-use lib.ListN.{length, set, replicate, length-replicate, length_append, get_or-eq_default}
-use borrow.Author.Tests.{ltb-true, le-leb, eqb_true}
+use lib.ListN.{length, set, replicate, length-replicate, length-append, get_or-eq_default}
+use borrow.Author.Tests.{ltb-true, le-leb, eqb-true}
 use Rattle.queue_entries.specs.Limits.{workers_most, in_limits, all}
 use Rattle.queue_entries.proofs.Limits.{limit_some}
 use Rattle.queue_entries.specs.declared.Finding.{Finding}
@@ -138,7 +138,7 @@ idle_padded : (ws : List Worker) (k : ℕ) → all_idle (ws ++ idlers k) ≡ all
 unfolding all_idle
 idle_padded ws k =
     as_true (all (length (ws ++ idlers k)) 0 (test (ws ++ idlers k))) (all (length ws) 0 (test ws))
-    (λ h. all_of (length ws) 0 (test ws) (λ i low g. sym (same_test i) ∙ every (length (ws ++ idlers k)) 0 (test (ws ++ idlers k)) h i (omega arith) (omega (arith, length_append ws (idlers k)))))
+    (λ h. all_of (length ws) 0 (test ws) (λ i low g. sym (same_test i) ∙ every (length (ws ++ idlers k)) 0 (test (ws ++ idlers k)) h i (omega arith) (omega (arith, length-append ws (idlers k)))))
     (λ h. all_of (length (ws ++ idlers k)) 0 (test (ws ++ idlers k)) (λ i low g. same_test i ∙ each h i (dec_lt i (length ws))))
   where
     test : List Worker → ℕ → Bool
@@ -340,7 +340,7 @@ answer_is ys capacity edition = go (eqb (make_refusal (length ys) capacity editi
     go : (b : Bool) → eqb (make_refusal (length ys) capacity edition) 0 ≡ b
         → (cond b (lent_of (accepted (fresh_with (length ys) capacity (length ys) edition)))
         (lent (make_refusal (length ys) capacity edition) (metered_of blank) ys)).answer ≡ make_refusal (length ys) capacity edition
-    go true h = sym (eqb_true (make_refusal (length ys) capacity edition) 0 h)
+    go true h = sym (eqb-true (make_refusal (length ys) capacity edition) 0 h)
     go false h = refl
 
 with_count : (n number : ℕ) → make_refusal n 1 1 ≡ number → (ys : List Worker) → length ys ≡ n → (make_lent ys 1 1).answer ≡ number

@@ -6,7 +6,7 @@ use mathlib.Core.List.{List, [], ◌∷◌, ◌++◌}
 use native.Mathlib.Omega.{arith}
 use lib.Dec.{eqb, leb}
 use lib.ListN.{length, length-replicate}
-use borrow.Author.Tests.{eqb_true, le-leb}
+use borrow.Author.Tests.{eqb-true, le-leb}
 use Rattle.queue_entries.specs.Limits.{in_limits}
 use Rattle.queue_entries.proofs.Limits.{limit_some, limit_most}
 use Rattle.queue_entries.specs.Entries.{entry_of}
@@ -139,7 +139,7 @@ module _ (ys : List Worker) (capacity edition : ℕ) (made : (make_lent ys capac
   zero_refusal = go (eqb (make_refusal n capacity edition) 0) refl
     where
       go : (b : Bool) → eqb (make_refusal n capacity edition) 0 ≡ b → make_refusal n capacity edition ≡ 0
-      go true h = eqb_true (make_refusal n capacity edition) 0 h
+      go true h = eqb-true (make_refusal n capacity edition) 0 h
       go false h = ap (λ (b : Bool). (cond b (lent_of (accepted (fresh_with n capacity n edition))) (lent (make_refusal n capacity edition) (metered_of blank) ys)).answer) (sym h) ∙ made
 
   passed : Passed

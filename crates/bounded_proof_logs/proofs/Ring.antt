@@ -7,8 +7,8 @@ use mathlib.Core.Logic.{◌≢◌, inl}
 use mathlib.Core.Path.{◌≡◌, refl, sym, ap, ◌∙◌, subst}
 use lib.Dec.{eqb}
 use lib.ListN.{length, take}
-use lib.Seq.{get_or-set_same, get_or_set_other}
-use borrow.Author.Tests.{eqb_true, eqb_false}
+use lib.Seq.{get_or-set_same, get_or-set_other}
+use borrow.Author.Tests.{eqb-true, eqb-false}
 use Rattle.queue_entries.specs.Entries.{entry_of}
 use Rattle.queue_entries.specs.declared.Call.{Call}
 use Rattle.queue_entries.specs.declared.Call.TheVariants as call
@@ -238,8 +238,8 @@ module _ (c ed : ℕ) where
         asked = q;
         items = refl;
         closed = refl;
-        full = λ h. omega (arith, eqb_true (length q.items) q.capacity h, room);
-        room = λ h z. eqb_false (length q.items) q.capacity h (z ∙ sym room);
+        full = λ h. omega (arith, eqb-true (length q.items) q.capacity h, room);
+        room = λ h z. eqb-false (length q.items) q.capacity h (z ∙ sym room);
         says = same_reply (answer_of q a.call) r [] more (a.plain ∙ is);
       }
 
@@ -284,7 +284,7 @@ module _ (bits : Width) (records c workers ed : ℕ) (a : AllowedWith records c 
 
   elsewhere : (m : Machine) (w : ℕ) (cl : Call) (j : ℕ) → j ≢ w → stood (begun m w (begin_of cl)) j ≡ stood m j
   unfolding begun
-  elsewhere m w cl j far = ap (λ (z : Worker). z.place) (get_or_set_other m.workers w j (beginner (begin_of cl)) idler far)
+  elsewhere m w cl j far = ap (λ (z : Worker). z.place) (get_or-set_other m.workers w j (beginner (begin_of cl)) idler far)
 
   -- every accepted entry leads on
   both_kept : (m : Machine) (st : Story) (en : Entry) (next : Machine) (acts : List Event) → So m st → Kept m st → InWidestWindow bits m (acts_in st) → Turned bits m en next acts

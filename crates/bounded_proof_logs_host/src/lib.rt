@@ -1,1 +1,3 @@
 // What a log of lent records, and of words in a host's memory, never shows: proved. No code.
+#![tactic(auto)]
+

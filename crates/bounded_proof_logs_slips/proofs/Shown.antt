@@ -5,7 +5,7 @@ use mathlib.Core.Bool.{Bool, true, false, cond, true≢false}
 use mathlib.Core.List.{List, [], ◌∷◌}
 use mathlib.Core.Path.{◌≡◌, refl, sym, ap, ◌∙◌}
 use lib.Dec.{eqb, ltb}
-use borrow.Author.Tests.{ltb-true, ltb-false, eqb_true}
+use borrow.Author.Tests.{ltb-true, ltb-false, eqb-true}
 use Rattle.queue_entries.specs.Schedules.{run_by, history_by}
 use Rattle.queue_entries.specs.Entries.{stray_of, order_of, entry_of}
 use Rattle.queue_entries.specs.Limits.{all}
@@ -62,7 +62,7 @@ rows_shown =
             later =
                 λ x i ne h.
                 let none : weigh (only 0) (handed_in ((trial_log pop_of_none).line x)) ≡ 0 =
-                eqb_true (weigh (only 0) (handed_in ((trial_log pop_of_none).line x))) 0 (below 4 (λ z. eqb (weigh (only 0) (handed_in ((trial_log pop_of_none).line z))) 0) refl x i) in
+                eqb-true (weigh (only 0) (handed_in ((trial_log pop_of_none).line x))) 0 (below 4 (λ z. eqb (weigh (only 0) (handed_in ((trial_log pop_of_none).line z))) 0) refl x i) in
                 absurd (omega (arith, h, none));
           };
       twice = omega arith;

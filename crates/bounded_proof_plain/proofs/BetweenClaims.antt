@@ -5,8 +5,8 @@ use mathlib.Core.List.{List, [], ◌∷◌, ◌++◌}
 use Prim.Native.Nat.{ℕ, zero, suc, ◌+◌, ◌-◌, ◌≤◌, ◌<◌}
 use native.Mathlib.Omega.{arith}
 use lib.Dec.{eqb}
-use lib.ListN.{length, take, drop, length_append, take-append-drop}
-use borrow.Author.Tests.{eqb_true, eqb_false}
+use lib.ListN.{length, take, drop, length-append, take-append-drop}
+use borrow.Author.Tests.{eqb-true, eqb-false}
 use Rattle.queue_entries.specs.Schedules.{run_by, history_by}
 use Rattle.queue_entries.specs.Entries.{stray_of, order_of, entry_of}
 use Rattle.queue_entries.specs.Limits.{all}
@@ -54,8 +54,8 @@ same_size q p i c = record { more = omega (arith, ap length i); one = λ h. (c �
 
 one_more : (q : Queue) (x : ℕ) (b : Bool) → full_of q ≡ false → Grows q (queue (q.items ++ x ∷ []) b q.capacity)
 one_more q x b room =
-    let long = length_append q.items (x ∷ []) in
-    let ne = eqb_false (length q.items) q.capacity room in
+    let long = length-append q.items (x ∷ []) in
+    let ne = eqb-false (length q.items) q.capacity room in
     record { more = omega (arith, long); one = λ h. (h.0, few (length q.items) h.1 (λ z. ne (z ∙ sym h.0)) long) }
   where
     few : (n : ℕ) → n ≤ 1 → (n ≡ 1 → ⊥) → length (q.items ++ x ∷ []) ≡ n + 1 → length (q.items ++ x ∷ []) ≤ 1
@@ -65,7 +65,7 @@ one_more q x b room =
 
 one_for_one : (q : Queue) (x : ℕ) (b : Bool) → full_of q ≡ true → Grows q (queue (drop 1 q.items ++ x ∷ []) b q.capacity)
 one_for_one q x b full =
-    let long = length_append (drop 1 q.items) (x ∷ []) in
+    let long = length-append (drop 1 q.items) (x ∷ []) in
     record { more = omega (arith, long, (left q.items).0); one = λ h. (h.0, omega (arith, long, (left q.items).1 (filled h))) }
   where
     left : (l : List ℕ) → (length l ≤ length (drop 1 l) + 1) × (length l ≡ 1 → length (drop 1 l) ≡ 0)
@@ -73,7 +73,7 @@ one_for_one q x b full =
     left (y ∷ l) = (omega arith, λ h. omega arith)
 
     filled : (q.capacity ≡ 1) × (length q.items ≤ 1) → length q.items ≡ 1
-    filled h = eqb_true (length q.items) q.capacity full ∙ h.0
+    filled h = eqb-true (length q.items) q.capacity full ∙ h.0
 
 grows : (q : Queue) (c : Call) → never_pops c ≡ true → Grows q (left_by q c)
 grows q (call.Push x) h =
@@ -95,7 +95,7 @@ pushed_in q x h = go q.closed (full_of q) h
     go : (b f : Bool) → plain.Pushed ≡ cond b (plain.Closed x) (cond f (plain.Full x) plain.Pushed) → 0 < length (cond b q (cond f q (queue (q.items ++ x ∷ []) q.closed q.capacity))).items
     go true f z = absurd (let n : ◌≡◌ {A = ℕ} 0 1 = cc in omega arith)
     go false true z = absurd (let n : ◌≡◌ {A = ℕ} 0 1 = cc in omega arith)
-    go false false z = omega (arith, length_append q.items (x ∷ []))
+    go false false z = omega (arith, length-append q.items (x ∷ []))
 
 -- ---- an element of a story that is an act, and where it stands
 

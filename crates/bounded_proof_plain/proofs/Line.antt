@@ -6,7 +6,7 @@ use mathlib.Core.List.{List, [], ◌∷◌, ◌++◌}
 use Prim.Native.Nat.{ℕ, suc, ◌+◌, ◌≤◌, ◌<◌}
 use native.Mathlib.Omega.{arith}
 use native.Mathlib.Decide.{ℕ_discrete}
-use lib.ListN.{length, take, length_append}
+use lib.ListN.{length, take, length-append}
 use Rattle.queue_entries.specs.declared.Call.{Call}
 use Rattle.queue_plain.specs.Plain.{Queue, Reply, queue, answer_of, left_by}
 use Rattle.queue_plain.specs.OneStep.{Step, Follows}
@@ -61,7 +61,7 @@ module _ (c ed : ℕ) where
     n = length st
 
     longer : length (st ++ e ∷ []) ≡ length st + 1
-    longer = length_append st (e ∷ []) ∙ omega arith
+    longer = length-append st (e ∷ []) ∙ omega arith
 
     kept : (i : ℕ) → i ≤ length st → take i (st ++ e ∷ []) ≡ take i st
     kept i h = take_more i st e h

@@ -6,8 +6,8 @@ use mathlib.Core.List.{List, [], ◌∷◌, ◌++◌, map}
 use Prim.Native.Nat.{ℕ, ◌+◌, ◌≤◌, ◌<◌}
 use native.Mathlib.Omega.{arith}
 use native.Mathlib.Decide.{ℕ_discrete}
-use lib.ListN.{length, take, length_append}
-use lib.Seq.{get_or-set_same, get_or_set_other}
+use lib.ListN.{length, take, length-append}
+use lib.Seq.{get_or-set_same, get_or-set_other}
 use Rattle.queue_entries.specs.declared.Call.{Call}
 use Rattle.queue_entries.specs.declared.Call.TheVariants as call
 use Rattle.queue_entries.specs.declared.Entry.{Entry}
@@ -61,7 +61,7 @@ module _ (c ed : ℕ) (m now : Machine) (st : Story) (s : Shared) (ages : ℕ �
   st' = st ++ Begun w cl ∷ []
 
   longer : length (st ++ Begun w cl ∷ []) ≡ length st + 1
-  longer = length_append st (Begun w cl ∷ []) ∙ omega arith
+  longer = length-append st (Begun w cl ∷ []) ∙ omega arith
 
   queue_same : (known c ed st').queue ≡ (known c ed st).queue
   queue_same = queue_begun c ed st w cl
@@ -280,7 +280,7 @@ module _ (bits : Width) (c n workers : ℕ) (base : Base bits c n workers) (ed :
 
   elsewhere : (m : Machine) (w : ℕ) (cl : Call) (j : ℕ) → j ≢ w → stood (begun m w (begin_of cl)) j ≡ stood m j
   unfolding begun
-  elsewhere m w cl j far = ap (λ (z : Worker). z.place) (get_or_set_other m.workers w j (beginner (begin_of cl)) idler far)
+  elsewhere m w cl j far = ap (λ (z : Worker). z.place) (get_or-set_other m.workers w j (beginner (begin_of cl)) idler far)
 
   pub both_kept : (m : Machine) (st : Story) (en : Entry) (after-it : Machine) (acts : List Event) → Both m st → InWidestWindow bits m (acts_in st)
       → OnlySuch (one_step ed) (begun_in en ++ map Does acts) → Turned bits m en after-it acts

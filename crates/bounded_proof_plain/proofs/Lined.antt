@@ -7,7 +7,7 @@ use Prim.Native.Nat.{ℕ, ◌+◌, ◌≤◌, ◌<◌}
 use native.Mathlib.Omega.{arith}
 use native.Mathlib.Decide.{ℕ_discrete}
 use lib.Dec.{eqb}
-use lib.ListN.{length, take, length_append}
+use lib.ListN.{length, take, length-append}
 use Rattle.queue_entries.specs.declared.Call.{Call}
 use Rattle.queue_entries.specs.declared.Call.TheVariants as call
 use Rattle.queue_plain.specs.Plain.{Reply, queue}
@@ -127,7 +127,7 @@ module _ (c ed : ℕ) where
     st' = st ++ Does e ∷ []
 
     longer : length (st ++ Does e ∷ []) ≡ length st + 1
-    longer = length_append st (Does e ∷ []) ∙ omega arith
+    longer = length-append st (Does e ∷ []) ∙ omega arith
 
     same_each : (j : ℕ) → j ≢ e.worker → Each st' j ≡ Each st j
     same_each j far = each_else c ed st e j far

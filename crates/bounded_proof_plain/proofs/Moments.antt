@@ -8,8 +8,8 @@ use native.Mathlib.Omega.{arith}
 use native.Mathlib.Nat.{mod-eq_of_lt}
 use native.Mathlib.Decide.{ℕ_discrete}
 use lib.Dec.{eqb}
-use lib.ListN.{length, set, length-set, length-map, length_append, length-replicate, get_or-map}
-use lib.Seq.{get_or-set_same, get_or_set_other}
+use lib.ListN.{length, set, length-set, length-map, length-append, length-replicate, get_or-map}
+use lib.Seq.{get_or-set_same, get_or-set_other}
 use Rattle.queue_entries.specs.Entries.{entry_of}
 use Rattle.queue_entries.specs.declared.Call.{Call}
 use Rattle.queue_entries.specs.declared.Entry.{Entry}
@@ -128,7 +128,7 @@ module _ (many c ed : ℕ) where
     ms = moments_kept_of many c st
 
     longer : (x : Element) → length (st ++ x ∷ []) ≡ length st + 1
-    longer x = length_append st (x ∷ []) ∙ omega arith
+    longer x = length-append st (x ∷ []) ∙ omega arith
 
     place_on : one_more_act ms.place ≡ length st + 1
     unfolding one_more_act
@@ -204,7 +204,7 @@ module _ (many c ed : ℕ) where
               (of_worker (moments.Before 0)) (omega (arith, heard_long, few)))
               ∙ own (omega (arith, few)))
           go (no far) =
-              ap (λ (x : OfWorker). in_story x.moment) (get_or_set_other heard_on e.worker j (of_worker (own_of ms e.worker e.before e.after))
+              ap (λ (x : OfWorker). in_story x.moment) (get_or-set_other heard_on e.worker j (of_worker (own_of ms e.worker e.before e.after))
               (of_worker (moments.Before 0)) far) ∙ other j few far
 
       names_on : Names st'
@@ -250,10 +250,10 @@ module _ (many : ℕ) (bits : Width) (records c workers ed : ℕ) (a : AllowedWi
       → (length st < wide → Sound many c ed st) → Turned bits m en after-it acts
       → length (st ++ (begun_in en ++ map Does acts)) < wide → Sound many c ed (st ++ (begun_in en ++ map Does acts))
   sound_kept m st en after-it acts o s (began w cl l idle) few =
-      let early : length st + 1 < wide = omega (arith, few, length_append st (Begun w cl ∷ [])) in
+      let early : length st + 1 < wide = omega (arith, few, length-append st (Begun w cl ∷ [])) in
       sound_begun many c ed st (s (omega arith)) early w cl
   sound_kept m st en after-it acts o s (did w lose l busy early-act) few =
-      let early : length st + 1 < wide = omega (arith, few, length_append st (map Does acts)) in
+      let early : length st + 1 < wide = omega (arith, few, length-append st (map Does acts)) in
       sound_act many c ed st (s (omega arith)) early _
       (subst (λ (h : List Event). untaken_of (tally h) ≡ length (known c ed st).queue.items) (sym o.acts)
       (untaken_is bits c _ workers (base_of bits records c workers ed a) m o.h o.reached ∙ omega (arith, o.shelf.long)))

@@ -8,8 +8,8 @@ use native.Mathlib.Omega.{arith}
 use native.Mathlib.Nat.{mod-lt, add-mod_right}
 use native.Mathlib.Decide.{ℕ_discrete, dec_lt}
 use lib.Dec.{eqb, ltb}
-use lib.ListN.{length, get_or, take, drop, length_append}
-use borrow.Author.Tests.{eq_eqb, ne_eqb, lt-ltb, le-ltb}
+use lib.ListN.{length, get_or, take, drop, length-append}
+use borrow.Author.Tests.{eq-eqb, ne_eqb, lt-ltb, le-ltb}
 use Rattle.queue_entries.specs.Limits.{meter_most}
 use Rattle.queue_entries.specs.declared.Call.{Call}
 use Rattle.queue_entries.specs.declared.Call.TheVariants as call
@@ -304,7 +304,7 @@ module _ (bits : Width) (c n workers : ℕ) (base : Base bits c n workers) (ed :
   )
 
   longer : length st' ≡ length st + 1
-  longer = length_append st (Does e ∷ []) ∙ omega arith
+  longer = length-append st (Does e ∷ []) ∙ omega arith
 
   abbrev Still : Type 0
   Still = (next_ring.tail ≡ s.tail) × (next_ring.head ≡ s.head)
@@ -962,7 +962,7 @@ module _ (bits : Width) (c n workers : ℕ) (base : Base bits c n workers) (ed :
         (calm_since.0 k (omega arith) (omega (arith, held.short)), fl.0 ∙ f.given.while_open, fl.1)
 
     full_then : full_of (lin.line.queues k) ≡ true
-    full_then = eq_eqb _ _ (ap length at_then.0 ∙ long ∙ sym at_then.2)
+    full_then = eq-eqb _ _ (ap length at_then.0 ∙ long ∙ sym at_then.2)
 
     -- nothing happened there
     on_then : lin.line.queues (suc k) ≡ lin.line.queues k
@@ -1181,7 +1181,7 @@ module _ (bits : Width) (c n workers : ℕ) (base : Base bits c n workers) (ed :
 
       new_long : length (drop 1 (known c ed st).queue.items ++ x ∷ []) ≡ length (known c ed st).queue.items
       new_long = let z : length (known c ed st).queue.items ≡ suc (length (drop 1 (known c ed st).queue.items)) = ap length front in
-          omega (arith, length_append (drop 1 (known c ed st).queue.items) (x ∷ []))
+          omega (arith, length-append (drop 1 (known c ed st).queue.items) (x ∷ []))
 
       Q : ℕ → Queue
       Q j = cond (ltb (k (call.ForcePush x) f) j) (queue (drop 1 (known c ed st).queue.items ++ x ∷ []) (lin.line.queues j).closed (lin.line.queues j).capacity) (lin.line.queues j)

@@ -6,7 +6,7 @@ use mathlib.Core.List.{List, [], ◌∷◌, ◌++◌, append-nil}
 use Prim.Native.Nat.{ℕ, suc, ◌+◌}
 use native.Mathlib.Omega.{arith}
 use lib.Dec.{eqb}
-use lib.ListN.{length, drop, length_append}
+use lib.ListN.{length, drop, length-append}
 use Rattle.queue_entries.specs.declared.Call.{Call}
 use Rattle.queue_entries.specs.declared.Call.TheVariants as call
 use Rattle.queue_plain.specs.Plain.{Queue, Reply, queue, answer_of, left_by, full_of, front_of}
@@ -52,7 +52,7 @@ some_none l v a b = absurd (let q : ◌≡◌ {A = ℕ} 0 1 = ap length (sym b �
 
 pub none_before : (a b : List ℕ) (x : ℕ) → a ++ b ≡ x ∷ [] → length b ≡ 1 → a ≡ []
 none_before [] b x h long = refl
-none_before (y ∷ a) b x h long = absurd (let q : suc (length (a ++ b)) ≡ 1 = ap length h in omega (arith, length_append a b))
+none_before (y ∷ a) b x h long = absurd (let q : suc (length (a ++ b)) ≡ 1 = ap length h in omega (arith, length-append a b))
 
 -- a busy place has not answered yes
 pub busy_silent : (q : Place) → (view_of q).busy ≡ true → (stand_of q).yes ≡ false
@@ -93,7 +93,7 @@ neutral q p l y long undisplaced says left same = go y.call refl
     same_full = ap (λ (k : ℕ). eqb k q.capacity) long
 
     grown : {P : Type 0} (x : ℕ) (k : List ℕ) → p.items ≡ q.items ++ x ∷ [] → P
-    grown x k e = absurd (let z : length q.items ≡ length (q.items ++ x ∷ []) = ap length (sym same ∙ e) in omega (arith, length_append q.items (x ∷ [])))
+    grown x k e = absurd (let z : length q.items ≡ length (q.items ++ x ∷ []) = ap length (sym same ∙ e) in omega (arith, length-append q.items (x ∷ [])))
 
     Same : Call → Type 0
     Same cl = (y.reply ≡ answer_of (queue l q.closed q.capacity) cl) × (queue l p.closed p.capacity ≡ left_by (queue l q.closed q.capacity) cl)

@@ -7,8 +7,8 @@ use Prim.Native.Nat.{ℕ, ◌+◌, ◌*◌, ◌-◌, ◌≤◌, ◌<◌}
 use native.Mathlib.Omega.{arith}
 use native.Mathlib.Decide.{dec_lt}
 use lib.Dec.{eqb}
-use lib.ListN.{length, get_or, take, drop, length_append}
-use borrow.Author.Tests.{eqb_true, eqb_false, eq_eqb, ne_eqb}
+use lib.ListN.{length, get_or, take, drop, length-append}
+use borrow.Author.Tests.{eqb-true, eqb-false, eq-eqb, ne_eqb}
 use Rattle.queue_entries.specs.declared.Call.{Call}
 use Rattle.queue_entries.specs.declared.Call.TheVariants as call
 use Rattle.queue_plain.specs.Plain.{Queue, Reply, answer_of, full_of}
@@ -192,7 +192,7 @@ module _ (bits : Width) (c n ed : ℕ) (g : Ground bits c (mark_of c) n) (st : S
     own = each_own c ed st (act p q)
 
     longer : length (now p q) ≡ length st + 1
-    longer = length_append st (Does (act p q) ∷ []) ∙ omega arith
+    longer = length-append st (Does (act p q) ∷ []) ∙ omega arith
 
     work_on : (cl : Call) (put took : List ℕ) → Work c n ed st w cl put took
         → Work c n ed (now p q) w cl (put ++ cond (claims_tail (moved_of q)) (items_of (cl ∷ [])) []) (took ++ cond (claims_head (moved_of q)) (take 1 (known c ed st).queue.items) [])
@@ -398,7 +398,7 @@ module _ (bits : Width) (c n ed : ℕ) (g : Ground bits c (mark_of c) n) (st : S
   found t word up young h =
       let r : Near (n * c) s.tail age.tail = omega (arith, turn, young) in
       let q = unless b _ (sym (Stamps.same_tail bits c mark n g s.tail age.tail b r) ∙ ap (same E.tail) (sym word) ∙ h) in
-      (q.0, eqb_true _ _ q.1)
+      (q.0, eqb-true _ _ q.1)
 
   marked_next : (t : Stamp) (k : ℕ) → t ≡ Word k → marked_of f (next_of bits f t) ≡ false
   marked_next t k e = ap (λ (z : Stamp). marked_of f (next_of bits f z)) e ∙ ap (marked_of f) (Stamps.next_is bits c mark n g ed k) ∙ Stamps.marked_tail bits c mark n g ed (k + 1) false
@@ -476,7 +476,7 @@ module _ (bits : Width) (c n ed : ℕ) (g : Ground bits c (mark_of c) n) (st : S
   pub lap_tests : (cl : Call) (t : Stamp) → GivenBy c n ed st s age w cl t → Young c mark n s age → lap_behind bits f E.head t ≡ true → s.head + c ≡ age.tail
   lap_tests cl t o young h =
       let r : Near (n * c) (s.head + c) age.tail = omega (arith, turn, inv.low, inv.high, young, o.set.point.tails_up) in
-      eqb_true _ _ (sym (Stamps.behind_is bits c mark n g ed s.head age.tail r) ∙ ap (lap_behind bits f E.head) (sym o.word) ∙ h)
+      eqb-true _ _ (sym (Stamps.behind_is bits c mark n g ed s.head age.tail r) ∙ ap (lap_behind bits f E.head) (sym o.word) ∙ h)
 
   p6 : (z : Slot) (t : Stamp) (x : ℕ) (lose : Bool) → GivenBy c n ed st s age w (call.Push x) t → Young c mark n s age → Row (P6 t x) (act_of bits f E z (P6 t x) lose)
   p6 z t x lose o young =
@@ -485,7 +485,7 @@ module _ (bits : Width) (c n ed : ℕ) (g : Ground bits c (mark_of c) n) (st : S
       (ended_then (P6 t x) (call.Push x) [] [] (Full x) refl o.work
       (record { still = refl; puts = refl; takes = refl; back = λ y e. pushed_item Push x ∙ e; shut = λ e. absurd (not_close Push x e) })
       o.set
-      (ap (λ (r : Reply). r ∷ []) (full_to x (then c n ed o.set) o.while_open (eq_eqb _ _ (full_then h ∙ sym o.set.point.room))))))
+      (ap (λ (r : Reply). r ∷ []) (full_to x (then c n ed o.set) o.while_open (eq-eqb _ _ (full_then h ∙ sym o.set.point.room))))))
       (λ h. leads z (P6 t x) (P1 Push x) (quietly refl refl refl refl) (not_idle (P1 Push x) refl) (λ u mv. work_still (P6 t x) (P1 Push x) refl _ _ _ o.work))
     where
       full_then : lap_behind bits f E.head t ≡ true → length (then c n ed o.set).items ≡ c
@@ -509,7 +509,7 @@ module _ (bits : Width) (c n ed : ℕ) (g : Ground bits c (mark_of c) n) (st : S
       let near : Near (n * c) (grip.k + c) age.tail = omega (arith, turn, young, grip.high, grip.late) in
       let one : grip.k + c ≡ age.tail = word_one c mark n g.laws (grip.k + c) age.tail near (ap (λ (z : Stamp). z.0) same_words) in
       let r : Near (n * c) s.head grip.k = omega (arith, turn, inv.low, grip.low, young, grip.late) in
-      let q : s.head ≡ grip.k = eqb_true _ _ (sym (Stamps.before_is bits c mark n g s.head grip.k r) ∙ ap (λ (y : Stamp). same E.head (minus bits y f.lap)) (sym grip.word) ∙ h) in
+      let q : s.head ≡ grip.k = eqb-true _ _ (sym (Stamps.before_is bits c mark n g s.head grip.k r) ∙ ap (λ (y : Stamp). same E.head (minus bits y f.lap)) (sym grip.word) ∙ h) in
       omega arith
 
   won_head : (z : Slot) (t : Stamp) (x : ℕ) (h : Stamp) → GivenBy c n ed st s age w (call.ForcePush x) t → s.head + c ≡ age.tail → Row (F6 t x) (goes (head_to E h) z (F7 t x))
@@ -645,7 +645,7 @@ module _ (bits : Width) (c n ed : ℕ) (g : Ground bits c (mark_of c) n) (st : S
       let fr = o.front in
       let one : fr.heads ≡ k = latest_same s.taker s.head w fr.heads k fr.latest mine in
       let out : o.v ≡ old = fr.is ∙ ap s.item one ∙ sym is in
-      let full : full_of (then c n ed fr.set) ≡ true = eq_eqb _ _ (o.full ∙ sym fr.set.point.room) in
+      let full : full_of (then c n ed fr.set) ≡ true = eq-eqb _ _ (o.full ∙ sym fr.set.point.room) in
       ends z (F9 t old) (Displaced old) (quietly refl refl refl refl)
       (ended_then (F9 t old) (call.ForcePush x) (x ∷ []) (o.v ∷ []) (Displaced old) refl o.work
       (record {
@@ -746,7 +746,7 @@ module _ (bits : Width) (c n ed : ℕ) (g : Ground bits c (mark_of c) n) (st : S
   pub tail_tests : (h : Stamp) (k : ℕ) → h ≡ Word k → k ≤ s.head → age.head ≤ k → Young c mark n s age → same (unmarked_of f E.tail) h ≡ true → s.tail ≡ k
   tail_tests h k word low late young d =
       let r : Near (n * c) s.tail k = omega (arith, turn, inv.low, inv.high, young) in
-      eqb_true _ _ (sym (Stamps.same_is bits c mark n g s.tail k r)
+      eqb-true _ _ (sym (Stamps.same_is bits c mark n g s.tail k r)
       ∙ ap (λ (y : Stamp). same y (Word k)) (sym (Stamps.unmarked_tail bits c mark n g ed s.tail b)) ∙ ap (same (unmarked_of f E.tail)) (sym word) ∙ d)
 
   o6 : (z : Slot) (h : Stamp) (lose : Bool) (k : ℕ) → h ≡ Word k → k ≤ s.head → age.head ≤ k → Young c mark n s age → Work c n ed st w call.Pop [] [] → Row (O6 h) (act_of bits f E z (O6 h) lose)
@@ -829,14 +829,14 @@ module _ (bits : Width) (c n ed : ℕ) (g : Ground bits c (mark_of c) n) (st : S
       go : (u : Shared) → Moves c s u w i (Empty2 E.head) → (y : Bool) → eqb (length (known c ed st).queue.items) 0 ≡ y
           → SeenSome c n ed (now Empty1 (Empty2 E.head)) u w ⊎ NoneYet c n ed (now Empty1 (Empty2 E.head)) u (record { tail = s.tail; head = s.head }) w
       go u mv true e =
-          let none : length (known c ed st).queue.items ≡ 0 = eqb_true _ 0 e in
+          let none : length (known c ed st).queue.items ≡ 0 = eqb-true _ 0 e in
           inr (record {
             pending = moment_own c ed st (act Empty1 (Empty2 E.head)) ∙ rw e;
             tail = omega (arith, mv.tails, shelf.long, none);
             head = omega (arith, mv.heads);
           })
       go u mv false e =
-          let some : length (known c ed st).queue.items ≢ 0 = eqb_false _ 0 e in
+          let some : length (known c ed st).queue.items ≢ 0 = eqb-false _ 0 e in
           let made : moment_of c ed w (now Empty1 (Empty2 E.head)) ≡ At (known c ed st).count = moment_own c ed st (act Empty1 (Empty2 E.head)) ∙ rw e in
           inl (record {
             tails = s.tail;
@@ -856,17 +856,17 @@ module _ (bits : Width) (c n ed : ℕ) (g : Ground bits c (mark_of c) n) (st : S
 
       go : (y : Bool) → same (unmarked_of f E.tail) h ≡ y → SeenSome c n ed st s w ⊎ NoneYet c n ed st s age w → Row (Empty2 h) (goes E z (Idle (yes_no y)))
       go true e any =
-          let q : s.tail ≡ age.head = eqb_true _ _ (sym tests ∙ e) in
+          let q : s.tail ≡ age.head = eqb-true _ _ (sym tests ∙ e) in
           let even : s.tail ≡ s.head = omega (arith, inv.low) in
           let none : length (known c ed st).queue.items ≡ 0 = omega (arith, shelf.long) in
           ends z (Empty2 h) Yes (quietly refl refl refl refl)
           (ended_now (Empty2 h) call.IsEmpty [] [] Yes refl o (speaks (Empty2 h) call.IsEmpty true (gives_none true) (λ q. absurd (let y : ◌≡◌ {A = ℕ} 0 1 = cc in omega arith)))
-          (rw (eq_eqb (length (known c ed st).queue.items) 0 none)))
+          (rw (eq-eqb (length (known c ed st).queue.items) 0 none)))
       go false e (inl p) =
           ends z (Empty2 h) No (quietly refl refl refl refl)
           (ended_then (Empty2 h) call.IsEmpty [] [] No refl o (speaks (Empty2 h) call.IsEmpty false (gives_none false) (λ q. absurd (let y : ◌≡◌ {A = ℕ} 0 1 = cc in omega arith))) p.set
           (rw (ne_eqb (length (then c n ed p.set).items) 0 (λ q. omega (arith, p.some)))))
-      go false e (inr p) = absurd (true≢false (sym (eq_eqb s.tail age.head p.tail) ∙ sym tests ∙ e))
+      go false e (inr p) = absurd (true≢false (sym (eq-eqb s.tail age.head p.tail) ∙ sym tests ∙ e))
 
   full1 : (z : Slot) → Work c n ed st w call.IsFull [] [] → Row Full1 (goes E z (Full2 E.tail))
   full1 z o =
@@ -876,14 +876,14 @@ module _ (bits : Width) (c n ed : ℕ) (g : Ground bits c (mark_of c) n) (st : S
       go : (u : Shared) → Moves c s u w i (Full2 E.tail) → (y : Bool) → full_of (known c ed st).queue ≡ y
           → SeenRoom c n ed (now Full1 (Full2 E.tail)) u w ⊎ FullYet c n ed (now Full1 (Full2 E.tail)) u (record { tail = s.tail; head = s.head }) w
       go u mv true e =
-          let long : length (known c ed st).queue.items ≡ (known c ed st).queue.capacity = eqb_true _ _ e in
+          let long : length (known c ed st).queue.items ≡ (known c ed st).queue.capacity = eqb-true _ _ e in
           inr (record {
             pending = moment_own c ed st (act Full1 (Full2 E.tail)) ∙ rw e;
             tail = omega (arith, mv.tails);
             head = omega (arith, mv.heads, shelf.long, capacity_is);
           })
       go u mv false e =
-          let short : length (known c ed st).queue.items ≢ (known c ed st).queue.capacity = eqb_false _ _ e in
+          let short : length (known c ed st).queue.items ≢ (known c ed st).queue.capacity = eqb-false _ _ e in
           let made : moment_of c ed w (now Full1 (Full2 E.tail)) ≡ At (known c ed st).count = moment_own c ed st (act Full1 (Full2 E.tail)) ∙ rw e in
           inl (record {
             tails = s.tail;
@@ -906,16 +906,16 @@ module _ (bits : Width) (c n ed : ℕ) (g : Ground bits c (mark_of c) n) (st : S
 
       go : (y : Bool) → lap_behind bits f E.head (unmarked_of f t) ≡ y → SeenRoom c n ed st s w ⊎ FullYet c n ed st s age w → Row (Full2 t) (goes E z (Idle (yes_no y)))
       go true e any =
-          let q : s.head + c ≡ age.tail = eqb_true _ _ (sym tests ∙ e) in
+          let q : s.head + c ≡ age.tail = eqb-true _ _ (sym tests ∙ e) in
           let long : length (known c ed st).queue.items ≡ (known c ed st).queue.capacity = omega (arith, shelf.long, capacity_is, inv.high) in
           ends z (Full2 t) Yes (quietly refl refl refl refl)
           (ended_now (Full2 t) call.IsFull [] [] Yes refl o (speaks (Full2 t) call.IsFull true (gives_none true) (λ q. absurd (let y : ◌≡◌ {A = ℕ} 0 1 = cc in omega arith)))
-          (rw (eq_eqb (length (known c ed st).queue.items) (known c ed st).queue.capacity long)))
+          (rw (eq-eqb (length (known c ed st).queue.items) (known c ed st).queue.capacity long)))
       go false e (inl p) =
           ends z (Full2 t) No (quietly refl refl refl refl)
           (ended_then (Full2 t) call.IsFull [] [] No refl o (speaks (Full2 t) call.IsFull false (gives_none false) (λ q. absurd (let y : ◌≡◌ {A = ℕ} 0 1 = cc in omega arith))) p.set
           (rw (ne_eqb (length (then c n ed p.set).items) (then c n ed p.set).capacity (λ q. omega (arith, p.room, p.set.point.room)))))
-      go false e (inr p) = absurd (true≢false (sym (eq_eqb (s.head + c) age.tail p.head) ∙ sym tests ∙ e))
+      go false e (inr p) = absurd (true≢false (sym (eq-eqb (s.head + c) age.tail p.head) ∙ sym tests ∙ e))
 
   is_closed1 : (z : Slot) → Work c n ed st w call.IsClosed [] [] → Row IsClosed1 (goes E z (Idle (yes_no (marked_of f E.tail))))
   is_closed1 z o = go (marked_of f E.tail) refl

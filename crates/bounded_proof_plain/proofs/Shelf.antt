@@ -7,9 +7,9 @@ use Prim.Native.Nat.{ℕ, suc, ◌+◌, ◌≤◌, ◌<◌}
 use native.Mathlib.Omega.{arith}
 use native.Mathlib.Decide.{dec_lt}
 use lib.Dec.{eqb}
-use lib.ListN.{length, get_or, drop, length_append, get_or-append}
+use lib.ListN.{length, get_or, drop, length-append, get_or-append}
 use lib.Seq.{get_or-append_seam}
-use borrow.Author.Tests.{eq_eqb, ne_eqb}
+use borrow.Author.Tests.{eq-eqb, ne_eqb}
 use Rattle.queue_entries.specs.declared.Call.{Call}
 use Rattle.queue_plain.specs.Plain.{Queue, queue, full_of}
 use Rattle.queue_plain.specs.Story.{Begun, Does, Change, Known, beginning, doing_with, changed_by, items_of, fresh, known_with, known_from}
@@ -117,7 +117,7 @@ module _ (c ed : ℕ) (st : Story) where
         moment_act e.worker
         ∙ ap (λ (b : Bool). cond b (timed (timing_of e.before e.after) (known c ed st) (moment_of c ed e.worker st))
         (heard (change_of ed e) ((known c ed st).count + 1) (moment_of c ed e.worker st)))
-        (eq_eqb e.worker e.worker refl)
+        (eq-eqb e.worker e.worker refl)
 
     pub moment_else : (j : ℕ) → j ≢ e.worker → moment_of c ed j (st ++ Does e ∷ []) ≡ heard (change_of ed e) ((known c ed st).count + 1) (moment_of c ed j st)
     moment_else j ne =
@@ -205,12 +205,12 @@ module _ (c : ℕ) (s u : Shared) (w i : ℕ) (run : Course c s u w i) where
       rw (append-nil l) (omega (arith, o.0), λ k z. o.1 k z ∙ sym (rw e (item_course (s.head + k) (omega (arith, o.0)))))
 
   items_tail : (y : ℕ) (l : List ℕ) → u.tail ≡ s.tail + 1 → u.head ≡ s.head + 0 → u.item s.tail ≡ y → Waits s l → Waits u (l ++ y ∷ [])
-  items_tail y l t h new o = let e : u.head ≡ s.head = omega arith in (omega (arith, o.0, length_append l (y ∷ [])), λ k z. each e k z (dec_lt k (length l)))
+  items_tail y l t h new o = let e : u.head ≡ s.head = omega arith in (omega (arith, o.0, length-append l (y ∷ [])), λ k z. each e k z (dec_lt k (length l)))
     where
       each : u.head ≡ s.head → (k : ℕ) → k < length (l ++ y ∷ []) → Dec (k < length l) → get_or (l ++ y ∷ []) k 0 ≡ u.item (u.head + k)
       each e k z (yes m) = get_or-append l (y ∷ []) 0 k m ∙ o.1 k m ∙ sym (rw e (item_course (s.head + k) (omega (arith, o.0))))
       each e k z (no m) =
-          let last : k ≡ length l = omega (arith, length_append l (y ∷ [])) in
+          let last : k ≡ length l = omega (arith, length-append l (y ∷ [])) in
           let there : u.head + k ≡ s.tail = omega (arith, o.0) in
           rw there (rw last (get_or-append_seam l y [] 0) ∙ sym new)
 

@@ -6,8 +6,8 @@ use mathlib.Core.List.{List, [], ◌∷◌, ◌++◌, map}
 use Prim.Native.Nat.{ℕ, ◌+◌, ◌-◌, ◌<◌}
 use native.Mathlib.Omega.{arith}
 use native.Mathlib.Decide.{ℕ_discrete}
-use lib.ListN.{length, get_or, set, length_append}
-use lib.Seq.{get_or-set_same, get_or_set_other}
+use lib.ListN.{length, get_or, set, length-append}
+use lib.Seq.{get_or-set_same, get_or-set_other}
 use Rattle.queue_entries.specs.Limits.{meter_most}
 use Rattle.queue_entries.specs.declared.Call.{Call}
 use Rattle.queue_entries.specs.declared.Call.TheVariants as call
@@ -81,7 +81,7 @@ module _ (c n ed : ℕ) (st : Story) (e : Event) (s u : Shared) (i w : ℕ) (far
   st' = st ++ Does e ∷ []
 
   longer : length (st ++ Does e ∷ []) ≡ length st + 1
-  longer = length_append st (Does e ∷ []) ∙ omega arith
+  longer = length-append st (Does e ∷ []) ∙ omega arith
 
   set_here : moment_of c ed w st' ≡ At ((known c ed st).count + 1) → ((known c ed st).each w).begun < length st → Set c n ed st' u w u.tail u.head
   set_here named begun-before =
@@ -258,7 +258,7 @@ module _ (bits : Width) (c n workers : ℕ) (base : Base bits c n workers) (ed :
 
       pub stood_else : (j : ℕ) → j ≢ w → stood (acted bits m w (stood m w) lose) j ≡ stood m j
       unfolding acted_by stored
-      stood_else j far = ap (λ (z : Worker). z.place) (get_or_set_other m.workers w j _ idler far)
+      stood_else j far = ap (λ (z : Worker). z.place) (get_or-set_other m.workers w j _ idler far)
 
       same_edition : (acted bits m w (stood m w) lose).ring.edition ≡ m.ring.edition
       unfolding acted_by stored
@@ -321,7 +321,7 @@ module _ (bits : Width) (c n workers : ℕ) (base : Base bits c n workers) (ed :
       begun_on = st ++ Begun w cl ∷ []
 
       longer_begun : length (st ++ Begun w cl ∷ []) ≡ length st + 1
-      longer_begun = length_append st (Begun w cl ∷ []) ∙ omega arith
+      longer_begun = length-append st (Begun w cl ∷ []) ∙ omega arith
 
       begun_edition : (begun m w (begin_of cl)).ring.edition ≡ m.ring.edition
       unfolding begun
@@ -350,7 +350,7 @@ module _ (bits : Width) (c n workers : ℕ) (base : Base bits c n workers) (ed :
               rw e (subst (λ (z : Worker). Due c n ed begun_on s (pic.ages w) w (task z.place))
               (sym (get_or-set_same m.workers w (beginner (begin_of cl)) idler (omega (arith, pic.workers_long, few_workers m pic.unbroken)))) (rw (begun_task cl) starts))
           go (no far) =
-              subst (λ (z : Worker). Due c n ed begun_on s (pic.ages j) j (task z.place)) (sym (get_or_set_other m.workers w j (beginner (begin_of cl)) idler far))
+              subst (λ (z : Worker). Due c n ed begun_on s (pic.ages j) j (task z.place)) (sym (get_or-set_other m.workers w j (beginner (begin_of cl)) idler far))
               (due_else c n ed st (Begun w cl) s s w 0 j (same refl) pic.inv far (each_unbegun c ed st w cl j far) (λ k e. moment_begun c ed st w cl j ∙ e) (pic.ages j)
               (λ work p. inr (record { pending = moment_begun c ed st w cl j ∙ p.pending; tail = p.tail; head = p.head }))
               (λ work p. inr (record { pending = moment_begun c ed st w cl j ∙ p.pending; tail = p.tail; head = p.head })) (task (stood m j)) (o.dues j))

@@ -6,7 +6,7 @@ use Prim.Native.Nat.{ℕ, suc, ◌+◌, ◌<◌}
 use native.Mathlib.Omega.{arith}
 use lib.Dec.{eqb}
 use lib.ListN.{length, take, drop, take-append-drop}
-use borrow.Author.Tests.{eqb_true}
+use borrow.Author.Tests.{eqb-true}
 use Rattle.queue_entries.specs.Schedules.{run_by, history_by}
 use Rattle.queue_entries.specs.Entries.{stray_of, order_of, entry_of}
 use Rattle.queue_entries.specs.Limits.{all}
@@ -107,7 +107,7 @@ says_here w (Begun v c ∷ s) h = absurd (true≢false (sym h))
 says_here w (Does e ∷ s) h = go (eqb e.worker w) refl h
   where
     go : (b : Bool) → eqb e.worker w ≡ b → cond b (stand_of e.after).yes false ≡ true → (d : Event) × (later : Story) × (Does e ∷ s ≡ Does d ∷ later) × (d.worker ≡ w) × (d.after ≡ Idle Yes)
-    go true z y = (e, s, refl, eqb_true e.worker w z, place_yes e.after y)
+    go true z y = (e, s, refl, eqb-true e.worker w z, place_yes e.after y)
     go false z y = absurd (true≢false (sym y))
 
 says_at : (s : Story) (k w : ℕ) → yes_here w (drop k s) ≡ true → Says s k w

@@ -8,8 +8,8 @@ use native.Mathlib.Omega.{arith}
 use native.Mathlib.Decide.{ℕ_discrete}
 use lib.Dec.{eqb}
 use lib.ListN.{length, get_or, set, length-set}
-use lib.Seq.{get_or-set_same, get_or_set_other, set-get_or}
-use borrow.Author.Tests.{eq_eqb, ne_eqb}
+use lib.Seq.{get_or-set_same, get_or-set_other, set-get_or}
+use borrow.Author.Tests.{eq-eqb, ne_eqb}
 use Rattle.queue_entries.specs.Limits.{meter_most}
 use Rattle.queue_entries.specs.Entries.{entry_of}
 use Rattle.queue_entries.specs.declared.Call.{Call}
@@ -164,7 +164,7 @@ since_else : (j : ℕ) (h : List Event) (e : Event) → e.worker ≢ j → since
 since_else j h e far = since_end j [] h e ∙ rw (ne_eqb e.worker j far)
 
 since_own : (h : List Event) (e : Event) → since e.worker (h ++ e ∷ []) ≡ cond (is_new (holding_at e.after)) [] (since e.worker h ++ e ∷ [])
-since_own h e = since_end e.worker [] h e ∙ rw (eq_eqb e.worker e.worker refl)
+since_own h e = since_end e.worker [] h e ∙ rw (eq-eqb e.worker e.worker refl)
 
 -- ---- an act, by ring and place
 
@@ -185,7 +185,7 @@ module _ (bits : Width) (m : Machine) (w : ℕ) (lose : Bool) where
 
   acted_else : (j : ℕ) → j ≢ w → stood (acted bits m w (stood m w) lose) j ≡ stood m j
   unfolding acted_by stored
-  acted_else j far = ap (λ (z : Worker). z.place) (get_or_set_other m.workers w j _ idler far)
+  acted_else j far = ap (λ (z : Worker). z.place) (get_or-set_other m.workers w j _ idler far)
 
   look_ring : looks_at (stood m w) ≡ true → (acted bits m w (stood m w) lose).ring ≡ m.ring
   look_ring h =
@@ -201,7 +201,7 @@ begun_place m w b l = ap (λ (z : Worker). z.place) (get_or-set_same m.workers w
 
 begun_else : (m : Machine) (w : ℕ) (b : Call) (j : ℕ) → j ≢ w → stood (begun m w (begin_of b)) j ≡ stood m j
 unfolding begun
-begun_else m w b j far = ap (λ (z : Worker). z.place) (get_or_set_other m.workers w j (beginner (begin_of b)) idler far)
+begun_else m w b j far = ap (λ (z : Worker). z.place) (get_or-set_other m.workers w j (beginner (begin_of b)) idler far)
 
 begun_ring : (m : Machine) (w : ℕ) (p : Place) → ((begun m w p).ring ≡ m.ring) × ((begun m w p).count ≡ m.count) × ((begun m w p).meter ≡ m.meter)
 unfolding begun
@@ -278,7 +278,7 @@ module _ (bits : Width) (records c workers ed : ℕ) (a : AllowedWith records c 
 
   -- a call that does not only look is one step in this edition
   in_two : (ed ≡ 1 → false ≡ true) → Dec (ed ≡ 2) → eqb ed 2 ≡ true
-  in_two never (yes z) = eq_eqb ed 2 z
+  in_two never (yes z) = eq-eqb ed 2 z
   in_two never (no z) = absurd (true≢false (sym (never (omega (arith, a.edition_some, a.edition_most)))))
 
   fits : (b : Call) → (ed ≡ 1 → never_closes b ≡ true) → looks b ≡ false → one_step ed b ≡ true

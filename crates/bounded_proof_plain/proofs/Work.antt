@@ -5,7 +5,7 @@ use mathlib.Core.Bool.{Bool, false}
 use mathlib.Core.List.{List, [], ◌∷◌, ◌++◌}
 use Prim.Native.Nat.{ℕ, ◌+◌, ◌≤◌, ◌<◌}
 use native.Mathlib.Omega.{arith}
-use lib.ListN.{length, length_append}
+use lib.ListN.{length, length-append}
 use Rattle.queue_entries.specs.declared.Call.{Call}
 use Rattle.queue_entries.specs.declared.Call.TheVariants as call
 use Rattle.queue_plain.specs.Plain.{Queue}
@@ -185,7 +185,7 @@ module _ (c n ed : ℕ) where
     st' = st ++ x ∷ []
 
     longer : length (st ++ x ∷ []) ≡ length st + 1
-    longer = length_append st (x ∷ []) ∙ omega arith
+    longer = length-append st (x ∷ []) ∙ omega arith
 
     work_else : (cl : Call) (put took : List ℕ) → Work st w cl put took → Work st' w cl put took
     work_else = calls.work_else actor (change_of ed) c st x w each

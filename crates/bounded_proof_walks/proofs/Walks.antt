@@ -8,7 +8,7 @@ use native.Mathlib.Omega.{arith}
 use lib.Dec.{eqb, ltb}
 use lib.ListN.{length, take, drop}
 use lib.Seq.{take-append_seam, drop-append_seam}
-use borrow.Author.Tests.{eq_eqb, ne_eqb, eqb_true, eqb_false, ltb-true, ltb-false, le-ltb}
+use borrow.Author.Tests.{eq-eqb, ne_eqb, eqb-true, eqb-false, ltb-true, ltb-false, le-ltb}
 use Rattle.queue_entries.specs.Limits.{workers_most}
 use Rattle.queue_entries.specs.Schedules.{run_by}
 use Rattle.queue_entries.specs.Told.{told}
@@ -48,7 +48,7 @@ act_worker code w l = omega arith
 -- one accepted entry, and the rest
 run_more : (m : Machine) (i first second : ℕ) (s : List ℕ) → (turn_of m first second).refusal ≡ 0 → run_from m i (first ∷ second ∷ s) ≡ run_from (turn_of m first second).machine (i + 1) s
 unfolding run_by
-run_more m i first second s h = simp (eq_eqb (turn_of m first second).refusal 0 h)
+run_more m i first second s h = simp (eq-eqb (turn_of m first second).refusal 0 h)
 
 run_tried : (depth : ℕ) (m : Machine) (s : List ℕ) (i : ℕ) → Few m → Tried depth m s → (run_from m i (entries_of s)).refusal ≡ 0
 unfolding run_by entries_of ran
@@ -95,7 +95,7 @@ refused_listed m depth buffer h = simp (ne_eqb (walk_refusal m depth (length buf
 
 ok_listed : (m : Machine) (depth : ℕ) (buffer : List ℕ) → walk_refusal m depth (length buffer) ≡ 0 → listed m depth buffer ≡ bytes_of (walk_of depth m) ++ drop (length (bytes_of (walk_of depth m))) buffer
 unfolding listed
-ok_listed m depth buffer h = simp (eq_eqb (walk_refusal m depth (length buffer)) 0 h)
+ok_listed m depth buffer h = simp (eq-eqb (walk_refusal m depth (length buffer)) 0 h)
 
 pub walk_told : WalkTold
 unfolding is_one
@@ -114,7 +114,7 @@ walk_told = record {
 -- ---- the number of sequences
 told_number : (number value : ℕ) → number ≡ 0 → told number value ≡ answer.Number value
 unfolding told
-told_number number value h = simp (eq_eqb number 0 h)
+told_number number value h = simp (eq-eqb number 0 h)
 
 told_refused : (number value : ℕ) → (number ≡ 0 → ⊥) → told number value ≡ answer.Refused number
 unfolding told
@@ -123,7 +123,7 @@ told_refused number value h = simp (ne_eqb number 0 h)
 -- a size that is not refused
 size_told : (m : Machine) (depth : ℕ) → size_refusal m depth ≡ 0 → size_of m depth ≡ sized.Sequences (length (walk_of depth m)) (length (bytes_of (walk_of depth m)))
 unfolding size_of
-size_told m depth h = simp (eq_eqb (size_refusal m depth) 0 h)
+size_told m depth h = simp (eq-eqb (size_refusal m depth) 0 h)
 
 size_untold : (m : Machine) (depth : ℕ) → (size_refusal m depth ≡ 0 → ⊥) → size_of m depth ≡ sized.Refused (size_refusal m depth)
 unfolding size_of
@@ -137,9 +137,9 @@ unfolding walk_refusal
 walk_is A m depth room fits short sizes = go (eqb (size_refusal m depth) 0) refl (ltb room (length (bytes_of (walk_of depth m)))) refl
   where
     go : (b : Bool) → eqb (size_refusal m depth) 0 ≡ b → (d : Bool) → ltb room (length (bytes_of (walk_of depth m))) ≡ d → A
-    go true e true q = short (eqb_true _ _ e) (ltb-true _ _ q) (rw (e, q))
-    go true e false q = fits (eqb_true _ _ e) (ltb-false _ _ q) (rw (e, q))
-    go false e d q = sizes (eqb_false _ _ e) (rw e)
+    go true e true q = short (eqb-true _ _ e) (ltb-true _ _ q) (rw (e, q))
+    go true e false q = fits (eqb-true _ _ e) (ltb-false _ _ q) (rw (e, q))
+    go false e d q = sizes (eqb-false _ _ e) (rw e)
 
 -- no size is refused by 22
 size_not_22 : (m : Machine) (depth : ℕ) → size_refusal m depth ≡ 22 → ⊥

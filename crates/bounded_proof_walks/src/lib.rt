@@ -1,1 +1,3 @@
 // The proofs of what is said of walks (bounded_demands). No code.
+#![tactic(auto)]
+

@@ -5,7 +5,7 @@ use mathlib.Core.List.{List, [], ◌∷◌, ◌++◌, append_assoc, append-nil}
 use Prim.Native.Nat.{ℕ, zero, suc, ◌+◌, ◌*◌, ◌%◌, ◌≤◌, ◌<◌}
 use native.Mathlib.Omega.{arith}
 use lib.Dec.{eqb}
-use lib.ListN.{length, length_append, get_or, drop, replicate}
+use lib.ListN.{length, length-append, get_or, drop, replicate}
 use Rattle.queue_entries.specs.Limits.{meter_most}
 use Rattle.queue_entries.specs.Schedules.{run_by, history_by}
 use Rattle.queue_entries.specs.declared.Order.TheVariants.{Begin, Act}
@@ -295,7 +295,7 @@ acts_few (first ∷ second ∷ rest) m =
     let next = (turn_at Sixteen m first second).machine in
     let es = events_of Sixteen m (entry_of first second) next in
     either (λ (h : List Event). length h ≤ length (first ∷ second ∷ rest)) (eqb (turn_at Sixteen m first second).refusal 0) (es ++ history_at Sixteen next rest) []
-    (λ e. omega (arith, acts_few rest next, one_act m (entry_of first second) next, length_append es (history_at Sixteen next rest))) (λ e. omega arith)
+    (λ e. omega (arith, acts_few rest next, one_act m (entry_of first second) next, length-append es (history_at Sixteen next rest))) (λ e. omega arith)
 
 awhile : Width → Fixed → ℕ
 awhile bits f = 25 * turn_length bits f
@@ -309,7 +309,7 @@ sleeps_on before after e w held =
     let h : List Event = acts_of (of_width Sixteen) 1 2 1 before in
     let whole : length sleeping_push ≡ length (before ++ after) = ap length e in
     subst (λ (f : Fixed). length (since w h) < 25 * turn_length Sixteen f) (sym (made_fixed before))
-    (omega (arith, since_few w [] h, acts_few before (fresh_of 1 2 1), whole, length_append before after, push_long))
+    (omega (arith, since_few w [] h, acts_few before (fresh_of 1 2 1), whole, length-append before after, push_long))
 
 pub allowed : Allowed 1 2 1
 allowed =

@@ -9,8 +9,8 @@ use native.Mathlib.Nat.{mod-eq_of_lt, add-mod_right}
 use native.Mathlib.Decide.{ℕ_discrete}
 use lib.Dec.{leb, eqb}
 use lib.ListN.{length, get_or, set, length-set, length-replicate, replicate}
-use lib.Seq.{set-get_or, get_or_set_other}
-use borrow.Author.Tests.{eq_eqb, leb-true, leb-false}
+use lib.Seq.{set-get_or, get_or-set_other}
+use borrow.Author.Tests.{eq-eqb, leb-true, leb-false}
 use Rattle.queue_entries.specs.Limits.{meter_most}
 use Rattle.queue_entries.specs.Schedules.{history_by}
 use Rattle.queue_entries.specs.declared.Call.TheVariants as call
@@ -178,7 +178,7 @@ module _ (bits : Width) (c mark n ed : ℕ) (g : Ground bits c mark n) where
       behind : lap_behind_one_past bits f (get_or slots i (slot 0 0)).stamp t ≡ true
       behind =
           let near : Near (n * c) (k + c) (k + c) = omega (arith, turn) in
-          ap (λ (z : Stamp). lap_behind_one_past bits f z t) held ∙ stamps.stamp_behind bits c mark n g ed true k (k + c) (sym (add-mod_right k c)) (λ e. near) ∙ eq_eqb (k + c) (k + c) refl
+          ap (λ (z : Stamp). lap_behind_one_past bits f z t) held ∙ stamps.stamp_behind bits c mark n g ed true k (k + c) (sym (add-mod_right k c)) (λ e. near) ∙ eq-eqb (k + c) (k + c) refl
 
       abbrev half : Ends
       half = record { head = W c mark n (k + 1); tail = W c mark n (k + c) }
@@ -260,7 +260,7 @@ module _ (bits : Width) (c mark n ed : ℕ) (g : Ground bits c mark n) where
         let one = forces_one w k small team ws seat its.0 meter (omega arith) (forces w ++ rest) in
         let next =
         goes_force w (k + 1) (set ws w (beginner (F8 (W c mark n (k + c)) 8))) (meter + 4) (omega arith) (omega arith) (omega (arith, length-set ws w (beginner (F8 (W c mark n (k + c)) 8))))
-        (λ v l. let it = idle v (omega arith) in (it.0, get_or_set_other ws w v _ idler (λ e. omega arith) ∙ it.1)) (omega arith) rest in
+        (λ v l. let it = idle v (omega arith) in (it.0, get_or-set_other ws w v _ idler (λ e. omega arith) ∙ it.1)) (omega arith) rest in
         record {
           last = next.last;
           done = one.done ++ next.done;

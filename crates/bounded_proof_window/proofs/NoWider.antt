@@ -9,7 +9,7 @@ use native.Mathlib.Omega.{arith}
 use native.Mathlib.Nat.{mod-eq_of_lt, div-eq_of_lt, add-mod_right, mul-le-mul_left}
 use lib.Arith.{digits_div, digits_mod}
 use lib.Dec.{eqb}
-use lib.ListN.{length, length_append, get_or, replicate}
+use lib.ListN.{length, length-append, get_or, replicate}
 use borrow.Author.Tests.{ne_eqb}
 use Rattle.queue_entries.specs.Limits.{workers_most, meter_most}
 use Rattle.queue_entries.specs.declared.Call.TheVariants as call
@@ -75,15 +75,15 @@ since_most w acts (e ∷ h) = go (gives_to w e) (λ l. since_most w l h)
         × ((tally (since_from w (cond b [] (acts ++ e ∷ [])) h)).head.0 ≤ (tally acts).head.0 + length (takers_of (e ∷ h)))
     go true rest =
         let q = rest [] in (
-          omega (arith, q.0, length_append (tail_by x e.worker) (tailers_of h)),
-          omega (arith, q.1, length_append (head_by x e.worker) (takers_of h)),
+          omega (arith, q.0, length-append (tail_by x e.worker) (tailers_of h)),
+          omega (arith, q.1, length-append (head_by x e.worker) (takers_of h)),
         )
     go false rest =
         let q = rest (acts ++ e ∷ []) in
         let m = tally_more acts e in
         let o = whose x e.worker in (
-          omega (arith, q.0, m.0, o.0, length_append (tail_by x e.worker) (tailers_of h)),
-          omega (arith, q.1, m.1, o.1, length_append (head_by x e.worker) (takers_of h)),
+          omega (arith, q.0, m.0, o.0, length-append (tail_by x e.worker) (tailers_of h)),
+          omega (arith, q.1, m.1, o.1, length-append (head_by x e.worker) (takers_of h)),
         )
 
 -- the acts of a beginning are a beginning of the acts
@@ -110,8 +110,8 @@ claims_both [] b = (omega arith, omega arith)
 claims_both (e ∷ a) b =
     let x = moved_of e.after in
     let q = claims_both a b in (
-      omega (arith, q.0, length_append (tail_by x e.worker) (tailers_of (a ++ b)), length_append (tail_by x e.worker) (tailers_of a)),
-      omega (arith, q.1, length_append (head_by x e.worker) (takers_of (a ++ b)), length_append (head_by x e.worker) (takers_of a)),
+      omega (arith, q.0, length-append (tail_by x e.worker) (tailers_of (a ++ b)), length-append (tail_by x e.worker) (tailers_of a)),
+      omega (arith, q.1, length-append (head_by x e.worker) (takers_of (a ++ b)), length-append (head_by x e.worker) (takers_of a)),
     )
 
 -- ---- after a turn the first word comes again

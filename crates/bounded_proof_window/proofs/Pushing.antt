@@ -7,8 +7,8 @@ use Prim.Native.Nat.{ℕ, ◌+◌, ◌*◌, ◌%◌, ◌≤◌, ◌<◌}
 use native.Mathlib.Omega.{arith}
 use native.Mathlib.Nat.{mod-lt}
 use lib.ListN.{length, get_or, set, length-set}
-use lib.Seq.{get_or-set_same, get_or_set_other}
-use borrow.Author.Tests.{eq_eqb}
+use lib.Seq.{get_or-set_same, get_or-set_other}
+use borrow.Author.Tests.{eq-eqb}
 use Rattle.queue_entries.specs.Limits.{meter_most}
 use Rattle.queue_entries.specs.declared.Call.TheVariants as call
 use Rattle.queue_entries.specs.declared.Order.TheVariants.{Begin}
@@ -49,7 +49,7 @@ own_both (e ∷ l) h o p = (o.0, own_both l h o.1 p)
 
 pub same_self : (a b : Stamp) → a ≡ b → same a b ≡ true
 unfolding same
-same_self a b e = eq_eqb a.0 b.0 (ap (λ (z : Stamp). z.0) e)
+same_self a b e = eq-eqb a.0 b.0 (ap (λ (z : Stamp). z.0) e)
 
 push_entry : entry_of 0 7 ≡ Asks 0 (Begin (call.Push 7))
 unfolding stray_of order_of entry_of
@@ -102,7 +102,7 @@ module _ (bits : Width) (c mark n ed : ℕ) (g : Ground bits c mark n) (others :
         ap (λ (z : Slot). z.stamp) (get_or-set_same filled i (stamp_to (get_or filled i (slot 0 0)) (plus bits t 1)) (slot 0 0) in_list)
 
     pub full_else : (j : ℕ) → j ≢ i → get_or full j (slot 0 0) ≡ get_or slots j (slot 0 0)
-    full_else j ne = get_or_set_other filled i j _ (slot 0 0) ne ∙ get_or_set_other slots i j _ (slot 0 0) ne
+    full_else j ne = get_or-set_other filled i j _ (slot 0 0) ne ∙ get_or-set_other slots i j _ (slot 0 0) ne
 
     marked : marked_of f t ≡ false
     marked = stamps.marked_tail bits c mark n g ed k false

@@ -8,7 +8,7 @@ use native.Mathlib.Omega.{arith}
 use native.Mathlib.Nat.{add-mod_right}
 use native.Mathlib.Decide.{ℕ_discrete}
 use lib.ListN.{length, get_or, set, length-set}
-use lib.Seq.{get_or-set_same, get_or_set_other}
+use lib.Seq.{get_or-set_same, get_or-set_other}
 use Rattle.queue_entries.specs.Limits.{meter_most}
 use Rattle.queue_entries.specs.declared.Call.TheVariants as call
 use Rattle.queue_entries.specs.declared.Order.TheVariants.{Begin}
@@ -170,7 +170,7 @@ module _ (bits : Width) (c mark n ed : ℕ) (g : Ground bits c mark n) (others :
             ∙ ap (W c mark n) (sym e)
         go j low high (no ne) =
             let else-where : j % c ≢ i = λ e. ne (absurd (omega (arith, near_one c k j g.laws.some (omega arith) (omega arith) (e ∙ at_slot)))) in
-            ap (λ (z : Slot). z.stamp) (get_or_set_other full i (j % c) _ (slot 0 0) else-where)
+            ap (λ (z : Slot). z.stamp) (get_or-set_other full i (j % c) _ (slot 0 0) else-where)
             ∙ ap (λ (z : Slot). z.stamp) (pushing.full_else bits c mark n ed g others count some t k slots o.long here (j % c) else-where)
             ∙ o.stamps j (omega arith) (omega arith)
 

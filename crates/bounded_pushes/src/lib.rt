@@ -1,4 +1,6 @@
 // The rows of push, of which force_push takes the first three. The definitions: crate bounded_acts.
+#![tactic(auto)]
+
 ghost use Rattle.std.specs.Prelude.{◌≡◌};
 ghost use Rattle.bounded_words.specs.Words.{Fair, next_of};
 ghost use Rattle.bounded_acts.specs.Acts.{after_tail, tail_to, full_at, act_p1, act_p2, act_p3, act_p5, act_p6};

@@ -5,7 +5,7 @@ use mathlib.Core.Bool.{Bool, true, false, cond, true≢false}
 use mathlib.Core.List.{List, [], ◌∷◌}
 use native.Mathlib.Omega.{arith}
 use lib.ListN.{length, get_or, set, length-set}
-use lib.Seq.{get_or-set_same, get_or_set_other}
+use lib.Seq.{get_or-set_same, get_or-set_other}
 use Rattle.bounded_places.specs.declared.Ends.{Ends}
 use Rattle.bounded_places.specs.declared.Slot.{Slot}
 use Rattle.bounded_places.specs.declared.Place.{Place}
@@ -197,16 +197,16 @@ module _ (h : List ℕ) (e : Ends) (m : ℕ) where
   kept : (i : ℕ) → i < 4 → get_or (with_head h e m) i 0 ≡ get_or h i 0
   unfolding with_head
   kept i l =
-      get_or_set_other (set (set h 4 e.head.0) 5 e.tail.0) 6 i m 0 (λ z. omega (arith, l, z))
-      ∙ get_or_set_other (set h 4 e.head.0) 5 i e.tail.0 0 (λ z. omega (arith, l, z))
-      ∙ get_or_set_other h 4 i e.head.0 0 (λ z. omega (arith, l, z))
+      get_or-set_other (set (set h 4 e.head.0) 5 e.tail.0) 6 i m 0 (λ z. omega (arith, l, z))
+      ∙ get_or-set_other (set h 4 e.head.0) 5 i e.tail.0 0 (λ z. omega (arith, l, z))
+      ∙ get_or-set_other h 4 i e.head.0 0 (λ z. omega (arith, l, z))
 
   pub same_layout : get_or (with_head h e m) 7 0 ≡ get_or h 7 0
   unfolding with_head
   same_layout =
-      get_or_set_other (set (set h 4 e.head.0) 5 e.tail.0) 6 7 m 0 (λ z. omega (arith, z))
-      ∙ get_or_set_other (set h 4 e.head.0) 5 7 e.tail.0 0 (λ z. omega (arith, z))
-      ∙ get_or_set_other h 4 7 e.head.0 0 (λ z. omega (arith, z))
+      get_or-set_other (set (set h 4 e.head.0) 5 e.tail.0) 6 7 m 0 (λ z. omega (arith, z))
+      ∙ get_or-set_other (set h 4 e.head.0) 5 7 e.tail.0 0 (λ z. omega (arith, z))
+      ∙ get_or-set_other h 4 7 e.head.0 0 (λ z. omega (arith, z))
 
   pub long_head : length (with_head h e m) ≡ length h
   unfolding with_head
@@ -226,14 +226,14 @@ module _ (h : List ℕ) (e : Ends) (m : ℕ) where
     new_head : get_or (with_head h e m) 4 0 ≡ e.head.0
     unfolding with_head
     new_head =
-        get_or_set_other (set (set h 4 e.head.0) 5 e.tail.0) 6 4 m 0 (λ z. omega (arith, z))
-        ∙ get_or_set_other (set h 4 e.head.0) 5 4 e.tail.0 0 (λ z. omega (arith, z))
+        get_or-set_other (set (set h 4 e.head.0) 5 e.tail.0) 6 4 m 0 (λ z. omega (arith, z))
+        ∙ get_or-set_other (set h 4 e.head.0) 5 4 e.tail.0 0 (λ z. omega (arith, z))
         ∙ get_or-set_same h 4 e.head.0 0 (omega (arith, n))
 
     new_tail : get_or (with_head h e m) 5 0 ≡ e.tail.0
     unfolding with_head
     new_tail =
-        get_or_set_other (set (set h 4 e.head.0) 5 e.tail.0) 6 5 m 0 (λ z. omega (arith, z))
+        get_or-set_other (set (set h 4 e.head.0) 5 e.tail.0) 6 5 m 0 (λ z. omega (arith, z))
         ∙ get_or-set_same (set h 4 e.head.0) 5 e.tail.0 0 (omega (arith, long₄))
 
     pub new_meter : get_or (with_head h e m) 6 0 ≡ m

@@ -7,7 +7,7 @@ use mathlib.Core.List.{List}
 use native.Mathlib.Omega.{arith}
 use lib.Dec.{eqb}
 use lib.ListN.{length, get_or}
-use borrow.Author.Tests.{eq_eqb, eqb_true}
+use borrow.Author.Tests.{eq-eqb, eqb-true}
 use Rattle.queue_entries.proofs.Pick.{both_left, both_right}
 use Rattle.bounded_words.specs.Limits.{slots_most}
 use Rattle.bounded_places.specs.declared.Ends.{Ends}
@@ -33,9 +33,9 @@ module _ (w : Words) where
   unfolding shaped
   shaped_all t =
       let rest = both_right (eqb (length w.head) 8) _ t in (
-        eqb_true (length w.head) 8 (both_left (eqb (length w.head) 8) _ t),
-        eqb_true (length w.slots) (slots_most * 2) (both_left (eqb (length w.slots) (slots_most * 2)) _ rest),
-        eqb_true (length w.records % 5) 0 (both_right (eqb (length w.slots) (slots_most * 2)) _ rest),
+        eqb-true (length w.head) 8 (both_left (eqb (length w.head) 8) _ t),
+        eqb-true (length w.slots) (slots_most * 2) (both_left (eqb (length w.slots) (slots_most * 2)) _ rest),
+        eqb-true (length w.records % 5) 0 (both_right (eqb (length w.slots) (slots_most * 2)) _ rest),
       )
 
   pub standing : stand w ≡ true → Standing w
@@ -47,7 +47,7 @@ module _ (w : Words) where
         eight = shape.0;
         all_slots = shape.1;
         fives = shape.2;
-        laid = eqb_true (get_or w.head 7 0) layout (both_left (eqb (get_or w.head 7 0) layout) _ rest);
+        laid = eqb-true (get_or w.head 7 0) layout (both_left (eqb (get_or w.head 7 0) layout) _ rest);
         places = both_right (eqb (get_or w.head 7 0) layout) _ rest;
       }
 
@@ -55,10 +55,10 @@ module _ (w : Words) where
   unfolding stand shaped
   stands s =
       rw (
-        eq_eqb (length w.head) 8 s.eight,
-        eq_eqb (length w.slots) (slots_most * 2) s.all_slots,
-        eq_eqb (length w.records % 5) 0 s.fives,
-        eq_eqb (get_or w.head 7 0) layout s.laid,
+        eq-eqb (length w.head) 8 s.eight,
+        eq-eqb (length w.slots) (slots_most * 2) s.all_slots,
+        eq-eqb (length w.records % 5) 0 s.fives,
+        eq-eqb (get_or w.head 7 0) layout s.laid,
       ) s.places
 
   -- read, and written back

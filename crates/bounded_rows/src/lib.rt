@@ -1,4 +1,6 @@
 // A ring and its records as words in the host's memory: eight words, two for each slot, five for each record.
+#![tactic(auto)]
+
 ghost use Rattle.std.specs.Prelude.{◌≡◌, true, false, ◌+◌, ◌*◌, ◌<◌, length};
 ghost use Rattle.bounded_places.specs.Places.{begin_of};
 ghost use Rattle.bounded_codes.specs.Codes.{place_in};

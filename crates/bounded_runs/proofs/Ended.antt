@@ -4,7 +4,7 @@ use mathlib.Core.Path.{◌≡◌, refl, sym, ap, ◌∙◌}
 use mathlib.Core.Bool.{Bool, true, false}
 use mathlib.Core.List.{List}
 use lib.ListN.{length}
-use borrow.Author.Tests.{eq_eqb, ne_eqb}
+use borrow.Author.Tests.{eq-eqb, ne_eqb}
 use Rattle.queue_entries.specs.declared.Entry.{Entry}
 use Rattle.queue_entries.specs.declared.Entry.TheVariants.{Unreadable}
 use Rattle.queue_entries.specs.declared.Finding.{Finding}
@@ -32,7 +32,7 @@ module _ (bits : Width) (m : Machine) (s : List ℕ) (b : Bool) (e : b ≡ broke
   module _ (h : b ≡ false) where
     pub odd_run : length s % 2 ≡ 1 → ran 11 0 m ≡ run_of_by (act_of bits) m s
     unfolding schedule_by
-    odd_run k = no _ b _ _ _ e h (sym (simp (eq_eqb _ _ k)))
+    odd_run k = no _ b _ _ _ e h (sym (simp (eq-eqb _ _ k)))
 
     module _ (k : length s % 2 ≡ 1 → ⊥) (f : Finding) (g : f ≡ search_by entry_of 0 s) where
       unread_run : (i : ℕ) → f ≡ UnreadableAt i → ran 9 i m ≡ run_of_by (act_of bits) m s

@@ -1,4 +1,6 @@
 // A schedule, entry by entry, on any machine: the one loop that all entries go through.
+#![tactic(auto)]
+
 ghost use Rattle.std.specs.Prelude.{◌≡◌, ◌%◌, false, length};
 ghost use Rattle.queue_entries.specs.Entries.{entry_of};
 ghost use Rattle.queue_entries.specs.Schedules.{search_by};

@@ -1,5 +1,7 @@
 // The walk of item 10 over the ring: state walker and worker chooser. The slots are lent as two rows of numbers, so that no act copies
 // them: it changes one, and sets it back on the way out. The last act of a sequence is not done, since nothing is asked of what it leaves.
+#![tactic(auto)]
+
 ghost use Rattle.std.specs.Prelude.{◌≡◌, true, false, ◌+◌, ◌<◌, ◌≤◌, length, set, take};
 ghost use Rattle.std.proofs.lemmas.List.Edits.{sets};
 ghost use Rattle.queue_walks.specs.Walks.{walkers_most, depth_most, act_byte, after};
@@ -18,7 +20,7 @@ use queue_walks::Walked;
 pub const RECORDS: usize = 3;
 
 // A machine but for its slots and the records past these, of which none is ever busy.
-#[derive(Drop)]
+#[derive(Clone, Copy)]
 pub struct State {
     pub fixed: Fixed,
     pub ends: Ends,
@@ -28,7 +30,7 @@ pub struct State {
 }
 
 // What an act leaves.
-#[derive(Drop)]
+#[derive(Clone, Copy)]
 pub struct After {
     pub state: State,
     pub stamp: u64,

@@ -6,6 +6,8 @@
 //     c W K I N   worker W begins the call of code K with the item I, and does N acts; with code 8 it begins none
 //     d W K I N   the same, told in its first line alone
 //     H C W       a making
+#![tactic(auto)]
+
 use bounded_machine::Tally;
 use bounded_places::Place;
 use bounded_text_faces::STEP;
@@ -14,7 +16,7 @@ use bounded_words::Claim;
 use text_cases::nth;
 
 // A machine under way, with what is counted from its history and the acts of the last call.
-#[derive(Drop)]
+#[derive(Clone, Copy)]
 struct Scene {
     words: [u64; WORDS],
     tally: Tally,

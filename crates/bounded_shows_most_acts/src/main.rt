@@ -1,5 +1,7 @@
 // Demand 3's numbers on the compiled code: schedules that leave worker 0 where its call, alone, needs exactly so many acts.
 // The numbers of `stdout` are document 01's.
+#![tactic(auto)]
+
 use bounded_text_faces::{Left, STEP};
 use bounded_text_words::WORDS;
 

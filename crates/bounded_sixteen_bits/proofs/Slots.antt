@@ -5,7 +5,7 @@ use mathlib.Core.List.{List, map}
 use native.Mathlib.Omega.{arith}
 use native.Mathlib.Decide.{ℕ_discrete}
 use lib.ListN.{length, get_or, set, replicate, length-set, length-map, get_or-map}
-use lib.Seq.{get_or-set_same, get_or_set_other, ext_get_or}
+use lib.Seq.{get_or-set_same, get_or-set_other, ext_get_or}
 use Rattle.bounded_words.specs.Limits.{slots_most, narrow}
 use Rattle.bounded_words.specs.Words.{stamp}
 use Rattle.bounded_places.specs.declared.Slot as places
@@ -34,7 +34,7 @@ module _ {A B : Type 0} (f : A → B) (d : A) (l : List A) where
     where
       each : (k : ℕ) → k < i + 1 → Dec (k ≡ i) → get_or (set r i x) k (f d) ≡ f (get_or l k d)
       each k z (yes q) = let in_List : i < length r = omega (arith, o.long) in rw q (get_or-set_same r i x (f d) in_List ∙ e)
-      each k z (no ne) = get_or_set_other r i k x (f d) ne ∙ o.done k (omega arith)
+      each k z (no ne) = get_or-set_other r i k x (f d) ne ∙ o.done k (omega arith)
 
   pub all_done : (r : List B) (i : ℕ) → Done f d l r i → slots_most ≤ i → length l ≡ slots_most → r ≡ map f l
   all_done r i o big long =

@@ -1,20 +1,22 @@
 // The machine of sixteen bits: head, tail and every stamp are sixteen-bit numbers, by its type. Widened to the one machine, and narrowed again.
+#![tactic(auto)]
+
 ghost use Rattle.std.specs.Prelude.{◌≡◌, map};
 ghost use Rattle.bounded_sixteen_bits.specs.SixteenBits.{wide_slot, narrow_slot, widened, narrowed, narrowed_did, narrowed_ran, ShortSlots, Short};
 
 use bounded_places::Worker;
 
 // A word of head, of tail or of a slot.
-#[derive(Drop)]
+#[derive(Clone, Copy)]
 pub struct Stamp(pub u16);
 
-#[derive(Drop)]
+#[derive(Clone, Copy)]
 pub struct Slot {
     pub stamp: Stamp,
     pub value: u64,
 }
 
-#[derive(Drop)]
+#[derive(Clone, Copy)]
 pub struct Ring {
     pub head: Stamp,
     pub tail: Stamp,
@@ -26,7 +28,7 @@ pub struct Ring {
 }
 
 // The words that workers hold are those of the one machine: a record handed in with a larger one follows the tables.
-#[derive(Drop)]
+#[derive(Clone, Copy)]
 pub struct Machine {
     pub ring: Ring,
     pub workers: [Worker; queue_entries::WORKERS],
@@ -34,13 +36,13 @@ pub struct Machine {
     pub meter: u64,
 }
 
-#[derive(Drop)]
+#[derive(Clone, Copy)]
 pub struct Did {
     pub refusal: u64,
     pub machine: Machine,
 }
 
-#[derive(Drop)]
+#[derive(Clone, Copy)]
 pub struct Ran {
     pub refusal: u64,
     pub place: u64,

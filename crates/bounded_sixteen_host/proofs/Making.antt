@@ -8,7 +8,7 @@ use lib.Dec.{eqb}
 use lib.ListN.{length, get_or, set, drop, replicate, length-set, drop_of_length-le}
 use lib.Seq.{drop-cons, set_at}
 use native.Mathlib.Numerals.{add-one}
-use borrow.Author.Tests.{eq_eqb, ne_eqb}
+use borrow.Author.Tests.{eq-eqb, ne_eqb}
 use Rattle.queue_entries.specs.Limits.{in_limits}
 use Rattle.queue_entries.proofs.Limits.{limit_most}
 use Rattle.bounded_words.specs.Limits.{slots_most, editions_most}
@@ -161,4 +161,4 @@ module _ (h : List ℕ) (m : ℕ) (ss vs rs : List ℕ) (c ed : ℕ) (s : Bool) 
       make_done h' ss' vs' rs' eh e₁ e₂ e₃ =
           let shape = shaped_all c (shorts h m ss vs rs) (sym es ∙ hs) in
           (λ i. after 0 (shorts (eh i) 0 ((e₁ ∙ ap (λ (n : ℕ). numbers n 0) shape.1) i) ((e₂ ∙ ap (λ (n : ℕ). replicate {A = ℕ} n 0) shape.2) i) (e₃ i)))
-          ∙ sym (rw (sym es ∙ hs, eq_eqb (make_refusal_with records_most c (length rs / 5) ed) 0 (sym ek ∙ z)) refl)
+          ∙ sym (rw (sym es ∙ hs, eq-eqb (make_refusal_with records_most c (length rs / 5) ed) 0 (sym ek ∙ z)) refl)

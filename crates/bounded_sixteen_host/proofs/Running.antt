@@ -6,7 +6,7 @@ use mathlib.Core.List.{List, [], ◌∷◌}
 use native.Mathlib.Omega.{arith}
 use lib.Dec.{eqb}
 use lib.ListN.{length, get_or, drop, drop_of_length-le}
-use borrow.Author.Tests.{eqb_true, eqb_false, ne_eqb, eq_eqb}
+use borrow.Author.Tests.{eqb-true, eqb-false, ne_eqb, eq-eqb}
 use Rattle.queue_entries.specs.Entries.{entry_of}
 use Rattle.queue_entries.specs.Schedules.{run_by, schedule_by}
 use Rattle.queue_entries.proofs.Searching.{two_words}
@@ -121,10 +121,10 @@ module _ (h₀ : List ℕ) (m₀ : ℕ) (ss₀ vs₀ rs₀ s : List ℕ) (whole 
 
       go : (b : Bool) → eqb whole.refusal 0 ≡ b → Course 0 w₀
       go false h =
-          let ne = eqb_false whole.refusal 0 h in
+          let ne = eqb-false whole.refusal 0 h in
           stopped (is-n ∙ sym (is_refused whole.refusal whole.place ne)) (judged_stops (λ (x : After). x.answer) (λ (x : After). x.words) turned ended broken_shorts w₀ s whole asked ne)
       go true h =
-          let z = eqb_true whole.refusal 0 h in
+          let z = eqb-true whole.refusal 0 h in
           let g = judged_goes (λ (x : After). x.answer) (λ (x : After). x.words) turned ended broken_shorts w₀ s whole asked z in
           let p : whole.place ≡ n = not_refused whole.refusal whole.place z ∙ sym is-n in
           running (record { to_end = λ i. report (z i) (p i); long = g.long ∙ ap (λ (k : ℕ). 2 * k) p; rest = g.rest })
@@ -200,7 +200,7 @@ module _ (h₀ : List ℕ) (m₀ : ℕ) (ss₀ vs₀ rs₀ s : List ℕ) (whole 
             (lh : length h' ≡ length h) (ls : length ss' ≡ length ss) (lv : length vs' ≡ length vs) (lr : length rs' ≡ length rs) where
           pub goes_on : r ≡ 0 → Going h' m' ss' vs' rs' (i + 1)
           goes_on z =
-              let is_zero : eqb x.answer 0 ≡ true = eq_eqb x.answer 0 (sym answer_is ∙ z) in
+              let is_zero : eqb x.answer 0 ≡ true = eq-eqb x.answer 0 (sym answer_is ∙ z) in
               record {
                 low = omega (arith, less);
                 room = g.room;

@@ -1,5 +1,7 @@
 // The face of sixteen bits that a small controller links (hosts/): head, tail and stamps are sixteen-bit numbers in its memory, and the slices are as long as the capacity asks.
 // `specs/SixteenHost.antt` says what each function answers; a refused call changes no word.
+#![tactic(auto)]
+
 ghost use Rattle.std.specs.Prelude.{◌≡◌, true, false, ◌≤◌, ◌<◌, length};
 ghost use Rattle.bounded_words.specs.Limits.{slots_most, editions_most};
 ghost use Rattle.bounded_machine.specs.Machine.{ring_of_parts};
@@ -15,7 +17,7 @@ use queue_entries::Told;
 
 // The number of a refusal, 0 where there is none; and what the call is asked for: an entry's place, a count, a capacity.
 #[repr(C)]
-#[derive(Drop)]
+#[derive(Clone, Copy)]
 pub struct Reply {
     pub refusal: u64,
     pub number: u64,

@@ -5,7 +5,7 @@ use mathlib.Core.Bool.{Bool, true, false, cond, not, true≢false}
 use mathlib.Core.List.{List}
 use lib.Dec.{eqb}
 use lib.ListN.{length, get_or}
-use borrow.Author.Tests.{eq_eqb, ne_eqb}
+use borrow.Author.Tests.{eq-eqb, ne_eqb}
 use Rattle.queue_entries.proofs.Pick.{equal, other}
 use Rattle.bounded_words.specs.declared.Fixed.{Fixed}
 use Rattle.bounded_words.specs.Words.{Fair}
@@ -74,7 +74,7 @@ module _ (h : List ℕ) (m : ℕ) (ss vs rs : List ℕ) where
 
         standing_is : stand w ≡ placed rs
         unfolding stand
-        standing_is = rw (sym at_capacity ∙ hs, eq_eqb (get_or h 6 0) layout laid) refl
+        standing_is = rw (sym at_capacity ∙ hs, eq-eqb (get_or h 6 0) layout laid) refl
 
         pub fair_so : b ≡ true → Fair f
         fair_so t = ring_fair f e (length rs / 5) (sym eb ∙ t)

@@ -6,8 +6,8 @@ use mathlib.Core.List.{List, [], ◌∷◌}
 use native.Mathlib.Omega.{arith}
 use lib.Dec.{eqb}
 use lib.ListN.{length, get_or, set, length-set}
-use lib.Seq.{get_or-set_same, get_or_set_other}
-use borrow.Author.Tests.{eq_eqb, eqb_true}
+use lib.Seq.{get_or-set_same, get_or-set_other}
+use borrow.Author.Tests.{eq-eqb, eqb-true}
 use Rattle.queue_entries.proofs.Pick.{both_left, both_right}
 use Rattle.bounded_words.specs.declared.Fixed.{Fixed}
 use Rattle.bounded_words.specs.Words.{stamp}
@@ -82,7 +82,7 @@ whole_head (a ∷ b ∷ c ∷ d ∷ x ∷ y ∷ l ∷ more ∷ rest) m ss vs rs 
 module _ (h : List ℕ) (e : Ends) where
   kept : (i : ℕ) → (i ≡ 4 → ⊥) → (i ≡ 5 → ⊥) → get_or (with_ends h e) i 0 ≡ get_or h i 0
   unfolding with_ends
-  kept i a b = get_or_set_other (set h 4 e.head.0) 5 i e.tail.0 0 b ∙ get_or_set_other h 4 i e.head.0 0 a
+  kept i a b = get_or-set_other (set h 4 e.head.0) 5 i e.tail.0 0 b ∙ get_or-set_other h 4 i e.head.0 0 a
 
   long_head : length (with_ends h e) ≡ length h
   unfolding with_ends
@@ -100,7 +100,7 @@ module _ (h : List ℕ) (e : Ends) where
   module _ (n : length h ≡ 7) where
     new_head : get_or (with_ends h e) 4 0 ≡ e.head.0
     unfolding with_ends
-    new_head = get_or_set_other (set h 4 e.head.0) 5 4 e.tail.0 0 (λ z. omega (arith, z)) ∙ get_or-set_same h 4 e.head.0 0 (omega (arith, n))
+    new_head = get_or-set_other (set h 4 e.head.0) 5 4 e.tail.0 0 (λ z. omega (arith, z)) ∙ get_or-set_same h 4 e.head.0 0 (omega (arith, n))
 
     new_tail : get_or (with_ends h e) 5 0 ≡ e.tail.0
     unfolding with_ends
@@ -124,10 +124,10 @@ unfolding shaped_for
 shaped_all c w t =
     let rest = both_right (eqb (length w.head) 7) _ t in
     let last = both_right (eqb (length w.stamps) c) _ rest in (
-      eqb_true (length w.head) 7 (both_left (eqb (length w.head) 7) _ t),
-      eqb_true (length w.stamps) c (both_left (eqb (length w.stamps) c) _ rest),
-      eqb_true (length w.values) c (both_left (eqb (length w.values) c) _ last),
-      eqb_true (length w.records % 5) 0 (both_right (eqb (length w.values) c) _ last),
+      eqb-true (length w.head) 7 (both_left (eqb (length w.head) 7) _ t),
+      eqb-true (length w.stamps) c (both_left (eqb (length w.stamps) c) _ rest),
+      eqb-true (length w.values) c (both_left (eqb (length w.values) c) _ last),
+      eqb-true (length w.records % 5) 0 (both_right (eqb (length w.values) c) _ last),
     )
 
 module _ (w : Shorts) where
@@ -141,7 +141,7 @@ module _ (w : Shorts) where
         all_stamps = shape.1;
         all_values = shape.2;
         fives = shape.3;
-        laid = eqb_true (get_or w.head 6 0) layout (both_left (eqb (get_or w.head 6 0) layout) _ rest);
+        laid = eqb-true (get_or w.head 6 0) layout (both_left (eqb (get_or w.head 6 0) layout) _ rest);
         places = both_right (eqb (get_or w.head 6 0) layout) _ rest;
       }
 
@@ -149,11 +149,11 @@ module _ (w : Shorts) where
   unfolding stand shaped_for
   stands s =
       rw (
-        eq_eqb (length w.head) 7 s.seven,
-        eq_eqb (length w.stamps) (get_or w.head 2 0) s.all_stamps,
-        eq_eqb (length w.values) (get_or w.head 2 0) s.all_values,
-        eq_eqb (length w.records % 5) 0 s.fives,
-        eq_eqb (get_or w.head 6 0) layout s.laid,
+        eq-eqb (length w.head) 7 s.seven,
+        eq-eqb (length w.stamps) (get_or w.head 2 0) s.all_stamps,
+        eq-eqb (length w.values) (get_or w.head 2 0) s.all_values,
+        eq-eqb (length w.records % 5) 0 s.fives,
+        eq-eqb (get_or w.head 6 0) layout s.laid,
       ) s.places
 
   -- read, and written back

@@ -1,5 +1,7 @@
 // A ring of sixteen bits and its records as words in the host's memory, each as wide as it need be and the slices as long as the capacity asks: the ends, one slot and one entry
 // among them, and whether they are broken. The records are the host's of 64 bits (crates bounded_rows, bounded_slices).
+#![tactic(auto)]
+
 ghost use Rattle.std.specs.Prelude.{◌≡◌, true, false, ◌<◌, length, get_or, set};
 ghost use Rattle.bounded_words.specs.Limits.{narrow};
 ghost use Rattle.bounded_machine.specs.Machine.{slot};

@@ -6,7 +6,7 @@ use mathlib.Core.List.{List, [], ◌∷◌}
 use native.Mathlib.Omega.{arith}
 use lib.Dec.{ltb, eqb}
 use lib.ListN.{length, get_or}
-use borrow.Author.Tests.{eq_eqb, ne_eqb, lt-ltb, le-ltb, ltb-true}
+use borrow.Author.Tests.{eq-eqb, ne_eqb, lt-ltb, le-ltb, ltb-true}
 use Rattle.queue_entries.specs.Limits.{all}
 use Rattle.queue_entries.proofs.Limits.{all_more, all_failed, all_passed}
 use Rattle.queue_entries.proofs.Pick.{equal, other}
@@ -224,7 +224,7 @@ module _ (h ss rs : List ℕ) (s : Bool) (es : s ≡ shaped (words h ss rs)) whe
 
       stands : stand (words h ss rs) ≡ placed rs
       unfolding stand
-      stands = rw (sym es ∙ hs, eq_eqb (get_or h 7 0) layout laid) refl
+      stands = rw (sym es ∙ hs, eq-eqb (get_or h 7 0) layout laid) refl
 
       pub fair_so : b ≡ true → Fair f
       fair_so t = ring_fair f e (length rs / 5) (sym eb ∙ t)

@@ -6,7 +6,7 @@ use native.Mathlib.Omega.{arith}
 use native.Mathlib.Decide.{dec_lt}
 use native.Mathlib.Nat.{zero-mod}
 use lib.Dec.{ltb, leb, eqb}
-use borrow.Author.Tests.{eq_eqb, ne_eqb, lt-ltb, le-ltb, le-leb, lt-leb, ltb-true, leb-true, eqb_true}
+use borrow.Author.Tests.{eq-eqb, ne_eqb, lt-ltb, le-ltb, le-leb, lt-leb, ltb-true, leb-true, eqb-true}
 use Rattle.queue_entries.proofs.Pick.{both_left, both_right}
 use Rattle.bounded_words.specs.declared.Fixed.{Fixed}
 use Rattle.bounded_words.specs.Words.{Fair, stamp, marked_of}
@@ -146,7 +146,7 @@ module _ (f : Fixed) (c a b : ℕ) (range : within c 15 33 ≡ true) where
       module _ (hq : q ≡ true) where
         second_none : c < 22 → b ≡ 0
         unfolding may_be
-        second_none l = eqb_true b 0 (sym (ap (may_be b) (lt-leb 22 c l)) ∙ sym eq ∙ hq)
+        second_none l = eqb-true b 0 (sym (ap (may_be b) (lt-leb 22 c l)) ∙ sym eq ∙ hq)
 
         stands : stands_for c a b ≡ true
         unfolding may_be
@@ -248,7 +248,7 @@ module _ (c a b : ℕ) (range : within c 15 33 ≡ false) where
   by_code z t et m em h = go (dec_lt c 39)
     where
       go : Dec (c < 39) → ltb c 39 ≡ stands_for c a b
-      go (yes l) = lt-ltb c 39 l ∙ sym (eq_eqb b 0 z) ∙ by_zero l t et m em h
+      go (yes l) = lt-ltb c 39 l ∙ sym (eq-eqb b 0 z) ∙ by_zero l t et m em h
       go (no l) = le-ltb c 39 (omega arith) ∙ no_place c a b (omega arith)
 
   module _ (f : Fixed) where

@@ -1,4 +1,6 @@
 // The three slices that a host lends, each as a whole: how long they are, whether they stand for a ring and records that are not broken, and a ring stored there.
+#![tactic(auto)]
+
 ghost use Rattle.std.specs.Prelude.{◌≡◌, true, false, cond, ◌+◌, ◌*◌, ◌%◌, ◌<◌, ltb, length, replicate};
 ghost use Rattle.bounded_words.specs.Limits.{slots_most};
 ghost use Rattle.bounded_words.specs.Words.{Fair};

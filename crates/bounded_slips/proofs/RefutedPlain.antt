@@ -6,7 +6,7 @@ use mathlib.Core.List.{List, [], ◌∷◌, ◌++◌, append_assoc}
 use mathlib.Core.Path.{◌≡◌, refl, sym, ap, ◌∙◌}
 use lib.Dec.{eqb, ltb}
 use lib.ListN.{length, get_or}
-use borrow.Author.Tests.{eq_eqb, lt-ltb}
+use borrow.Author.Tests.{eq-eqb, lt-ltb}
 use Rattle.queue_entries.specs.Schedules.{run_by, history_by}
 use Rattle.queue_entries.specs.Entries.{stray_of, order_of, entry_of}
 use Rattle.queue_entries.specs.Limits.{all}
@@ -71,7 +71,7 @@ replies_are (a ∷ k) (b ∷ l) = cond (eqb (kind_of a) (kind_of b)) (cond (eqb 
 replies_same : (k : List Reply) → replies_are k k ≡ true
 unfolding replies_are
 replies_same [] = refl
-replies_same (a ∷ k) = rw (eq_eqb (kind_of a) (kind_of a) refl, eq_eqb (number_in a) (number_in a) refl) (replies_same k)
+replies_same (a ∷ k) = rw (eq-eqb (kind_of a) (kind_of a) refl, eq-eqb (number_in a) (number_in a) refl) (replies_same k)
 
 -- the reply of the plain queue at the moment named, if it is inside the call, to the call that the worker is in
 unfoldable asked : Queue → List Call → List Reply
@@ -129,7 +129,7 @@ module _ (capacity edition : ℕ) (whole : Story)
           let idle = idle_is e.after h in
           let o = answers past later e idle.0 is idle.1 in
           let which : answer_at e ≡ idle.0 = ap (λ (p : Place). answer_in (look 1 p)) idle.1 in
-          rw (which, said_is capacity edition past e idle.0 o.0, replies_same (reply_of idle.0)) (eq_eqb _ _ (ap length o.1.put))
+          rw (which, said_is capacity edition past e idle.0 o.0, replies_same (reply_of idle.0)) (eq-eqb _ _ (ap length o.1.put))
 
   checked : (s past : Story) → whole ≡ past ++ s → checked_from capacity edition past s ≡ true
   unfolding checked_from

@@ -7,7 +7,7 @@ use mathlib.Core.List.{List, [], ◌∷◌, ◌++◌}
 use mathlib.Core.Path.{◌≡◌, refl, sym, ap, subst, ◌∙◌}
 use mathlib.Core.Logic.{◌≢◌}
 use lib.Dec.{eqb}
-use borrow.Author.Tests.{eq_eqb, ne_eqb}
+use borrow.Author.Tests.{eq-eqb, ne_eqb}
 use lib.ListN.{length, get_or, replicate}
 use Rattle.queue_entries.specs.declared.Order.TheVariants.{Act}
 use Rattle.queue_entries.specs.declared.Entry.TheVariants.{Asks}
@@ -54,7 +54,7 @@ not_there : (takers items : List ℕ) (w v k : ℕ) → nowhere takers items w v
 unfolding nowhere
 not_there [] items w v k free a b c d = omega arith
 not_there (t ∷ takers) [] w v k free a b c d = omega arith
-not_there (t ∷ takers) (i ∷ items) w v zero free a b c d = absurd (true≢false (sym free ∙ rw (eq_eqb t w c, eq_eqb i v d)))
+not_there (t ∷ takers) (i ∷ items) w v zero free a b c d = absurd (true≢false (sym free ∙ rw (eq-eqb t w c, eq-eqb i v d)))
 not_there (t ∷ takers) (i ∷ items) w v (suc k) free a b c d = not_there takers items w v k (on (eqb t w) (eqb i v) free) (omega arith) (omega arith) c d
   where
     on : (b c : Bool) → cond b (cond c false (nowhere takers items w v)) (nowhere takers items w v) ≡ true → nowhere takers items w v ≡ true

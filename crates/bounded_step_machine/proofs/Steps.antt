@@ -4,7 +4,7 @@ use mathlib.Core.Path.{◌≡◌, refl, sym, ap, ◌∙◌}
 use mathlib.Core.Bool.{Bool, true, false, cond, true≢false}
 use mathlib.Core.List.{[], ◌∷◌}
 use lib.Dec.{ltb, eqb}
-use borrow.Author.Tests.{eqb_true}
+use borrow.Author.Tests.{eqb-true}
 use Rattle.queue_entries.specs.declared.Finding.TheVariants.{AllRead}
 use Rattle.queue_entries.specs.Schedules.{run_by, stops_at, search_by, searched, schedule_by}
 use Rattle.queue_entries.proofs.Pick.{yes, no, below, above}
@@ -58,7 +58,7 @@ one m d h =
     go (eqb d.refusal 0) refl
   where
     go : (b : Bool) → eqb d.refusal 0 ≡ b → whole (cond b (ran 0 (0 + 1) d.machine) (ran d.refusal 0 m)) ≡ d
-    go true e = ap (λ (k : ℕ). record { refusal = k; machine = d.machine }) (sym (eqb_true d.refusal 0 e))
+    go true e = ap (λ (k : ℕ). record { refusal = k; machine = d.machine }) (sym (eqb-true d.refusal 0 e))
     go false e = ap (λ (x : Machine). record { refusal = d.refusal; machine = x }) (sym (h e))
 
 pub one_entry : (table : Table) (m : Machine) (first second : ℕ) (r : Ran) → r ≡ run_of_by table m (first ∷ second ∷ []) → whole r ≡ step_of_by table m first second

@@ -1,4 +1,6 @@
 // One entry at a time, of either width: each is the loop of bounded_runs on a schedule of one entry.
+#![tactic(auto)]
+
 ghost use Rattle.std.specs.Prelude.{◌≡◌};
 ghost use Rattle.bounded_acts.specs.Acts.{act_of};
 ghost use Rattle.bounded_step_machine.specs.Steps.{step_of_by, begin_step_of_by, act_step_of_by};

@@ -1,4 +1,6 @@
 // One entry on what it touches alone: its worker's record, and the slot that its act goes to. Whoever keeps a ring and records takes the two out, and puts back what the entry leaves.
+#![tactic(auto)]
+
 ghost use Rattle.std.specs.Prelude.{◌≡◌, true};
 ghost use Rattle.bounded_words.specs.Words.{Fair};
 ghost use Rattle.bounded_machine.specs.Broken.{record_fits};
@@ -10,7 +12,7 @@ use bounded_words::{Fixed, Width};
 use queue_entries::{Entry, Verdict};
 
 // What an entry leaves of what it was handed, and the number of its refusal; 0 where it was not refused.
-#[derive(Drop)]
+#[derive(Clone, Copy)]
 pub struct Turned {
     pub refusal: u64,
     pub ends: Ends,

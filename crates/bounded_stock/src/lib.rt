@@ -1,4 +1,6 @@
 // Stock, counted along a run: document 02's item 4.
+#![tactic(auto)]
+
 ghost use Rattle.std.specs.Prelude.{◌≡◌};
 ghost use Rattle.bounded_machine.specs.History.{moved_of, reads_at, stock_of};
 ghost use Rattle.bounded_stock.specs.Stock.{one_more_act, next_claim, with_claim, with_read, tallied_of};

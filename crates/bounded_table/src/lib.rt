@@ -1,5 +1,7 @@
 // The two tables of document 01 with the lookers: which action is taken at which place.
 // The actions themselves: bounded_pushes, bounded_forces, bounded_pops, bounded_lookers; their definitions: bounded_acts.
+#![tactic(auto)]
+
 ghost use Rattle.std.specs.Prelude.{◌≡◌};
 ghost use Rattle.bounded_acts.specs.Acts.{act_of, Fits};
 

@@ -18,6 +18,8 @@
 //     o               the workers 0, 15 and 16, and the slots
 //
 // A row of any other letter, as `#`, is passed over.
+#![tactic(auto)]
+
 pub mod contents;
 pub mod entry;
 pub mod judge;
@@ -27,7 +29,7 @@ use bounded_text_words::WORDS;
 use text_cases::nth;
 
 // The machine in hand, row after row.
-#[derive(Drop)]
+#[derive(Clone, Copy)]
 struct Hand {
     words: [u64; WORDS],
 }

@@ -1,4 +1,6 @@
 // The ring's words as text, in a buffer that the caller lends, as `text_output` has it: places by their codes (crate bounded_codes has the table of codes), slots and items.
+#![tactic(auto)]
+
 
 // The length of a row in the table of texts; a row's text is ended by a |.
 const ROW: usize = 18;

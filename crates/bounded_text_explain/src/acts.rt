@@ -7,7 +7,7 @@ use bounded_words::{Fixed, Stamp, Width};
 
 // An entry that was run: its place, its two words; the words of the ring and of its worker's record, before it and after it (crate bounded_rows); whether head, tail and
 // stamps have sixteen bits.
-#[derive(Drop)]
+#[derive(Clone, Copy)]
 pub struct Entered {
     pub place: u64,
     pub first: u64,
@@ -20,7 +20,7 @@ pub struct Entered {
 }
 
 // The claims at each end before the entry.
-#[derive(Drop)]
+#[derive(Clone, Copy)]
 pub struct Claims {
     pub tail: u64,
     pub head: u64,

@@ -1,5 +1,7 @@
 // The face `bounded` on a machine that is words (bounded_text_words): a machine is made of them, handed to the face and written back, in
 // functions so short that no check is dear by it.
+#![tactic(auto)]
+
 pub mod machine;
 
 use bounded_machine::{Did, Machine, Ran};
@@ -13,7 +15,7 @@ pub const ACT: u64 = 1;
 pub const STEP: u64 = 2;
 
 // What a call leaves: the refusal, of a schedule the entry's place, and the machine.
-#[derive(Drop)]
+#[derive(Clone, Copy)]
 pub struct Left {
     pub refusal: u64,
     pub place: u64,

@@ -1,5 +1,7 @@
 // A machine of the ring as words: as text, word by word, and whether two are the same. No machine is in hand here, which is what makes a
 // check dear; bounded_text_faces makes a machine of the words and hands it to the face.
+#![tactic(auto)]
+
 pub mod text;
 
 // Where each word stands: the numbers first, in the order in which a line says them.

@@ -8,7 +8,7 @@ use lib.Dec.{ltb, eqb}
 use native.Mathlib.Numerals.{add-one}
 use lib.ListN.{length, take, drop, set, get_or, replicate, length-map, get_or-map}
 use lib.Seq.{sets, sets-eq, take-suc, take-suc-set, take_all}
-use borrow.Author.Tests.{ltb-true, ltb-false, eqb_true, eq_eqb, ne_eqb, lt-ltb, le-ltb}
+use borrow.Author.Tests.{ltb-true, ltb-false, eqb-true, eq-eqb, ne_eqb, lt-ltb, le-ltb}
 use Rattle.queue_entries.specs.Limits.{workers_most, meter_most, all}
 use Rattle.queue_entries.proofs.Pick.{yes, no, below, above}
 use Rattle.queue_entries.specs.Told.{told}
@@ -216,7 +216,7 @@ module _ (m : Machine) (depth : ℕ) where
         ap (λ (x : Walked). sized.Sequences x.sequences x.bytes) q
         ∙ ap (λ (x : ℕ). sized.Sequences x (0 + length (bytes_of (walk_of depth m)))) (plain (length (walk_of depth m)))
         ∙ ap (λ (x : ℕ). sized.Sequences (length (walk_of depth m)) x) (plain (length (bytes_of (walk_of depth m))))
-        ∙ sym (simp (eq_eqb (size_refusal m depth) 0 (sym e ∙ h)))
+        ∙ sym (simp (eq-eqb (size_refusal m depth) 0 (sym e ∙ h)))
       where
         plain : (x : ℕ) → 0 + x ≡ x
         plain x = omega arith
@@ -231,8 +231,8 @@ module _ (m : Machine) (depth : ℕ) where
   tells = by (eqb (size_refusal m depth) 0) refl
     where
       by : (b : Bool) → eqb (size_refusal m depth) 0 ≡ b → Tells (cond b (sized.Sequences (length (walk_of depth m)) (length (bytes_of (walk_of depth m)))) (sized.Refused (size_refusal m depth)))
-      by true e = (eqb_true (size_refusal m depth) 0 e, (refl, refl))
-      by false e = (refl, λ z. true≢false (sym (eq_eqb (size_refusal m depth) 0 z) ∙ e))
+      by true e = (eqb-true (size_refusal m depth) 0 e, (refl, refl))
+      by false e = (refl, λ z. true≢false (sym (eq-eqb (size_refusal m depth) 0 z) ∙ e))
 
   -- a buffer of as many bytes is long enough
   pub told_fits : (sequences bytes : ℕ) → size_of m depth ≡ sized.Sequences sequences bytes → walk_refusal m depth bytes ≡ 0
@@ -240,7 +240,7 @@ module _ (m : Machine) (depth : ℕ) where
   told_fits sequences bytes h =
       let t = subst Tells h tells in
       let enough : length (bytes_of (walk_of depth m)) ≤ bytes = omega (arith, t.1.1) in
-      simp (eq_eqb (size_refusal m depth) 0 t.0, le-ltb bytes (length (bytes_of (walk_of depth m))) enough)
+      simp (eq-eqb (size_refusal m depth) 0 t.0, le-ltb bytes (length (bytes_of (walk_of depth m))) enough)
 
   module _ (r : Sized) (e : r ≡ size_of m depth) where
     pub told_refused : (k : ℕ) → r ≡ sized.Refused k → (buffer : List ℕ) → (told.Refused k ≡ walk_told m depth buffer) × (buffer ≡ listed m depth buffer)
@@ -261,8 +261,8 @@ module _ (m : Machine) (depth : ℕ) where
       unfolding walk_refusal told listed
       told_short buffer l =
           let less : length buffer < length (bytes_of (walk_of depth m)) = subst (λ (x : ℕ). length buffer < x) known.1.1 l in (
-            sym (simp (eq_eqb (size_refusal m depth) 0 known.0, lt-ltb (length buffer) (length (bytes_of (walk_of depth m))) less)),
-            sym (simp (eq_eqb (size_refusal m depth) 0 known.0, lt-ltb (length buffer) (length (bytes_of (walk_of depth m))) less)),
+            sym (simp (eq-eqb (size_refusal m depth) 0 known.0, lt-ltb (length buffer) (length (bytes_of (walk_of depth m))) less)),
+            sym (simp (eq-eqb (size_refusal m depth) 0 known.0, lt-ltb (length buffer) (length (bytes_of (walk_of depth m))) less)),
           )
 
       pub told_listed : (buffer after-it : List ℕ) (x : Walked) → bytes ≤ length buffer → x ≡ counted (walked 0 0) (walk_of depth m) → after-it ≡ sets buffer 0 (bytes_of (walk_of depth m))
@@ -270,7 +270,7 @@ module _ (m : Machine) (depth : ℕ) where
       unfolding walk_refusal told listed counted
       told_listed buffer after-it x l q w =
           let enough : length (bytes_of (walk_of depth m)) ≤ length buffer = subst (λ (y : ℕ). y ≤ length buffer) known.1.1 l in
-          let on = eq_eqb (size_refusal m depth) 0 known.0 in
+          let on = eq-eqb (size_refusal m depth) 0 known.0 in
           let off = le-ltb (length buffer) (length (bytes_of (walk_of depth m))) enough in (
             ap (λ (y : Walked). told.Number y.sequences) q ∙ ap told.Number (plain (length (walk_of depth m))) ∙ sym (simp (on, off)),
             w ∙ sets-eq (bytes_of (walk_of depth m)) buffer 0 (omega arith)

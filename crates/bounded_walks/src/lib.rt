@@ -1,5 +1,7 @@
 // Every sequence of acts from a machine, of so many acts or ending sooner because all workers are idle: listed in a lent buffer, or counted.
 // Each function takes anything and answers, or refuses with document 02's number.
+#![tactic(auto)]
+
 ghost use Rattle.std.specs.Prelude.{◌≡◌, ◌++◌, ◌-◌, ◌≤◌, length, take};
 ghost use Rattle.std.proofs.lemmas.List.Edits.{sets};
 ghost use Rattle.queue_entries.specs.Limits.{workers_most, meter_most};
@@ -16,7 +18,7 @@ use queue_entries::Told;
 use queue_walks::Walked;
 
 // How many sequences in how many bytes, or the number of the refusal.
-#[derive(Drop)]
+#[derive(Clone, Copy)]
 pub enum Sized {
     Sequences(u64, u64),
     Refused(u64),

@@ -1,10 +1,10 @@
 -- Words that are unmarked with an index below capacity, and how they stay so.
-use Rattle.std.proofs.Common.{◌≡◌, ℕ, zero, suc, ◌+◌, ◌-◌, ◌*◌, ◌/◌, ◌%◌, ◌^◌, ◌<◌, ◌≤◌, Bool, true, false, cond, eqb, ltb, sym, refl, ap, ◌∙◌, subst, mod-lt, mod-eq_of_lt, div-add-mod', arith, le-ltb, lt-ltb, eq_eqb, ne_eqb}
+use Rattle.std.proofs.Common.{◌≡◌, ℕ, zero, suc, ◌+◌, ◌-◌, ◌*◌, ◌/◌, ◌%◌, ◌^◌, ◌<◌, ◌≤◌, Bool, true, false, cond, eqb, ltb, sym, refl, ap, ◌∙◌, subst, mod-lt, mod-eq_of_lt, div-add-mod', arith, le-ltb, lt-ltb, eq-eqb, ne_eqb}
 use Prim.Native.Nat.{◌∣◌}
 use native.Mathlib.Decide.{dec_lt}
 use native.Mathlib.Nat.{mod-add-mod, add-mod_right, mul-mod_left, mod-mod_of_dvd, mul-div_cancel', add-mul-mod_self_left}
 use lib.Arith.{mod-mul}
-use borrow.Author.Tests.{eqb_false}
+use borrow.Author.Tests.{eqb-false}
 use Rattle.bounded_words.specs.declared.Stamp.{Stamp}
 use Rattle.bounded_words.specs.declared.Fixed.{Fixed}
 use Rattle.bounded_words.specs.declared.Width.{Width}
@@ -27,7 +27,7 @@ module _ (f : Fixed) (r : Ruled f) where
   pub below_lap : (w : Stamp) → Plain f w → w.0 % f.lap ≡ index_of f w
   unfolding marked_of
   below_lap w p =
-      let n : w.0 / f.mark % 2 ≡ 1 → ⊥ = eqb_false _ _ p.unmarked in
+      let n : w.0 / f.mark % 2 ≡ 1 → ⊥ = eqb-false _ _ p.unmarked in
       let z : w.0 / f.mark % 2 ≡ 0 = omega arith in
       parts w ∙ rw z (omega arith)
 
@@ -98,4 +98,4 @@ module _ (f : Fixed) (r : Ruled f) where
         let e : (plus bits w f.mark).0 % f.lap ≡ index_of f w + f.mark = plus_lap w f.mark ∙ rw (below_lap w p) (mod-eq_of_lt l) in
         let n : x.0 / f.mark % 2 ≡ 0 → ⊥ = (λ q. omega (arith, e, rw q at (parts x), mod-lt x.0 positive)) in
         let z : x.0 / f.mark % 2 ≡ 1 = omega arith in
-        rw p.unmarked (eq_eqb (x.0 / f.mark % 2) 1 z)
+        rw p.unmarked (eq-eqb (x.0 / f.mark % 2) 1 z)

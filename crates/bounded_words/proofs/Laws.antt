@@ -1,5 +1,5 @@
 -- What the functions on words rest on.
-use Rattle.std.proofs.Common.{◌≡◌, ℕ, zero, suc, ◌+◌, ◌-◌, ◌*◌, ◌/◌, ◌%◌, ◌^◌, ◌<◌, ◌≤◌, Bool, true, false, not, eqb, ltb, sym, refl, ap, ◌∙◌, subst, mod-lt, mod-eq_of_lt, le-div_iff_mul-le, arith, pow-add, le-ltb, lt-ltb, eq_eqb, ne_eqb, eqb_true}
+use Rattle.std.proofs.Common.{◌≡◌, ℕ, zero, suc, ◌+◌, ◌-◌, ◌*◌, ◌/◌, ◌%◌, ◌^◌, ◌<◌, ◌≤◌, Bool, true, false, not, eqb, ltb, sym, refl, ap, ◌∙◌, subst, mod-lt, mod-eq_of_lt, le-div_iff_mul-le, arith, pow-add, le-ltb, lt-ltb, eq-eqb, ne_eqb, eqb-true}
 use native.Mathlib.Nat.{mod-le}
 use lib.Bits.{bit_and, and_mask, and_high}
 use Rattle.queue_entries.proofs.Pick.{yes, no}
@@ -37,7 +37,7 @@ unfolding marked_of
 mark_test f w p = ap (λ (x : ℕ). not (eqb x 0)) (at_mark f w.0 p) ∙ go (w.0 / f.mark % 2) (mod-lt (w.0 / f.mark) (omega arith))
   where
     go : (d : ℕ) → d < 2 → not (eqb (d * f.mark) 0) ≡ eqb d 1
-    go zero l = rw (eq_eqb (0 * f.mark) 0 (omega arith))
+    go zero l = rw (eq-eqb (0 * f.mark) 0 (omega arith))
     go (suc zero) l = rw (ne_eqb (1 * f.mark) 0 (λ (h : 1 * f.mark ≡ 0). omega (arith, p.positive, h)))
     go (suc (suc d)) l = absurd (omega arith)
 
@@ -46,7 +46,7 @@ module _ (f : Fixed) (w : Stamp) (b : Bool) (e : b ≡ marked_of f w) where
   pub marked_above : Fair f → b ≡ true → f.mark ≤ w.0
   unfolding marked_of
   marked_above p h =
-      let d : w.0 / f.mark % 2 ≡ 1 = eqb_true _ _ (sym e ∙ h) in
+      let d : w.0 / f.mark % 2 ≡ 1 = eqb-true _ _ (sym e ∙ h) in
       let k : 1 ≤ w.0 / f.mark = omega arith in
       omega (arith, (le-div_iff_mul-le p.positive).0 k)
 

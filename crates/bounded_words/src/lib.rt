@@ -1,25 +1,27 @@
 // The words of a ring: document 01, "The words".
+#![tactic(auto)]
+
 ghost use Rattle.std.specs.Prelude.{◌≡◌, ◌%◌, ◌≤◌};
 ghost use Rattle.bounded_words.specs.Limits.{slots_most};
 ghost use Rattle.bounded_words.specs.Words.{Fair, Indexed, stamp, width_of, lap_of, mark_of, marked_of, next_of, plus, minus, unmarked_of, with_mark, same, one_past, lap_behind, lap_behind_one_past};
 
 // A word of head, of tail or of a slot: a lap, the mark and an index in one number.
-#[derive(Drop)]
+#[derive(Clone, Copy)]
 pub struct Stamp(pub u64);
 
 // The number of a claim: the k-th move of tail, or of head, since the machine was made.
-#[derive(Drop)]
+#[derive(Clone, Copy)]
 pub struct Claim(pub u64);
 
 // How wide the words of a ring are. It is no part of a machine: which face is called says it.
-#[derive(Drop)]
+#[derive(Clone, Copy)]
 pub enum Width {
     Sixteen,
     SixtyFour,
 }
 
 // What a ring keeps unchanged from its making on.
-#[derive(Drop)]
+#[derive(Clone, Copy)]
 pub struct Fixed {
     // If this bit is set in tail, the ring is closed.
     pub mark: u64,

@@ -3,7 +3,7 @@ use Prim.Native.Nat.{ℕ, ◌<◌, ◌≤◌}
 use mathlib.Core.Path.{◌≡◌, refl, sym, ap, ◌∙◌}
 use mathlib.Core.Bool.{Bool, true, false, cond}
 use lib.Dec.{ltb, eqb}
-use borrow.Author.Tests.{lt-ltb, le-ltb, eq_eqb, ne_eqb}
+use borrow.Author.Tests.{lt-ltb, le-ltb, eq-eqb, ne_eqb}
 
 module _ {A : Type 0} where
   -- a test that a function made
@@ -28,7 +28,7 @@ module _ {A : Type 0} where
   above a b r x y h e = e ∙ simp (le-ltb a b h)
 
   pub equal : (a b : ℕ) (r x y : A) → a ≡ b → r ≡ x → r ≡ cond (eqb a b) x y
-  equal a b r x y h e = e ∙ simp (eq_eqb a b h)
+  equal a b r x y h e = e ∙ simp (eq-eqb a b h)
 
   pub other : (a b : ℕ) (r x y : A) → (a ≡ b → ⊥) → r ≡ y → r ≡ cond (eqb a b) x y
   other a b r x y h e = e ∙ simp (ne_eqb a b h)

@@ -6,7 +6,7 @@ use native.Mathlib.Omega.{arith}
 use native.Mathlib.Numerals.{add-one}
 use lib.ListN.{get_or, length, drop, length-drop}
 use lib.Seq.{drop-cons}
-use borrow.Author.Tests.{eq_eqb, ne_eqb}
+use borrow.Author.Tests.{eq-eqb, ne_eqb}
 use Rattle.queue_entries.specs.declared.Order.{Order}
 use Rattle.queue_entries.specs.declared.Entry.{Entry}
 use Rattle.queue_entries.specs.declared.Entry.TheVariants.{Unreadable, Asks}
@@ -47,7 +47,7 @@ module _ (reading : ℕ → ℕ → Entry) (s : List ℕ) (n i : ℕ) (whole : F
 
 pub is_barred : (barred first second : ℕ) → first % 16 ≡ barred → Unreadable ≡ entry_but barred first second
 unfolding entry_but
-is_barred barred first second h = sym (simp (eq_eqb (first % 16) barred h))
+is_barred barred first second h = sym (simp (eq-eqb (first % 16) barred h))
 
 pub not_barred : (barred first second : ℕ) (r : Entry) → (first % 16 ≡ barred → ⊥) → r ≡ entry_of first second → r ≡ entry_but barred first second
 unfolding entry_but

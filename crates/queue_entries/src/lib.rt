@@ -1,4 +1,6 @@
 // What every queue's schedules share: document 01, "Schedules", the order of an entry's refusals, and the limits on workers and meter.
+#![tactic(auto)]
+
 ghost use Rattle.std.specs.Prelude.{◌≡◌};
 ghost use Rattle.queue_entries.specs.Limits.{in_limits};
 ghost use Rattle.queue_entries.specs.Entries.{call_of, stray_of, entry_of, entry_but, verdict_for};
@@ -16,14 +18,14 @@ pub fn in_limits(n: u64, most: u64) -> bool
 }
 
 // A number that was asked for, or the number of the refusal.
-#[derive(Drop)]
+#[derive(Clone, Copy)]
 pub enum Told {
     Number(u64),
     Refused(u64),
 }
 
 // The eight calls, with the item of the two that have one.
-#[derive(Drop)]
+#[derive(Clone, Copy)]
 pub enum Call {
     Push(u64),
     ForcePush(u64),
@@ -36,14 +38,14 @@ pub enum Call {
 }
 
 // What an entry asks of its worker: to begin a call, or to act; true: its weak exchange fails.
-#[derive(Drop)]
+#[derive(Clone, Copy)]
 pub enum Order {
     Begin(Call),
     Act(bool),
 }
 
 // An entry of a schedule: a worker's number and what is asked of it.
-#[derive(Drop)]
+#[derive(Clone, Copy)]
 pub enum Entry {
     Unreadable,
     Asks(u64, Order),
@@ -89,7 +91,7 @@ pub fn entry_of(first: u64, second: u64) -> Entry
 }
 
 // What the search of a schedule for refusal 9 finds.
-#[derive(Drop)]
+#[derive(Clone, Copy)]
 pub enum Finding {
     AllRead,
     // the place of the first entry that can't be read
@@ -129,7 +131,7 @@ pub fn search(schedule: &[u64]) -> Finding
 }
 
 // What becomes of an entry's worker: a refusal, a call begun, or an act.
-#[derive(Drop)]
+#[derive(Clone, Copy)]
 pub enum Verdict {
     Refuse(u64),
     Start(Call),

@@ -8,7 +8,7 @@ use mathlib.Core.Logic.{◌≢◌, ◌⊎◌, inl, inr}
 use mathlib.Core.Path.{◌≡◌, refl, sym, ap, ◌∙◌, subst}
 use lib.Dec.{eqb}
 use lib.ListN.{length, take, drop}
-use borrow.Author.Tests.{eq_eqb, ne_eqb}
+use borrow.Author.Tests.{eq-eqb, ne_eqb}
 use Rattle.queue_entries.specs.declared.Call.{Call}
 use Rattle.queue_entries.specs.declared.Call.TheVariants.{Push, ForcePush, Pop, Len, IsEmpty, IsFull, Close, IsClosed}
 use Rattle.queue_plain.specs.Plain.{Queue, Reply, Yes, answer_of, taken_by, given_back, put_by, full_of, front_of, yes_if}
@@ -193,7 +193,7 @@ module _ {E : Type 0} (worker : E → ℕ) (change : E → Change) (answered : E
       where
         go : Dec (v ≡ w) → Current (with o (Begun w c)) v d
         go (yes e) =
-            let is : (with o (Begun w c)).known.each v ≡ beginning c o.known.count = ap (λ (b : Bool). cond b (beginning c o.known.count) (o.known.each v)) (eq_eqb v w e) in
+            let is : (with o (Begun w c)).known.each v ≡ beginning c o.known.count = ap (λ (b : Bool). cond b (beginning c o.known.count) (o.known.each v)) (eq-eqb v w e) in
             let line : (with o (Begun w c)).line o.known.count ≡ begins w c o.known.count = upd_same o.known.count (begins w c o.known.count) o.line in
             let none = k.unbegun o.known.count (omega arith) in
             let same : c ≡ d = same_call c d (ap (λ (z : Doing). z.calls) (sym is) ∙ h) in
@@ -240,7 +240,7 @@ module _ {E : Type 0} (worker : E → ℕ) (change : E → Change) (answered : E
           go : Dec (v ≡ worker e) → Current (with o (Does e)) v d
           go (yes q) =
               let is : (with o (Does e)).known.each (worker e) ≡ doing_with (change e) o.known.queue (o.known.each (worker e)) =
-              ap (λ (t : Bool). cond t (doing_with (change e) o.known.queue (o.known.each (worker e))) (o.known.each (worker e))) (eq_eqb (worker e) (worker e) refl) in
+              ap (λ (t : Bool). cond t (doing_with (change e) o.known.queue (o.known.each (worker e))) (o.known.each (worker e))) (eq-eqb (worker e) (worker e) refl) in
               let line : (with o (Does e)).line b ≡ answers o.known.count (answered e) (o.line b) = upd_same b _ o.line in
               let same : call ≡ d = same_call call d (sym its_call ∙ ap (λ (z : Doing). z.calls) (sym is) ∙ ap (λ (z : ℕ). ((with o (Does e)).known.each z).calls) (sym q) ∙ h) in
               subst (λ (z : ℕ). Current (with o (Does e)) z d) (sym q)
@@ -276,7 +276,7 @@ module _ {E : Type 0} (worker : E → ℕ) (change : E → Change) (answered : E
       where
         go : Dec (v ≡ w) → (d : Call) × (((with o (Begun w c)).known.each v).calls ≡ d ∷ []) × (((with o (Begun w c)).line ((with o (Begun w c)).known.each v).begun).reply ≡ [])
         go (yes e) =
-            let is : (with o (Begun w c)).known.each v ≡ beginning c o.known.count = ap (λ (b : Bool). cond b (beginning c o.known.count) (o.known.each v)) (eq_eqb v w e) in (
+            let is : (with o (Begun w c)).known.each v ≡ beginning c o.known.count = ap (λ (b : Bool). cond b (beginning c o.known.count) (o.known.each v)) (eq-eqb v w e) in (
               c,
               ap (λ (z : Doing). z.calls) is,
               ap (λ (z : Doing). ((with o (Begun w c)).line z.begun).reply) is ∙ ap (λ (l : Line). l.reply) (upd_same o.known.count (begins w c o.known.count) o.line),
@@ -305,8 +305,8 @@ module _ {E : Type 0} (worker : E → ℕ) (change : E → Change) (answered : E
           go : Dec (v ≡ worker e) → (d : Call) × (((with o (Does e)).known.each v).calls ≡ d ∷ []) × (((with o (Does e)).line ((with o (Does e)).known.each v).begun).reply ≡ [])
           go (yes q) =
               let is : (with o (Does e)).known.each v ≡ doing_with (change e) o.known.queue (o.known.each v) =
-              ap (λ (t : Bool). cond t (doing_with (change e) o.known.queue (o.known.each v)) (o.known.each v)) (eq_eqb v (worker e) q) in
-              let mine : not (ended (answered e)) ≡ true = ap (λ (b : Bool). cond b (not (ended (answered e))) (busy v)) (sym (eq_eqb v (worker e) q)) ∙ h in
+              ap (λ (t : Bool). cond t (doing_with (change e) o.known.queue (o.known.each v)) (o.known.each v)) (eq-eqb v (worker e) q) in
+              let mine : not (ended (answered e)) ≡ true = ap (λ (b : Bool). cond b (not (ended (answered e))) (busy v)) (sym (eq-eqb v (worker e) q)) ∙ h in
               let t = op (worker e) now in (
                 t.0,
                 ap (λ (z : Doing). z.calls) is ∙ ap (λ (z : ℕ). (o.known.each z).calls) q ∙ t.1,

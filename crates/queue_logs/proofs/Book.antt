@@ -8,7 +8,7 @@ use mathlib.Core.Logic.{◌≢◌}
 use mathlib.Core.Path.{◌≡◌, refl, sym, ap, ◌∙◌, subst}
 use lib.Dec.{eqb}
 use lib.ListN.{length, take, drop}
-use borrow.Author.Tests.{eq_eqb, ne_eqb}
+use borrow.Author.Tests.{eq-eqb, ne_eqb}
 use Rattle.queue_entries.specs.declared.Call.{Call}
 use Rattle.queue_entries.specs.declared.Call.TheVariants.{Push, ForcePush, Pop, Len, IsEmpty, IsFull, Close, IsClosed}
 use Rattle.queue_plain.specs.Plain.{Queue, Reply, Yes, taken_by, given_back, meaning_of}
@@ -22,7 +22,7 @@ abbrev pub upd : {A : Type 0} → ℕ → A → (ℕ → A) → ℕ → A
 upd b a f x = cond (eqb x b) a (f x)
 
 pub upd_same : {A : Type 0} (b : ℕ) (a : A) (f : ℕ → A) → upd b a f b ≡ a
-upd_same b a f = ap (λ (t : Bool). cond t a (f b)) (eq_eqb b b refl)
+upd_same b a f = ap (λ (t : Bool). cond t a (f b)) (eq-eqb b b refl)
 
 pub upd_else : {A : Type 0} (b : ℕ) (a : A) (f : ℕ → A) (x : ℕ) → x ≢ b → upd b a f x ≡ f x
 upd_else b a f x ne = ap (λ (t : Bool). cond t a (f x)) (ne_eqb x b ne)
@@ -391,7 +391,7 @@ module _ {E : Type 0} (worker : E → ℕ) (change : E → Change) (answered : E
       right_go : (x : ℕ) → Dec (x ≡ here) → Right new x
       right_go x (yes d) =
           let was = k.unbegun x (omega (arith, d)) in
-          right_is new x (begins w c here) [] [] (ap (λ (t : Bool). cond t (begins w c here) (o.line x)) (eq_eqb x here d)) was.0 was.1
+          right_is new x (begins w c here) [] [] (ap (λ (t : Bool). cond t (begins w c here) (o.line x)) (eq-eqb x here d)) was.0 was.1
           (λ f. omega (arith, weigh_none f)) (λ f small. omega (arith, weigh_none f)) (λ h. absurd (true≢false (sym h))) (λ h. absurd (true≢false (sym h)))
       right_go x (no ne) = right_same o new x (else_line x ne) refl refl (k.right x)
 

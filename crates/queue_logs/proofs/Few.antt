@@ -4,7 +4,7 @@ use native.Mathlib.Omega.{arith}
 use mathlib.Core.Bool.{Bool, true, false, cond}
 use mathlib.Core.List.{List, [], ◌∷◌}
 use lib.Dec.{eqb}
-use lib.ListN.{length, take, drop, length_append}
+use lib.ListN.{length, take, drop, length-append}
 use Rattle.queue_entries.specs.declared.Call.{Call}
 use Rattle.queue_entries.specs.declared.Call.TheVariants.{Push, ForcePush, Pop, Len, IsEmpty, IsFull, Close, IsClosed}
 use Rattle.queue_plain.specs.Story.{Begun, Does, Story, Change, Doing, Known, fresh, beginning, doing_with, items_of, known_with, known_from, known}
@@ -55,7 +55,7 @@ module _ {E : Type 0} (worker : E → ℕ) (change : E → Change) where
       omega (
         arith,
         few_from s (known_with worker change k (Does e)) (λ v. act_short (eqb v (worker e)) e k (k.each v) (h v)),
-        length_append (cond (change e).takes (drop 1 k.queue.items) k.queue.items) (cond (change e).puts (items_of (k.each (worker e)).calls) []),
+        length-append (cond (change e).takes (drop 1 k.queue.items) k.queue.items) (cond (change e).puts (items_of (k.each (worker e)).calls) []),
         one_out (change e).takes k.queue.items,
         one_in (change e).puts (items_of (k.each (worker e)).calls) (h (worker e)),
       )

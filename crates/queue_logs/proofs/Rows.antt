@@ -7,7 +7,7 @@ use mathlib.Core.Logic.{◌≢◌, ◌⊎◌, inl, inr}
 use mathlib.Core.Path.{◌≡◌, refl, sym, ap, ◌∙◌, subst}
 use lib.Dec.{eqb, ltb}
 use lib.ListN.{length}
-use borrow.Author.Tests.{ltb-true, ltb-false, eqb_true}
+use borrow.Author.Tests.{ltb-true, ltb-false, eqb-true}
 use Rattle.queue_entries.specs.declared.Call.{Call}
 use Rattle.queue_entries.specs.declared.Call.TheVariants as call
 use Rattle.queue_plain.specs.Plain.{Queue, Reply, answer_of, taken_by, given_back, meaning_of, full_of}
@@ -84,7 +84,7 @@ yes_is true e = refl
 yes_is false e = absurd (let q : ◌≡◌ {A = ℕ} 4 3 = ap code_of e in omega (arith, q))
 
 empty_none : (q : Queue) → answer_of q call.IsEmpty ≡ plain.Yes → q.items ≡ []
-empty_none q e = none_of q.items (eqb_true _ _ (yes_is _ e))
+empty_none q e = none_of q.items (eqb-true _ _ (yes_is _ e))
 
 push_full : (q : Queue) (x y : ℕ) → answer_of q (call.Push x) ≡ plain.Full y → full_of q ≡ true
 unfolding code_of
@@ -333,7 +333,7 @@ module _ (capacity : ℕ) (stays sees : Bool) (l : Log) (o : Account capacity st
       where
         go : (x : ℕ) → x < l.size → (s : Bool) → eqb x z ≡ s → (t : Bool) → before l x y ≡ t → cond t (weigh f (handed_out (l.line x))) 0 ≤ cond s 0 (weigh f (o.takes n x))
         go x i s d false e = omega arith
-        go x i true d true e = absurd (true≢false (sym e ∙ ap (λ (q : ℕ). before l q y) (eqb_true x z d) ∙ apart))
+        go x i true d true e = absurd (true≢false (sym e ∙ ap (λ (q : ℕ). before l q y) (eqb-true x z d) ∙ apart))
         go x i false d true e = omega (arith, ap (weigh f) (o.take_done n x i (before_ended l x y e) (omega (arith, before_lt l x y e, after))))
 
     not_before : (z : ℕ) → (ended (l.line z).reply ≡ true → n ≤ (l.line z).to) → before l z y ≡ false

@@ -8,7 +8,7 @@ use mathlib.Core.Logic.{◌≢◌, ◌⊎◌, inl, inr}
 use mathlib.Core.Path.{◌≡◌, refl, sym, ap, ◌∙◌, subst}
 use lib.Dec.{eqb}
 use lib.ListN.{length, take}
-use borrow.Author.Tests.{eq_eqb, ne_eqb}
+use borrow.Author.Tests.{eq-eqb, ne_eqb}
 use Rattle.queue_entries.specs.declared.Call.{Call}
 use Rattle.queue_entries.specs.declared.Call.TheVariants.{Close}
 use Rattle.queue_plain.specs.Plain.{Reply, Yes, put_by, taken_by, meaning_of}
@@ -145,7 +145,7 @@ module _ {E : Type 0} (worker : E → ℕ) (change : E → Change) (answered : E
     busy_yet : answered e ≡ [] → busy_at (worker e) (s ++ Does e ∷ []) ≡ true
     busy_yet q =
         followed_end worker change (busy_with worker change answered stays sees limit held capacity (worker e)) (fresh capacity) false s (Does e)
-        ∙ ap (λ (b : Bool). cond b (not (ended (answered e))) (busy_at (worker e) s)) (eq_eqb (worker e) (worker e) refl) ∙ ap (λ (r : List Reply). not (ended r)) q
+        ∙ ap (λ (b : Bool). cond b (not (ended (answered e))) (busy_at (worker e) s)) (eq-eqb (worker e) (worker e) refl) ∙ ap (λ (r : List Reply). not (ended r)) q
 
     its : (r : Reply) (t : Answering s e r) → t.call ≡ mine.call
     its r t = same_call t.call mine.call (sym t.calls ∙ mine.calls)
@@ -235,7 +235,7 @@ module _ {E : Type 0} (worker : E → ℕ) (change : E → Change) (answered : E
       step v = followed_end worker change (busy_with worker change answered stays sees limit held capacity v) (fresh capacity) false s (Begun w c)
 
       even : (v : ℕ) → Dec (v ≡ w) → busy_at v (s ++ Begun w c ∷ []) ≡ busy v
-      even v (yes q) = step v ∙ ap (λ (b : Bool). cond b true (busy_at v s)) (eq_eqb v w q) ∙ sym own ∙ ap busy (sym q)
+      even v (yes q) = step v ∙ ap (λ (b : Bool). cond b true (busy_at v s)) (eq-eqb v w q) ∙ sym own ∙ ap busy (sym q)
       even v (no ne) = step v ∙ ap (λ (b : Bool). cond b true (busy_at v s)) (ne_eqb v w ne) ∙ o.busy_is v ∙ sym (others v ne)
 
   -- an act
@@ -252,7 +252,7 @@ module _ {E : Type 0} (worker : E → ℕ) (change : E → Change) (answered : E
       step v = followed_end worker change (busy_with worker change answered stays sees limit held capacity v) (fresh capacity) false s (Does e)
 
       even : (v : ℕ) → Dec (v ≡ worker e) → busy_at v (s ++ Does e ∷ []) ≡ busy v
-      even v (yes q) = step v ∙ ap (λ (b : Bool). cond b (not (ended (answered e))) (busy_at v s)) (eq_eqb v (worker e) q) ∙ sym own ∙ ap busy (sym q)
+      even v (yes q) = step v ∙ ap (λ (b : Bool). cond b (not (ended (answered e))) (busy_at v s)) (eq-eqb v (worker e) q) ∙ sym own ∙ ap busy (sym q)
       even v (no ne) = step v ∙ ap (λ (b : Bool). cond b (not (ended (answered e))) (busy_at v s)) (ne_eqb v (worker e) ne) ∙ o.busy_is v ∙ sym (others v ne)
 
       before : (a b : List ℕ) → a ++ b ≡ b → a ≡ []

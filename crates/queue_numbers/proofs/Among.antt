@@ -4,7 +4,7 @@ use mathlib.Core.Path.{◌≡◌, refl, sym, ap, ◌∙◌, subst}
 use mathlib.Core.Bool.{Bool, true, false, cond, true≢false}
 use mathlib.Core.List.{List, [], ◌∷◌}
 use lib.Dec.{ltb, eqb}
-use borrow.Author.Tests.{eqb_true}
+use borrow.Author.Tests.{eqb-true}
 use Rattle.queue_entries.specs.Limits.{meter_most}
 use Rattle.queue_entries.specs.declared.Call.{Call}
 use Rattle.queue_entries.specs.declared.Order.TheVariants.{Begin, Act}
@@ -29,7 +29,7 @@ wider [] k n i h = absurd (true≢false (sym h))
 wider (x ∷ l) k n i h = go (wider l k n (both_right (has k x) (within l k) i)) (eqb n x) refl
   where
     go : (has l n ≡ true → has k n ≡ true) → (b : Bool) → eqb n x ≡ b → has k n ≡ true
-    go rest true e = subst (λ (z : ℕ). has k z ≡ true) (sym (eqb_true n x e)) (both_left (has k x) (within l k) i)
+    go rest true e = subst (λ (z : ℕ). has k z ≡ true) (sym (eqb-true n x e)) (both_left (has k x) (within l k) i)
     go rest false e = rest (rw e at h)
 
 -- ---- one entry

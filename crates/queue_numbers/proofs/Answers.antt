@@ -3,7 +3,7 @@ use Prim.Native.Nat.{ℕ}
 use mathlib.Core.Path.{◌≡◌, refl, sym, ap, ◌∙◌}
 use mathlib.Core.Bool.{Bool, true, false, cond}
 use lib.Dec.{eqb}
-use borrow.Author.Tests.{eqb_true, eq_eqb, ne_eqb}
+use borrow.Author.Tests.{eqb-true, eq-eqb, ne_eqb}
 use native.Mathlib.Decide.{ℕ_discrete}
 use Rattle.queue_entries.specs.declared.Told.{Told}
 use Rattle.queue_entries.specs.declared.Told.TheVariants.{Number, Refused}
@@ -21,7 +21,7 @@ module _ {A B : Type 0} (refused : ℕ → A) (plain : B → A) (number : A → 
   both_ways zero_of value_of_lem number_of_lem answer =
       record {
         answer = answer;
-        number_kept = λ n v. either (λ (a : A). number a ≡ n) (eqb n 0) (plain v) (refused n) (λ e. zero_of v ∙ sym (eqb_true n 0 e)) (λ e. number_of_lem n);
+        number_kept = λ n v. either (λ (a : A). number a ≡ n) (eqb n 0) (plain v) (refused n) (λ e. zero_of v ∙ sym (eqb-true n 0 e)) (λ e. number_of_lem n);
         values_kept = value_of_lem;
         refused_only = λ n v ne. simp (ne_eqb n 0 ne);
       }

@@ -5,7 +5,7 @@ use mathlib.Core.Bool.{Bool, true, false, cond}
 use mathlib.Core.List.{List, [], ◌∷◌, ◌++◌, append-nil}
 use mathlib.Core.Path.{◌≡◌, ap, ◌∙◌}
 use lib.Dec.{eqb}
-use lib.ListN.{length, take, length_append}
+use lib.ListN.{length, take, length-append}
 use Rattle.queue_entries.specs.declared.Call.{Call}
 use Rattle.queue_entries.specs.declared.Call.TheVariants as call
 use Rattle.queue_plain.specs.Plain.{Queue, answer_of, full_of, front_of, yes_if, given_back}
@@ -21,7 +21,7 @@ module _ {E : Type 0} (worker : E → ℕ) (change : E → Change) (capacity : �
     pub takes : ((known worker change capacity s).each w).takes ≡ took
 
   longer : (s : Story E) (x : Element E) → length (s ++ x ∷ []) ≡ length s + 1
-  longer s x = length_append s (x ∷ []) ∙ omega arith
+  longer s x = length-append s (x ∷ []) ∙ omega arith
 
   -- it starts with nothing put in or taken out
   pub work_begun : (s : Story E) (w : ℕ) (c : Call) → Work (s ++ Begun w c ∷ []) w c [] []

@@ -6,8 +6,8 @@ use mathlib.Core.List.{List, [], ◌∷◌, ◌++◌, map, append_assoc, append-
 use mathlib.Core.Path.{◌≡◌, refl, sym, ap, ◌∙◌}
 use lib.Dec.{eqb}
 use mathlib.Core.Logic.{◌≢◌}
-use lib.ListN.{length, take, drop, length_append}
-use borrow.Author.Tests.{eq_eqb, ne_eqb}
+use lib.ListN.{length, take, drop, length-append}
+use borrow.Author.Tests.{eq-eqb, ne_eqb}
 use Rattle.queue_entries.specs.declared.Call.{Call}
 use Rattle.queue_entries.specs.declared.Order.TheVariants.{Begin, Act}
 use Rattle.queue_entries.specs.declared.Entry.{Entry}
@@ -114,7 +114,7 @@ module _ {E : Type 0} (worker : E → ℕ) (change : E → Change) where
       pub each_own : after_act.each (worker e) ≡ doing_with (change e) before.queue (before.each (worker e))
       each_own =
           ap (λ (k : Known). k.each (worker e)) known_act
-          ∙ ap (λ (b : Bool). cond b (doing_with (change e) before.queue (before.each (worker e))) (before.each (worker e))) (eq_eqb (worker e) (worker e) refl)
+          ∙ ap (λ (b : Bool). cond b (doing_with (change e) before.queue (before.each (worker e))) (before.each (worker e))) (eq-eqb (worker e) (worker e) refl)
 
       pub each_else : (j : ℕ) → j ≢ worker e → after_act.each j ≡ before.each j
       each_else j ne =
@@ -132,7 +132,7 @@ module _ {E : Type 0} (worker : E → ℕ) (change : E → Change) where
       known_begun = known_end (fresh capacity) s (Begun w c)
 
       pub each_begun : after_begin.each w ≡ beginning c before.count
-      each_begun = ap (λ (k : Known). k.each w) known_begun ∙ ap (λ (b : Bool). cond b (beginning c before.count) (before.each w)) (eq_eqb w w refl)
+      each_begun = ap (λ (k : Known). k.each w) known_begun ∙ ap (λ (b : Bool). cond b (beginning c before.count) (before.each w)) (eq-eqb w w refl)
 
       pub each_unbegun : (j : ℕ) → j ≢ w → after_begin.each j ≡ before.each j
       each_unbegun j ne = ap (λ (k : Known). k.each j) known_begun ∙ ap (λ (b : Bool). cond b (beginning c before.count) (before.each j)) (ne_eqb j w ne)

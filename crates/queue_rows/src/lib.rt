@@ -1,1 +1,3 @@
 // Laws of rows, that a loop fills or in which all are alike: see proofs/.
+#![tactic(auto)]
+

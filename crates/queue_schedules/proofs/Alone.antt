@@ -5,7 +5,7 @@ use mathlib.Core.Bool.{Bool, true, false, cond}
 use mathlib.Core.List.{List, [], ◌∷◌, ◌++◌, append_assoc, append-nil}
 use native.Mathlib.Omega.{arith}
 use lib.Dec.{eqb}
-use borrow.Author.Tests.{eq_eqb, ne_eqb, eqb_false}
+use borrow.Author.Tests.{eq-eqb, ne_eqb, eqb-false}
 use Rattle.queue_entries.specs.declared.Order.TheVariants.{Act}
 use Rattle.queue_entries.specs.declared.Entry.{Entry}
 use Rattle.queue_entries.specs.declared.Entry.TheVariants.{Asks}
@@ -26,7 +26,7 @@ module _ {M D R : Type 0} (q : Queue M D R) where
   -- one act more, accepted or not
   pub acts_on : (m : M) (i w k : ℕ) → q.refusal (q.turn m (16 * w + 8) 0) ≡ 0 → run_in q m i (acts w (suc k)) ≡ run_in q (q.machine (q.turn m (16 * w + 8) 0)) (i + 1) (acts w k)
   unfolding acts
-  acts_on m i w k e = run_on q m i (16 * w + 8) 0 (acts w k) (eq_eqb _ 0 e)
+  acts_on m i w k e = run_on q m i (16 * w + 8) 0 (acts w k) (eq-eqb _ 0 e)
 
   pub acts_none : (m : M) (i w : ℕ) → run_in q m i (acts w 0) ≡ q.ran 0 i m
   unfolding acts
@@ -50,7 +50,7 @@ module _ {M D R : Type 0} (q : Queue M D R) where
           → (c : Bool) → taken q m a b ≡ c → passed_by q.refusal q.machine q.turn next s ≡ q.machine_in (run_in q m i (a ∷ b ∷ s))
       go more true e = more (ap q.refusal_in (sym (run_on q m i a b s e)) ∙ z) ∙ ap q.machine_in (sym (run_on q m i a b s e))
       go more false e =
-          absurd (eqb_false _ 0 e (sym (q.refusal_is (q.refusal (q.turn m a b)) i m) ∙ ap q.refusal_in (sym (run_halt q m i a b s e)) ∙ z))
+          absurd (eqb-false _ 0 e (sym (q.refusal_is (q.refusal (q.turn m a b)) i m) ∙ ap q.refusal_in (sym (run_halt q m i a b s e)) ∙ z))
 
 -- ---- a call that alone is scheduled
 module _ {M D R E : Type 0} (q : Queue M D R) (events : M → Entry → M → List E) (w : ℕ) (busy : M → Bool) (rank : M → ℕ)
@@ -93,7 +93,7 @@ module _ {M D R E : Type 0} (q : Queue M D R) (events : M → Entry → M → Li
     unfolding acts
     history_acts m h k e =
         append_assoc h (acts_at q events m (16 * w + 8) 0) (history_in q events (next m) (acts w k))
-        ∙ ap (λ (l : List E). h ++ l) (sym (history_on q events m (16 * w + 8) 0 (acts w k) (eq_eqb _ 0 e)))
+        ∙ ap (λ (l : List E). h ++ l) (sym (history_on q events m (16 * w + 8) 0 (acts w k) (eq-eqb _ 0 e)))
 
     no_acts : (m : M) (h : List E) → h ++ history_in q events m (acts w 0) ≡ h
     unfolding acts

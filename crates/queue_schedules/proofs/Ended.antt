@@ -6,7 +6,7 @@ use mathlib.Core.List.{List, [], ◌∷◌}
 use native.Mathlib.Omega.{arith}
 use lib.Dec.{eqb}
 use lib.ListN.{length}
-use borrow.Author.Tests.{eqb_true, eqb_false, ne_eqb}
+use borrow.Author.Tests.{eqb-true, eqb-false, ne_eqb}
 use Rattle.queue_entries.specs.declared.Entry.{Entry}
 use Rattle.queue_entries.specs.declared.Entry.TheVariants.{Unreadable, Asks}
 use Rattle.queue_entries.specs.declared.Finding.{Finding}
@@ -27,8 +27,8 @@ module _ {M D R : Type 0} (refusal : D → ℕ) (machine : D → M) (turned : M 
           → (c : Bool) → eqb (refusal (turned m a b)) 0 ≡ c
           → refusal_in (cond c (run_by refusal machine turned told (machine (turned m a b)) (i + 1) s) (told (refusal (turned m a b)) i m)) ≡ 0
           → (x : Entry) → reading a b ≡ x → stops_at i x (search_by reading (i + 1) s) ≡ AllRead
-      go more false t z x e = absurd (eqb_false _ 0 t (sym (refusal_is (refusal (turned m a b)) i m) ∙ z))
-      go more true t z Unreadable e = absurd (omega (arith, eqb_true (refusal (turned m a b)) 0 t, nine m a b e))
+      go more false t z x e = absurd (eqb-false _ 0 t (sym (refusal_is (refusal (turned m a b)) i m) ∙ z))
+      go more true t z Unreadable e = absurd (omega (arith, eqb-true (refusal (turned m a b)) 0 t, nine m a b e))
       go more true t z (Asks w o) e = more z
 
   module _ (broken : M → Bool) where

@@ -5,7 +5,7 @@ use mathlib.Core.Bool.{Bool, true, false}
 use mathlib.Core.List.{List, [], ◌∷◌, ◌++◌, append_assoc, append-nil}
 use native.Mathlib.Omega.{arith}
 use lib.ListN.{length}
-use borrow.Author.Tests.{eq_eqb, eqb_true, eqb_false}
+use borrow.Author.Tests.{eq-eqb, eqb-true, eqb-false}
 use Rattle.queue_entries.specs.declared.Entry.{Entry}
 use Rattle.queue_entries.specs.Entries.{entry_of}
 use Rattle.queue_entries.specs.Schedules.{history_by}
@@ -66,7 +66,7 @@ module _ {M D R E : Type 0} (q : Queue M D R) (acts : M → Entry → M → List
                 ∙ ap (λ (x : R). history_in m (a ∷ b ∷ s) ++ history_in (q.machine_in x) t) (sym r);
           }
       go more false e =
-          absurd (eqb_false _ 0 e (sym (q.refusal_is (q.refusal (q.turn m a b)) i m) ∙ ap q.refusal_in (sym (run_halt q m i a b s e)) ∙ z))
+          absurd (eqb-false _ 0 e (sym (q.refusal_is (q.refusal (q.turn m a b)) i m) ∙ ap q.refusal_in (sym (run_halt q m i a b s e)) ∙ z))
 
   -- Each entry that is accepted is one turn more, on the machine and on the history.
   pub one_more : (s : List ℕ) (m : M) (a b : ℕ) → length s % 2 ≡ 0 → q.refusal_in (run_in q m 0 s) ≡ 0
@@ -76,7 +76,7 @@ module _ {M D R E : Type 0} (q : Queue M D R) (acts : M → Entry → M → List
   one_more s m a b even z e =
       let o = onward s (a ∷ b ∷ []) m 0 even z in
       let at = q.machine_in (run_in q m 0 s) in
-      let t = eq_eqb _ 0 e in (
+      let t = eq-eqb _ 0 e in (
         ap q.machine_in (o.run ∙ run_on q at _ a b [] t ∙ run_none q (next at a b) _) ∙ q.machine_is 0 _ _,
         o.acts_too ∙ ap (λ (l : List E). history_in m s ++ l)
             (history_on at a b [] t ∙ ap (λ (l : List E). acts_at at a b ++ l) (history_none (next at a b)) ∙ append-nil (acts_at at a b)),
@@ -116,7 +116,7 @@ module _ {M D R E : Type 0} (q : Queue M D R) (acts : M → Entry → M → List
             subst (λ (x : R). P (q.machine_in x) (h ++ history_in m (a ∷ b ∷ s))) (sym (run_on q m i a b s e))
             (subst (P (q.machine_in (run_in q (next m a b) (i + 1) s)))
             (append_assoc h (acts_at m a b) (history_in (next m a b) s) ∙ ap (λ (l : List E). h ++ l) (sym (history_on m a b s e)))
-            (more (onwards a b s m h i e each) (step m h a b p (here (a ∷ b ∷ s) m h i each) (eqb_true _ 0 e))))
+            (more (onwards a b s m h i e each) (step m h a b p (here (a ∷ b ∷ s) m h i each) (eqb-true _ 0 e))))
         go more false e =
             stopped m h _ _ p (ap q.machine_in (run_halt q m i a b s e) ∙ q.machine_is _ i m) (history_halt m a b s e)
 

@@ -4,7 +4,7 @@ use mathlib.Core.Path.{◌≡◌, sym, ap, ◌∙◌}
 use mathlib.Core.List.{List, [], ◌∷◌}
 use native.Mathlib.Omega.{arith}
 use lib.ListN.{get_or, length, drop, drop_of_length-le}
-use borrow.Author.Tests.{ne_eqb, eq_eqb}
+use borrow.Author.Tests.{ne_eqb, eq-eqb}
 use Rattle.queue_entries.proofs.Searching.{two_words}
 use Rattle.queue_schedules.proofs.Schedules.{Queue, run_in, run_none, run_on, run_halt}
 
@@ -31,4 +31,4 @@ module _ {M D R : Type 0} (q : Queue M D R) (s : List ℕ) (n i : ℕ) (m : M) (
         → run_in q next (i + 1) (drop (2 * (i + 1)) s) ≡ whole
     loop_goes next e g =
         ap (λ (x : M). run_in q x (i + 1) (drop (2 * (i + 1)) s)) (sym g)
-        ∙ sym (run_on q m i first second _ (eq_eqb _ 0 e)) ∙ whole_from
+        ∙ sym (run_on q m i first second _ (eq-eqb _ 0 e)) ∙ whole_from

@@ -7,7 +7,7 @@ use native.Mathlib.Omega.{arith}
 use native.Mathlib.Decide.{dec_lt}
 use lib.Dec.{eqb}
 use lib.ListN.{length, take, length-take}
-use borrow.Author.Tests.{ne_eqb, eq_eqb, eqb_true, eqb_false}
+use borrow.Author.Tests.{ne_eqb, eq-eqb, eqb-true, eqb-false}
 use Rattle.queue_entries.specs.declared.Entry.{Entry}
 use Rattle.queue_entries.specs.declared.Entry.TheVariants.{Unreadable}
 use Rattle.queue_entries.specs.declared.Finding.{Finding}
@@ -156,7 +156,7 @@ module _ {M D R : Type 0} (q : Queue M D R) where
       module _ (e : broken m ≡ false) where
         pub schedule_odd : length s % 2 ≡ 1 → schedule_in m s ≡ q.ran 11 0 m
         unfolding schedule_by
-        schedule_odd o = simp (e, eq_eqb _ _ o)
+        schedule_odd o = simp (e, eq-eqb _ _ o)
 
         module _ (o : length s % 2 ≡ 1 → ⊥) where
           schedule_searched : (f : Finding) → search_by q.reading 0 s ≡ f → schedule_in m s ≡ searched q.refusal q.machine q.turn q.ran m s f
@@ -264,10 +264,10 @@ module _ {M D R : Type 0} (q : Queue M D R) where
         go : (c : Bool) → taken m a b ≡ c → One (run_in m 0 (a ∷ b ∷ []))
         go true t =
             let w = run_on m 0 a b [] t ∙ run_none (next m a b) (0 + 1) in
-            (ap q.refusal_in w ∙ q.refusal_is 0 _ _ ∙ sym (eqb_true _ 0 t), ap q.machine_in w ∙ q.machine_is 0 _ _)
+            (ap q.refusal_in w ∙ q.refusal_is 0 _ _ ∙ sym (eqb-true _ 0 t), ap q.machine_in w ∙ q.machine_is 0 _ _)
         go false t =
             let w = run_halt m 0 a b [] t in
-            (ap q.refusal_in w ∙ q.refusal_is _ 0 m, ap q.machine_in w ∙ q.machine_is _ 0 m ∙ sym (q.kept m a b (eqb_false _ 0 t)))
+            (ap q.refusal_in w ∙ q.refusal_is _ 0 m, ap q.machine_in w ∙ q.machine_is _ 0 m ∙ sym (q.kept m a b (eqb-false _ 0 t)))
 
         find : (f : Finding) → search_by q.reading 0 (a ∷ b ∷ []) ≡ f → One (schedule_in m (a ∷ b ∷ []))
         find AllRead h = subst One (sym (schedule_none m (a ∷ b ∷ []) e (λ z. omega arith) h)) (go (taken m a b) refl)

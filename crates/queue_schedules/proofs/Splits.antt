@@ -3,7 +3,7 @@ use Prim.Native.Nat.{ℕ, zero, suc, ◌+◌, ◌<◌}
 use mathlib.Core.Path.{◌≡◌, refl, sym, ap, ◌∙◌, subst}
 use mathlib.Core.List.{List, [], ◌∷◌, ◌++◌, append_assoc}
 use native.Mathlib.Omega.{arith}
-use lib.ListN.{length, length_append}
+use lib.ListN.{length, length-append}
 
 -- ---- lists that are equal have equal parts
 module _ {A : Type 0} (d : A) where
@@ -55,7 +55,7 @@ at_lower xs a ys us b vs e l = go (order xs a ys us b vs e)
     go : Order xs a ys us b vs → (zs : List _) × (us ≡ xs ++ a ∷ zs) × (ys ≡ zs ++ b ∷ vs)
     go (earlier zs p q) = (zs, p, q)
     go (same p q r) = absurd (omega (arith, ap length p))
-    go (later zs p q) = absurd (omega (arith, ap length p, length_append us (b ∷ zs)))
+    go (later zs p q) = absurd (omega (arith, ap length p, length-append us (b ∷ zs)))
 
 -- ---- one element more
 pub one_more : {A : Type 0} (h : List A) (e : A) (xs ys : List A) (a : A) → h ++ e ∷ [] ≡ xs ++ a ∷ ys

@@ -5,7 +5,7 @@ use mathlib.Core.List.{List, [], ◌∷◌, ◌++◌, append-nil, append_assoc}
 use native.Mathlib.Nat.{suc-add, add_assoc}
 use native.Mathlib.Numerals.{add-one}
 use native.Mathlib.Omega.{arith}
-use lib.ListN.{length, take, drop, get_or, set, length_append, drop_of_length-le}
+use lib.ListN.{length, take, drop, get_or, set, length-append, drop_of_length-le}
 use lib.Seq.{sets, set_out, drop-cons, get_or-take, length-take-le}
 use Rattle.queue_walks.specs.declared.Walked.{Walked}
 use Rattle.queue_walks.specs.Walks.{after}
@@ -20,7 +20,7 @@ sets_out l k (b ∷ bytes) h = ap (λ (x : List ℕ). sets x (suc k) bytes) (set
 module _ (path : List ℕ) (n : ℕ) (few : n ≤ length path) where
   one_byte_more : length (bytes_of (take n path ∷ [])) ≡ 1 + n
   unfolding bytes_of
-  one_byte_more = omega (arith, simp length_append at (ap length (append-nil (take n path))), length_append (take n path) [], length-take-le n path few)
+  one_byte_more = omega (arith, simp length-append at (ap length (append-nil (take n path))), length-append (take n path) [], length-take-le n path few)
 
   pub one_first : (out : List ℕ) (k : ℕ) → sets (set out k n) (k + 1) (take n path) ≡ sets out k (bytes_of (take n path ∷ []))
   unfolding bytes_of
@@ -68,8 +68,8 @@ sets_append out k (x ∷ a) b = sets_append (set out k x) (suc k) a b ∙ ap (λ
 counted_append : (r : Walked) (a b : List (List ℕ)) → counted r (a ++ b) ≡ counted (counted r a) b
 unfolding counted
 counted_append r a b =
-    ap (λ (k : ℕ). walked k (r.bytes + length (bytes_of (a ++ b)))) (omega (arith, length_append a b))
-    ∙ ap (walked (r.sequences + length a + length b)) (omega (arith, ap length (bytes_append a b), length_append (bytes_of a) (bytes_of b)))
+    ap (λ (k : ℕ). walked k (r.bytes + length (bytes_of (a ++ b)))) (omega (arith, length-append a b))
+    ∙ ap (walked (r.sequences + length a + length b)) (omega (arith, ap length (bytes_append a b), length-append (bytes_of a) (bytes_of b)))
 
 -- Told so far, r in out, with a rest to come, it will be as if the whole were told from r₀ in out₀ on.
 pub record Ahead (r₀ : Walked) (out₀ : List ℕ) (whole : List (List ℕ)) (r : Walked) (out : List ℕ) (rest : List (List ℕ)) : Type 0 where
@@ -89,8 +89,8 @@ module _ (r₀ : Walked) (out₀ : List ℕ) (whole : List (List ℕ)) where
     module _ (a b : List (List ℕ)) (h : Ahead r₀ out₀ whole r out (a ++ b)) where
       pub ahead_first : Room r a
       ahead_first = record {
-        sequences = omega (arith, h.room.sequences, length_append a b);
-        bytes = omega (arith, h.room.bytes, ap length (bytes_append a b), length_append (bytes_of a) (bytes_of b));
+        sequences = omega (arith, h.room.sequences, length-append a b);
+        bytes = omega (arith, h.room.bytes, ap length (bytes_append a b), length-append (bytes_of a) (bytes_of b));
       }
 
       pub ahead_next : (r' : Walked) (out' : List ℕ) → r' ≡ counted r a → out' ≡ sets out r.bytes (bytes_of a) → Ahead r₀ out₀ whole r' out' b
@@ -104,7 +104,7 @@ module _ (r₀ : Walked) (out₀ : List ℕ) (whole : List (List ℕ)) where
             numbers = sym (counted_append r a b) ∙ h.numbers;
             bytes = sym (ap (sets out r.bytes) (bytes_append a b) ∙ sets_append out r.bytes (bytes_of a) (bytes_of b)) ∙ h.bytes;
             room = record {
-              sequences = omega (arith, h.room.sequences, length_append a b);
-              bytes = omega (arith, h.room.bytes, ap length (bytes_append a b), length_append (bytes_of a) (bytes_of b));
+              sequences = omega (arith, h.room.sequences, length-append a b);
+              bytes = omega (arith, h.room.bytes, ap length (bytes_append a b), length-append (bytes_of a) (bytes_of b));
             };
           }

@@ -8,7 +8,7 @@ use mathlib.Core.Logic.{◌⊎◌, inl, inr}
 use native.Mathlib.Omega.{arith}
 use native.Mathlib.Decide.{dec_lt}
 use lib.Dec.{eqb}
-use borrow.Author.Tests.{eq_eqb, eqb_true}
+use borrow.Author.Tests.{eq-eqb, eqb-true}
 use Rattle.queue_walks.specs.Walks.{act_byte, after, in_turn, choice_by, walk_by}
 use Rattle.queue_walks.specs.Meaning.{Goes, none_left, all_idle_lem, goes_on, Before, lower, sooner, further, InOrder}
 
@@ -105,13 +105,13 @@ module _ {M D : Type 0} (refusal : D → ℕ) (machine : D → M) (turn : M → 
     where
       go : (b : Bool) → eqb (refusal (turn m (16 * w + code) 0)) 0 ≡ b
           → Memᴰ s (cond b (after (act_byte code w ∷ []) (walk_by refusal machine turn workers idle left (machine (turn m (16 * w + code) 0)))) []) → Taken left m w code s
-      go true e x = record { ok = eqb_true _ 0 e; begins = after_out _ _ s x }
+      go true e x = record { ok = eqb-true _ 0 e; begins = after_out _ _ s x }
       go false e x = absurd (Memᴰ.not-nil x)
 
   choice_in : (left : ℕ) (m : M) (w code : ℕ) (s : List ℕ) → refusal (turn m (16 * w + code) 0) ≡ 0 → Memᴰ s (walk left (after_act m w code))
       → Memᴰ (act_byte code w ∷ s) (choice left m w code)
   unfolding choice choice_by walk after_act
-  choice_in left m w code s ok x = rw (eq_eqb _ 0 ok) (after_in (act_byte code w ∷ []) _ s x)
+  choice_in left m w code s ok x = rw (eq-eqb _ 0 ok) (after_in (act_byte code w ∷ []) _ s x)
 
   -- what is listed goes so
   sound_step : (left : ℕ) (m : M) (s : List ℕ) → ((next : M) (t : List ℕ) → Memᴰ t (walk left next) → Going left next t)

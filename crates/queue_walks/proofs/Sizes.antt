@@ -5,7 +5,7 @@ use mathlib.Core.Bool.{Bool, true, false, cond}
 use mathlib.Core.List.{List, [], ◌∷◌, ◌++◌}
 use native.Mathlib.Omega.{arith}
 use lib.Dec.{eqb}
-use lib.ListN.{length, length_append}
+use lib.ListN.{length, length-append}
 use Rattle.queue_walks.specs.Walks.{walkers_most, act_byte, after, in_turn, choice_by, walk_by}
 use Rattle.queue_walks.specs.Listed.{bytes_of}
 use Rattle.queue_walks.proofs.Listing.{bytes_append}
@@ -33,8 +33,8 @@ small_one a b h g = record { sequences = h; bytes = g }
 
 small_append : (a b c d : ℕ) (x y : List (List ℕ)) → Small a b x → Small c d y → Small (a + c) (b + d) (x ++ y)
 small_append a b c d x y h g = record {
-  sequences = omega (arith, h.sequences, g.sequences, length_append x y);
-  bytes = omega (arith, h.bytes, g.bytes, ap length (bytes_append x y), length_append (bytes_of x) (bytes_of y));
+  sequences = omega (arith, h.sequences, g.sequences, length-append x y);
+  bytes = omega (arith, h.bytes, g.bytes, ap length (bytes_append x y), length-append (bytes_of x) (bytes_of y));
 }
 
 after_length : (act : ℕ) (x : List (List ℕ)) → (length (after (act ∷ []) x) ≡ length x) × (length (bytes_of (after (act ∷ []) x)) ≡ length (bytes_of x) + length x)
@@ -42,7 +42,7 @@ unfolding after bytes_of
 after_length act [] = (refl, refl)
 after_length act (s ∷ x) =
     let h = after_length act x in
-    (ap suc h.0, omega (arith, h.1, length_append s (bytes_of (after (act ∷ []) x)), length_append s (bytes_of x)))
+    (ap suc h.0, omega (arith, h.1, length-append s (bytes_of (after (act ∷ []) x)), length-append s (bytes_of x)))
 
 small_after : (a b act : ℕ) (x : List (List ℕ)) → Small a b x → Small a (b + a) (after (act ∷ []) x)
 small_after a b act x h = record { sequences = omega (arith, h.sequences, (after_length act x).0); bytes = omega (arith, h.sequences, h.bytes, (after_length act x).1) }

@@ -1,4 +1,6 @@
 // How a walk over any queue's machine is told: its numbers, and its bytes in a lent buffer. What it lists is said in specs/Walks.antt.
+#![tactic(auto)]
+
 ghost use Rattle.std.specs.Prelude.{◌≡◌, [], ◌∷◌, ◌+◌, ◌^◌, ◌<◌, ◌≤◌, set, take};
 ghost use Rattle.std.proofs.lemmas.List.Edits.{sets};
 ghost use Rattle.queue_walks.specs.Walks.{depth_most};
@@ -10,7 +12,7 @@ pub const WALKERS: u64 = 3;
 pub const DEPTH: usize = 12;
 
 // How many sequences, in how many bytes.
-#[derive(Drop)]
+#[derive(Clone, Copy)]
 pub struct Walked {
     pub sequences: u64,
     pub bytes: usize,

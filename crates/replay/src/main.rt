@@ -1,4 +1,6 @@
 // Runs a schedule, from a file or from standard input, entry by entry, and writes what the machine holds after each.
+#![tactic(auto)]
+
 mod many;
 mod queue;
 

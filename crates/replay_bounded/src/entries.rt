@@ -12,7 +12,7 @@ use replay_options::Options;
 use replay_survey::pieces::Run;
 
 // How far the run is, and what is counted along it.
-#[derive(Drop)]
+#[derive(Clone, Copy)]
 pub struct Going {
     pub run: Run,
     pub summary: Summary,

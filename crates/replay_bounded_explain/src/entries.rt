@@ -12,7 +12,7 @@ use replay_bounded_explain_lines::{lines, notes};
 use replay_survey::pieces::Run;
 
 // How far the run is, what is counted along it, and what is kept of every worker to name causes.
-#[derive(Drop)]
+#[derive(Clone, Copy)]
 pub struct Going {
     pub run: Run,
     pub counts: Counts,

@@ -7,7 +7,7 @@ use bounded_text_explain::acts::{Claims, Entered};
 use text_explain::columns;
 
 // What is asked.
-#[derive(Drop)]
+#[derive(Clone, Copy)]
 pub struct Asked {
     pub edition: u64,
     // head, tail and stamps have sixteen bits, and not 64

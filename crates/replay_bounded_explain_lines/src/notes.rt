@@ -7,7 +7,7 @@ use bounded_places::{Loss, Moved, Place};
 use bounded_text_explain::acts::Entered;
 use bounded_words::Claim;
 
-#[derive(Drop)]
+#[derive(Clone, Copy)]
 pub struct Counts {
     pub tally: Tally,
     pub differed: u64,

@@ -3,7 +3,7 @@ use crate::Entered;
 use bounded_causes::{Causes, Watches};
 use bounded_places::Loss;
 
-#[derive(Drop)]
+#[derive(Clone, Copy)]
 pub struct Because {
     pub watches: Watches,
     // the entry just run is an act that goes back, and why

@@ -1,4 +1,6 @@
 // What replay writes of the ring's entries: the line of each, and counts along the run. Ring and records are words, as a host has them (crate bounded_rows).
+#![tactic(auto)]
+
 use crate::because::Because;
 use crate::moments::Answers;
 use crate::summary::Summary;
@@ -10,7 +12,7 @@ pub mod summary;
 
 // One entry that was run: its place, its two words, the number of its refusal, how many workers there are, and the words of the ring but for its slots
 // and of its worker's record, before it and after it.
-#[derive(Drop)]
+#[derive(Clone, Copy)]
 pub struct Entered {
     pub place: u64,
     pub first: u64,

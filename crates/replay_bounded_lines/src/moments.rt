@@ -3,13 +3,13 @@ use crate::Entered;
 use bounded_moments::{Moment, Moments};
 
 // Of the entry just run: it is an act that ends its call, and the moment of the answer.
-#[derive(Drop)]
+#[derive(Clone, Copy)]
 pub struct Ended {
     pub ends: bool,
     pub moment: Moment,
 }
 
-#[derive(Drop)]
+#[derive(Clone, Copy)]
 pub struct Answers {
     pub moments: Moments,
     pub latest: Ended,
@@ -92,7 +92,7 @@ pub fn after(a: Answers, e: Entered, narrow: bool) -> Answers {
 }
 
 // A row of the texts of moments, and its number.
-#[derive(Drop)]
+#[derive(Clone, Copy)]
 struct Row {
     row: usize,
     place: u64,

@@ -4,7 +4,7 @@ use bounded_machine::Tally;
 use bounded_places::Place;
 use bounded_words::Claim;
 
-#[derive(Drop)]
+#[derive(Clone, Copy)]
 pub struct Summary {
     pub entries: u64,
     pub acts: u64,

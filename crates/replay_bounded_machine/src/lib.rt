@@ -1,4 +1,6 @@
 // All entries of a list at once, by the one loop over a machine (crate bounded_runs), which is read out of the words before it and stored as words after it.
+#![tactic(auto)]
+
 use bounded_machine::{Machine, Ring};
 use bounded_orders::Metered;
 use bounded_places::Worker;

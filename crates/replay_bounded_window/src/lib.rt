@@ -1,4 +1,6 @@
 // Whether a run of sixteen bits keeps the window (`InWindow` of bounded_demands; docs/PROMISES.md#sixteen-bit-stamps), counted along it.
+#![tactic(auto)]
+
 use bounded_machine::Tally;
 use bounded_words::Claim;
 

@@ -19,7 +19,7 @@ pub const FAILED: u64 = 7;
 pub const REFUSED: u64 = 8;
 
 // Where a reading stands: the numbers of the last piece, and what ended it.
-#[derive(Drop)]
+#[derive(Clone, Copy)]
 pub struct Reading {
     // of a text, with the offset of the next byte
     pub scan: Scan,
@@ -277,7 +277,7 @@ pub fn tells_on(event: u64, refusal: u64, at: usize) -> bool {
 }
 
 // Bytes that are read for their sum alone: where the next ones stand, and what ended it.
-#[derive(Drop)]
+#[derive(Clone, Copy)]
 struct Rest {
     sum: Sum,
     offset: u64,

@@ -3,7 +3,7 @@
 
 // How far the search for TMPDIR is: how many bytes of its name stand at the start of the variable at hand (MET: all, and its value follows; OTHER: it
 // is another), and how many bytes its value has.
-#[derive(Drop)]
+#[derive(Clone, Copy)]
 struct Look {
     met: usize,
     found: bool,
@@ -70,7 +70,7 @@ fn with_bytes(before: Look, bytes: &[u8], folder: &mut [u8]) -> Look {
 }
 
 // Whether there is more of it.
-#[derive(Drop)]
+#[derive(Clone, Copy)]
 struct Part {
     look: Look,
     more: bool,

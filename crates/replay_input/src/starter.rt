@@ -5,7 +5,7 @@
 pub const FILENO: u64 = 3;
 
 // Who asks: the process that started this one, and on which descriptor; 0: nobody.
-#[derive(Drop)]
+#[derive(Clone, Copy)]
 pub struct Starter {
     pub process: i32,
     pub descriptor: i32,

@@ -1,4 +1,6 @@
 // Schedules one after another: where the next begins, where the text to be written goes on, and a program's status.
+#![tactic(auto)]
+
 use replay_survey::Survey;
 use text_sums::Sum;
 
@@ -19,7 +21,7 @@ pub fn status_of(program: &[u8], status: u8, whole: bool) -> u8 {
     }
 }
 
-#[derive(Drop)]
+#[derive(Clone, Copy)]
 pub struct Next {
     pub more: bool,
     pub offset: u64,

@@ -1,4 +1,6 @@
 // The arguments of replay.
+#![tactic(auto)]
+
 use text_options::{Arguments, MOST};
 
 // The queues that replay knows, as --queue has them.
@@ -49,7 +51,7 @@ const VERSION: usize = 18;
 
 const TELLS_ON: usize = 19;
 
-#[derive(Drop)]
+#[derive(Clone, Copy)]
 pub struct Options {
     pub queue: u64,
     // handed to making as it stands

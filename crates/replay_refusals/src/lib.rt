@@ -1,5 +1,7 @@
 // A refused entry, on standard error: where it was written, and why it is refused. The schedule is looked through once more for it: first piece by piece, to the
 // piece that has the entry, then byte by byte, to its line.
+#![tactic(auto)]
+
 use replay_input::source::Reading;
 use replay_survey::Whole;
 
@@ -13,7 +15,7 @@ const BEGUN: usize = 64;
 const NOTES: usize = 128;
 
 // Where a look stands: so many pairs of numbers were read, of which the first makes the machine.
-#[derive(Drop)]
+#[derive(Clone, Copy)]
 struct Look {
     reading: Reading,
     pairs: u64,

@@ -8,7 +8,7 @@ use single_machine::Machine;
 use single_places::Place;
 
 // The machine, how far its run is, and what is counted along it.
-#[derive(Drop)]
+#[derive(Clone, Copy)]
 pub struct Going {
     pub machine: Machine,
     pub run: Run,
@@ -16,7 +16,7 @@ pub struct Going {
 }
 
 // What is asked: a line for each entry or not, counts or not, whether more schedules follow.
-#[derive(Drop)]
+#[derive(Clone, Copy)]
 pub struct Asked {
     pub quiet: bool,
     pub summary: bool,

@@ -2,7 +2,7 @@
 use single_places::Place;
 use single_text::code::Coded;
 
-#[derive(Drop)]
+#[derive(Clone, Copy)]
 pub struct Summary {
     pub entries: u64,
     pub acts: u64,

@@ -1,4 +1,6 @@
 // A schedule read once before it is run: whether every number is one, how many there are, and the first entry that can't be read. Then it is read piece by piece.
+#![tactic(auto)]
+
 pub mod answers;
 pub mod pieces;
 
@@ -6,7 +8,7 @@ use queue_entries::Finding;
 use replay_input::source::Reading;
 use text_sums::Sum;
 
-#[derive(Drop)]
+#[derive(Clone, Copy)]
 pub struct Survey {
     pub reading: Reading,
     // the code of a call that the queue has not; 16: it has all
@@ -23,7 +25,7 @@ pub struct Survey {
 }
 
 // Of a whole schedule: what is refused of it on a machine that is not broken, 11, or 9 with its place, 0 is nothing; and of what its machine is made.
-#[derive(Drop)]
+#[derive(Clone, Copy)]
 pub struct Whole {
     pub refusal: u64,
     pub place: u64,
@@ -32,7 +34,7 @@ pub struct Whole {
 }
 
 // A schedule that was run: where the text to be written goes on, and whether it was refused; by which number, and at which place; what each worker answered last.
-#[derive(Drop)]
+#[derive(Clone, Copy)]
 pub struct Played {
     pub at: usize,
     pub refused: bool,

@@ -3,7 +3,7 @@ use crate::{Played, Whole};
 use replay_input::source::Reading;
 
 // Where the reading stands, and the entries of the piece that was read last.
-#[derive(Drop)]
+#[derive(Clone, Copy)]
 pub struct Pieces {
     pub reading: Reading,
     // the pair that makes the machine was read
@@ -58,7 +58,7 @@ pub fn entries(p: Pieces, list: &[u64]) -> &[u64] {
 }
 
 // How far a run is.
-#[derive(Drop)]
+#[derive(Clone, Copy)]
 pub struct Run {
     // entries accepted so far: the place of the next one
     pub place: u64,

@@ -6,7 +6,7 @@ use replay_survey::{Played, Whole};
 use unbounded_machine::Machine;
 
 // The machine, and how far its run is.
-#[derive(Drop)]
+#[derive(Clone, Copy)]
 pub struct Going {
     pub machine: Machine,
     pub run: Run,

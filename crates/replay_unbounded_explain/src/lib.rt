@@ -1,4 +1,6 @@
 // A run of the unbounded queue in plain words: entry by entry, and what stands at the end.
+#![tactic(auto)]
+
 pub mod ends;
 
 use replay_input::source::Reading;
@@ -9,7 +11,7 @@ use unbounded_text_explain::notes::Notes;
 use unbounded_text_explain::{Entered, Seen, notes};
 
 // What is asked: whether more schedules follow, colours, and of all lines only those of one item's life.
-#[derive(Drop)]
+#[derive(Clone, Copy)]
 pub struct Asked {
     pub many: bool,
     pub colours: bool,
@@ -18,7 +20,7 @@ pub struct Asked {
 }
 
 // The machine, how far its run is, and what was noted along it.
-#[derive(Drop)]
+#[derive(Clone, Copy)]
 pub struct Going {
     pub machine: Machine,
     pub run: Run,

@@ -1,9 +1,11 @@
 // A schedule, a text or a tape, read piece by piece and told in words.
+#![tactic(auto)]
+
 use replay_input::source::Reading;
 use text_words::writing::Row;
 
 // How far it is: where the text to be written goes on, the acts that are not written yet, and whether capacity and workers are.
-#[derive(Drop)]
+#[derive(Clone, Copy)]
 struct Told {
     at: usize,
     row: Row,
@@ -76,7 +78,7 @@ fn with_owed(t: Told, r: Reading, out: &mut [u8]) -> Told {
 }
 
 // A reading, and what is told of it.
-#[derive(Drop)]
+#[derive(Clone, Copy)]
 struct Going {
     reading: Reading,
     told: Told,

@@ -1,4 +1,6 @@
 // The public face of the one-slot queue: what a user calls. Each function takes anything and answers, or refuses with document 01's number.
+#![tactic(auto)]
+
 ghost use Rattle.std.specs.Prelude.{◌≡◌, length};
 ghost use Rattle.queue_entries.specs.Told.{told};
 ghost use Rattle.single_machine.specs.Broken.{broken_of};

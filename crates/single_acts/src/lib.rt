@@ -1,5 +1,7 @@
 // One act: the action of src/single.rs at a worker's place, with the local decisions up to the next.
 // One function for each place, and which is taken where: specs/Acts.antt has them beside the source's lines.
+#![tactic(auto)]
+
 ghost use Rattle.std.specs.Prelude.{◌≡◌};
 ghost use Rattle.single_words.specs.Words.{taken_of, closed_of_word};
 ghost use Rattle.single_acts.specs.Acts.{goes, state_to, value_to, exchanged, unlocked_in, len_of, act_a1, act_a2, act_a3, act_b1, act_b2, act_b3, act_b4, act_b5, act_c1, act_c2, act_c3, act_len1, act_empty1, act_full1, act_close1, act_is_closed1};
@@ -8,7 +10,7 @@ use single_places::{Answer, Place, Single};
 use single_words::State;
 
 // What an act leaves: the queue, and the place its worker goes to.
-#[derive(Drop)]
+#[derive(Clone, Copy)]
 pub struct Acted {
     pub single: Single,
     pub place: Place,

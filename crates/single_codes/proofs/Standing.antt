@@ -3,7 +3,7 @@ use Prim.Native.Nat.{ℕ}
 use mathlib.Core.Path.{◌≡◌, refl, sym, ap, ◌∙◌}
 use mathlib.Core.Bool.{Bool, true, false}
 use lib.Dec.{eqb}
-use borrow.Author.Tests.{eq_eqb, ne_eqb, eqb_true}
+use borrow.Author.Tests.{eq-eqb, ne_eqb, eqb-true}
 use Rattle.queue_entries.proofs.Pick.{both_left, both_right}
 use Rattle.single_places.specs.declared.Place.{Place}
 use Rattle.single_codes.specs.declared.Coded.{Coded}
@@ -16,7 +16,7 @@ unfolding stands_for
 written_stands p = ap (λ (q : Place). same_as (code_of q) (code_of p).code (code_of p).first (code_of p).second) (read_back p) ∙ itself (code_of p)
   where
     itself : (x : Coded) → same_as x x.code x.first x.second ≡ true
-    itself x = rw (eq_eqb x.code x.code refl, eq_eqb x.first x.first refl, eq_eqb x.second x.second refl) refl
+    itself x = rw (eq-eqb x.code x.code refl, eq-eqb x.first x.first refl, eq-eqb x.second x.second refl) refl
 
 -- and words that stand for a place are its words
 pub written_back : (n a b : ℕ) → stands_for n a b ≡ true → code_of (place_in n a b) ≡ triple n a b
@@ -24,9 +24,9 @@ unfolding stands_for triple
 written_back n a b h =
     let x = code_of (place_in n a b) in
     let rest = both_right (eqb x.code n) _ h in
-    let ec = eqb_true x.code n (both_left (eqb x.code n) _ h) in
-    let ea = eqb_true x.first a (both_left (eqb x.first a) _ rest) in
-    let eb = eqb_true x.second b (both_right (eqb x.first a) _ rest) in
+    let ec = eqb-true x.code n (both_left (eqb x.code n) _ h) in
+    let ea = eqb-true x.first a (both_left (eqb x.first a) _ rest) in
+    let eb = eqb-true x.second b (both_right (eqb x.first a) _ rest) in
     λ i. record { code = ec i; first = ea i; second = eb i }
 
 -- how the code finds it out: the place that they are read as, and its words
@@ -39,7 +39,7 @@ module _ (n a b : ℕ) (p : Place) (x : Coded) (is : p ≡ place_in n a b) (e : 
   other_code h = sym (rw (ne_eqb x.code n h) refl) ∙ asked
 
   pub other_first : x.code ≡ n → (x.first ≡ a → ⊥) → false ≡ stands_for n a b
-  other_first c h = sym (rw (eq_eqb x.code n c, ne_eqb x.first a h) refl) ∙ asked
+  other_first c h = sym (rw (eq-eqb x.code n c, ne_eqb x.first a h) refl) ∙ asked
 
   pub by_second : x.code ≡ n → x.first ≡ a → (r : Bool) → r ≡ eqb x.second b → r ≡ stands_for n a b
-  by_second c f r h = h ∙ sym (rw (eq_eqb x.code n c, eq_eqb x.first a f) refl) ∙ asked
+  by_second c f r h = h ∙ sym (rw (eq-eqb x.code n c, eq-eqb x.first a f) refl) ∙ asked

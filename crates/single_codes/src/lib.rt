@@ -1,11 +1,13 @@
 // A worker's place as three words, its code and the two words that it holds, and back (specs/Codes.antt has the table).
+#![tactic(auto)]
+
 ghost use Rattle.std.specs.Prelude.{◌≡◌};
 ghost use Rattle.single_codes.specs.Codes.{triple, answer_code, code_of, answer_in, held_in, place_in, stands_for};
 
 use single_places::{Answer, Place};
 use single_words::State;
 
-#[derive(Drop)]
+#[derive(Clone, Copy)]
 pub struct Coded {
     pub code: u64,
     pub first: u64,

@@ -5,7 +5,7 @@ use mathlib.Core.Bool.{Bool, true, false, cond}
 use mathlib.Core.List.{List}
 use lib.Dec.{eqb}
 use lib.ListN.{length}
-use borrow.Author.Tests.{eq_eqb, ne_eqb, eqb_true}
+use borrow.Author.Tests.{eq-eqb, ne_eqb, eqb-true}
 use Rattle.queue_entries.specs.declared.Told.{Told}
 use Rattle.queue_entries.specs.declared.Told.TheVariants.{Number, Refused}
 use Rattle.queue_entries.specs.Told.{told}
@@ -94,11 +94,11 @@ module _ (h rs : List ℕ) (b : Bool) (eb : b ≡ shaped (words h rs)) where
   module _ (yes : b ≡ true) where
     pub five_long : length h ≡ 5
     unfolding shaped
-    five_long = eqb_true (length h) 5 (both_left (eqb (length h) 5) _ (sym eb ∙ yes))
+    five_long = eqb-true (length h) 5 (both_left (eqb (length h) 5) _ (sym eb ∙ yes))
 
     pub all_long : length rs ≡ 48
     unfolding shaped
-    all_long = eqb_true (length rs) 48 (both_right (eqb (length h) 5) _ (sym eb ∙ yes))
+    all_long = eqb-true (length rs) 48 (both_right (eqb (length h) 5) _ (sym eb ∙ yes))
 
     module _ (workers : ℕ) (d : Did) (ed : d ≡ make_of workers) where
       asked : cond (eqb d.refusal 0) (after_of d) (after d.refusal (words h rs)) ≡ make_words (words h rs) workers
@@ -113,4 +113,4 @@ module _ (h rs : List ℕ) (b : Bool) (eb : b ≡ shaped (words h rs)) where
       pub made : d.refusal ≡ 0 → (h' rs' : List ℕ) → h' ≡ head_of d.machine → rs' ≡ records_of d.machine.workers → after 0 (words h' rs') ≡ make_words (words h rs) workers
       made zero_is h' rs' eh er =
           (λ i. after (sym zero_is i) (words (eh i) (er i)))
-          ∙ sym (ap (λ (t : Bool). cond t (after_of d) (after d.refusal (words h rs))) (eq_eqb d.refusal 0 zero_is)) ∙ asked
+          ∙ sym (ap (λ (t : Bool). cond t (after_of d) (after d.refusal (words h rs))) (eq-eqb d.refusal 0 zero_is)) ∙ asked

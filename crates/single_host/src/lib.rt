@@ -1,5 +1,7 @@
 // The face of the one-slot queue that a host in C or Rust links (hosts/): the machine is words in its memory, lent for each call as two slices. `specs/Host.antt` says what each function
 // answers; a refused call changes no word.
+#![tactic(auto)]
+
 ghost use Rattle.std.specs.Prelude.{◌≡◌};
 ghost use Rattle.single_rows.specs.Rows.{words};
 ghost use Rattle.single_host.specs.Host.{reply_of, broken_refusal, after, make_words, step_words_of, ended, run_words, listed, contents_words};
@@ -8,7 +10,7 @@ use queue_entries::Told;
 
 // The number of a refusal, 0 where there is none; and what the call is asked for: an entry's place or a count.
 #[repr(C)]
-#[derive(Drop)]
+#[derive(Clone, Copy)]
 pub struct Reply {
     pub refusal: u64,
     pub number: u64,

@@ -5,7 +5,7 @@ use mathlib.Core.Bool.{Bool, true, false, cond, not, true≢false}
 use native.Mathlib.Omega.{arith}
 use lib.Dec.{leb, ltb}
 use lib.ListN.{set}
-use borrow.Author.Tests.{leb-true, le-leb, lt-ltb, eqb_true, eqb_false, not-false}
+use borrow.Author.Tests.{leb-true, le-leb, lt-ltb, eqb-true, eqb-false, not-false}
 use Rattle.queue_entries.specs.Limits.{workers_most, in_limits}
 use Rattle.queue_entries.proofs.Limits.{limit_most}
 use Rattle.queue_entries.specs.declared.Call.{Call}
@@ -63,7 +63,7 @@ Low s = s.state.0 ≤ state_most
 module _ (s : Single) (low : Low s) where
   exchanged_low : (e w : State) → (s.state.0 ≡ e.0 → w.0 ≤ state_most) → Low (exchanged s e w)
   unfolding exchanged state_to same
-  exchanged_low e w h = either Low (same s.state e) (state_to s w) s (λ b. h (eqb_true s.state.0 e.0 b)) (λ b. low)
+  exchanged_low e w h = either Low (same s.state e) (state_to s w) s (λ b. h (eqb-true s.state.0 e.0 b)) (λ b. low)
 
   taken_low : (e : State) → Low (exchanged s e (taken_of e))
   unfolding taken_of
@@ -80,7 +80,7 @@ module _ (s : Single) (low : Low s) where
   unfolding state_to closed_of_word closed_in
   closed_low =
       either (λ (w : State). w.0 ≤ state_most) (closed_in s.state) s.state (state (s.state.0 + 4)) (λ b. low)
-      (λ b. let n = eqb_false (s.state.0 / 4 % 2) 1 b in omega arith)
+      (λ b. let n = eqb-false (s.state.0 / 4 % 2) 1 b in omega arith)
 
   value_low : (v : ℕ) → Low (value_to s v)
   unfolding value_to

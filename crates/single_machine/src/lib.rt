@@ -1,4 +1,6 @@
 // The machine: the one-slot queue, its workers' records and the meter; and what each rule asks of it.
+#![tactic(auto)]
+
 ghost use Rattle.std.specs.Prelude.{◌≡◌};
 ghost use Rattle.single_machine.specs.Machine.{fresh_of, refused, accepted};
 ghost use Rattle.single_machine.specs.Broken.{record_fits, idle_from, broken_of};
@@ -8,7 +10,7 @@ use queue_entries::{Order, Verdict};
 use single_places::{Answer, Place, Single, Worker};
 use single_words::State;
 
-#[derive(Drop)]
+#[derive(Clone, Copy)]
 pub struct Machine {
     pub single: Single,
     pub workers: [Worker; queue_entries::WORKERS],
@@ -19,14 +21,14 @@ pub struct Machine {
 }
 
 // A machine, and the number of the refusal; 0 where it was not refused.
-#[derive(Drop)]
+#[derive(Clone, Copy)]
 pub struct Did {
     pub refusal: u64,
     pub machine: Machine,
 }
 
 // What a schedule reports: the refusal and the entry's place, or 0 and the count of its entries.
-#[derive(Drop)]
+#[derive(Clone, Copy)]
 pub struct Ran {
     pub refusal: u64,
     pub place: u64,
@@ -34,7 +36,7 @@ pub struct Ran {
 }
 
 // One act of a run.
-#[derive(Drop)]
+#[derive(Clone, Copy)]
 pub struct Event {
     pub worker: u64,
     pub before: Place,

@@ -1,4 +1,6 @@
 // Where a worker stands, what it holds, and what a call answers: the places of src/single.rs.
+#![tactic(auto)]
+
 ghost use Rattle.std.specs.Prelude.{◌≡◌, false};
 ghost use Rattle.single_places.specs.Places.{at, view_of, begin_of};
 
@@ -6,14 +8,14 @@ use queue_entries::Call;
 use single_words::State;
 
 // The queue itself: its state word, and the value in its slot.
-#[derive(Drop)]
+#[derive(Clone, Copy)]
 pub struct Single {
     pub state: State,
     pub value: u64,
 }
 
 // What a call answered. Closed and Full hand the caller's item back; PopClosed is pop's Closed.
-#[derive(Drop)]
+#[derive(Clone, Copy)]
 pub enum Answer {
     Nothing,
     Pushed,
@@ -30,7 +32,7 @@ pub enum Answer {
 
 // Where a worker stands: the action that it takes next, of push (A), force_push (B), pop (C) in the source's order, or of a looker. e is
 // the word that an exchange expects; the other numbers are the call's item or the value read.
-#[derive(Drop)]
+#[derive(Clone, Copy)]
 pub enum Place {
     // No call under way: the last answer.
     Idle(Answer),
@@ -61,13 +63,13 @@ pub enum Place {
 }
 
 // The record of a worker.
-#[derive(Drop)]
+#[derive(Clone, Copy)]
 pub struct Worker {
     pub place: Place,
 }
 
 // What every rule asks of a place.
-#[derive(Drop)]
+#[derive(Clone, Copy)]
 pub struct View {
     pub busy: bool,
     // the slot is in its worker's hand: from a won exchange until the word is unlocked

@@ -6,7 +6,7 @@ use mathlib.Core.Bool.{Bool, true, false, cond, true≢false}
 use mathlib.Core.List.{List, [], ◌∷◌}
 use native.Mathlib.Omega.{arith}
 use lib.ListN.{length}
-use borrow.Author.Tests.{eqb_true, eqb_false, eq_eqb, ne_eqb}
+use borrow.Author.Tests.{eqb-true, eqb-false, eq-eqb, ne_eqb}
 use Rattle.queue_entries.specs.declared.Call.{Call}
 use Rattle.queue_entries.specs.declared.Call.TheVariants as call
 use Rattle.queue_entries.specs.declared.Order.TheVariants.{Act}
@@ -81,7 +81,7 @@ module _ (s : Single) where
   -- a word that is not 0
   other_word : same s.state (state 0) ≡ false → s.state.0 ≢ 0
   unfolding same
-  other_word t = eqb_false s.state.0 0 t
+  other_word t = eqb-false s.state.0 0 t
 
   yes_no : (a b : Answer) (t : Bool) → Truth s.state a → Truth s.state b → Truth s.state (cond t a b)
   yes_no a b true p q = p
@@ -119,14 +119,14 @@ module _ (s : Single) where
   module _ (x : ℕ) where
     pub push_won : s.state.0 ≡ 0 → (act_of s (A1 x)).place ≡ A2 x
     unfolding goes same
-    push_won z = rw (eq_eqb s.state.0 0 z)
+    push_won z = rw (eq-eqb s.state.0 0 z)
 
     pub push_won_then : (act_of s (A1 x)).place ≡ A2 x → s.state.0 ≡ 0
     unfolding goes same
     push_won_then e = go (same s.state (state 0)) refl e
       where
         go : (t : Bool) → same s.state (state 0) ≡ t → cond t (A2 x) (cond (closed_in s.state) (Idle (Closed x)) (Idle (Full x))) ≡ A2 x → s.state.0 ≡ 0
-        go true t q = eqb_true s.state.0 0 t
+        go true t q = eqb-true s.state.0 0 t
         go false t q = absurd (idle (closed_in s.state) q)
           where
             idle : (d : Bool) → cond d (Idle (Closed x)) (Idle (Full x)) ≡ A2 x → ⊥

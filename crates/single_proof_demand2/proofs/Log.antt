@@ -5,7 +5,7 @@ use mathlib.Core.Logic.{◌≢◌}
 use mathlib.Core.Bool.{Bool, true, false, cond, true≢false}
 use mathlib.Core.List.{List, [], ◌∷◌, ◌++◌, append_assoc}
 use native.Mathlib.Omega.{arith}
-use lib.ListN.{length, length_append}
+use lib.ListN.{length, length-append}
 use Rattle.single_places.specs.declared.Place.{Place}
 use Rattle.single_places.specs.Places.{view_of}
 use Rattle.single_machine.specs.declared.Event.{Event}
@@ -135,7 +135,7 @@ twice_read : (first second : List Event) (read : Event) (zs : List Event) (v u k
     → Latest first v k → Stands second u k → ⊥
 twice_read first second read zs v u k q r a b =
     let l = b.latest in
-    let long : length first ≡ length a.earlier + length (a.write ∷ a.since) = ap length a.is ∙ length_append a.earlier (a.write ∷ a.since) in
+    let long : length first ≡ length a.earlier + length (a.write ∷ a.since) = ap length a.is ∙ length-append a.earlier (a.write ∷ a.since) in
     let low : length l.earlier < length first = omega (arith, long, a.number, l.number) in
     let t = at_lower l.earlier l.write l.since first read zs (sym l.is ∙ q) low in
     true≢false (sym r ∙ every_in _ l.since t.0 zs read t.2 b.unread)

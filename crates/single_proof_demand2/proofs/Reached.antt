@@ -6,8 +6,8 @@ use mathlib.Core.Bool.{Bool, true, false, cond, true≢false}
 use mathlib.Core.List.{List, [], ◌∷◌, ◌++◌, append-nil}
 use native.Mathlib.Omega.{arith}
 use native.Mathlib.Decide.{dec_lt, ℕ_discrete}
-use lib.ListN.{length, get_or, length-set, length_append, length-replicate}
-use lib.Seq.{get_or-set_same, get_or_set_other}
+use lib.ListN.{length, get_or, length-set, length-append, length-replicate}
+use lib.Seq.{get_or-set_same, get_or-set_other}
 use borrow.Author.Tests.{le-leb, ne_eqb}
 use Rattle.queue_entries.specs.Limits.{workers_most, meter_most, in_limits}
 use Rattle.queue_entries.specs.declared.Call.{Call}
@@ -66,7 +66,7 @@ module _ (m : Machine) (w : ℕ) where
 
   pub begun_else : (q : Place) (v : ℕ) → v ≢ w → stood (begun m w q) v ≡ stood m v
   unfolding begun
-  begun_else q v ne = ap (λ (x : Worker). x.place) (get_or_set_other m.workers w v (record { place = q }) idler ne)
+  begun_else q v ne = ap (λ (x : Worker). x.place) (get_or-set_other m.workers w v (record { place = q }) idler ne)
 
   module _ (p : Place) where
     pub acted_stood : w < length m.workers → stood (acted m w p) w ≡ (act_of m.single p).place
@@ -75,7 +75,7 @@ module _ (m : Machine) (w : ℕ) where
 
     pub acted_else : (v : ℕ) → v ≢ w → stood (acted m w p) v ≡ stood m v
     unfolding acted_by stored
-    acted_else v ne = ap (λ (x : Worker). x.place) (get_or_set_other m.workers w v (record { place = (act_of m.single p).place }) idler ne)
+    acted_else v ne = ap (λ (x : Worker). x.place) (get_or-set_other m.workers w v (record { place = (act_of m.single p).place }) idler ne)
 
     pub acted_single : (acted m w p).single ≡ (act_of m.single p).single
     unfolding acted_by stored
@@ -227,7 +227,7 @@ module _ (workers : ℕ) (m : Machine) (h : List Event) (r : Reached workers m h
         record {
           unbroken = acted_unbroken m r.unbroken w l p;
           team = acted_team m w p ∙ r.team;
-          metered = acted_meter m w p ∙ ap (λ (k : ℕ). k + 1) r.metered ∙ sym (length_append h (event w p q ∷ []));
+          metered = acted_meter m w p ∙ ap (λ (k : ℕ). k + 1) r.metered ∙ sym (length-append h (event w p q ∷ []));
           long = acted_long m w p ∙ r.long;
           expects = at_either Expects next q (acted_stood m w p in_row) (acted_else m w p) expects_next r.expects;
           closed = cond (is_close p) true r.closed;

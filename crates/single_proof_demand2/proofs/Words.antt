@@ -2,7 +2,7 @@
 use Prim.Native.Nat.{ℕ, ◌+◌}
 use mathlib.Core.Path.{◌≡◌, refl, sym, ap, ◌∙◌}
 use mathlib.Core.Bool.{Bool, true, false, cond}
-use borrow.Author.Tests.{eqb_true}
+use borrow.Author.Tests.{eqb-true}
 use Rattle.single_words.specs.declared.State.{State}
 use Rattle.single_words.specs.Words.{state, same, locked_in, pushed_in, closed_in, unlocked, taken_of, closed_of_word}
 
@@ -79,7 +79,7 @@ shut_word false false false = refl
 -- words that are the same have the same bits
 pub same_is : (a b : State) → same a b ≡ true → a ≡ b
 unfolding same
-same_is a b h = ap state (eqb_true a.0 b.0 h)
+same_is a b h = ap state (eqb-true a.0 b.0 h)
 
 module _ (s : State) (l b c : Bool) (e : s ≡ word l b c) where
   pub locked_of : locked_in s ≡ l

@@ -4,7 +4,7 @@ use mathlib.Core.Path.{◌≡◌, refl, sym, ap, ◌∙◌, subst}
 use mathlib.Core.Bool.{Bool, true, false, cond, true≢false}
 use native.Mathlib.Omega.{arith}
 use lib.Dec.{eqb}
-use borrow.Author.Tests.{eq_eqb}
+use borrow.Author.Tests.{eq-eqb}
 use Rattle.queue_schedules.proofs.Schedules.{either}
 use Rattle.single_words.specs.declared.State.{State}
 use Rattle.single_words.specs.Words.{state, same, pushed_in, closed_in, filled, unlocked, taken_of}
@@ -80,7 +80,7 @@ module _ (s : Single) (l b c : Bool) (is : s.state ≡ word l b c) where
   unfolding same
   found_again f =
       let u : unlocked s.state ≡ s.state = ap unlocked is ∙ unlocked_word l b c ∙ sym (is ∙ ap (λ (x : Bool). word x b c) f) in
-      eq_eqb s.state.0 (unlocked s.state).0 (ap (λ (w : State). w.0) (sym u))
+      eq-eqb s.state.0 (unlocked s.state).0 (ap (λ (w : State). w.0) (sym u))
 
   -- an unlocked word that is not 0 and not closed is pushed
   must_be_pushed : l ≡ false → same s.state (state 0) ≡ false → closed_in s.state ≡ false → pushed_in s.state ≡ true
@@ -91,7 +91,7 @@ module _ (s : Single) (l b c : Bool) (is : s.state ≡ word l b c) where
       go true q = refl
       go false q =
           let z : s.state.0 ≡ 0 = ap (λ (w : State). w.0) (is ∙ rw (f, sym (pushed_of s.state l b c is) ∙ q, sym (closed_of s.state l b c is) ∙ d)) in
-          absurd (true≢false (sym (eq_eqb s.state.0 0 z) ∙ t))
+          absurd (true≢false (sym (eq-eqb s.state.0 0 z) ∙ t))
 
   push_alone : (x : ℕ) → l ≡ false → Alone s (A1 x) (act_of s (A1 x))
   unfolding goes state_to exchanged pushed_in closed_in

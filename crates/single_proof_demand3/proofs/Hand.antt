@@ -7,7 +7,7 @@ use mathlib.Core.List.{List, ◌++◌}
 use native.Mathlib.Omega.{arith}
 use native.Mathlib.Decide.{ℕ_discrete}
 use lib.Dec.{eqb}
-use borrow.Author.Tests.{eq_eqb, ne_eqb, eqb_true, eqb_false}
+use borrow.Author.Tests.{eq-eqb, ne_eqb, eqb-true, eqb-false}
 use Rattle.queue_entries.specs.declared.Entry.{Entry}
 use Rattle.queue_entries.specs.Entries.{entry_of}
 use Rattle.queue_schedules.specs.Alone.{act_by}
@@ -101,7 +101,7 @@ module _ (workers w : ℕ) where
           (subst (λ (x : ℕ). After (stood m w) (stood (acted m x (stood m x)) w)) (sym e)
           (subst (After (stood m w)) (sym (acted_stood m w (stood m w) (in_row workers m i.history i.reached w (subst (λ (x : ℕ). x < m.count) e l))))
           (hand_act m.single (stood m w) i.hand)))
-          (rw (eq_eqb v w e))
+          (rw (eq-eqb v w e))
       go (no ne) = stays m next i _ r (cond (eqb v w) 1 0) (acted_else m v (stood m v) w (λ e. ne (sym e))) (rw (ne_eqb v w ne))
 
   each : (m : Machine) (a b : ℕ) → In m → Was single_queue w In Out most m (turn_of m a b).machine (part single_queue w In Out most m a b)
@@ -109,9 +109,9 @@ module _ (workers w : ℕ) where
   each m a b i = go (eqb (turn_of m a b).refusal 0) refl
     where
       go : (c : Bool) → eqb (turn_of m a b).refusal 0 ≡ c → Was single_queue w In Out most m (turn_of m a b).machine (part single_queue w In Out most m a b)
-      go true e = rw e (accepted_was m i (entry_of a b) _ _ (turned m (entry_of a b) (eqb_true _ 0 e)))
+      go true e = rw e (accepted_was m i (entry_of a b) _ _ (turned m (entry_of a b) (eqb-true _ 0 e)))
       go false e =
-          let same = single_queue.kept m a b (eqb_false _ 0 e) in
+          let same = single_queue.kept m a b (eqb-false _ 0 e) in
           rw e (stays m (turn_of m a b).machine i i.history (subst (λ (x : Machine). Reached workers x i.history) (sym same) i.reached) 0 (ap (λ (x : Machine). stood x w) same) refl)
 
   pub lets_go : (s : List ℕ) (m : Machine) (h : List Event) → Reached workers m h → InHand (stood m w)

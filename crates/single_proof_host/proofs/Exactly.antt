@@ -5,7 +5,7 @@ use mathlib.Core.Bool.{Bool, true, false, cond, not, true≢false}
 use mathlib.Core.List.{List, [], ◌∷◌}
 use lib.Dec.{eqb, ltb}
 use lib.ListN.{length}
-use borrow.Author.Tests.{eqb_true}
+use borrow.Author.Tests.{eqb-true}
 use Rattle.queue_entries.specs.Limits.{workers_most, in_limits}
 use Rattle.queue_entries.specs.Entries.{entry_of}
 use Rattle.queue_entries.specs.Told.{told}
@@ -28,7 +28,7 @@ unfolding told
 told_back number value = go (eqb number 0) refl
   where
     go : (b : Bool) → eqb number 0 ≡ b → (reply_of (cond b (Number value) (Refused number))).refusal ≡ number
-    go true h = sym (eqb_true number 0 h)
+    go true h = sym (eqb-true number 0 h)
     go false h = refl
 
 module _ (w : Words) where

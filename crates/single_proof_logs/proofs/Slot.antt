@@ -7,7 +7,7 @@ use mathlib.Core.Logic.{◌≢◌, ◌⊎◌, inl, inr}
 use mathlib.Core.Path.{◌≡◌, refl, sym, ap, ◌∙◌, subst}
 use lib.Dec.{eqb}
 use lib.ListN.{length, take, drop}
-use borrow.Author.Tests.{eqb_true, eqb_false}
+use borrow.Author.Tests.{eqb-true, eqb-false}
 use Rattle.queue_entries.specs.Entries.{entry_of}
 use Rattle.queue_entries.specs.declared.Call.{Call}
 use Rattle.queue_entries.specs.declared.Call.TheVariants as call
@@ -194,24 +194,24 @@ asked_items room q call.IsClosed = (refl, refl)
 
 module _ (room : ℕ) (q : Queue) (one : q.capacity ≡ 1) where
   asked_full : (c : Call) → full_of (asked_of room q c) ≡ true → 1 ≤ length q.items + cond (logs.takes c) 0 room
-  asked_full (call.Push x) h = omega (arith, eqb_true (length q.items) (q.capacity - room) h, one)
-  asked_full (call.ForcePush x) h = omega (arith, eqb_true (length q.items) q.capacity h, one)
-  asked_full call.Pop h = omega (arith, eqb_true (length q.items) q.capacity h, one)
-  asked_full call.Len h = omega (arith, eqb_true (length q.items) q.capacity h, one)
-  asked_full call.IsEmpty h = omega (arith, eqb_true (length q.items) q.capacity h, one)
-  asked_full call.IsFull h = omega (arith, eqb_true (length q.items) q.capacity h, one)
-  asked_full call.Close h = omega (arith, eqb_true (length q.items) q.capacity h, one)
-  asked_full call.IsClosed h = omega (arith, eqb_true (length q.items) q.capacity h, one)
+  asked_full (call.Push x) h = omega (arith, eqb-true (length q.items) (q.capacity - room) h, one)
+  asked_full (call.ForcePush x) h = omega (arith, eqb-true (length q.items) q.capacity h, one)
+  asked_full call.Pop h = omega (arith, eqb-true (length q.items) q.capacity h, one)
+  asked_full call.Len h = omega (arith, eqb-true (length q.items) q.capacity h, one)
+  asked_full call.IsEmpty h = omega (arith, eqb-true (length q.items) q.capacity h, one)
+  asked_full call.IsFull h = omega (arith, eqb-true (length q.items) q.capacity h, one)
+  asked_full call.Close h = omega (arith, eqb-true (length q.items) q.capacity h, one)
+  asked_full call.IsClosed h = omega (arith, eqb-true (length q.items) q.capacity h, one)
 
   asked_room : (c : Call) → length q.items + room ≤ 1 → full_of (asked_of room q c) ≡ false → length q.items ≢ 1
-  asked_room (call.Push x) fits h e = eqb_false (length q.items) (q.capacity - room) h (omega (arith, e, one, fits))
-  asked_room (call.ForcePush x) fits h e = eqb_false (length q.items) q.capacity h (e ∙ sym one)
-  asked_room call.Pop fits h e = eqb_false (length q.items) q.capacity h (e ∙ sym one)
-  asked_room call.Len fits h e = eqb_false (length q.items) q.capacity h (e ∙ sym one)
-  asked_room call.IsEmpty fits h e = eqb_false (length q.items) q.capacity h (e ∙ sym one)
-  asked_room call.IsFull fits h e = eqb_false (length q.items) q.capacity h (e ∙ sym one)
-  asked_room call.Close fits h e = eqb_false (length q.items) q.capacity h (e ∙ sym one)
-  asked_room call.IsClosed fits h e = eqb_false (length q.items) q.capacity h (e ∙ sym one)
+  asked_room (call.Push x) fits h e = eqb-false (length q.items) (q.capacity - room) h (omega (arith, e, one, fits))
+  asked_room (call.ForcePush x) fits h e = eqb-false (length q.items) q.capacity h (e ∙ sym one)
+  asked_room call.Pop fits h e = eqb-false (length q.items) q.capacity h (e ∙ sym one)
+  asked_room call.Len fits h e = eqb-false (length q.items) q.capacity h (e ∙ sym one)
+  asked_room call.IsEmpty fits h e = eqb-false (length q.items) q.capacity h (e ∙ sym one)
+  asked_room call.IsFull fits h e = eqb-false (length q.items) q.capacity h (e ∙ sym one)
+  asked_room call.Close fits h e = eqb-false (length q.items) q.capacity h (e ∙ sym one)
+  asked_room call.IsClosed fits h e = eqb-false (length q.items) q.capacity h (e ∙ sym one)
 
 module _ (st : Story) (e : Event) (x : Answer) (r : Reply) (more : List Reply) (is : reply_of x ≡ r ∷ more) (a : Answered st e x)
     (fits : (n : ℕ) → n ≤ length st → length (queue_at n st).items + room_taken (take n st) ≤ 1) where

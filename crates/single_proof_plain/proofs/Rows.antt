@@ -6,7 +6,7 @@ use mathlib.Core.Bool.{Bool, true, false, cond, true≢false}
 use mathlib.Core.List.{List, [], ◌∷◌, ◌++◌}
 use lib.Dec.{eqb}
 use lib.ListN.{length, take}
-use borrow.Author.Tests.{eq_eqb, ne_eqb}
+use borrow.Author.Tests.{eq-eqb, ne_eqb}
 use Rattle.queue_entries.specs.declared.Call.{Call}
 use Rattle.queue_entries.specs.declared.Call.TheVariants as call
 use Rattle.queue_schedules.proofs.Schedules.{either}
@@ -127,7 +127,7 @@ module _ (st : Story) (s : Single) (l b c : Bool) (sc : Scene st s l b c) (w : �
       (λ t. either (λ (q : Place). Outcome (A1 x) q v) (closed_in s.state) (Idle (Closed x)) (Idle (Full x))
       (λ d. (speaks (A1 x) (Closed x) (plain.Closed x) v refl (call.Push x) (here (A1 x) (Idle (Closed x)) refl refl (call.Push x) (plain.Closed x) o (push_closed asked x (closed_is true d)))))
       (λ d. (speaks (A1 x) (Full x) (plain.Full x) v refl (call.Push x)
-      (here (A1 x) (Idle (Full x)) refl refl (call.Push x) (plain.Full x) o (push_full asked x (closed_is false d) (eq_eqb _ _ (sc.long ∙ taken_up l b (not_zero t d) ∙ sym less)))))))
+      (here (A1 x) (Idle (Full x)) refl refl (call.Push x) (plain.Full x) o (push_full asked x (closed_is false d) (eq-eqb _ _ (sc.long ∙ taken_up l b (not_zero t d) ∙ sym less)))))))
     where
       asked : Queue
       asked = asked_of (room_taken st) q₀ (call.Push x)
@@ -181,7 +181,7 @@ module _ (st : Story) (s : Single) (l b c : Bool) (sc : Scene st s l b c) (w : �
                 subst (Swapping (now (B1 e x) (B4 x)) w x) (sym same-value)
                 (decided_now st (act (B1 e x) (B4 x)) (call.ForcePush x) _ _ (plain.Displaced s.value) refl o
                 (subst (Work (now (B1 e x) (B4 x)) w (call.ForcePush x) (items_of (call.ForcePush x ∷ []))) (ap (take 1) items) done)
-                (force_full q₀ x s.value [] (closed_is false d) (eq_eqb _ _ (one_waits (pushed_is true y) ∙ sym room_is)) items));
+                (force_full q₀ x s.value [] (closed_is false d) (eq-eqb _ _ (one_waits (pushed_is true y) ∙ sym room_is)) items));
             said = λ a f. absurd (not_idle (B4 x) refl a f);
             while_open = λ z g. open_now d;
           }
@@ -262,10 +262,10 @@ module _ (st : Story) (s : Single) (l b c : Bool) (sc : Scene st s l b c) (w : �
   row Empty1 busy k o =
       either (λ (a : Answer). Outcome Empty1 (Idle a) s.value) (pushed_in s.state) No Yes
       (λ y. tells Empty1 No plain.No call.IsEmpty _ refl refl refl refl o (ap yes_if (ne_eqb (length q₀.items) 0 (λ g. omega (arith, one_waits (pushed_is true y))))))
-      (λ y. tells Empty1 Yes plain.Yes call.IsEmpty _ refl refl refl refl o (ap yes_if (eq_eqb (length q₀.items) 0 (none_waits (pushed_is false y)))))
+      (λ y. tells Empty1 Yes plain.Yes call.IsEmpty _ refl refl refl refl o (ap yes_if (eq-eqb (length q₀.items) 0 (none_waits (pushed_is false y)))))
   row Full1 busy k o =
       either (λ (a : Answer). Outcome Full1 (Idle a) s.value) (pushed_in s.state) Yes No
-      (λ y. tells Full1 Yes plain.Yes call.IsFull _ refl refl refl refl o (ap yes_if (eq_eqb (length q₀.items) q₀.capacity (one_waits (pushed_is true y) ∙ sym room_is))))
+      (λ y. tells Full1 Yes plain.Yes call.IsFull _ refl refl refl refl o (ap yes_if (eq-eqb (length q₀.items) q₀.capacity (one_waits (pushed_is true y) ∙ sym room_is))))
       (λ y. tells Full1 No plain.No call.IsFull _ refl refl refl refl o (ap yes_if (ne_eqb (length q₀.items) q₀.capacity (λ g. omega (arith, none_waits (pushed_is false y), room_is)))))
   row Close1 busy k o =
       either (λ (a : Answer). Outcome Close1 (Idle a) (act_of s Close1).single.value) (closed_in s.state) No Yes

@@ -5,8 +5,8 @@ use mathlib.Core.Path.{◌≡◌, refl, sym, ap, ◌∙◌, subst}
 use mathlib.Core.Logic.{◌≢◌}
 use mathlib.Core.Bool.{Bool, true, cond}
 use mathlib.Core.List.{List, [], ◌∷◌, ◌++◌}
-use lib.ListN.{length, length_append}
-use borrow.Author.Tests.{eq_eqb, ne_eqb}
+use lib.ListN.{length, length-append}
+use borrow.Author.Tests.{eq-eqb, ne_eqb}
 use Rattle.queue_entries.specs.declared.Call.{Call}
 use Rattle.queue_entries.specs.declared.Call.TheVariants as call
 use Rattle.queue_plain.specs.Plain.{Reply, Queue, answer_of}
@@ -31,7 +31,7 @@ module _ (st : Story) where
     pub moment_own : moment_of e.worker (st ++ Does e ∷ []) ≡ timed (timing_of e.before e.after) (known st).count (moment_of e.worker st)
     moment_own =
         moment_act e.worker
-        ∙ ap (λ (b : Bool). cond b (timed (timing_of e.before e.after) (known st).count (moment_of e.worker st)) (moment_of e.worker st)) (eq_eqb e.worker e.worker refl)
+        ∙ ap (λ (b : Bool). cond b (timed (timing_of e.before e.after) (known st).count (moment_of e.worker st)) (moment_of e.worker st)) (eq-eqb e.worker e.worker refl)
 
     pub moment_else : (j : ℕ) → j ≢ e.worker → moment_of j (st ++ Does e ∷ []) ≡ moment_of j st
     moment_else j ne =
@@ -49,7 +49,7 @@ module _ (st : Story) where
     room_begun = followed_end actor change_of room_with (fresh 1) 0 st (Begun w c)
 
   pub longer : (x : Element) → length (st ++ x ∷ []) ≡ length st + 1
-  longer x = length_append st (x ∷ []) ∙ omega arith
+  longer x = length-append st (x ∷ []) ∙ omega arith
 
   -- a moment that has been stays as it was
   pub asked_past : (x : Element) (n : ℕ) (c : Call) → n ≤ length st → asked_at n (st ++ x ∷ []) c ≡ asked_at n st c

@@ -6,7 +6,7 @@ use mathlib.Core.List.{List, [], ◌∷◌}
 use native.Mathlib.Omega.{arith}
 use lib.Dec.{eqb}
 use lib.ListN.{length, get_or, set}
-use borrow.Author.Tests.{eq_eqb, ne_eqb, eqb_true}
+use borrow.Author.Tests.{eq-eqb, ne_eqb, eqb-true}
 use Rattle.queue_entries.specs.Limits.{workers_most}
 use Rattle.queue_entries.proofs.Pick.{both_left, both_right}
 use Rattle.single_words.specs.Words.{state}
@@ -80,7 +80,7 @@ module _ (h rs : List ℕ) where
 
   pub shape_2 : length h ≡ 5 → eqb (length rs) 48 ≡ shaped (words h rs)
   unfolding shaped
-  shape_2 a = sym (rw (eq_eqb (length h) 5 a) refl)
+  shape_2 a = sym (rw (eq-eqb (length h) 5 a) refl)
 
   module _ (s : Bool) (es : s ≡ shaped (words h rs)) where
     pub no_shape : s ≡ false → false ≡ stand (words h rs)
@@ -90,11 +90,11 @@ module _ (h rs : List ℕ) where
     module _ (hs : s ≡ true) where
       pub five_words : length h ≡ 5
       unfolding shaped
-      five_words = eqb_true (length h) 5 (both_left (eqb (length h) 5) _ (sym es ∙ hs))
+      five_words = eqb-true (length h) 5 (both_left (eqb (length h) 5) _ (sym es ∙ hs))
 
       pub all_words : length rs ≡ 48
       unfolding shaped
-      all_words = eqb_true (length rs) 48 (both_right (eqb (length h) 5) _ (sym es ∙ hs))
+      all_words = eqb-true (length rs) 48 (both_right (eqb (length h) 5) _ (sym es ∙ hs))
 
       pub fourth : 4 < length h
       fourth = omega (arith, five_words)
@@ -105,7 +105,7 @@ module _ (h rs : List ℕ) where
 
       pub by_places : get_or h 4 0 ≡ layout → (r : Bool) → r ≡ placed rs → r ≡ stand (words h rs)
       unfolding stand
-      by_places l r e = e ∙ sym (rw (sym es ∙ hs, eq_eqb (get_or h 4 0) layout l) refl)
+      by_places l r e = e ∙ sym (rw (sym es ∙ hs, eq-eqb (get_or h 4 0) layout l) refl)
 
 -- ---- one to one
 pub record Standing (w : Words) : Type 0 where
@@ -120,9 +120,9 @@ standing w s =
     let shape = both_left (shaped w) _ s in
     let rest = both_right (shaped w) _ s in
     record {
-      five_words = eqb_true (length w.head) 5 (both_left (eqb (length w.head) 5) _ shape);
-      all_words = eqb_true (length w.records) 48 (both_right (eqb (length w.head) 5) _ shape);
-      laid_out = eqb_true (get_or w.head 4 0) layout (both_left (eqb (get_or w.head 4 0) layout) _ rest);
+      five_words = eqb-true (length w.head) 5 (both_left (eqb (length w.head) 5) _ shape);
+      all_words = eqb-true (length w.records) 48 (both_right (eqb (length w.head) 5) _ shape);
+      laid_out = eqb-true (get_or w.head 4 0) layout (both_left (eqb (get_or w.head 4 0) layout) _ rest);
       all_placed = both_right (eqb (get_or w.head 4 0) layout) _ rest;
     }
 
@@ -134,7 +134,7 @@ same_words w s = let x = standing w s in λ i. words (whole_head w.head w.record
 -- a machine of sixteen records is written as words that stand for it, and read as it was
 pub written_stand : (m : Machine) → length m.workers ≡ workers_most → stand (words_of m) ≡ true
 unfolding stand shaped head_of
-written_stand m n = rw (eq_eqb (length (records_of m.workers)) 48 (records_long m.workers ∙ omega (arith, n)), records_placed m.workers) refl
+written_stand m n = rw (eq-eqb (length (records_of m.workers)) 48 (records_long m.workers ∙ omega (arith, n)), records_placed m.workers) refl
 
 pub same_machine : (m : Machine) → machine_in (words_of m) ≡ m
 unfolding machine_in head_of

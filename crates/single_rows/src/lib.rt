@@ -1,4 +1,6 @@
 // The machine as words in the host's memory: five words, and three for each of its sixteen records (specs/Rows.antt has the layout).
+#![tactic(auto)]
+
 ghost use Rattle.std.specs.Prelude.{◌≡◌, ◌+◌, ◌*◌, ◌<◌, length};
 ghost use Rattle.single_rows.specs.Rows.{words, head_of, records_of, records_in, machine_in, shaped, placed, stand, record_at, placed_at, with_record};
 

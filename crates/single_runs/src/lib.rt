@@ -1,4 +1,6 @@
 // A schedule, entry by entry, on any machine: the one loop that all entries go through.
+#![tactic(auto)]
+
 ghost use Rattle.std.specs.Prelude.{◌≡◌, ◌%◌, false, length};
 ghost use Rattle.single_machine.specs.Broken.{broken_of};
 ghost use Rattle.single_machine.specs.Machine.{machine_of};

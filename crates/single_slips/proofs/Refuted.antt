@@ -4,7 +4,7 @@ use native.Mathlib.Omega.{arith}
 use mathlib.Core.Bool.{Bool, true, false, true≢false}
 use mathlib.Core.List.{List, [], ◌∷◌, ◌++◌}
 use mathlib.Core.Path.{◌≡◌, refl, sym, ap, ◌∙◌, subst}
-use borrow.Author.Tests.{eqb_true}
+use borrow.Author.Tests.{eqb-true}
 use lib.Dec.{eqb}
 use lib.ListN.{get_or}
 use Rattle.queue_entries.specs.declared.Call.TheVariants as call
@@ -196,7 +196,7 @@ refuted =
       reads_own =
           λ r.
           let s = r (acts_of (slipped displaces_its_own) 2 (does 0 0 5 3 ++ does 0 1 6 2)) (event 0 (B5 6) (Idle (Displaced 6)) ∷ []) (event 0 (B4 6) (B5 6)) refl refl in
-          let six : 6 ≡ s.0 = eqb_true 6 s.0 (holds_got (B5 6) s.0 s.3) in
+          let six : 6 ≡ s.0 = eqb-true 6 s.0 (holds_got (B5 6) s.0 s.3) in
           not_latest _ 6 s.1 refl (subst (λ (v : ℕ). Latest (acts_of (slipped displaces_its_own) 2 (does 0 0 5 3 ++ does 0 1 6 2)) v s.1) (sym six) s.2.latest);
       reads_pop = λ r. let s = r 0 refl in nothing_stands (past pop_of_nothing) 0 s.0 refl s.1;
       reads_force = λ r. let s = r 0 refl in nothing_stands (past force_of_nothing) 0 s.0 refl s.1;

@@ -8,7 +8,7 @@ use native.Mathlib.Omega.{arith}
 use native.Mathlib.Decide.{ℕ_discrete, dec_lt}
 use lib.Dec.{eqb}
 use lib.ListN.{get_or, replicate}
-use borrow.Author.Tests.{eq_eqb}
+use borrow.Author.Tests.{eq-eqb}
 use Rattle.queue_entries.specs.declared.Order.TheVariants.{Act}
 use Rattle.queue_entries.specs.declared.Entry.TheVariants.{Asks}
 use Rattle.queue_entries.specs.Entries.{entry_of}
@@ -71,7 +71,7 @@ abbrev pub wrote_it : ℕ → Event → Bool
 wrote_it v e = is_item v (item_of (access_of e.before))
 
 latest_wrote : (h : List Event) (v k : ℕ) → Latest h v k → any_in (wrote_it v) h ≡ true
-latest_wrote h v k l = any_in_lem (wrote_it v) h l.earlier l.since l.write l.is (ap (is_item v) l.item ∙ eq_eqb v v refl)
+latest_wrote h v k l = any_in_lem (wrote_it v) h l.earlier l.since l.write l.is (ap (is_item v) l.item ∙ eq-eqb v v refl)
 
 pub never_written : (h : List Event) (w v : ℕ) → any_in (wrote_it v) h ≡ false → ((k : ℕ) × Came h w v k) → ⊥
 never_written h w v n (k, c) =
@@ -95,8 +95,8 @@ got_it v e = held_by (hand_of_worker e.after) v
 
 pub holds_got : (p : Place) (v : ℕ) → Holds p v → held_by (hand_of_worker p) v ≡ true
 unfolding held_by
-holds_got p v holds_c3 = eq_eqb v v refl
-holds_got p v holds_b5 = eq_eqb v v refl
+holds_got p v holds_c3 = eq-eqb v v refl
+holds_got p v holds_b5 = eq-eqb v v refl
 
 pub never_got : (h : List Event) (w v : ℕ) → any_in (got_it v) h ≡ false → ((k : ℕ) × Came h w v k) → ⊥
 never_got h w v n (k, c) =
@@ -108,7 +108,7 @@ took_out w e = cond (eqb e.worker w) (is_read (access_of e.after)) false
 
 pub never_took : (h : List Event) (w v : ℕ) → any_in (took_out w) h ≡ false → Took h w v → ⊥
 never_took h w v n t =
-    true≢false (sym (any_in_lem (took_out w) h t.earlier t.since t.exchange t.is (rw (eq_eqb t.exchange.worker w t.by) t.takes)) ∙ n)
+    true≢false (sym (any_in_lem (took_out w) h t.earlier t.since t.exchange t.is (rw (eq-eqb t.exchange.worker w t.by) t.takes)) ∙ n)
 
 -- ---- something stands in the slot, unread
 abbrev stands_after : Access → Bool → Bool

@@ -1,4 +1,6 @@
 // Which action of src/single.rs is taken at which place. The actions themselves: crate single_acts.
+#![tactic(auto)]
+
 ghost use Rattle.std.specs.Prelude.{◌≡◌};
 ghost use Rattle.single_acts.specs.Acts.{act_of};
 

@@ -1,7 +1,7 @@
 // A place by numbers.
 use single_places::{Answer, Place};
 
-#[derive(Drop)]
+#[derive(Clone, Copy)]
 pub struct Coded {
     // which place it is; idle is 0
     pub case: usize,

@@ -1,4 +1,6 @@
 // The one-slot queue's places and machines: by numbers, as text, whether two are the same; and machines built by hand, field by field.
+#![tactic(auto)]
+
 use single_machine::Machine;
 use single_places::{Answer, Place, Worker};
 

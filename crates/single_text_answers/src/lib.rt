@@ -11,6 +11,8 @@
 //     h CODE A B     an act of worker 0 at this place
 //
 // A row of any other letter, as `#`, is passed over.
+#![tactic(auto)]
+
 mod build;
 mod entry;
 mod judge;
@@ -20,7 +22,7 @@ use build::NUMBERS;
 use text_cases::nth;
 
 // The numbers in hand, row after row.
-#[derive(Drop)]
+#[derive(Clone, Copy)]
 struct Hand {
     numbers: [u64; NUMBERS],
 }

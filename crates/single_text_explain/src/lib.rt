@@ -1,4 +1,6 @@
 // The lines of the one-slot queue in plain words, by numbers: no machine in hand. docs/GUIDE.md has the table of the sentences.
+#![tactic(auto)]
+
 pub mod acts;
 pub mod lines;
 pub mod notes;
@@ -6,14 +8,14 @@ pub mod notes;
 use single_text::code::Coded;
 
 // What an entry is told by: the state word, and where its worker stands.
-#[derive(Drop)]
+#[derive(Clone, Copy)]
 pub struct Seen {
     pub state: u64,
     pub stood: Coded,
 }
 
 // An entry that was run: its place and its two numbers; the state word, and where its worker stands, before it and after it.
-#[derive(Drop)]
+#[derive(Clone, Copy)]
 pub struct Entered {
     pub place: u64,
     pub first: u64,

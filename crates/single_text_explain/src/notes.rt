@@ -3,7 +3,7 @@ use crate::Entered;
 use crate::acts::{A1, A2, B1, B2, B4, C1, C2, IDLE};
 use single_text::code::Coded;
 
-#[derive(Drop)]
+#[derive(Clone, Copy)]
 pub struct Notes {
     // claims of pushes and of pops
     pub puts: u64,

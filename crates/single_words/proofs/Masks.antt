@@ -7,7 +7,7 @@ use native.Mathlib.Decide.{dec_lt}
 use native.Mathlib.Nat.{mod-eq_of_lt}
 use lib.Dec.{eqb}
 use lib.Bits.{bit_and, bit_or, and_step, and_mask, and_high, or_add_and}
-use borrow.Author.Tests.{eq_eqb, ne_eqb}
+use borrow.Author.Tests.{eq-eqb, ne_eqb}
 use Rattle.single_words.specs.declared.State.{State}
 use Rattle.single_words.specs.Words.{state, pushed_in, closed_in, unlocked, taken_of, closed_of_word}
 
@@ -19,11 +19,11 @@ digit d k n l e some = go (dec_lt 0 d)
     go (yes h) =
         let one : d ≡ 1 = omega arith in
         let m : n ≡ 1 * k = e ∙ ap (λ (i : ℕ). i * k) one in
-        ap not (ne_eqb n 0 (λ z. omega arith)) ∙ sym (eq_eqb d 1 one)
+        ap not (ne_eqb n 0 (λ z. omega arith)) ∙ sym (eq-eqb d 1 one)
     go (no h) =
         let none : d ≡ 0 = omega arith in
         let m : n ≡ 0 * k = e ∙ ap (λ (i : ℕ). i * k) none in
-        ap not (eq_eqb n 0 (omega arith)) ∙ sym (ne_eqb d 1 (λ z. omega arith))
+        ap not (eq-eqb n 0 (omega arith)) ∙ sym (ne_eqb d 1 (λ z. omega arith))
 
 module _ (w : State) where
   pub pushed_is : not (eqb (bit_and w.0 2) 0) ≡ pushed_in w
@@ -43,7 +43,7 @@ module _ (w : State) where
       sum = ap (λ (n : ℕ). bit_or w.0 4 + n) (sym (and_high w.0 1 2)) ∙ or_add_and w.0 4
 
       go : Dec (0 < w.0 / 4 % 2) → state (bit_or w.0 4) ≡ closed_of_word w
-      go (yes h) = rw (eq_eqb (w.0 / 4 % 2) 1 (omega arith)) (ap state (omega (arith, sum)))
+      go (yes h) = rw (eq-eqb (w.0 / 4 % 2) 1 (omega arith)) (ap state (omega (arith, sum)))
       go (no h) = rw (ne_eqb (w.0 / 4 % 2) 1 (λ e. omega arith)) (ap state (omega (arith, sum)))
 
   module _ (fits : w.0 < 2 ^ 64) where

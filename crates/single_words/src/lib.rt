@@ -1,9 +1,11 @@
 // The state word of the one-slot queue: src/single.rs, `LOCKED`, `PUSHED` and `CLOSED`, and what the source makes of a word.
+#![tactic(auto)]
+
 ghost use Rattle.std.specs.Prelude.{◌≡◌};
 ghost use Rattle.single_words.specs.Words.{same, pushed_in, closed_in, unlocked, taken_of, closed_of_word};
 
 // A word of `state`. An item is another kind of number.
-#[derive(Drop)]
+#[derive(Clone, Copy)]
 pub struct State(pub u64);
 
 // A worker has the slot in hand.

@@ -22,7 +22,7 @@ const TELLS: usize = 5;
 
 const TELLS_ON: usize = 6;
 
-#[derive(Drop)]
+#[derive(Clone, Copy)]
 pub struct Asked {
     // the starter asks for the status on this descriptor; 0: nobody asks
     pub tells_on: u64,

@@ -1,4 +1,6 @@
 // Tapes of schedules as files: `tape write` and `tape read`, see `tape --help`.
+#![tactic(auto)]
+
 mod asked;
 
 use asked::Asked;

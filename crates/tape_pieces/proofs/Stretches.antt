@@ -1,5 +1,5 @@
 -- A stretch of entries, an entry more at a time.
-use Rattle.std.proofs.Common.{◌≡◌, ℕ, zero, suc, ◌+◌, ◌-◌, ◌*◌, ◌/◌, ◌<◌, ◌≤◌, true, false, List, [], ◌∷◌, ◌++◌, length, take, drop, set, sym, refl, ap, ◌∙◌, ap₂, append_assoc, arith, length_append, length-drop, take-append-drop, length-take-le, drop-drop, take_at}
+use Rattle.std.proofs.Common.{◌≡◌, ℕ, zero, suc, ◌+◌, ◌-◌, ◌*◌, ◌/◌, ◌<◌, ◌≤◌, true, false, List, [], ◌∷◌, ◌++◌, length, take, drop, set, sym, refl, ap, ◌∙◌, ap₂, append_assoc, arith, length-append, length-drop, take-append-drop, length-take-le, drop-drop, take_at}
 use Rattle.tapes_numbers.specs.declared.Variant.{Variant}
 use Rattle.tapes_fields.specs.declared.Field.{Field}
 use Rattle.tapes_fields.specs.declared.Field.TheVariants as field
@@ -53,8 +53,8 @@ module _ (v : Variant) (s : List ℕ) (at : ℕ) (f : Field) (is : f ≡ field_i
     entry_passed w from n whole low room back =
         let p : List ℕ = take n w in
         let long : n ≡ length p = sym (length-take-le n w (omega arith)) in
-        let long-1 : n + 1 ≡ length (p ++ (first ∷ [])) = omega (arith, length_append p (first ∷ []), long) in
-        let long-2 : length (p ++ (first ∷ item ∷ [])) ≡ n + 2 = omega (arith, length_append p (first ∷ item ∷ []), long) in
+        let long-1 : n + 1 ≡ length (p ++ (first ∷ [])) = omega (arith, length-append p (first ∷ []), long) in
+        let long-2 : length (p ++ (first ∷ item ∷ [])) ≡ n + 2 = omega (arith, length-append p (first ∷ item ∷ []), long) in
         let same : over p w ≡ w = ap (λ (i : ℕ). p ++ drop i w) (sym long) ∙ take-append-drop n w in
         let written : set (set w n first) (n + 1) item ≡ over (p ++ (first ∷ item ∷ [])) w
         = ap (λ (l : List ℕ). set (set l n first) (n + 1) item) (sym same)

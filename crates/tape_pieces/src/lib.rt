@@ -1,4 +1,6 @@
 // A tape piece by piece, in a fixed amount of memory: the fields that stand whole in a window, and then what is left of it with the bytes that follow.
+#![tactic(auto)]
+
 ghost use Rattle.std.specs.Prelude.{◌≡◌, ◌-◌, ◌/◌, ◌≤◌, false, length, take, drop};
 ghost use Rattle.tapes_fields.specs.Judged.{field_in};
 ghost use Rattle.tapes.specs.Heard.{hear_from};
@@ -24,7 +26,7 @@ pub const REFUSED: u64 = 3;
 
 pub const FAILED: u64 = 4;
 
-#[derive(Drop)]
+#[derive(Clone, Copy)]
 pub struct Piece {
     pub state: u64,
     // of the first field
@@ -83,7 +85,7 @@ fn refused(before: Piece, number: u64, at: usize) -> Piece {
 }
 
 // How many bytes are in the window, and whether the input ended or could not be read.
-#[derive(Drop)]
+#[derive(Clone, Copy)]
 struct Filled {
     have: usize,
     ended: bool,
@@ -128,7 +130,7 @@ fn fill(fd: i32, window: &mut [u8], have: usize) -> Filled
 }
 
 // The entries that stand one after another: where they end, how many words they are, and whether the words found no room.
-#[derive(Drop)]
+#[derive(Clone, Copy)]
 struct Stretch {
     at: usize,
     count: usize,

@@ -1,4 +1,6 @@
 // A tape piece by piece, as the text of its schedule that replay reads, in numbers or in words.
+#![tactic(auto)]
+
 use tape_pieces::Piece;
 use text_sums::Sum;
 
@@ -19,7 +21,7 @@ fn put(to: i32, out: &[u8], n: usize) -> bool {
 }
 
 // How much text is in the buffer, and whether all before it was written.
-#[derive(Drop)]
+#[derive(Clone, Copy)]
 struct Lines {
     at: usize,
     good: bool,

@@ -1,4 +1,6 @@
 // The numbers of a schedule, read piece by piece as replay reads them, and their tape.
+#![tactic(auto)]
+
 use replay_input::source::Reading;
 use replay_input::starter::Starter;
 use tapes::Writing;
@@ -10,7 +12,7 @@ const BYTES: usize = 16384;
 const NUMBERS: usize = 8200;
 
 // Where the reading of the numbers stands, and what it has brought.
-#[derive(Drop)]
+#[derive(Clone, Copy)]
 struct Work {
     reading: Reading,
     // the numbers that are left for the next piece: 1 or 0

@@ -4,7 +4,7 @@ use mathlib.Core.Path.{◌≡◌, refl, sym, ap, ◌∙◌}
 use mathlib.Core.Bool.{Bool, true, false, cond}
 use mathlib.Core.List.{List, [], ◌∷◌}
 use native.Mathlib.Omega.{arith}
-use lib.ListN.{length, length_append}
+use lib.ListN.{length, length-append}
 use Rattle.queue_entries.proofs.Pick.{below, above, equal, other}
 use Rattle.tapes_numbers.specs.declared.Variant.{Variant}
 use Rattle.tapes_fields.specs.Fields.{entry_field_of, size_of, over}
@@ -36,7 +36,7 @@ entries_long_lem v n place long (first ∷ item ∷ l) h = go (carried first ite
     go : (b : Bool) → cond b (load_from (place + 1) (long + size_of first) l) (Unfit place) ≡ Bytes n
         → (load_from (place + 1) (long + size_of first) l ≡ Bytes n → n ≡ long + size_of first + length (entries_of v l))
         → n ≡ long + length (entries_of v (first ∷ item ∷ l))
-    go true q f = omega (arith, f q, length_append (entry_field_of v first item) (entries_of v l), length_entry v first item)
+    go true q f = omega (arith, f q, length-append (entry_field_of v first item) (entries_of v l), length_entry v first item)
     go false q f = let z : ◌≡◌ {A = ℕ} 0 1 = cc in omega arith
 
 pub load_long : (v : Variant) (capacity workers : ℕ) (words : List ℕ) (n : ℕ) → load_from 0 10 words ≡ Bytes n → n ≡ length (tape_of v capacity workers words)

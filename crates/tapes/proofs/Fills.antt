@@ -4,7 +4,7 @@ use mathlib.Core.Path.{◌≡◌, refl, sym, ap, ap₂, ◌∙◌}
 use mathlib.Core.Bool.{Bool, true, false, cond}
 use mathlib.Core.List.{List, [], ◌∷◌, ◌++◌, append_assoc, append-nil}
 use native.Mathlib.Omega.{arith}
-use lib.ListN.{get_or, length, take, drop, length_append, length-drop, take-append-drop}
+use lib.ListN.{get_or, length, take, drop, length-append, length-drop, take-append-drop}
 use lib.Seq.{drop-append-add, take-add, drop-drop, take_at, drop_at, take-append_seam, length-take-le}
 use borrow.Rule.Slice.PartMut.{put_mid, mid_of}
 use Rattle.tapes_numbers.specs.declared.Variant.{Variant}
@@ -19,7 +19,7 @@ use Rattle.tapes.proofs.Loads.{load_carried, load_more}
 -- any list at a place where a part of it begins
 module _ (t f rest : List ℕ) (at : ℕ) (in_it : at ≤ length t) (there : drop at t ≡ f ++ rest) where
   pub past_length : length t ≡ at + length f + length rest
-  past_length = omega (arith, length-drop at t, ap length there, length_append f rest)
+  past_length = omega (arith, length-drop at t, ap length there, length-append f rest)
 
   pub past_take : (k : ℕ) → k ≡ length f → take (at + k) t ≡ take at t ++ f
   past_take k e = take-add at k t ∙ ap (λ (l : List ℕ). take at t ++ l) (ap (take k) there ∙ take_at f rest k (sym e))
@@ -63,8 +63,8 @@ module _ (v : Variant) (capacity workers : ℕ) (words : List ℕ) where
   length_tape =
       omega (
         arith,
-        length_append (head_of v capacity workers ++ entries_of v words) (end_of v),
-        length_append (head_of v capacity workers) (entries_of v words),
+        length-append (head_of v capacity workers ++ entries_of v words) (end_of v),
+        length-append (head_of v capacity workers) (entries_of v words),
         length_head v capacity workers,
         length_end v,
       )

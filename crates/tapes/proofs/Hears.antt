@@ -5,9 +5,9 @@ use mathlib.Core.Bool.{Bool, true, false, cond}
 use mathlib.Core.List.{List, [], ◌∷◌, ◌++◌, append_assoc}
 use native.Mathlib.Omega.{arith}
 use lib.Dec.{eqb}
-use lib.ListN.{get_or, length, take, drop, set, length-drop, length_append}
+use lib.ListN.{get_or, length, take, drop, set, length-drop, length-append}
 use lib.Seq.{take_all, drop-drop, take-add, length-take-le}
-use borrow.Author.Tests.{eq_eqb, ne_eqb}
+use borrow.Author.Tests.{eq-eqb, ne_eqb}
 use Rattle.tapes_numbers.specs.declared.Variant.{Variant}
 use Rattle.tapes_fields.specs.declared.Field.{Field}
 use Rattle.tapes_fields.specs.declared.Field.TheVariants as field
@@ -58,7 +58,7 @@ module _ (v : Variant) (s : List ℕ) (at n : ℕ) (f : Field) (whole : Scan) (i
   pub scan_end : f ≡ field.End → length s - at ≡ 3 → scan.Words n ≡ whole
   unfolding heard_by
   scan_end e h =
-      let test : eqb (length (drop at s)) 3 ≡ true = eq_eqb _ _ (length-drop at s ∙ h) in
+      let test : eqb (length (drop at s)) 3 ≡ true = eq-eqb _ _ (length-drop at s ∙ h) in
       let none : n ≡ n + 0 = omega arith in
       ap scan.Words none ∙ (rw test at (rw e at one_field))
 
@@ -153,7 +153,7 @@ module _ (v : Variant) (s w : List ℕ) (at k : ℕ) (f : Field) (in_it : at ≤
     pub two_written : (b x : List ℕ) → length w ≤ length b → x ≡ over (take k w) b → set (set x k first) (k + 1) item ≡ over (take (k + 2) w) b
     two_written b x fits x-is =
         let long : k ≡ length (take k w) = sym (length-take-le k w (omega arith)) in
-        let long-1 : k + 1 ≡ length (take k w ++ (first ∷ [])) = omega (arith, length_append (take k w) (first ∷ []), long) in
+        let long-1 : k + 1 ≡ length (take k w ++ (first ∷ [])) = omega (arith, length-append (take k w) (first ∷ []), long) in
         let taken : take (k + 2) w ≡ take k w ++ (first ∷ item ∷ []) = take-add k 2 w ∙ ap (λ (l : List ℕ). take k w ++ take 2 l) two_left in
         ap (λ (l : List ℕ). set l (k + 1) item) (ap (λ (l : List ℕ). set l k first) x-is ∙ over_byte (take k w) b first k long (omega (arith, two_inside)))
         ∙ over_byte (take k w ++ (first ∷ [])) b item (k + 1) long-1 (omega (arith, two_inside))

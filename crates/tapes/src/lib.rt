@@ -1,5 +1,7 @@
 // Tapes of schedules: item 5 of the list of change requests. Each function takes anything and answers, or refuses with the
 // paper's number; a refusal leaves the lent buffer as it was.
+#![tactic(auto)]
+
 ghost use Rattle.std.specs.Prelude.{◌≡◌, ◌≤◌, ◌<◌, ◌%◌, length};
 ghost use Rattle.tapes_fields.specs.Fields.{over};
 ghost use Rattle.tapes.specs.Written.{tape_of, load_from, write_of, written_of};
@@ -9,28 +11,28 @@ use tapes_fields::{Field, Head};
 use tapes_numbers::Variant;
 
 // What the writer answers: a refusal with its number and value, or the count of bytes written.
-#[derive(Drop)]
+#[derive(Clone, Copy)]
 pub enum Writing {
     Refused(u64, usize),
     Tape(usize),
 }
 
 // What the reader answers: a refusal with its number and value, or variant, capacity, workers and the count of words written.
-#[derive(Drop)]
+#[derive(Clone, Copy)]
 pub enum Reading {
     Refused(u64, usize),
     Schedule(Variant, u64, u64, usize),
 }
 
 // The place of an entry that the tape can't carry, or the tape's length.
-#[derive(Drop)]
+#[derive(Clone, Copy)]
 pub enum Load {
     Unfit(usize),
     Bytes(usize),
 }
 
 // The number and the byte of the first fault, or the count of words.
-#[derive(Drop)]
+#[derive(Clone, Copy)]
 pub enum Scan {
     Fault(u64, usize),
     Words(usize),

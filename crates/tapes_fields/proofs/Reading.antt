@@ -7,7 +7,7 @@ use native.Mathlib.Omega.{arith}
 use lib.Dec.{eqb, ltb}
 use lib.ListN.{length, get_or, take, drop}
 use Rattle.queue_entries.proofs.Pick.{equal, other, below, above, yes, no}
-use borrow.Author.Tests.{ltb-true, ltb-false, eqb_true}
+use borrow.Author.Tests.{ltb-true, ltb-false, eqb-true}
 use Rattle.queue_entries.specs.declared.Order.{Order}
 use Rattle.queue_entries.specs.declared.Order.TheVariants.{Begin, Act}
 use Rattle.queue_entries.specs.declared.Entry.{Entry}
@@ -82,8 +82,8 @@ carried_means first item = go (ltb 1 (first % 16)) refl (eqb item 0) refl (ltb (
     go : (b : Bool) → ltb 1 (first % 16) ≡ b → (z : Bool) → eqb item 0 ≡ z → (c : Bool) → ltb (first % 16) 8 ≡ c → (d : Bool) → ltb (first % 16) 10 ≡ d
         → carried_by (cond (cond b (not z) false) Unreadable (cond c (Asks (first / 16) (Begin (call_of (first % 16) item))) (cond d (Asks (first / 16) (Act (eqb (first % 16) 9))) Unreadable))) ≡ true
         → Carried first item
-    go true p true q true r d l h = record { byte = worker h; code = omega (arith, ltb-true (first % 16) 8 r); plain = λ k. eqb_true item 0 q }
-    go true p true q false r true l h = record { byte = worker h; code = ltb-true (first % 16) 10 l; plain = λ k. eqb_true item 0 q }
+    go true p true q true r d l h = record { byte = worker h; code = omega (arith, ltb-true (first % 16) 8 r); plain = λ k. eqb-true item 0 q }
+    go true p true q false r true l h = record { byte = worker h; code = ltb-true (first % 16) 10 l; plain = λ k. eqb-true item 0 q }
     go true p true q false r false l h = absurd (true≢false (sym h))
     go true p false q c r d l h = absurd (true≢false (sym h))
     go false p z q true r d l h = record { byte = worker h; code = omega (arith, ltb-true (first % 16) 8 r); plain = λ k. absurd (omega (arith, ltb-false 1 (first % 16) p)) }
@@ -104,7 +104,7 @@ unfolding allowed
 allowed_means tag code = go (ltb code 10) refl
   where
     go : (b : Bool) → ltb code 10 ≡ b → cond b (eqb tag (tag_for code)) false ≡ true → (code < 10) × (tag ≡ tag_for code)
-    go true e h = (ltb-true code 10 e, eqb_true tag (tag_for code) h)
+    go true e h = (ltb-true code 10 e, eqb-true tag (tag_for code) h)
     go false e h = absurd (true≢false (sym h))
 
 -- the length that goes with a tag

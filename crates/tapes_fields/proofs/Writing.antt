@@ -4,7 +4,7 @@ use mathlib.Core.Path.{◌≡◌, refl, sym, ap, ap₂, ◌∙◌}
 use mathlib.Core.Bool.{Bool, true, false}
 use mathlib.Core.List.{List, [], ◌∷◌, ◌++◌, append_assoc, append-nil}
 use native.Mathlib.Omega.{arith}
-use lib.ListN.{length, get_or, take, drop, set, length_append, length-drop, length-take, drop_of_length-le}
+use lib.ListN.{length, get_or, take, drop, set, length-append, length-drop, length-take, drop_of_length-le}
 use lib.Seq.{take_all, take_at, drop_at, drop-drop, drop-cons, set_at, length-take-le}
 use borrow.Rule.Slice.PartMut.{put_mid, mid_of}
 use Rattle.tapes_numbers.specs.declared.Variant.{Variant}
@@ -23,14 +23,14 @@ over_none b = refl
 module _ (w b : List ℕ) where
   pub length_over : length w ≤ length b → length (over w b) ≡ length b
   unfolding over
-  length_over h = length_append w (drop (length w) b) ∙ ap (λ (k : ℕ). length w + k) (length-drop (length w) b) ∙ (omega arith)
+  length_over h = length-append w (drop (length w) b) ∙ ap (λ (k : ℕ). length w + k) (length-drop (length w) b) ∙ (omega arith)
 
   -- a byte more
   pub over_byte : (x at : ℕ) → at ≡ length w → at < length b → set (over w b) at x ≡ over (w ++ (x ∷ [])) b
   unfolding over
   over_byte x at e h =
       let low : length w < length b = omega arith in
-      let long : length (w ++ (x ∷ [])) ≡ suc (length w) = length_append w (x ∷ []) ∙ (omega arith) in
+      let long : length (w ++ (x ∷ [])) ≡ suc (length w) = length-append w (x ∷ []) ∙ (omega arith) in
       ap (λ (l : List ℕ). set (w ++ l) at x) (drop-cons b (length w) 0 low)
       ∙ set_at w (get_or b (length w) 0) (drop (suc (length w)) b) x at (sym e)
       ∙ sym (append_assoc w (x ∷ []) (drop (length (w ++ (x ∷ []))) b) ∙ ap (λ (k : ℕ). w ++ (x ∷ drop k b)) long)
@@ -41,7 +41,7 @@ module _ (w b : List ℕ) where
   over_part z at count e k =
       let before : take at (w ++ drop (length w) b) ≡ w = take_at w (drop (length w) b) at (sym e) in
       let after : drop at (w ++ drop (length w) b) ≡ drop (length w) b = drop_at w (drop (length w) b) at (sym e) in
-      let long : length w + count ≡ length (w ++ z) = ap (λ (n : ℕ). length w + n) k ∙ sym (length_append w z) in
+      let long : length w + count ≡ length (w ++ z) = ap (λ (n : ℕ). length w + n) k ∙ sym (length-append w z) in
       ap₂ (λ (l r : List ℕ). l ++ (z ++ drop count r)) before after
       ∙ ap (λ (l : List ℕ). w ++ (z ++ l)) (drop-drop count (length w) b ∙ ap (λ (n : ℕ). drop n b) long)
       ∙ sym (append_assoc w z (drop (length (w ++ z)) b))
@@ -85,8 +85,8 @@ module _ (v : Variant) (capacity workers : ℕ) (b o : List ℕ) (fits : 7 ≤ l
   headed y z p q =
       let c : List ℕ = bytes_of v 2 capacity in
       let w : List ℕ = bytes_of v 2 workers in
-      let five : 5 ≡ length (opening_of v 1 4 ++ c) = omega (arith, length_append (opening_of v 1 4) c, length_opening v 1 4, length_bytes v 2 capacity) in
-      let four : length (c ++ w) ≡ 4 = omega (arith, length_append c w, length_bytes v 2 capacity, length_bytes v 2 workers) in
+      let five : 5 ≡ length (opening_of v 1 4 ++ c) = omega (arith, length-append (opening_of v 1 4) c, length_opening v 1 4, length_bytes v 2 capacity) in
+      let four : length (c ++ w) ≡ 4 = omega (arith, length-append c w, length_bytes v 2 capacity, length_bytes v 2 workers) in
       number_more v (opening_of v 1 4 ++ c) b (put_mid 3 2 o y) 5 2 workers
       (number_more v (opening_of v 1 4) b o 3 2 capacity is (sym (length_opening v 1 4)) (omega arith) y p) five (omega arith) z q
       ∙ ap (λ (l : List ℕ). over l b) (append_assoc (opening_of v 1 4) c w ∙ sym (field_long v 1 4 (c ++ w) four))
@@ -104,7 +104,7 @@ module _ (v : Variant) (first item n : ℕ) (b o : List ℕ) (fits : size_of fir
   entered x z p q =
       let op : List ℕ = opening_of v t (1 + n) in
       let three : 3 ≡ length op = sym (length_opening v t (1 + n)) in
-      let four : 4 ≡ length (op ++ (x ∷ [])) = omega (arith, length_append op (x ∷ []), three) in
+      let four : 4 ≡ length (op ++ (x ∷ [])) = omega (arith, length-append op (x ∷ []), three) in
       let low : 3 < length b = omega (arith, entry_fits) in
       let high : 4 + (4 + n - 4) ≤ length b = omega (arith, entry_fits) in
       let less : 4 + n - 4 ≡ n = omega arith in
@@ -120,7 +120,7 @@ pub length_entry : (v : Variant) (first item : ℕ) → length (entry_field_of v
 unfolding entry_field_of field_of body_of size_of
 length_entry v first item =
     let body : List ℕ = swapped first ∷ bytes_of v (item_long (first % 16)) item in
-    omega (arith, length_append (opening_of v (tag_for (first % 16)) (length body)) body, length_opening v (tag_for (first % 16)) (length body), length_bytes v (item_long (first % 16)) item)
+    omega (arith, length-append (opening_of v (tag_for (first % 16)) (length body)) body, length_opening v (tag_for (first % 16)) (length body), length_bytes v (item_long (first % 16)) item)
 
 pub swapped_fits : (b : ℕ) → b < 256 → swapped b < 256
 unfolding swapped
@@ -138,7 +138,7 @@ field_more w b x f at z is long fits e =
     let rest-long : length rest ≡ length x - at = length-drop at x in
     let all : take (length x - at) rest ≡ rest = take_all (length x - at) rest (omega arith) in
     let none : drop (length x - at) rest ≡ [] = drop_of_length-le rest {i = length x - at} (omega arith) in
-    let there : at + length f ≡ length (w ++ f) = omega (arith, length_append w f) in
+    let there : at + length f ≡ length (w ++ f) = omega (arith, length-append w f) in
     let further : drop (length f) rest ≡ drop (length (w ++ f)) b = ap (drop (length f)) after ∙ drop-drop (length f) at b ∙ ap (λ (k : ℕ). drop k b) there in
     ap₂ (λ (l r : List ℕ). l ++ (z ++ r)) before none
     ∙ ap (λ (l : List ℕ). w ++ l) (append-nil z ∙ e ∙ ap (λ (l : List ℕ). f ++ drop (length f) l) all ∙ ap (λ (l : List ℕ). f ++ l) further)
@@ -150,9 +150,9 @@ length_head v capacity workers =
     let body : List ℕ = bytes_of v 2 capacity ++ bytes_of v 2 workers in
     omega (
       arith,
-      length_append (opening_of v 1 (length body)) body,
+      length-append (opening_of v 1 (length body)) body,
       length_opening v 1 (length body),
-      length_append (bytes_of v 2 capacity) (bytes_of v 2 workers),
+      length-append (bytes_of v 2 capacity) (bytes_of v 2 workers),
       length_bytes v 2 capacity,
       length_bytes v 2 workers,
     )

@@ -1,4 +1,6 @@
 // The fields of a tape: what stands at the start of some bytes, and a field written at the start of a buffer.
+#![tactic(auto)]
+
 ghost use Rattle.std.specs.Prelude.{◌≡◌, [], ◌∷◌, ◌++◌, ◌≤◌, ◌<◌, ◌+◌, length};
 ghost use Rattle.tapes_fields.specs.Fields.{opening_of, head_of, swapped, tag_for, item_long, size_of, entry_field_of, end_of, over};
 ghost use Rattle.tapes_fields.specs.Judged.{opens, allowed, head_by, head_in, entry_by, field_in, carried};
@@ -7,14 +9,14 @@ use queue_entries::Entry;
 use tapes_numbers::Variant;
 
 // The first field of a tape: a refusal, or variant, capacity and workers.
-#[derive(Drop)]
+#[derive(Clone, Copy)]
 pub enum Head {
     Fault(u64),
     Makes(Variant, u64, u64),
 }
 
 // A later field: a refusal, the end, or an entry's two words.
-#[derive(Drop)]
+#[derive(Clone, Copy)]
 pub enum Field {
     Fault(u64),
     End,

@@ -8,7 +8,7 @@ use lib.Dec.{eqb, leb, ltb}
 use lib.ListN.{length, get_or, take, drop, set, length-drop, drop_of_length-le}
 use lib.Seq.{take_all, length-take-le}
 use borrow.Rule.Slice.PartMut.{put_mid, mid_of}
-use borrow.Author.Tests.{ltb-false, eqb_true}
+use borrow.Author.Tests.{ltb-false, eqb-true}
 use Rattle.queue_entries.proofs.Pick.{yes, no, below, above, equal, other, along}
 use Rattle.tapes_numbers.specs.declared.Variant.{Variant}
 use Rattle.tapes_numbers.specs.declared.Variant.TheVariants.{BigEndian, LittleEndian}
@@ -144,7 +144,7 @@ standing room words x v long count is e = go (eqb (length words) 3) (stands room
     go true true p q h =
         let same = by_name (get_or words 0 0) (get_or words 1 0) (get_or words 2 0) v long count h in
         let known = stands_means room (get_or words 1 0) (get_or words 2 0) q in
-        record { three = eqb_true (length words) 3 p; fits = omega (arith, same.0, known.0); few = omega (arith, same.0, same.1, known.1) }
+        record { three = eqb-true (length words) 3 p; fits = omega (arith, same.0, known.0); few = omega (arith, same.0, same.1, known.1) }
 
 -- ---- a field at a place of the buffer
 pub put_at_lem : (x f z : List ℕ) (at : ℕ) → z ≡ over f (mid_of at (length x - at) x) → put_mid at (length x - at) x z ≡ put_at at f x

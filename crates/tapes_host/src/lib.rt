@@ -1,5 +1,7 @@
 // Tapes for a host in C or Rust (hosts/): the writer and the reader of crate tapes, whose enums no C function can take or answer, as numbers and slices. `specs/Host.antt` says what each
 // answers and what stands in every slice then; a refused call changes nothing that is lent.
+#![tactic(auto)]
+
 ghost use Rattle.std.specs.Prelude.{◌≡◌, length, ◌+◌, ◌*◌, ◌≤◌, [], ◌∷◌};
 ghost use Rattle.tapes_host.specs.Host.{writing_reply, written, write_tape, about_of, read_out_of, read_tape};
 ghost use Rattle.tapes_host.specs.Recorder.{recorded, entries_can, stands, stands_by, recorder_in, begin_tape, append_at, append_tape, end_at, end_tape};
@@ -17,7 +19,7 @@ pub const ABOUT: usize = 3;
 
 // The number of a refusal, 0 where there is none; and its value, or how many bytes or words were written.
 #[repr(C)]
-#[derive(Drop)]
+#[derive(Clone, Copy)]
 pub struct Reply {
     pub refusal: u64,
     pub number: u64,
@@ -112,7 +114,7 @@ pub extern "C" fn fern_tape_read(tape: &[u8], about: &mut [u64], schedule: &mut 
 }
 
 // A recorder, as its words say: its variant, the bytes of its tape so far but for the last field, and its entries so far; or that they are no recorder's.
-#[derive(Drop)]
+#[derive(Clone, Copy)]
 pub enum Recorder {
     Broken,
     At(Variant, usize, u64),

@@ -1,8 +1,10 @@
 // Numbers as the bytes of a tape, in both variants. What tells the variants apart is `tag` and `spot`.
+#![tactic(auto)]
+
 ghost use Rattle.std.specs.Prelude.{◌≡◌, ◌≤◌, ◌<◌, length};
 ghost use Rattle.tapes_numbers.specs.Numbers.{tag_of, spot_of, number_of, bytes_of};
 
-#[derive(Drop)]
+#[derive(Clone, Copy)]
 pub enum Variant {
     BigEndian,
     LittleEndian,

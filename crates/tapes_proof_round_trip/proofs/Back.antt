@@ -5,9 +5,9 @@ use mathlib.Core.Bool.{Bool, true, false, cond}
 use mathlib.Core.List.{List, [], ◌∷◌, ◌++◌, append_assoc}
 use native.Mathlib.Omega.{arith}
 use lib.Dec.{ltb, eqb}
-use lib.ListN.{length, take, drop, length_append}
+use lib.ListN.{length, take, drop, length-append}
 use lib.Seq.{take_at, drop_at}
-use borrow.Author.Tests.{lt-ltb, le-ltb, ltb-false, eqb_false, ne_eqb}
+use borrow.Author.Tests.{lt-ltb, le-ltb, ltb-false, eqb-false, ne_eqb}
 use Rattle.tapes_numbers.specs.declared.Variant.{Variant}
 use Rattle.tapes_fields.specs.declared.Head.{Head}
 use Rattle.tapes_fields.specs.declared.Head.TheVariants as head
@@ -56,7 +56,7 @@ accepted_means capacity workers words room n = go (eqb (length words % 2) 1) ref
     go false p false q false r (Bytes k) e h =
         let f = fits k (ltb room k) refl h in
         record {
-          even = eqb_false (length words % 2) 1 p;
+          even = eqb-false (length words % 2) 1 p;
           narrow = omega (arith, ltb-false most capacity q);
           few = omega (arith, ltb-false most workers r);
           load = e ∙ ap Bytes f.0;
@@ -73,7 +73,7 @@ entries_long_lem : (v : Variant) (words : List ℕ) → length (entries_of v wor
 unfolding entries_of entries_long size_of item_long
 entries_long_lem v [] = refl
 entries_long_lem v (x ∷ []) = refl
-entries_long_lem v (first ∷ item ∷ rest) = length_append (entry_field_of v first item) (entries_of v rest) ∙ ap₂ ◌+◌ (length_entry v first item ∙ size (ltb (first % 16) 2)) (entries_long_lem v rest)
+entries_long_lem v (first ∷ item ∷ rest) = length-append (entry_field_of v first item) (entries_of v rest) ∙ ap₂ ◌+◌ (length_entry v first item ∙ size (ltb (first % 16) 2)) (entries_long_lem v rest)
   where
     size : (b : Bool) → 4 + cond b 8 0 ≡ cond b 12 4
     size true = refl
@@ -84,7 +84,7 @@ unfolding entries_of size_of
 entries_many v [] = omega arith
 entries_many v (x ∷ []) = omega arith
 entries_many v (first ∷ item ∷ rest) =
-    omega (arith, entries_many v rest, length_append (entry_field_of v first item) (entries_of v rest), length_entry v first item)
+    omega (arith, entries_many v rest, length-append (entry_field_of v first item) (entries_of v rest), length_entry v first item)
 
 pub written_is : (v : Variant) (capacity workers : ℕ) (words buffer : List ℕ) (n : ℕ) → write_of capacity workers words (length buffer) ≡ Tape n
     → written_of v capacity workers words buffer ≡ tape_of v capacity workers words ++ drop (length (tape_of v capacity workers words)) buffer

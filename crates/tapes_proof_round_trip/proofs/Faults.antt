@@ -6,7 +6,7 @@ use mathlib.Core.List.{List, [], ◌∷◌, ◌++◌}
 use mathlib.Core.Logic.{◌⊎◌, inl, inr}
 use native.Mathlib.Omega.{arith}
 use lib.Dec.{ltb, eqb}
-use lib.ListN.{length, drop, replicate, length_append, length-replicate}
+use lib.ListN.{length, drop, replicate, length-append, length-replicate}
 use borrow.Author.Tests.{ne_eqb, le-ltb}
 use Rattle.tapes_numbers.specs.declared.Variant.{Variant}
 use Rattle.tapes_numbers.specs.declared.Variant.TheVariants.{BigEndian, LittleEndian}
@@ -74,7 +74,7 @@ module _ (s rest : List ℕ) (v : Variant) (capacity workers space n room : ℕ)
       → (x : Heard) → ((after : Heard) → more after ≡ x) → hear_in v fresh ≡ x
   unfolding hear_in
   heard_first f e more is x stops =
-      let count : length fresh ≡ suc (6 + length rest) = omega (arith, length_append (head_of v capacity workers) rest, length_head v capacity workers) in
+      let count : length fresh ≡ suc (6 + length rest) = omega (arith, length-append (head_of v capacity workers) rest, length_head v capacity workers) in
       ap (λ (l : List ℕ). hear_from (length fresh) v 7 l) (past_head s rest v capacity workers lent n p ends got.0 got.1 rest)
       ∙ ap (λ (k : ℕ). hear_from k v 7 rest) count ∙ hear_next (6 + length rest) v 7 rest f e ∙ is _ ∙ stops _
 
@@ -97,7 +97,7 @@ past : (s more : List ℕ) (v : Variant) (capacity workers space n room b : ℕ)
 unfolding heard_by
 past s more v capacity workers space n room b p h =
     let rest : List ℕ = end_of v ++ b ∷ more in
-    let extra : length rest ≡ 3 → ⊥ = λ e. omega (arith, length_append (end_of v) (b ∷ more), length_end v) in
+    let extra : length rest ≡ 3 → ⊥ = λ e. omega (arith, length-append (end_of v) (b ∷ more), length_end v) in
     let sum : 10 + (length s - 7) ≡ length s + 3 = omega (arith, long s rest v capacity workers space n room p h) in
     told s rest v capacity workers space n room p h 15 10 (λ e. omega arith)
     (heard_first s rest v capacity workers space n room p h field.End (end_found v (b ∷ more)) (λ after. cond (eqb (length rest) 3) (heard []) (stopped 15 10)) (λ after. refl) (stopped 15 10)

@@ -6,9 +6,9 @@ use mathlib.Core.List.{List, [], ◌∷◌, ◌++◌, append_assoc, append-nil}
 use mathlib.Core.Logic.{◌⊎◌, inl, inr, ⊎_elim}
 use native.Mathlib.Omega.{arith}
 use lib.Dec.{ltb, eqb}
-use lib.ListN.{length, get_or, take, drop, length_append, length-drop, take-append-drop}
+use lib.ListN.{length, get_or, take, drop, length-append, length-drop, take-append-drop}
 use lib.Seq.{drop-drop, drop-cons, length-take-le, take_at, drop_at, get_or_at}
-use borrow.Author.Tests.{lt-ltb, le-ltb, eq_eqb, ne_eqb, ltb-true, ltb-false, eqb_true}
+use borrow.Author.Tests.{lt-ltb, le-ltb, eq-eqb, ne_eqb, ltb-true, ltb-false, eqb-true}
 use Rattle.queue_entries.specs.declared.Order.TheVariants.{Begin, Act}
 use Rattle.queue_entries.specs.declared.Entry.TheVariants.{Unreadable, Asks}
 use Rattle.queue_entries.specs.Entries.{call_of, stray_of, order_of, entry_of}
@@ -39,7 +39,7 @@ module _ (v u : Variant) (tag long : ℕ) (rest : List ℕ) where
   opens_same h =
       let body : take 2 (bytes_of v 2 long ++ rest) ≡ bytes_of v 2 long = take_at (bytes_of v 2 long) rest 2 (length_bytes v 2 long) in
       let is : number_of v (take 2 (bytes_of v 2 long ++ rest)) ≡ long = ap (number_of v) body ∙ number_bytes v 2 long h in
-      simp (eq_eqb (tag_of v tag) (tag_of v tag) refl, eq_eqb _ long is)
+      simp (eq-eqb (tag_of v tag) (tag_of v tag) refl, eq-eqb _ long is)
 
   pub opens_other : (t n : ℕ) → (tag_of u tag ≡ tag_of v t → ⊥) → opens v t n (opening_of u tag long ++ rest) ≡ false
   unfolding opens opening_of
@@ -63,7 +63,7 @@ unfolding field_in
 end_found v rest =
     let s : List ℕ = end_of v ++ rest in
     let s_is : s ≡ opening_of v 4 0 ++ rest = ap (λ (l : List ℕ). l ++ rest) (sym (ended v)) in
-    let long : ltb (length s) 3 ≡ false = le-ltb (length s) 3 (omega (arith, length_append (end_of v) rest, length_end v)) in
+    let long : ltb (length s) 3 ≡ false = le-ltb (length s) 3 (omega (arith, length-append (end_of v) rest, length_end v)) in
     let other : (t n : ℕ) → (4 ≡ t → ⊥) → opens v t n s ≡ false = λ t n h. ap (opens v t n) s_is ∙ opens_other v v 4 0 rest t n (λ e. h (tag_one v 4 t e)) in
     simp (long, other 2 9 (λ e. omega arith), other 3 1 (λ e. omega arith), ap (opens v 4 0) s_is ∙ opens_same v v 4 0 rest (omega arith))
 
@@ -93,7 +93,7 @@ module _ (v : Variant) (first item : ℕ) (rest : List ℕ) (k : Carried first i
   entry_item : drop 4 (entry_field_of v first item ++ rest) ≡ bytes_of v (item_long (first % 16)) item ++ rest
   entry_item =
       let op : List ℕ = opening_of v (tag_for (first % 16)) (1 + item_long (first % 16)) in
-      let four : length (op ++ (swapped first ∷ [])) ≡ 4 = omega (arith, length_append op (swapped first ∷ []), length_opening v (tag_for (first % 16)) (1 + item_long (first % 16))) in
+      let four : length (op ++ (swapped first ∷ [])) ≡ 4 = omega (arith, length-append op (swapped first ∷ []), length_opening v (tag_for (first % 16)) (1 + item_long (first % 16))) in
       ap (drop 4) (entry_is v first item rest ∙ sym (append_assoc op (swapped first ∷ []) (bytes_of v (item_long (first % 16)) item ++ rest)))
       ∙ drop_at (op ++ (swapped first ∷ [])) (bytes_of v (item_long (first % 16)) item ++ rest) 4 four
 
@@ -110,10 +110,10 @@ module _ (v : Variant) (first item : ℕ) (rest : List ℕ) (k : Carried first i
   unfolding entry_by allowed
   entry_under tag long t l =
       let s : List ℕ = entry_field_of v first item ++ rest in
-      let whole : ltb (length s) (3 + long) ≡ false = le-ltb (length s) (3 + long) (omega (arith, length_append (entry_field_of v first item) rest, length_entry v first item, size_is)) in
+      let whole : ltb (length s) (3 + long) ≡ false = le-ltb (length s) (3 + long) (omega (arith, length-append (entry_field_of v first item) rest, length_entry v first item, size_is)) in
       let code : get_or s 3 0 / 16 ≡ first % 16 = ap (λ (b : ℕ). b / 16) entry_byte ∙ code_is in
       let low : ltb (get_or s 3 0 / 16) 10 ≡ true = lt-ltb (get_or s 3 0 / 16) 10 (omega (arith, code, k.code)) in
-      let tag_is : eqb tag (tag_for (get_or s 3 0 / 16)) ≡ true = eq_eqb tag (tag_for (get_or s 3 0 / 16)) (t ∙ ap tag_for (sym code)) in
+      let tag_is : eqb tag (tag_for (get_or s 3 0 / 16)) ≡ true = eq-eqb tag (tag_for (get_or s 3 0 / 16)) (t ∙ ap tag_for (sym code)) in
       let less : long - 1 ≡ item_long (first % 16) = omega arith in
       let number : number_of v (take (long - 1) (drop 4 s)) ≡ item =
       ap₂ (λ (n : ℕ) (l : List ℕ). number_of v (take n l)) less entry_item
@@ -129,7 +129,7 @@ module _ (v : Variant) (first item : ℕ) (rest : List ℕ) (k : Carried first i
   entry_found =
       let s : List ℕ = entry_field_of v first item ++ rest in
       let tail : List ℕ = swapped first ∷ (bytes_of v (item_long (first % 16)) item ++ rest) in
-      let whole : ltb (length s) 3 ≡ false = le-ltb (length s) 3 (omega (arith, length_append (entry_field_of v first item) rest, length_entry v first item, size_of_lem first)) in
+      let whole : ltb (length s) 3 ≡ false = le-ltb (length s) 3 (omega (arith, length-append (entry_field_of v first item) rest, length_entry v first item, size_of_lem first)) in
       let same : (tag long : ℕ) → tag ≡ tag_for (first % 16) → long ≡ 1 + item_long (first % 16) → long < 65536 → opens v tag long s ≡ true =
       λ tag long t l h. ap₂ (λ (i j : ℕ). opens v i j s) t l ∙ ap (opens v (tag_for (first % 16)) (1 + item_long (first % 16))) (entry_is v first item rest)
       ∙ opens_same v v (tag_for (first % 16)) (1 + item_long (first % 16)) tail (omega arith) in
@@ -146,7 +146,7 @@ head_is : (v : Variant) (capacity workers : ℕ) (rest : List ℕ) → head_of v
 unfolding head_of
 head_is v capacity workers rest =
     let body : List ℕ = bytes_of v 2 capacity ++ bytes_of v 2 workers in
-    let long : length body ≡ 4 = omega (arith, length_append (bytes_of v 2 capacity) (bytes_of v 2 workers), length_bytes v 2 capacity, length_bytes v 2 workers) in
+    let long : length body ≡ 4 = omega (arith, length-append (bytes_of v 2 capacity) (bytes_of v 2 workers), length_bytes v 2 capacity, length_bytes v 2 workers) in
     ap (λ (l : List ℕ). l ++ rest) (field_long v 1 4 body long)
     ∙ append_assoc (opening_of v 1 4) body rest
     ∙ ap (λ (l : List ℕ). opening_of v 1 4 ++ l) (append_assoc (bytes_of v 2 capacity) (bytes_of v 2 workers) rest)
@@ -164,7 +164,7 @@ module _ (v : Variant) (capacity workers : ℕ) (rest : List ℕ) (narrow : capa
   unfolding head_by
   head_under =
       let s : List ℕ = head_of v capacity workers ++ rest in
-      let whole : ltb (length s) 7 ≡ false = le-ltb (length s) 7 (omega (arith, length_append (head_of v capacity workers) rest, length_head v capacity workers)) in
+      let whole : ltb (length s) 7 ≡ false = le-ltb (length s) 7 (omega (arith, length-append (head_of v capacity workers) rest, length_head v capacity workers)) in
       let c : number_of v (take 2 (drop 3 s)) ≡ capacity =
       ap (λ (l : List ℕ). number_of v (take 2 l)) capacity_at
       ∙ ap (number_of v) (take_at (bytes_of v 2 capacity) (bytes_of v 2 workers ++ rest) 2 (length_bytes v 2 capacity)) ∙ number_bytes v 2 capacity narrow in
@@ -177,7 +177,7 @@ module _ (v : Variant) (capacity workers : ℕ) (rest : List ℕ) (narrow : capa
   head_opens = ap (opens v 1 4) (head_is v capacity workers rest) ∙ opens_same v v 1 4 (bytes_of v 2 capacity ++ (bytes_of v 2 workers ++ rest)) (omega arith)
 
   head_long : ltb (length (head_of v capacity workers ++ rest)) 3 ≡ false
-  head_long = le-ltb (length (head_of v capacity workers ++ rest)) 3 (omega (arith, length_append (head_of v capacity workers) rest, length_head v capacity workers))
+  head_long = le-ltb (length (head_of v capacity workers ++ rest)) 3 (omega (arith, length-append (head_of v capacity workers) rest, length_head v capacity workers))
 
 pub head_found : (v : Variant) (capacity workers : ℕ) (rest : List ℕ) → capacity < 65536 → workers < 65536 → head_in (head_of v capacity workers ++ rest) ≡ head.Makes v capacity workers
 unfolding head_in
@@ -196,8 +196,8 @@ opening_back v tag long [] h p o = absurd (omega arith)
 opening_back v tag long (x ∷ []) h p o = absurd (omega arith)
 opening_back v tag long (x ∷ y ∷ []) h p o = absurd (omega arith)
 opening_back v tag long (x ∷ y ∷ z ∷ s) h p o =
-    let tag_is : x ≡ tag_of v tag = eqb_true x (tag_of v tag) (both_left (eqb x (tag_of v tag)) (eqb (number_of v (y ∷ z ∷ [])) long) o) in
-    let long-is : number_of v (y ∷ z ∷ []) ≡ long = eqb_true _ long (both_right (eqb x (tag_of v tag)) (eqb (number_of v (y ∷ z ∷ [])) long) o) in
+    let tag_is : x ≡ tag_of v tag = eqb-true x (tag_of v tag) (both_left (eqb x (tag_of v tag)) (eqb (number_of v (y ∷ z ∷ [])) long) o) in
+    let long-is : number_of v (y ∷ z ∷ []) ≡ long = eqb-true _ long (both_right (eqb x (tag_of v tag)) (eqb (number_of v (y ∷ z ∷ [])) long) o) in
     let bytes : y ∷ z ∷ [] ≡ bytes_of v 2 long = sym (ap (bytes_of v 2) (sym long-is) ∙ bytes_number v (y ∷ z ∷ []) 2 refl (p.1.0, (p.1.1.0, tt))) in
     ap₂ (λ (t : ℕ) (l : List ℕ). t ∷ (l ++ s)) tag_is bytes
 
@@ -299,7 +299,7 @@ carried_back first item c = go (ltb 1 (first % 16)) refl (ltb (first % 16) 8)
     code = lt-ltb (first % 16) 10 c.code
 
     none : ltb 1 (first % 16) ≡ true → eqb item 0 ≡ true
-    none e = eq_eqb item 0 (c.plain (ltb-true 1 (first % 16) e))
+    none e = eq-eqb item 0 (c.plain (ltb-true 1 (first % 16) e))
 
     go : (b : Bool) → ltb 1 (first % 16) ≡ b → (d : Bool)
         → carried_by (cond (cond b (not (eqb item 0)) false) Unreadable

@@ -7,8 +7,8 @@ use mathlib.Core.Logic.{◌⊎◌, inl, inr}
 use native.Mathlib.Omega.{arith}
 use native.Mathlib.Decide.{dec_lt}
 use lib.Dec.{ltb, eqb}
-use lib.ListN.{length, take, drop, length_append, replicate, length-replicate}
-use borrow.Author.Tests.{lt-ltb, le-ltb, eq_eqb, ne_eqb}
+use lib.ListN.{length, take, drop, length-append, replicate, length-replicate}
+use borrow.Author.Tests.{lt-ltb, le-ltb, eq-eqb, ne_eqb}
 use Rattle.tapes_numbers.specs.declared.Variant.{Variant}
 use Rattle.tapes_fields.specs.Fields.{item_long, size_of}
 use Rattle.tapes_fields.specs.Judged.{carried}
@@ -59,7 +59,7 @@ module _ (capacity workers : ℕ) (words : List ℕ) (room : ℕ) where
 
   whole_odd : length words % 2 ≡ 1 → write_of capacity workers words room ≡ Refused 11 0
   unfolding write_of
-  whole_odd odd = simp (eq_eqb (length words % 2) 1 odd)
+  whole_odd odd = simp (eq-eqb (length words % 2) 1 odd)
 
   too_large : length words % 2 ≡ 0 → (most < capacity) ⊎ (most < workers) → write_of capacity workers words room ≡ Refused 17 0
   unfolding write_of
@@ -90,7 +90,7 @@ writer_order =
       uncarried =
           λ capacity workers words first item rest room c even h.
           judged capacity workers (words ++ first ∷ item ∷ rest) room
-          (let q : length (words ++ first ∷ item ∷ rest) ≡ length words + suc (suc (length rest)) = length_append words (first ∷ item ∷ rest) in omega (arith, q, c.whole, even)) c.narrow c.few
+          (let q : length (words ++ first ∷ item ∷ rest) ≡ length words + suc (suc (length rest)) = length-append words (first ∷ item ∷ rest) in omega (arith, q, c.whole, even)) c.narrow c.few
           ∙ ap (fitted room) (stops 0 10 words first item rest c.whole c.carries h) ∙ unfit room (0 + length words / 2)
           ∙ ap (Refused 17) (let q : 0 + length words / 2 ≡ length words / 2 = omega arith in q);
       short =

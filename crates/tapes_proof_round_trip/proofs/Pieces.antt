@@ -5,7 +5,7 @@ use mathlib.Core.Bool.{Bool, true, false, cond}
 use mathlib.Core.List.{List, [], ◌∷◌, ◌++◌, append_assoc}
 use native.Mathlib.Omega.{arith}
 use lib.Dec.{ltb, eqb}
-use lib.ListN.{length, take, drop, length_append, length-drop}
+use lib.ListN.{length, take, drop, length-append, length-drop}
 use lib.Seq.{take_at, drop_at}
 use borrow.Author.Tests.{le-ltb}
 use Rattle.tapes_numbers.specs.declared.Variant.{Variant}
@@ -106,7 +106,7 @@ hear_past v rest [] more m at start k place long n p even load h l e =
     ap (λ (a : ℕ). hear_from more v a rest) same ∙ hear_shift more m v start k rest h l
 hear_past v rest (x ∷ []) more m at start k place long n p even load h l e = absurd (even refl)
 hear_past v rest (first ∷ item ∷ words) zero m at start k place long n p even load h l e =
-    absurd (omega (arith, length_append (entry_field_of v first item ++ entries_of v words) rest, length_append (entry_field_of v first item) (entries_of v words), length_entry v first item, four first))
+    absurd (omega (arith, length-append (entry_field_of v first item ++ entries_of v words) rest, length-append (entry_field_of v first item) (entries_of v words), length_entry v first item, four first))
 hear_past v rest (first ∷ item ∷ words) (suc more) m at start k place long n p even load h l e =
     let c = load_first place long n first item words load in
     let left : List ℕ = entries_of v words ++ rest in
@@ -115,8 +115,8 @@ hear_past v rest (first ∷ item ∷ words) (suc more) m at start k place long n
     let past : drop (size_of first) (entry_field_of v first item ++ left) ≡ left = drop_at (entry_field_of v first item) left (size_of first) (length_entry v first item) in
     let even-rest : length words % 2 ≡ 1 → ⊥ = λ o. even (omega arith) in
     let short : length left ≤ more =
-    omega (arith, ap length s_is, length_append (entry_field_of v first item) left, length_entry v first item, four first) in
-    let sum : at + size_of first + length (entries_of v words) ≡ start + k = omega (arith, length_append (entry_field_of v first item) (entries_of v words), length_entry v first item) in
+    omega (arith, ap length s_is, length-append (entry_field_of v first item) left, length_entry v first item, four first) in
+    let sum : at + size_of first + length (entries_of v words) ≡ start + k = omega (arith, length-append (entry_field_of v first item) (entries_of v words), length_entry v first item) in
     ap (hear_from (suc more) v at) s_is
     ∙ ap (λ (f : Field). heard_by at (entry_field_of v first item ++ left) f (hear_from more v (at + long_of f) (drop (long_of f) (entry_field_of v first item ++ left)))) is
     ∙ ap (λ (r : List ℕ). joined first item (hear_from more v (at + size_of first) r)) past
@@ -146,11 +146,11 @@ module _ (s rest : List ℕ) (v : Variant) (capacity workers : ℕ) (lent : List
   s_is =
       let first : List ℕ = head_of v capacity workers ++ entries_of v words in
       let is : s ++ end_of v ≡ first ++ end_of v = tape_is (s ++ end_of v) (length lent) v capacity workers n words whole_below g in
-      let long : length first ≡ length s = omega (arith, ap length is, length_append s (end_of v), length_append first (end_of v)) in
+      let long : length first ≡ length s = omega (arith, ap length is, length-append s (end_of v), length-append first (end_of v)) in
       sym (take_at s (end_of v) (length s) refl) ∙ ap (take (length s)) is ∙ take_at first (end_of v) (length s) long
 
   pub s_long : length s ≡ 7 + length (entries_of v words)
-  s_long = ap length s_is ∙ length_append (head_of v capacity workers) (entries_of v words) ∙ ap (λ (k : ℕ). k + length (entries_of v words)) (length_head v capacity workers)
+  s_long = ap length s_is ∙ length-append (head_of v capacity workers) (entries_of v words) ∙ ap (λ (k : ℕ). k + length (entries_of v words)) (length_head v capacity workers)
 
   whole_is : s ++ rest ≡ head_of v capacity workers ++ (entries_of v words ++ rest)
   whole_is = ap (λ (l : List ℕ). l ++ rest) s_is ∙ append_assoc (head_of v capacity workers) (entries_of v words) rest
@@ -170,7 +170,7 @@ module _ (s rest : List ℕ) (v : Variant) (capacity workers : ℕ) (lent : List
       ap (λ (l : List ℕ). hear_from (length l) v 7 (drop 7 l)) whole_is
       ∙ ap (hear_from (length all) v 7) (past_head (entries_of v words ++ rest))
       ∙ hear_past v rest words (length all) (length tail) 7 7 (length s - 7) 0 10 (length (s ++ end_of v)) (words_low (s ++ end_of v) (length lent) v capacity workers n words whole_below g)
-      fits.even fits.load (omega (arith, length_append (head_of v capacity workers) (entries_of v words ++ rest))) (omega (arith, length_append (head_of v capacity workers) rest)) sum
+      fits.even fits.load (omega (arith, length-append (head_of v capacity workers) (entries_of v words ++ rest))) (omega (arith, length-append (head_of v capacity workers) rest)) sum
       ∙ ap (λ (l : List ℕ). after words (length s - 7) (hear_from (length tail) v 7 l)) (sym (past_head rest))
 
   whole_read : (room : ℕ) → read_of (s ++ rest) room ≡ read_by room v capacity workers (count_in (after words (length s - 7) (hear_in v (head_of v capacity workers ++ rest))))
@@ -202,7 +202,7 @@ module _ (s rest : List ℕ) (v : Variant) (capacity workers : ℕ) (lent : List
     all_heard = heard_whole ∙ ap (after words (length s - 7)) b.hears
 
     long : length (words ++ ws) ≡ n + m
-    long = omega (arith, length_append words ws, g.count, b.count)
+    long = omega (arith, length-append words ws, g.count, b.count)
 
     answer : read_of (s ++ rest) (length whole) ≡ reading.Schedule v capacity workers (n + m)
     unfolding read_by count_in

@@ -6,9 +6,9 @@ use mathlib.Core.List.{List, [], ◌∷◌, ◌++◌, append_assoc, append-nil}
 use mathlib.Core.Logic.{◌⊎◌, inl, inr}
 use native.Mathlib.Omega.{arith}
 use lib.Dec.{ltb, eqb, leb}
-use lib.ListN.{length, take, drop, length_append, length-drop}
+use lib.ListN.{length, take, drop, length-append, length-drop}
 use lib.Seq.{take_at, drop_at, drop-drop, length-take-le}
-use borrow.Author.Tests.{lt-ltb, le-ltb, le-leb, ltb-true, ltb-false, eq_eqb, eqb_true, ne_eqb}
+use borrow.Author.Tests.{lt-ltb, le-ltb, le-leb, ltb-true, ltb-false, eq-eqb, eqb-true, ne_eqb}
 use Rattle.queue_entries.proofs.Pick.{equal}
 use Rattle.tapes_numbers.specs.declared.Variant.{Variant}
 use Rattle.tapes_numbers.specs.declared.Variant.TheVariants.{BigEndian, LittleEndian}
@@ -81,7 +81,7 @@ items_in count items h =
     let bytes : ℕ = 4 * count + 8 * items in
     let left : 4 * count + 8 * items - 4 * count ≡ 8 * items = omega arith in
     simp
-    (le-ltb (4 * count + 8 * items) (4 * count) (omega arith), eq_eqb ((4 * count + 8 * items - 4 * count) % 8) 0 (omega arith), le-leb ((4 * count + 8 * items - 4 * count) / 8) count (omega arith))
+    (le-ltb (4 * count + 8 * items) (4 * count) (omega arith), eq-eqb ((4 * count + 8 * items - 4 * count) % 8) 0 (omega arith), le-leb ((4 * count + 8 * items - 4 * count) / 8) count (omega arith))
 
 stands_so : (room long count items : ℕ) → long ≡ 7 + 4 * count + 8 * items → items ≤ count → long + 3 ≤ room → stands room long count ≡ true
 unfolding stands
@@ -106,14 +106,14 @@ module _ (f x : List ℕ) (at : ℕ) (fits : at + length f ≤ length x) where
 
   put_long : length (put_at at f x) ≡ length x
   put_long =
-      ap length put_is ∙ length_append (take at x) (f ++ drop (at + length f) x)
-      ∙ omega (arith, length-take-le at x (let q : at ≤ length x = omega arith in q), length_append f (drop (at + length f) x), length-drop (at + length f) x)
+      ap length put_is ∙ length-append (take at x) (f ++ drop (at + length f) x)
+      ∙ omega (arith, length-take-le at x (let q : at ≤ length x = omega arith in q), length-append f (drop (at + length f) x), length-drop (at + length f) x)
 
   put_more : take (at + length f) (put_at at f x) ≡ take at x ++ f
   put_more =
       ap (take (at + length f)) (put_is ∙ sym (append_assoc (take at x) f (drop (at + length f) x)))
       ∙ take_at (take at x ++ f) (drop (at + length f) x) (at + length f)
-      (length_append (take at x) f ∙ ap (λ (n : ℕ). n + length f) (length-take-le at x (omega arith)))
+      (length-append (take at x) f ∙ ap (λ (n : ℕ). n + length f) (length-take-le at x (omega arith)))
 
   put_after : (k : ℕ) → drop (at + length f + k) (put_at at f x) ≡ drop (at + length f + k) x
   put_after k =
@@ -121,7 +121,7 @@ module _ (f x : List ℕ) (at : ℕ) (fits : at + length f ≤ length x) where
       ∙ ap (drop k)
       (ap (drop (at + length f)) (put_is ∙ sym (append_assoc (take at x) f (drop (at + length f) x)))
       ∙ drop_at (take at x ++ f) (drop (at + length f) x) (at + length f)
-      (length_append (take at x) f ∙ ap (λ (n : ℕ). n + length f) (length-take-le at x (omega arith))))
+      (length-append (take at x) f ∙ ap (λ (n : ℕ). n + length f) (length-take-le at x (omega arith))))
       ∙ drop-drop k (at + length f) x
 
 -- ---- a recorder in use: this schedule is recorded
@@ -209,11 +209,11 @@ module _ (v : Variant) (capacity workers : ℕ) (o words recorder tape : List �
 
     longer_even : length longer % 2 ≡ 0
     unfolding longer
-    longer_even = omega (arith, length_append words (first ∷ item ∷ []), h.even)
+    longer_even = omega (arith, length-append words (first ∷ item ∷ []), h.even)
 
     longer_count : length longer / 2 ≡ length words / 2 + 1
     unfolding longer
-    longer_count = omega (arith, length_append words (first ∷ item ∷ []), h.even)
+    longer_count = omega (arith, length-append words (first ∷ item ∷ []), h.even)
 
     load_by : (b : Bool) → carried first item ≡ b → load_from 0 10 longer ≡ cond b (Bytes (h.long + 3 + size_of first)) (Unfit (length words / 2))
     unfolding longer load_from
@@ -374,8 +374,8 @@ named name capacity workers words tape = go (eqb name 1) (eqb name 129) refl ref
     go : (a b : Bool) → eqb name 1 ≡ a → eqb name 129 ≡ b
         → (cond a (written_by BigEndian capacity workers words tape) (cond b (written_by LittleEndian capacity workers words tape) (written (reply 13 0) tape))).answer.refusal ≡ 0
         → (v : Variant) × (name ≡ name_of v)
-    go true b p q h = (BigEndian, eqb_true name 1 p)
-    go false true p q h = (LittleEndian, eqb_true name 129 q)
+    go true b p q h = (BigEndian, eqb-true name 1 p)
+    go false true p q h = (LittleEndian, eqb-true name 129 q)
     go false false p q h = absurd (omega (arith, h))
 
 is_tape : (capacity workers : ℕ) (words : List ℕ) (room : ℕ) → writer.number_in (write_of capacity workers words room) ≡ 0 → (n : ℕ) × (write_of capacity workers words room ≡ Tape n)
@@ -414,15 +414,15 @@ module _ (v : Variant) (capacity workers : ℕ) (o : List ℕ) where
   all_taken : (words rest : List ℕ) (n : ℕ) → length words % 2 ≡ 0 → Accepted capacity workers (words ++ rest) (length o) n
       → taken_all (writes v capacity workers o) words (entries_in rest) ≡ words ++ rest
   all_taken words [] n even a = sym (append-nil words)
-  all_taken words (x ∷ []) n even a = absurd (a.even (omega (arith, length_append words (x ∷ []), even)))
+  all_taken words (x ∷ []) n even a = absurd (a.even (omega (arith, length-append words (x ∷ []), even)))
   all_taken words (first ∷ item ∷ rest) n even a =
       let longer : List ℕ = words ++ first ∷ item ∷ [] in
       let join : longer ++ rest ≡ words ++ first ∷ item ∷ rest = append_assoc words (first ∷ item ∷ []) rest in
       let again : Accepted capacity workers (longer ++ rest) (length o) n = subst (λ (l : List ℕ). Accepted capacity workers l (length o) n) (sym join) a in
-      let both : length longer % 2 ≡ 0 = omega (arith, length_append words (first ∷ item ∷ []), even) in
+      let both : length longer % 2 ≡ 0 = omega (arith, length-append words (first ∷ item ∷ []), even) in
       let now-taken = first_taken longer rest n both again in
       let kept : taken_by (writes v capacity workers o) words (entry first item) ≡ longer =
-      ap (λ (b : Bool). cond b longer words) (eq_eqb (writes v capacity workers o longer).answer.refusal 0 (taken_back longer now-taken.0 now-taken.1)) in
+      ap (λ (b : Bool). cond b longer words) (eq-eqb (writes v capacity workers o longer).answer.refusal 0 (taken_back longer now-taken.0 now-taken.1)) in
       ap (λ (l : List ℕ). taken_all (writes v capacity workers o) l (entries_in rest)) kept ∙ all_taken longer rest n both again ∙ join
 
   module _ (n : ℕ) (a : Accepted capacity workers [] (length o) n) where
@@ -461,7 +461,7 @@ module _ (v : Variant) (capacity workers : ℕ) (o : List ℕ) where
       is = refl;
       sum = refl;
       fewer = omega arith;
-      same = ap length first_is ∙ length_append (tape_of v capacity workers []) (drop 10 o) ∙ omega (arith, tape_long, length-drop 10 o, a.room_is, ten);
+      same = ap length first_is ∙ length-append (tape_of v capacity workers []) (drop 10 o) ∙ omega (arith, tape_long, length-drop 10 o, a.room_is, ten);
       start = begun_start;
       rest = ap (drop 10) first_is ∙ drop_at (tape_of v capacity workers []) (drop 10 o) 10 (sym tape_long);
     }
@@ -469,7 +469,7 @@ module _ (v : Variant) (capacity workers : ℕ) (o : List ℕ) where
   module _ (recorder : List ℕ) (three : length recorder ≡ 3) where
     begin_told : begin_tape (name_of v) capacity workers recorder o ≡ begun_by (name_of v) recorder (writes v capacity workers o [])
     unfolding begin_tape
-    begin_told = simp (eq_eqb (length recorder) 3 three)
+    begin_told = simp (eq-eqb (length recorder) 3 three)
 
     begun_answer : (begin_tape (name_of v) capacity workers recorder o).answer.refusal ≡ (writes v capacity workers o []).answer.refusal
     unfolding begun_by
@@ -481,7 +481,7 @@ module _ (v : Variant) (capacity workers : ℕ) (o : List ℕ) where
     begin_holds e =
         let t = taken_means [] e in
         let words : cond (eqb (writes v capacity workers o []).answer.refusal 0) (recorder_of (name_of v) 7 0) recorder ≡ recorder_of (name_of v) 7 0 =
-        ap (λ (b : Bool). cond b (recorder_of (name_of v) 7 0) recorder) (eq_eqb (writes v capacity workers o []).answer.refusal 0 e) in
+        ap (λ (b : Bool). cond b (recorder_of (name_of v) 7 0) recorder) (eq-eqb (writes v capacity workers o []).answer.refusal 0 e) in
         let bytes : (writes v capacity workers o []).tape ≡ written_of v capacity workers [] o = ap (λ (w : Written). w.tape) (write_named v capacity workers [] o) in
         subst (λ (r : Recorded). Holds v capacity workers o [] r.recorder r.tape) (sym begin_told)
         (subst (λ (l : List ℕ). Holds v capacity workers o [] l (writes v capacity workers o []).tape) (sym words)
@@ -532,7 +532,7 @@ records_as_written name capacity workers recorder o three = record {
 }
   where
     told : begin_tape name capacity workers recorder o ≡ begun_by name recorder (write_tape name capacity workers [] o)
-    told = simp (eq_eqb (length recorder) 3 three)
+    told = simp (eq-eqb (length recorder) 3 three)
 
     answer : (begin_tape name capacity workers recorder o).answer.refusal ≡ (write_tape name capacity workers [] o).answer.refusal
     answer = ap (λ (r : Recorded). r.answer.refusal) told

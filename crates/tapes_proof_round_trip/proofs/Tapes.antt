@@ -5,9 +5,9 @@ use mathlib.Core.Bool.{Bool, true, false, cond}
 use mathlib.Core.List.{List, [], ◌∷◌, ◌++◌, append_assoc, append-nil}
 use native.Mathlib.Omega.{arith}
 use lib.Dec.{ltb, eqb}
-use lib.ListN.{length, take, drop, length_append, length-drop, drop_of_length-le}
+use lib.ListN.{length, take, drop, length-append, length-drop, drop_of_length-le}
 use lib.Seq.{drop_at}
-use borrow.Author.Tests.{eq_eqb, eqb_true}
+use borrow.Author.Tests.{eq-eqb, eqb-true}
 use Rattle.tapes_numbers.specs.declared.Variant.{Variant}
 use Rattle.tapes_fields.specs.declared.Field.{Field}
 use Rattle.tapes_fields.specs.declared.Field.TheVariants as field
@@ -39,7 +39,7 @@ unfolding hear_from heard_by
 hear_end more v at =
     let is : field_in v (end_of v) ≡ field.End = ap (field_in v) (sym (append-nil (end_of v))) ∙ end_found v [] in
     ap (λ (f : Field). heard_by at (end_of v) f (hear_from more v (at + long_of f) (drop (long_of f) (end_of v)))) is
-    ∙ simp (eq_eqb (length (end_of v)) 3 (length_end v))
+    ∙ simp (eq-eqb (length (end_of v)) 3 (length_end v))
 
 pub hear_written : (v : Variant) (words : List ℕ) (more at place long n : ℕ) → Below (2 ^ 64) words → (length words % 2 ≡ 1 → ⊥) → load_from place long words ≡ Bytes n
     → length words / 2 < more → hear_from more v at (entries_of v words ++ end_of v) ≡ heard words
@@ -79,7 +79,7 @@ back_end : (v : Variant) (at : ℕ) (s words : List ℕ) → Below 256 s → fie
 back_end v at s words p f = go (eqb (length s) 3) refl words
   where
     go : (b : Bool) → eqb (length s) 3 ≡ b → (ws : List ℕ) → cond b (heard []) (stopped 15 (at + 3)) ≡ heard ws → Heard-back v s ws
-    go true e [] h = back_none v s p f (eqb_true (length s) 3 e)
+    go true e [] h = back_none v s p f (eqb-true (length s) 3 e)
     go true e (w ∷ ws) h = let z : ◌≡◌ {A = ℕ} 0 1 = cc in absurd (omega arith)
     go false e ws h = let z : ◌≡◌ {A = ℕ} 0 1 = cc in absurd (omega arith)
 
@@ -92,7 +92,7 @@ back_more v s first item ws p f rest = record {
   low = (omega (arith, (entry_carried s v first item p f).byte), (entry_word s v first item p f, rest.low));
   load = λ place long.
       let sum : long + size_of first + length (entries_of v ws) ≡ long + length (entry_field_of v first item ++ entries_of v ws) = omega
-      (arith, length_append (entry_field_of v first item) (entries_of v ws), length_entry v first item) in
+      (arith, length-append (entry_field_of v first item) (entries_of v ws), length_entry v first item) in
       simp (carried_back first item (entry_carried s v first item p f)) (rest.load (place + 1) (long + size_of first) ∙ ap Bytes sum);
 }
 

@@ -6,6 +6,8 @@
 //   2 ROOM COUNT CAPACITY WORKERS WORD ..     the same, in the second variant
 //
 // No count and no room is above 256. Each answer is a line: what was answered, a colon, and the whole lent buffer.
+#![tactic(auto)]
+
 ghost use Rattle.std.specs.Prelude.{◌≤◌, length};
 
 use tapes::{Reading, Writing};
@@ -20,7 +22,7 @@ const BYTES: usize = 16384;
 const NUMBERS: usize = 8704;
 
 // How many numbers were used, 0 where a case is not whole, and where the text goes on.
-#[derive(Drop)]
+#[derive(Clone, Copy)]
 struct Went {
     used: usize,
     at: usize,
@@ -247,7 +249,7 @@ fn settle(list: &mut [u64], n: usize, out: &mut [u8]) -> usize {
 }
 
 // Where the reading of numbers stands, and how many of them are left.
-#[derive(Drop)]
+#[derive(Clone, Copy)]
 struct Standing {
     scan: Scan,
     left: usize,

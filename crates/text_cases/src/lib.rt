@@ -1,5 +1,7 @@
 // Cases as rows of text: a letter, numbers, a bar after a blank, and a label to the line's end, as `b 10 1 |6 before 9: `. What a letter asks
 // for is said by who goes through the rows. Rows in place of calls keep a program's check short.
+#![tactic(auto)]
+
 
 // The most numbers of a row.
 pub const NUMBERS: usize = 64;

@@ -39,7 +39,7 @@ fn with_bytes(before: usize, bytes: &[u8]) -> usize {
 }
 
 // Of the next part; whether there is more of it.
-#[derive(Drop)]
+#[derive(Clone, Copy)]
 struct Part {
     met: usize,
     more: bool,

@@ -26,7 +26,7 @@ fn item(out: &mut [u8], at: usize, from: usize, n: u64) -> Listed {
     }
 }
 
-#[derive(Drop)]
+#[derive(Clone, Copy)]
 struct Listed {
     at: usize,
     from: usize,

@@ -1,5 +1,7 @@
 // Numbers out of text, byte by byte: unsigned decimal numbers separated by white space; `#` starts a comment to the end of
 // its line. Where several schedules stand in one text, a line with a single `%` ends one.
+#![tactic(auto)]
+
 ghost use Rattle.std.specs.Prelude.{◌≡◌, ◌+◌, ◌≤◌};
 
 // What a byte brought.
@@ -13,7 +15,7 @@ pub const NO_NUMBER: u64 = 3;
 
 pub const TOO_LARGE: u64 = 4;
 
-#[derive(Drop)]
+#[derive(Clone, Copy)]
 pub enum State {
     Between,
     Digits,
@@ -22,7 +24,7 @@ pub enum State {
     Percent,
 }
 
-#[derive(Drop)]
+#[derive(Clone, Copy)]
 pub struct Scan {
     pub state: State,
     // of the digits so far
@@ -34,7 +36,7 @@ pub struct Scan {
     pub start: u64,
 }
 
-#[derive(Drop)]
+#[derive(Clone, Copy)]
 pub struct Saw {
     pub scan: Scan,
     pub event: u64,
@@ -42,7 +44,7 @@ pub struct Saw {
 }
 
 // What stands in a piece of text: how many bytes of it were used, how many numbers are kept, and the event that stopped it.
-#[derive(Drop)]
+#[derive(Clone, Copy)]
 pub struct Piece {
     pub scan: Scan,
     pub used: usize,
@@ -226,7 +228,7 @@ pub fn is_between(s: Scan) -> bool {
 }
 
 // Whole numbers in a row, each ended by one space or by a line's end, which is what most text is made of.
-#[derive(Drop)]
+#[derive(Clone, Copy)]
 struct Row {
     // behind the last of them, and where it began
     next: usize,
@@ -239,7 +241,7 @@ struct Row {
 }
 
 // What a byte is to the digits before it, of which the number surely fits 64 bits: one more, the end of their number, or what is read otherwise.
-#[derive(Drop)]
+#[derive(Clone, Copy)]
 enum Next {
     Digit(u64),
     Ends(bool),

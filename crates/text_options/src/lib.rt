@@ -2,6 +2,8 @@
 //
 // A table is text: of each option its name and a bar, b"--many|". Behind the name may stand what value is wanted: b"--edition=#|" a number, b"--ending=+|" one that is not 0,
 // b"--bits=64,16|" one of these words; b"--queue=!|" is an option of another program alone. A value stands in the next argument, or behind an = in the same one. Behind -- all are names.
+#![tactic(auto)]
+
 
 // How many options a table may have, and how many names are kept.
 pub const MOST: usize = 20;
@@ -9,7 +11,7 @@ pub const MOST: usize = 20;
 pub const NAMES: usize = 3;
 
 // What is wrong with the arguments: the first of them that is, by its kind; the option that it is about, and others that it has to do with.
-#[derive(Drop)]
+#[derive(Clone, Copy)]
 pub struct Wrong {
     pub kind: u64,
     pub at: usize,
@@ -38,7 +40,7 @@ const BESIDE: u64 = 8;
 
 const FOREIGN: u64 = 9;
 
-#[derive(Drop)]
+#[derive(Clone, Copy)]
 pub struct Arguments {
     // of each option, in the order of the table, the number of the last argument that gives it; 0: none does
     pub at: [usize; MOST],
@@ -131,7 +133,7 @@ fn up_if(n: usize, it: bool) -> usize {
     n
 }
 
-#[derive(Drop)]
+#[derive(Clone, Copy)]
 struct Place {
     is_there: bool,
     number: usize,
@@ -156,7 +158,7 @@ fn place_of(list: &[u8], word: &[u8], next: u8, last: u8, behind: usize) -> Plac
 }
 
 // A number that an argument gives, or that it gives none.
-#[derive(Drop)]
+#[derive(Clone, Copy)]
 pub struct Number {
     pub ok: bool,
     pub number: u64,
@@ -461,7 +463,7 @@ fn value_at(out: &mut [u8], at: usize, option_at: usize, i: usize) -> usize {
 }
 
 // How far a part of a row goes, and where the text goes on behind it.
-#[derive(Drop)]
+#[derive(Clone, Copy)]
 struct Copied {
     to: usize,
     at: usize,

@@ -2,6 +2,8 @@
 // and answers the place after it. What finds no room is left out, so that no caller owes a bound; `flush` writes what is
 // there. Once a write has failed the place is LOST, where nothing finds room: nothing is written behind a gap, and who asks
 // for the place at the end knows of it.
+#![tactic(auto)]
+
 use libc::STDOUT_FILENO;
 
 pub const LOST: usize = usize::MAX;

@@ -2,6 +2,8 @@
 //
 // A table is text. A row is its keys with commas between them, a space, the sentence and a bar: b"P3>P4 tail #e -> #t won: claim #c is w#w's|". In a sentence #x is the
 // number of the letter x, and $x the form of that number in a second list, as text_output::nth has it.
+#![tactic(auto)]
+
 
 // Room for a key that is looked for; what is left of it is 0.
 pub const KEY: usize = 32;

@@ -1,7 +1,9 @@
 // The sum of the bytes that a reading has brought, by which a second reading of them is held to the first; knows no queue.
+#![tactic(auto)]
+
 ghost use Rattle.std.specs.Prelude.{◌+◌, ◌≤◌, length};
 
-#[derive(Drop)]
+#[derive(Clone, Copy)]
 pub struct Sum {
     // how many bytes
     pub count: u64,

@@ -47,7 +47,7 @@ const COMMENT: u64 = 7;
 const PERCENT: u64 = 8;
 
 // Where a reading stands beside its `Scan`, which has the line, the column and a number's value.
-#[derive(Drop)]
+#[derive(Clone, Copy)]
 pub struct Words {
     // which form the text has, once that is decided
     pub form: u64,
@@ -64,7 +64,7 @@ pub struct Words {
     pub left: u64,
 }
 
-#[derive(Drop)]
+#[derive(Clone, Copy)]
 pub struct Step {
     pub scan: Scan,
     pub words: Words,

@@ -11,7 +11,7 @@ const NUMBERS: u64 = 1;
 const WORDS: u64 = 2;
 
 // As `text_numbers::Piece`.
-#[derive(Drop)]
+#[derive(Clone, Copy)]
 pub struct Piece {
     pub scan: Scan,
     pub words: Words,
@@ -21,7 +21,7 @@ pub struct Piece {
 }
 
 // The entry that is still to be handed on, as often as there is room.
-#[derive(Drop)]
+#[derive(Clone, Copy)]
 struct Owed {
     count: usize,
     left: u64,

@@ -1,13 +1,13 @@
 // A schedule's numbers as words. Acts of one worker in a row are one line, which is written once the next entry is no such act.
 
 // The acts that are not written yet: their first number, and how many they are; 0: there are none.
-#[derive(Drop)]
+#[derive(Clone, Copy)]
 pub struct Row {
     pub first: u64,
     pub times: u64,
 }
 
-#[derive(Drop)]
+#[derive(Clone, Copy)]
 pub struct Written {
     pub at: usize,
     pub row: Row,

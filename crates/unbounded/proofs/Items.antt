@@ -8,7 +8,7 @@ use native.Mathlib.Numerals.{add-one}
 use lib.Dec.{ltb, eqb}
 use lib.ListN.{get_or, set, length, take, drop, length-drop}
 use lib.Seq.{drop-cons, take-suc, take_all, length-take-le, set_at}
-use borrow.Author.Tests.{ltb-true, eqb_false}
+use borrow.Author.Tests.{ltb-true, eqb-false}
 use Rattle.queue_entries.specs.declared.Told.{Told}
 use Rattle.queue_entries.specs.declared.Told.TheVariants.{Number, Refused}
 use Rattle.queue_entries.specs.Told.{told}

@@ -1,4 +1,6 @@
 // The public face: what a user calls. Each function takes anything and answers, or refuses with its number.
+#![tactic(auto)]
+
 ghost use Rattle.std.specs.Prelude.{◌≡◌, length};
 ghost use Rattle.queue_entries.specs.Told.{told};
 ghost use Rattle.unbounded_words.specs.Words.{sizes};
@@ -12,7 +14,7 @@ use unbounded_machine::{Did, Machine, Ran};
 use unbounded_places::Block;
 
 // How `capacity` is told: the queue has none.
-#[derive(Drop)]
+#[derive(Clone, Copy)]
 pub enum Bound {
     None,
     Refused(u64),

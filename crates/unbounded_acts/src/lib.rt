@@ -1,6 +1,8 @@
 // One act: the action of the source at a worker's place, with the local decisions up to the next.
 // One function for each place of request 12's table that decides something; those of pop are crate unbounded_pops, and crate unbounded_table has which is
 // taken where.
+#![tactic(auto)]
+
 ghost use Rattle.std.specs.Prelude.{◌≡◌, ◌+◌};
 ghost use Rattle.unbounded_words.specs.Words.{sizes, later, with_mark};
 ghost use Rattle.unbounded_places.specs.declared.Place.TheVariants.{Idle};
@@ -10,7 +12,7 @@ use unbounded_places::{Answer, Block, Ends, Place, Slot};
 use unbounded_words::{Index, Pointer};
 
 // What an act leaves: the ends, the header of the block it was handed, the slot, and the place its worker goes to.
-#[derive(Drop)]
+#[derive(Clone, Copy)]
 pub struct Acted {
     pub ends: Ends,
     pub block: Block,

@@ -6,7 +6,7 @@ use native.Mathlib.Omega.{arith}
 use native.Mathlib.Decide.{dec_lt}
 use lib.Dec.{ltb, eqb}
 use lib.ListN.{get_or-eq_default}
-use borrow.Author.Tests.{eq_eqb, ne_eqb}
+use borrow.Author.Tests.{eq-eqb, ne_eqb}
 use Rattle.queue_entries.proofs.Pick.{along, below, above}
 use Rattle.unbounded_words.specs.declared.Pointer.{Pointer}
 use Rattle.unbounded_words.specs.declared.Pointer.TheVariants.{None, To}
@@ -29,7 +29,7 @@ answer_told r n p a x h e = e ∙ ap (with_answer n p) h
 -- ---- and back
 pub no_block : (n : ℕ) → n ≡ 64 → None ≡ pointer_in n
 unfolding pointer_in
-no_block n e = sym (rw (eq_eqb n 64 e) refl)
+no_block n e = sym (rw (eq-eqb n 64 e) refl)
 
 pub a_block : (n : ℕ) → (n ≡ 64 → ⊥) → To n ≡ pointer_in n
 unfolding pointer_in

@@ -3,7 +3,7 @@ use Prim.Native.Nat.{ℕ}
 use mathlib.Core.Path.{◌≡◌, refl, sym, ap, ◌∙◌, subst}
 use mathlib.Core.Bool.{Bool, true, false}
 use lib.Dec.{eqb}
-use borrow.Author.Tests.{eqb_true, eqb_false}
+use borrow.Author.Tests.{eqb-true, eqb-false}
 use Rattle.unbounded_words.specs.declared.Pointer.{Pointer}
 use Rattle.unbounded_words.specs.declared.Pointer.TheVariants.{None, To}
 use Rattle.unbounded_words.specs.Words.{sizes, number_of}
@@ -24,15 +24,15 @@ pub word_back : (n : ℕ) → number_of sizes (pointer_in n) ≡ n
 word_back n = go (eqb n 64) refl
   where
     go : (b : Bool) → eqb n 64 ≡ b → number_of sizes (pointer_in n) ≡ n
-    go true e = ap (number_of sizes) (sym (no_block n (eqb_true n 64 e))) ∙ sym (eqb_true n 64 e)
-    go false e = ap (number_of sizes) (sym (a_block n (eqb_false n 64 e)))
+    go true e = ap (number_of sizes) (sym (no_block n (eqb-true n 64 e))) ∙ sym (eqb-true n 64 e)
+    go false e = ap (number_of sizes) (sym (a_block n (eqb-false n 64 e)))
 
 pub pointer_said : (n : ℕ) → Said (pointer_in n)
 pointer_said n = go (eqb n 64) refl
   where
     go : (b : Bool) → eqb n 64 ≡ b → Said (pointer_in n)
-    go true e = subst Said (no_block n (eqb_true n 64 e)) tt
-    go false e = subst Said (a_block n (eqb_false n 64 e)) (eqb_false n 64 e)
+    go true e = subst Said (no_block n (eqb-true n 64 e)) tt
+    go false e = subst Said (a_block n (eqb-false n 64 e)) (eqb-false n 64 e)
 
 answer_back : (a : Answer) → answer_in (answer_code a).code (answer_code a).first ≡ a
 unfolding five

@@ -3,7 +3,7 @@ use Prim.Native.Nat.{ℕ}
 use mathlib.Core.Path.{◌≡◌, refl, sym, ap, ◌∙◌}
 use mathlib.Core.Bool.{Bool, true, false}
 use lib.Dec.{eqb}
-use borrow.Author.Tests.{eq_eqb, ne_eqb, eqb_true}
+use borrow.Author.Tests.{eq-eqb, ne_eqb, eqb-true}
 use Rattle.queue_entries.proofs.Pick.{both_left, both_right}
 use Rattle.unbounded_places.specs.declared.Place.{Place}
 use Rattle.unbounded_codes.specs.declared.Coded.{Coded}
@@ -18,22 +18,22 @@ written_back n a b c d h =
     let h1 = both_right (eqb x.code n) _ h in
     let h2 = both_right (eqb x.first a) _ h1 in
     let h3 = both_right (eqb x.second b) _ h2 in
-    let en = eqb_true x.code n (both_left (eqb x.code n) _ h) in
-    let ea = eqb_true x.first a (both_left (eqb x.first a) _ h1) in
-    let eb = eqb_true x.second b (both_left (eqb x.second b) _ h2) in
-    let ec = eqb_true x.third c (both_left (eqb x.third c) _ h3) in
-    let ed = eqb_true x.fourth d (both_right (eqb x.third c) _ h3) in
+    let en = eqb-true x.code n (both_left (eqb x.code n) _ h) in
+    let ea = eqb-true x.first a (both_left (eqb x.first a) _ h1) in
+    let eb = eqb-true x.second b (both_left (eqb x.second b) _ h2) in
+    let ec = eqb-true x.third c (both_left (eqb x.third c) _ h3) in
+    let ed = eqb-true x.fourth d (both_right (eqb x.third c) _ h3) in
     λ i. record { code = en i; first = ea i; second = eb i; third = ec i; fourth = ed i }
 
 -- and the words of a place stand for one
 same_itself : (x : Coded) → same_as x x.code x.first x.second x.third x.fourth ≡ true
 same_itself x =
     rw (
-      eq_eqb x.code x.code refl,
-      eq_eqb x.first x.first refl,
-      eq_eqb x.second x.second refl,
-      eq_eqb x.third x.third refl,
-      eq_eqb x.fourth x.fourth refl,
+      eq-eqb x.code x.code refl,
+      eq-eqb x.first x.first refl,
+      eq-eqb x.second x.second refl,
+      eq-eqb x.third x.third refl,
+      eq-eqb x.fourth x.fourth refl,
     )
     refl
 
@@ -53,15 +53,15 @@ module _ (n a b c d : ℕ) (p : Place) (x : Coded) (is : p ≡ place_in n a b c 
 
   module _ (en : x.code ≡ n) where
     pub other_first : (x.first ≡ a → ⊥) → false ≡ stands_for n a b c d
-    other_first h = sym (rw (eq_eqb x.code n en, ne_eqb x.first a h) refl) ∙ asked
+    other_first h = sym (rw (eq-eqb x.code n en, ne_eqb x.first a h) refl) ∙ asked
 
     module _ (ea : x.first ≡ a) where
       pub other_second : (x.second ≡ b → ⊥) → false ≡ stands_for n a b c d
-      other_second h = sym (rw (eq_eqb x.code n en, eq_eqb x.first a ea, ne_eqb x.second b h) refl) ∙ asked
+      other_second h = sym (rw (eq-eqb x.code n en, eq-eqb x.first a ea, ne_eqb x.second b h) refl) ∙ asked
 
       module _ (eb : x.second ≡ b) where
         pub other_third : (x.third ≡ c → ⊥) → false ≡ stands_for n a b c d
-        other_third h = sym (rw (eq_eqb x.code n en, eq_eqb x.first a ea, eq_eqb x.second b eb, ne_eqb x.third c h) refl) ∙ asked
+        other_third h = sym (rw (eq-eqb x.code n en, eq-eqb x.first a ea, eq-eqb x.second b eb, ne_eqb x.third c h) refl) ∙ asked
 
         pub by_fourth : x.third ≡ c → (r : Bool) → r ≡ eqb x.fourth d → r ≡ stands_for n a b c d
-        by_fourth ec r h = h ∙ sym (rw (eq_eqb x.code n en, eq_eqb x.first a ea, eq_eqb x.second b eb, eq_eqb x.third c ec) refl) ∙ asked
+        by_fourth ec r h = h ∙ sym (rw (eq-eqb x.code n en, eq-eqb x.first a ea, eq-eqb x.second b eb, eq-eqb x.third c ec) refl) ∙ asked

@@ -1,11 +1,13 @@
 // A worker's place as five words, its code and the four words that it holds, and back (specs/Codes.antt has the table).
+#![tactic(auto)]
+
 ghost use Rattle.std.specs.Prelude.{◌≡◌};
 ghost use Rattle.unbounded_codes.specs.Codes.{five, first_block, second_block, aside, two_blocks, next_last, next_third, with_answer, answer_code, code_of, pointer_in, answer_in, push_in, pop_in, look_in, place_in, stands_for};
 
 use unbounded_places::{Answer, Place};
 use unbounded_words::{Index, Pointer, number};
 
-#[derive(Drop)]
+#[derive(Clone, Copy)]
 pub struct Coded {
     pub code: u64,
     pub first: u64,

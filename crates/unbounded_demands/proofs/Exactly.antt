@@ -5,7 +5,7 @@ use mathlib.Core.Bool.{Bool, true, false, cond, not}
 use mathlib.Core.List.{List, [], ◌∷◌}
 use lib.Dec.{ltb}
 use lib.ListN.{length}
-use borrow.Author.Tests.{eq_eqb}
+use borrow.Author.Tests.{eq-eqb}
 use Rattle.queue_entries.specs.Limits.{workers_most, meter_most, in_limits}
 use Rattle.queue_entries.specs.Schedules.{schedule_by}
 use Rattle.queue_entries.specs.declared.Order.TheVariants.{Begin, Act}
@@ -110,7 +110,7 @@ module _ (m : Machine) where
 
   run_odd : (s : List ℕ) → broken_of sizes m ≡ false → length s % 2 ≡ 1 → (run_of sizes m s).refusal ≡ 11
   unfolding schedule_by ran
-  run_odd s b odd = rw (b, eq_eqb (length s % 2) 1 odd)
+  run_odd s b odd = rw (b, eq-eqb (length s % 2) 1 odd)
 
   contents_exactly : (room : ℕ) → contents_refusal sizes m room ≡ first_of (on 6 (broken_of sizes m) ∷ on 4 (not (all_idle sizes m.workers)) ∷ on 10 (ltb room (count_in sizes m)) ∷ [])
   unfolding contents_refusal

@@ -1,5 +1,5 @@
 -- An entry is its aim: what `turn_of` gives is refused as the aim says, or stores what is done where it goes.
-use Rattle.std.proofs.Common.{◌≡◌, ℕ, zero, suc, ◌+◌, ◌*◌, ◌<◌, ◌≤◌, Bool, true, false, cond, not, eqb, ltb, List, [], ◌∷◌, get_or, set, sym, refl, ap, ◌∙◌, subst, true≢false, arith, ltb-true, ne_eqb, eqb_true}
+use Rattle.std.proofs.Common.{◌≡◌, ℕ, zero, suc, ◌+◌, ◌*◌, ◌<◌, ◌≤◌, Bool, true, false, cond, not, eqb, ltb, List, [], ◌∷◌, get_or, set, sym, refl, ap, ◌∙◌, subst, true≢false, arith, ltb-true, ne_eqb, eqb-true}
 use Rattle.queue_entries.specs.Limits.{workers_most, meter_most}
 use Rattle.queue_entries.proofs.Pick.{both_left, both_right}
 use Rattle.queue_entries.specs.declared.Call.{Call}
@@ -395,7 +395,7 @@ unfolding same_pointer
 pointers None None h = refl
 pointers None (To j) h = absurd (true≢false (sym h))
 pointers (To k) None h = absurd (true≢false (sym h))
-pointers (To k) (To j) h = ap To (eqb_true k j h)
+pointers (To k) (To j) h = ap To (eqb-true k j h)
 
 pub headers : (a b : Block) → same_header sizes a b ≡ true → a ≡ b
 unfolding same_header

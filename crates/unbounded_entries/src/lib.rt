@@ -1,4 +1,6 @@
 // One entry: why it is refused, or where it goes and what it does there.
+#![tactic(auto)]
+
 ghost use Rattle.std.specs.Prelude.{◌≡◌, ◌<◌};
 ghost use Rattle.queue_entries.specs.Limits.{meter_most};
 ghost use Rattle.unbounded_words.specs.Words.{sizes};
@@ -14,7 +16,7 @@ use unbounded_words::Pointer;
 pub const FORCE_PUSH: u64 = 1;
 
 // Refusals 6, 9 and 3 of an entry (0: none of them); else whose it is, and what it asks.
-#[derive(Drop)]
+#[derive(Clone, Copy)]
 pub struct Ask {
     pub refusal: u64,
     pub worker: u64,
@@ -57,7 +59,7 @@ pub fn ask_of(sound: bool, count: u64, first: u64, second: u64) -> Ask
 }
 
 // Why an entry is refused (0: it is not); else whose it is, what it asks, its block and slot, whether it takes the block, and the meter after it.
-#[derive(Drop)]
+#[derive(Clone, Copy)]
 pub struct Aim {
     pub refusal: u64,
     pub worker: u64,
@@ -143,7 +145,7 @@ pub fn aim_of(way: Aim, k: u64) -> Aim
 }
 
 // What an entry leaves: the ends, the header of its block, its slot and its worker's record.
-#[derive(Drop)]
+#[derive(Clone, Copy)]
 pub struct Done {
     pub ends: Ends,
     pub block: Block,
@@ -183,7 +185,7 @@ pub fn done_at(e: Ends, k: u64, g: Block, s: Slot, worker: Worker, o: Order) -> 
 }
 
 // What is asked of a record after its entry: whether it is busy, and whether its next act fits, which the header of a block decides, or nothing more.
-#[derive(Drop)]
+#[derive(Clone, Copy)]
 pub struct Look {
     pub busy: bool,
     pub asks: bool,

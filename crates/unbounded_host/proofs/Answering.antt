@@ -6,7 +6,7 @@ use mathlib.Core.List.{List}
 use native.Mathlib.Omega.{arith}
 use lib.Dec.{eqb}
 use lib.ListN.{length}
-use borrow.Author.Tests.{eq_eqb, ne_eqb}
+use borrow.Author.Tests.{eq-eqb, ne_eqb}
 use Rattle.queue_entries.specs.declared.Told.{Told}
 use Rattle.queue_entries.specs.declared.Told.TheVariants.{Number, Refused}
 use Rattle.queue_entries.specs.Told.{told}
@@ -159,4 +159,4 @@ module _ (h p rs : List ℕ) (b : Bool) (eb : b ≡ shaped (words h p rs)) where
           → rs' ≡ records_of d.machine.workers → after 0 (words h' p' rs') ≡ make_words (words h p rs) workers
       made zero_is h' p' rs' eh ep er =
           (λ i. after (sym zero_is i) (words (eh i) (ep i) (er i)))
-          ∙ sym (ap (λ (t : Bool). cond t (after_of d) (after d.refusal (words h p rs))) (eq_eqb d.refusal 0 zero_is)) ∙ asked
+          ∙ sym (ap (λ (t : Bool). cond t (after_of d) (after d.refusal (words h p rs))) (eq-eqb d.refusal 0 zero_is)) ∙ asked

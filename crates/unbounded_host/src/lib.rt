@@ -1,5 +1,7 @@
 // The face of the unbounded queue that a host in C or Rust links (hosts/): the machine is words in its memory, lent for each call as three slices. `specs/Host.antt` says what each function
 // answers; a refused call changes no word.
+#![tactic(auto)]
+
 ghost use Rattle.std.specs.Prelude.{true, ◌≡◌, length};
 ghost use Rattle.unbounded_words.specs.Words.{sizes};
 ghost use Rattle.unbounded_machine.specs.Run.{run_of};
@@ -11,7 +13,7 @@ use queue_entries::Told;
 
 // The number of a refusal, 0 where there is none; and what the call is asked for: an entry's place or a count.
 #[repr(C)]
-#[derive(Drop)]
+#[derive(Clone, Copy)]
 pub struct Reply {
     pub refusal: u64,
     pub number: u64,

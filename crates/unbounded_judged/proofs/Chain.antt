@@ -7,7 +7,7 @@ use mathlib.Core.List.{List}
 use native.Mathlib.Omega.{arith}
 use lib.Dec.{ltb, eqb}
 use lib.ListN.{get_or, set}
-use borrow.Author.Tests.{lt-ltb, eq_eqb, ne_eqb, eqb_true, ltb-true, ltb-false}
+use borrow.Author.Tests.{lt-ltb, eq-eqb, ne_eqb, eqb-true, ltb-true, ltb-false}
 use Rattle.queue_entries.proofs.Pick.{both_left, both_right}
 use Rattle.unbounded_words.specs.declared.Index.{Index}
 use Rattle.unbounded_words.specs.declared.Pointer.{Pointer}
@@ -63,7 +63,7 @@ last_live l (To k) h = h
 module _ (l : List Block) (b : Pointer) (t : Index) (left : ℕ) (h : Index) (n : ℕ) where
   stops : h.0 ≡ t.0 → (walk_from sizes (suc left) l b h t n).sound ≡ last_fits sizes l b
   unfolding walk_from same
-  stops e = simp (eq_eqb h.0 t.0 e)
+  stops e = simp (eq-eqb h.0 t.0 e)
 
   module _ (e : h.0 ≡ t.0 → ⊥) (f : live sizes l (number_of sizes b) ≡ true) where
     meets : (h.0 / 2 % 32 ≡ 31 → ⊥) → (walk_from sizes (suc left) l b h t n).sound ≡ (walk_from sizes left l b (later h) t (n + 1)).sound
@@ -73,7 +73,7 @@ module _ (l : List Block) (b : Pointer) (t : Index) (left : ℕ) (h : Index) (n 
     drops : h.0 / 2 % 32 ≡ 31
         → (walk_from sizes (suc left) l b h t n).sound ≡ (walk_from sizes left (without sizes l b) (block_at l (number_of sizes b)).next (later h) t n).sound
     unfolding walk_from same past_slots
-    drops p = simp (ne_eqb h.0 t.0 e, f, eq_eqb (h.0 / 2 % 32) 31 p)
+    drops p = simp (ne_eqb h.0 t.0 e, f, eq-eqb (h.0 / 2 % 32) 31 p)
 
 -- ---- the walk drops blocks behind it, and none that it has still to meet
 module _ (l : List Block) (t : Index) (u : t.0 < 2 ^ 64) where
@@ -124,11 +124,11 @@ module _ (l : List Block) (t : Index) (u : t.0 < 2 ^ 64) where
     step : (x : Bool) → eqb (h.0 / 2 % 32) 31 ≡ x → (d : ℕ) → h.0 / 64 + d ≡ t.0 / 64 → linked_from sizes d l (number_of sizes b) ≡ true → Ahead d now → Rest
         → (walk_from sizes (suc left) now b h t n).sound ≡ true
     step false q d s f a rest =
-        let p : (h.0 / 2 % 32 ≡ 31 → ⊥) = λ p. true≢false (sym (eq_eqb (h.0 / 2 % 32) 31 p) ∙ q) in
+        let p : (h.0 / 2 % 32 ≡ 31 → ⊥) = λ p. true≢false (sym (eq-eqb (h.0 / 2 % 32) 31 p) ∙ q) in
         meets now b t left h n ne (live_ahead d now a (number_of sizes b) f) p ∙ rest d now b (n + 1) (same_lap d s p) f a
-    step true q zero s f a rest = absurd (in_lap s (eqb_true (h.0 / 2 % 32) 31 q))
+    step true q zero s f a rest = absurd (in_lap s (eqb-true (h.0 / 2 % 32) 31 q))
     step true q (suc d) s f a rest =
-        let p : h.0 / 2 % 32 ≡ 31 = eqb_true (h.0 / 2 % 32) 31 q in
+        let p : h.0 / 2 % 32 ≡ 31 = eqb-true (h.0 / 2 % 32) 31 q in
         drops now b t left h n ne (live_ahead (suc d) now a (number_of sizes b) f) p
         ∙ rest d (without sizes now b) (block_at now (number_of sizes b)).next n (next_lap d s p)
         (subst (λ (x : Block). linked_from sizes d l (number_of sizes x.next) ≡ true) (sym (a (suc d) (number_of sizes b) (omega arith) f)) (linked_next l d (number_of sizes b) f))

@@ -5,7 +5,7 @@ use mathlib.Core.Bool.{Bool, true, false, cond, not, true≢false}
 use mathlib.Core.List.{List}
 use native.Mathlib.Omega.{arith}
 use lib.Dec.{ltb, eqb}
-use borrow.Author.Tests.{eqb_true, ltb-true, ltb-false}
+use borrow.Author.Tests.{eqb-true, ltb-true, ltb-false}
 use Rattle.queue_entries.proofs.Pick.{both_left, both_right}
 use Rattle.unbounded_words.specs.Words.{sizes, unmarked_of, number_of}
 use Rattle.unbounded_places.specs.declared.Block.{Block}
@@ -70,12 +70,12 @@ module _ (e : Ends) (l : List Block) (h : linked_of sizes e l ≡ true) where
   knows_here : Knows (noted sizes e) l
   unfolding still_of same_front same_laps
   knows_here f s =
-      let front : number_of sizes f.front ≡ number_of sizes e.front = eqb_true _ _ (both_left (eqb (number_of sizes f.front) (number_of sizes e.front)) _ s) in
+      let front : number_of sizes f.front ≡ number_of sizes e.front = eqb-true _ _ (both_left (eqb (number_of sizes f.front) (number_of sizes e.front)) _ s) in
       let tests = both_right (eqb (number_of sizes f.front) (number_of sizes e.front)) _ s in
       let laps = both_left (cond (eqb (lap_of f.head) (lap_of e.head)) (eqb (lap_of f.tail) (lap_of e.tail)) false) (in_order f) tests in
       let order = order_told f (both_right (cond (eqb (lap_of f.head) (lap_of e.head)) (eqb (lap_of f.tail) (lap_of e.tail)) false) (in_order f) tests) in
-      let head : lap_of f.head ≡ lap_of e.head = eqb_true _ _ (both_left (eqb (lap_of f.head) (lap_of e.head)) _ laps) in
-      let tail : lap_of f.tail ≡ lap_of e.tail = eqb_true _ _ (both_right (eqb (lap_of f.head) (lap_of e.head)) _ laps) in
+      let head : lap_of f.head ≡ lap_of e.head = eqb-true _ _ (both_left (eqb (lap_of f.head) (lap_of e.head)) _ laps) in
+      let tail : lap_of f.tail ≡ lap_of e.tail = eqb-true _ _ (both_right (eqb (lap_of f.head) (lap_of e.head)) _ laps) in
       let ahead : ahead_of f ≡ ahead_of e = rw (head, tail) in
       linked_sound f l order (subst (λ (x : ℕ). x < 288230376151711744) (sym tail) no_wrap) (subst (λ (x : ℕ). x < 64) (sym ahead) few)
       (subst (λ (x : ℕ). linked_from sizes x l (number_of sizes f.front) ≡ true) (sym ahead) (subst (λ (x : ℕ). linked_from sizes (ahead_of e) l x ≡ true) (sym front) chain))

@@ -1,5 +1,7 @@
 // What a run of entries keeps, so that refusal 6 is judged by what an entry can have changed: how many records are busy, and where `Drop`'s walk is known
 // to be sound.
+#![tactic(auto)]
+
 ghost use Rattle.std.specs.Prelude.{◌≡◌, false, cond};
 ghost use Rattle.unbounded_words.specs.Words.{sizes};
 ghost use Rattle.unbounded_judged.specs.Judged.{busy_in, unknown, in_order, same_laps, same_front, still_of, due_of, linked_from, linked_of, noted, rest_of};
@@ -32,7 +34,7 @@ pub fn both(a: bool, b: bool) -> bool
 }
 
 // Where `Drop`'s walk is sure to be sound with the headers as they are: head's block, and the laps of head and of tail.
-#[derive(Drop)]
+#[derive(Clone, Copy)]
 pub struct Known {
     pub sure: bool,
     pub front: u64,
@@ -180,7 +182,7 @@ fn noted(e: Ends) -> Known
 }
 
 // `Drop`'s walk, and what is known of it from now on.
-#[derive(Drop)]
+#[derive(Clone, Copy)]
 pub struct Rest {
     pub sound: bool,
     pub known: Known,

@@ -1,4 +1,6 @@
 // The machine: head and tail, a pool of blocks, the workers' records and the meter; and what each rule asks of it.
+#![tactic(auto)]
+
 ghost use Rattle.std.specs.Prelude.{◌≡◌, true, ◌<◌};
 ghost use Rattle.unbounded_words.specs.Words.{sizes};
 ghost use Rattle.unbounded_machine.specs.Machine.{fresh_of, blank, refused, accepted};
@@ -11,7 +13,7 @@ use queue_entries::{Order, Verdict};
 use unbounded_places::{Answer, Block, Ends, Place, Slot, Uses, Worker};
 use unbounded_words::{Index, Pointer};
 
-#[derive(Drop)]
+#[derive(Clone, Copy)]
 pub struct Machine {
     pub ends: Ends,
     // the pool: a header for each block, and the slots of all, those of block 0 first
@@ -25,14 +27,14 @@ pub struct Machine {
 }
 
 // A machine, and the number of the refusal; 0 where it was not refused.
-#[derive(Drop)]
+#[derive(Clone, Copy)]
 pub struct Did {
     pub refusal: u64,
     pub machine: Machine,
 }
 
 // What a schedule reports: the refusal and the entry's place, or 0 and the count of its entries.
-#[derive(Drop)]
+#[derive(Clone, Copy)]
 pub struct Ran {
     pub refusal: u64,
     pub place: u64,
@@ -40,7 +42,7 @@ pub struct Ran {
 }
 
 // One act of a run.
-#[derive(Drop)]
+#[derive(Clone, Copy)]
 pub struct Event {
     pub worker: u64,
     pub before: Place,
@@ -48,7 +50,7 @@ pub struct Event {
 }
 
 // `Drop`'s walk: whether it uses only blocks that are not free, and how many items it meets.
-#[derive(Drop)]
+#[derive(Clone, Copy)]
 pub struct Dropped {
     pub sound: bool,
     pub count: u64,

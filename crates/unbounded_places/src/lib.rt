@@ -1,4 +1,6 @@
 // Where a worker stands, what it has loaded, and what a call answers: request 12's table of src/unbounded.rs.
+#![tactic(auto)]
+
 ghost use Rattle.std.specs.Prelude.{◌≡◌};
 ghost use Rattle.unbounded_words.specs.Words.{sizes};
 ghost use Rattle.unbounded_places.specs.Places.{at, exchanging, taking, on_block, on_slot, on_indexed, view_of, begin_of};
@@ -7,14 +9,14 @@ use queue_entries::Call;
 use unbounded_words::{Index, Pointer};
 
 // A slot of a block. State: 1 is WRITE, 2 READ, 4 DESTROY.
-#[derive(Drop)]
+#[derive(Clone, Copy)]
 pub struct Slot {
     pub state: u64,
     pub value: u64,
 }
 
 // A block of the pool, without its slots.
-#[derive(Drop)]
+#[derive(Clone, Copy)]
 pub struct Block {
     // The next block in the linked list.
     pub next: Pointer,
@@ -23,7 +25,7 @@ pub struct Block {
 }
 
 // The words of head and of tail: `head.index`, `head.block`, `tail.index`, `tail.block`.
-#[derive(Drop)]
+#[derive(Clone, Copy)]
 pub struct Ends {
     pub head: Index,
     pub front: Pointer,
@@ -32,7 +34,7 @@ pub struct Ends {
 }
 
 // What a call answered. Closed hands the caller's item back; PopClosed is pop's Closed.
-#[derive(Drop)]
+#[derive(Clone, Copy)]
 pub enum Answer {
     Nothing,
     Pushed,
@@ -47,7 +49,7 @@ pub enum Answer {
 
 // Where a worker stands: the action that it takes next, with its words in the table's order. t and h are indices of tail and head, b the
 // block that came with them, n the block set aside for later or none, item the call's, value the one read.
-#[derive(Drop)]
+#[derive(Clone, Copy)]
 pub enum Place {
     // No call under way: the last answer.
     Idle(Answer),
@@ -128,13 +130,13 @@ pub enum Place {
 }
 
 // The record of a worker.
-#[derive(Drop)]
+#[derive(Clone, Copy)]
 pub struct Worker {
     pub place: Place,
 }
 
 // What a next act uses: "reads or writes a word or a value of the block, or frees it". Of no block the number is that of none.
-#[derive(Drop)]
+#[derive(Clone, Copy)]
 pub enum Uses {
     Nothing,
     Block(u64),
@@ -142,7 +144,7 @@ pub enum Uses {
 }
 
 // What every rule asks of a place.
-#[derive(Drop)]
+#[derive(Clone, Copy)]
 pub struct View {
     pub busy: bool,
     // its action is a weak exchange

@@ -1,4 +1,6 @@
 // The acts of pop, as crate unbounded_acts has those of push: the action of the source at a worker's place, with the local decisions up to the next.
+#![tactic(auto)]
+
 ghost use Rattle.std.specs.Prelude.{◌≡◌, ◌+◌};
 ghost use Rattle.unbounded_words.specs.Words.{sizes};
 ghost use Rattle.unbounded_acts.specs.Acts.{take_or, pop_from, new_head, taken, next_index, destroy_from, read_out_of, destroy_if, act_v2, act_v3, act_v4, act_v6, act_v7, act_v8, act_v9, act_v10, act_v11, act_v12, act_v13, act_v14, act_v15};

@@ -8,7 +8,7 @@ use native.Mathlib.Omega.{arith}
 use native.Mathlib.Decide.{ℕ_discrete}
 use lib.Dec.{eqb, ltb}
 use lib.ListN.{length, get_or, set}
-use borrow.Author.Tests.{eq_eqb, ne_eqb, lt-ltb}
+use borrow.Author.Tests.{eq-eqb, ne_eqb, lt-ltb}
 use Rattle.queue_schedules.proofs.Schedules.{picked}
 use Rattle.unbounded_words.specs.declared.Pointer.{Pointer}
 use Rattle.unbounded_words.specs.declared.Pointer.TheVariants.{None, To}
@@ -139,7 +139,7 @@ module _ (l : List Block) (b : ℕ) (g : Block) (small : b < 64) (long : length 
 
       go : Dec (k ≡ b) → takings_of k (h ++ e ∷ []) ≡ freeings_of sizes k (h ++ e ∷ []) + cond (live sizes (set l b g) k) 1 0
       go (yes q) =
-          counts k s true false false true (takes_is true (eq_eqb b k (sym q))) (ap (frees_block sizes k) d)
+          counts k s true false false true (takes_is true (eq-eqb b k (sym q))) (ap (frees_block sizes k) d)
           (live_is l k s ∙ ap (λ (i : ℕ). not (block_at l i).free) q ∙ ap not was) ((flag k s).0 q ∙ ap not f) (omega arith)
       go (no q) =
           counts k s false false (live sizes l k) (live sizes l k) (takes_is false (ne_eqb b k (λ z. q (sym z)))) (ap (frees_block sizes k) d) refl ((flag k s).1 q) (omega arith)
@@ -152,7 +152,7 @@ module _ (l : List Block) (b : ℕ) (g : Block) (small : b < 64) (long : length 
 
       go : Dec (k ≡ b) → takings_of k (h ++ e ∷ []) ≡ freeings_of sizes k (h ++ e ∷ []) + cond (live sizes (set l b g) k) 1 0
       go (yes q) =
-          counts k s false true true false (ap (λ (x : Dealing). takes_block k x e.after) d) (frees_is true (eq_eqb b k (sym q)))
+          counts k s false true true false (ap (λ (x : Dealing). takes_block k x e.after) d) (frees_is true (eq-eqb b k (sym q)))
           (live_is l k s ∙ ap (λ (i : ℕ). not (block_at l i).free) q ∙ ap not was) ((flag k s).0 q ∙ ap not f) (omega arith)
       go (no q) =
           counts k s false false (live sizes l k) (live sizes l k) (ap (λ (x : Dealing). takes_block k x e.after) d) (frees_is false (ne_eqb b k (λ z. q (sym z)))) refl ((flag k s).1 q) (omega arith)

@@ -8,7 +8,7 @@ use native.Mathlib.Omega.{arith}
 use native.Mathlib.Decide.{dec_lt}
 use lib.Dec.{eqb, ltb, leb}
 use lib.ListN.{length, get_or, drop, replicate, length-replicate}
-use borrow.Author.Tests.{eq_eqb, eqb_false, ne_eqb, lt-ltb, le-leb}
+use borrow.Author.Tests.{eq-eqb, eqb-false, ne_eqb, lt-ltb, le-leb}
 use Rattle.queue_entries.specs.Limits.{workers_most, meter_most, in_limits, all}
 use Rattle.queue_entries.specs.declared.Order.TheVariants.{Begin, Act}
 use Rattle.queue_entries.specs.declared.Entry.{Entry}
@@ -304,7 +304,7 @@ module _ (workers : ℕ) (allowed : Allowed workers) (m : Machine) (h : List Eve
       is = r.logged.items_at (s.got w) (omega (arith, low)) (r.logged.claim_slot w (reads_held (stood m w) b t c)) ∙ ap s.item o.0.4
           ∙ sym (r.sim.inv.items q.at o.2) ∙ sym value_is;
     },
-    eq_eqb (state_at sizes m b t / 1 % 2) 1 state_is,
+    eq-eqb (state_at sizes m b t / 1 % 2) 1 state_is,
   )
     where
       q : ReadsAt (stands w).seen b t

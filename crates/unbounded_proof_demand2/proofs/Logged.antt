@@ -6,7 +6,7 @@ use mathlib.Core.Bool.{Bool, true, false, cond, true≢false}
 use mathlib.Core.List.{List, [], ◌∷◌, ◌++◌, append_assoc, append-nil}
 use native.Mathlib.Omega.{arith}
 use native.Mathlib.Decide.{ℕ_discrete, dec_lt}
-use lib.ListN.{length, get_or, set, drop, length_append, get_or-append}
+use lib.ListN.{length, get_or, set, drop, length-append, get_or-append}
 use lib.Seq.{get_or-append_seam, drop-cons, drop-append-le}
 use Rattle.queue_schedules.proofs.Splits.{no_split, Order, earlier, same, later, order}
 use Rattle.queue_schedules.proofs.Upd.{upd, upd_same, upd_else, upd_at}
@@ -64,7 +64,7 @@ takers_split (x ∷ xs) ys = ap (λ (l : List ℕ). taker_of x ++ l) (takers_spl
 
 -- the claims of an earlier history are the first of a later one's
 takers_fewer : (xs ys : List Event) → length (takers_of xs) ≤ length (takers_of (xs ++ ys))
-takers_fewer xs ys = omega (arith, ap length (takers_split xs ys), length_append (takers_of xs) (takers_of ys))
+takers_fewer xs ys = omega (arith, ap length (takers_split xs ys), length-append (takers_of xs) (takers_of ys))
 
 takers_first : (xs ys : List Event) (k : ℕ) → k < length (takers_of xs) → get_or (takers_of (xs ++ ys)) k 0 ≡ get_or (takers_of xs) k 0
 takers_first xs ys k l = ap (λ (z : List ℕ). get_or z k 0) (takers_split xs ys) ∙ get_or-append (takers_of xs) (takers_of ys) 0 k l
@@ -73,7 +73,7 @@ takers_first xs ys k l = ap (λ (z : List ℕ). get_or z k 0) (takers_split xs y
 pub latest_other : (l : List ℕ) (w v k : ℕ) → v ≢ w → LatestIn l w k → LatestIn (l ++ v ∷ []) w k
 latest_other l w v k ne o =
     record {
-      made = omega (arith, length_append l (v ∷ []), o.made);
+      made = omega (arith, length-append l (v ∷ []), o.made);
       its = get_or-append l (v ∷ []) 0 k o.made ∙ o.its;
       last = λ n a b e. go n a b e (dec_lt n (length l));
     }
@@ -81,16 +81,16 @@ latest_other l w v k ne o =
     go : (n : ℕ) → k < n → n < length (l ++ v ∷ []) → get_or (l ++ v ∷ []) n 0 ≡ w → Dec (n < length l) → ⊥
     go n a b e (yes d) = o.last n a d (sym (get_or-append l (v ∷ []) 0 n d) ∙ e)
     go n a b e (no d) =
-        let q : n ≡ length l = omega (arith, length_append l (v ∷ [])) in
+        let q : n ≡ length l = omega (arith, length-append l (v ∷ [])) in
         ne (sym (get_or-append_seam l v [] 0) ∙ ap (λ (i : ℕ). get_or (l ++ v ∷ []) i 0) (sym q) ∙ e)
 
 -- a claim of its own more
 pub latest_own : (l : List ℕ) (w : ℕ) → LatestIn (l ++ w ∷ []) w (length l)
 latest_own l w =
     record {
-      made = omega (arith, length_append l (w ∷ []));
+      made = omega (arith, length-append l (w ∷ []));
       its = get_or-append_seam l w [] 0;
-      last = λ n a b e. omega (arith, length_append l (w ∷ []));
+      last = λ n a b e. omega (arith, length-append l (w ∷ []));
     }
 
 -- a place of a worker with a head claim hands nothing out
@@ -269,7 +269,7 @@ module _ (s u : Shared) (low : s.head ≤ s.tail) (ws : List Worker) (h : List E
           let is : items_of h' ≡ items_of h ++ x ∷ [] = items_more h e ∙ ap (λ (l : List ℕ). items_of h ++ l) item in
           let more : held (tale_of q) ≡ true → held (tale_of (place_of ws w)) ≡ true = λ z. absurd (true≢false (sym z ∙ loose)) in
           record {
-            items_long = ap length is ∙ length_append (items_of h) (x ∷ []) ∙ omega (arith, log.items_long, et);
+            items_long = ap length is ∙ length-append (items_of h) (x ∷ []) ∙ omega (arith, log.items_long, et);
             items_at = (λ p l k. new_item x is slot et ei p l k (ℕ_discrete p s.tail));
             takers_long = ap length (same_takers no_taking) ∙ log.takers_long ∙ ap counted (sym eh);
             claim_slot = slot_kept no_taking eg more;
@@ -298,7 +298,7 @@ module _ (s u : Shared) (low : s.head ≤ s.tail) (ws : List Worker) (h : List E
           record {
             items_long = ap length (same_items no_item) ∙ log.items_long ∙ ap counted (sym et);
             items_at = (λ p l k. ap (λ (y : List ℕ). get_or y (counted p) 0) (same_items no_item) ∙ log.items_at p (omega (arith, et)) k ∙ sym (ap (λ (f : ℕ → ℕ). f p) ei));
-            takers_long = ap length is ∙ length_append (takers_of h) (w ∷ []) ∙ omega (arith, log.takers_long, eh);
+            takers_long = ap length is ∙ length-append (takers_of h) (w ∷ []) ∙ omega (arith, log.takers_long, eh);
             claim_slot = each_held (λ (v : ℕ). u.got v % 32 < 31) (λ z. omega (arith, mine)) (λ v n z. omega (arith, other v n, log.claim_slot v z));
             latest = each_held (λ (v : ℕ). LatestIn (takers_of h') v (counted (u.got v)))
                 (λ z. subst (λ (l : List ℕ). LatestIn l w (counted (u.got w))) (sym is)
@@ -324,7 +324,7 @@ module _ (s u : Shared) (low : s.head ≤ s.tail) (ws : List Worker) (h : List E
           dequeued : takers_of h' ≡ takers_of h ++ w ∷ [] → items_of h' ≡ items_of h → takes e ≡ true → s.head < s.tail → s.head % 32 < 31 → Fifo h' (waiting h')
           dequeued is it taking some slot =
               let less : length (takers_of h) < length (items_of h) = omega (arith, log.items_long, log.takers_long) in
-              let long : length (takers_of h') ≡ suc (length (takers_of h)) = ap length is ∙ length_append (takers_of h) (w ∷ []) ∙ omega arith in
+              let long : length (takers_of h') ≡ suc (length (takers_of h)) = ap length is ∙ length-append (takers_of h) (w ∷ []) ∙ omega arith in
               let front : waiting h ≡ get_or (items_of h) (length (takers_of h)) 0 ∷ drop (suc (length (takers_of h))) (items_of h) = drop-cons (items_of h) (length (takers_of h)) 0 less in
               subst (Fifo h') (sym (waiting_is (items_of h) (suc (length (takers_of h))) it long))
               (dequeue h (drop (suc (length (takers_of h))) (items_of h)) e (get_or (items_of h) (length (takers_of h)) 0) (subst (Fifo h) front log.fifo) taking)

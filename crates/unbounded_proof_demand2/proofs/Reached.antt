@@ -6,7 +6,7 @@ use mathlib.Core.Bool.{Bool, true, false, cond, true≢false}
 use mathlib.Core.List.{List, [], ◌∷◌, ◌++◌, append-nil}
 use native.Mathlib.Omega.{arith}
 use native.Mathlib.Decide.{ℕ_discrete}
-use lib.ListN.{length, get_or, set, replicate, length_append, length-replicate}
+use lib.ListN.{length, get_or, set, replicate, length-append, length-replicate}
 use Rattle.queue_entries.specs.Limits.{workers_most, meter_most}
 use Rattle.queue_entries.specs.declared.Call.{Call}
 use Rattle.queue_entries.specs.declared.Call.TheVariants as call
@@ -210,7 +210,7 @@ module _ (workers : ℕ) (team : workers ≤ workers_most) (m : Machine) (h : Li
           queue = d.after;
           sim = d.sim;
           team = r.team;
-          meter = omega (arith, r.meter, length_append h (event w (stood m w) (act m.ends k l i).place ∷ []));
+          meter = omega (arith, r.meter, length-append h (event w (stood m w) (act m.ends k l i).place ∷ []));
           in_time = omega (arith, b.in_time);
           past = others w (act m.ends k l i).place (omega (arith, r.team, b.known));
           logged = logged_after s d.after r.sim.inv.ends.low m.workers h r.logged w (omega (arith, known, r.sim.workers_long)) (act m.ends k l i).place d.logs d.out;

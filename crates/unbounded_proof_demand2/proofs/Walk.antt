@@ -10,7 +10,7 @@ use native.Mathlib.Decide.{ℕ_discrete, dec_lt}
 use lib.Dec.{eqb, ltb}
 use lib.ListN.{length, get_or, set, drop, length-set}
 use lib.Seq.{drop-cons, drop-length}
-use borrow.Author.Tests.{eq_eqb, ne_eqb, eqb_true, lt-ltb}
+use borrow.Author.Tests.{eq-eqb, ne_eqb, eqb-true, lt-ltb}
 use Rattle.unbounded_words.specs.declared.Pointer.{Pointer}
 use Rattle.unbounded_words.specs.declared.Pointer.TheVariants.{None, To}
 use Rattle.unbounded_words.specs.declared.Index.{Index}
@@ -75,7 +75,7 @@ fits_in phys (suc n) j l alive one =
 
 same_word : (p q : ℕ) → p ≡ q → same (word p false) (word q false) ≡ true
 unfolding same
-same_word p q e = eq_eqb (2 * p + 0) (2 * q + 0) (omega arith)
+same_word p q e = eq-eqb (2 * p + 0) (2 * q + 0) (omega arith)
 
 other_word : (p q : ℕ) → p ≢ q → same (word p false) (word q false) ≡ false
 unfolding same
@@ -236,10 +236,10 @@ module _ (e : Ends) (blocks : List Block) (slots : List Slot) (ws : List Worker)
                     (whole (p / 32) (omega arith) here) ∙ ap (λ (i : ℕ). To (s.phys i)) (sym next_j) in
                     record {
                       sound = ap (λ (d : Dropped). d.sound) (walk_drops left n l (To (s.phys (p / 32))) (word p false) (word s.tail false)
-                          (other_word p s.tail z) alive (past_word p false ∙ eq_eqb (p % 32) 31 g))
+                          (other_word p s.tail z) alive (past_word p false ∙ eq-eqb (p % 32) 31 g))
                           ∙ ap (λ (d : Pointer). (walk_from sizes left (without sizes l (To (s.phys (p / 32)))) d (later (word p false)) (word s.tail false) n).sound) follow
                           ∙ ap (λ (i : Index). (walk_from sizes left (without sizes l (To (s.phys (p / 32)))) (To (s.phys ((p + 1) / 32))) i (word s.tail false) n).sound) on ∙ r.sound;
-                      met = items_dropped left n l (To (s.phys (p / 32))) (word p false) (word s.tail false) slots (other_word p s.tail z) (past_word p false ∙ eq_eqb (p % 32) 31 g)
+                      met = items_dropped left n l (To (s.phys (p / 32))) (word p false) (word s.tail false) slots (other_word p s.tail z) (past_word p false ∙ eq-eqb (p % 32) 31 g)
                           ∙ ap (λ (d : Pointer). items_from sizes slots left (without sizes l (To (s.phys (p / 32)))) d (later (word p false)) (word s.tail false)) follow
                           ∙ ap (λ (i : Index). items_from sizes slots left (without sizes l (To (s.phys (p / 32)))) (To (s.phys ((p + 1) / 32))) i (word s.tail false)) on ∙ r.met
                           ∙ ap (λ (i : ℕ). drop i items) passed;
@@ -313,7 +313,7 @@ module _ (e : Ends) (blocks : List Block) (slots : List Slot) (ws : List Worker)
             chain_step n (s.phys j) (s.phys i) z ∙ ap (λ (d : Pointer). chained n blocks d (s.phys i)) (next_at j (omega (arith, last_block)) blocks (header_at j a (omega arith))) ∙ more l
           where
             by : Dec (j ≡ i) → j < i
-            by (yes y) = absurd (true≢false (sym (eq_eqb (s.phys j) (s.phys i) (ap s.phys y)) ∙ z))
+            by (yes y) = absurd (true≢false (sym (eq-eqb (s.phys j) (s.phys i) (ap s.phys y)) ∙ z))
             by (no y) = omega arith
 
     chain_ends : (n : ℕ) (b : ℕ) → chained n blocks None b ≡ false
@@ -332,7 +332,7 @@ module _ (e : Ends) (blocks : List Block) (slots : List Slot) (ws : List Worker)
         go : (t : Bool) → eqb (s.phys j) b ≡ t → Dec (j + 1 < s.blocks)
             → (j + 1 < s.blocks → chained n blocks (To (s.phys (j + 1))) b ≡ true → (i : ℕ) × (s.head / 32 ≤ i) × (i < s.blocks) × (s.phys i ≡ b))
             → (i : ℕ) × (s.head / 32 ≤ i) × (i < s.blocks) × (s.phys i ≡ b)
-        go true y more again = (j, a, c, eqb_true (s.phys j) b y)
+        go true y more again = (j, a, c, eqb-true (s.phys j) b y)
         go false y (yes l) again =
             again l (sym (ap (λ (d : Pointer). chained n blocks d b) (next_at j (omega (arith, last_block)) blocks (header_at j a c))) ∙ sym (chain_step n (s.phys j) b y) ∙ z)
         go false y (no l) again =

@@ -8,7 +8,7 @@ use native.Mathlib.Omega.{arith}
 use native.Mathlib.Decide.{ℕ_discrete, dec_lt}
 use lib.Dec.{eqb, ltb}
 use lib.ListN.{length, get_or, set}
-use borrow.Author.Tests.{eq_eqb, ne_eqb, eqb_true, eqb_false, lt-ltb, le-ltb, ltb-true}
+use borrow.Author.Tests.{eq-eqb, ne_eqb, eqb-true, eqb-false, lt-ltb, le-ltb, ltb-true}
 use Rattle.queue_schedules.proofs.Upd.{upd, upd_same, upd_else}
 use Rattle.unbounded_words.specs.declared.Index.{Index}
 use Rattle.unbounded_words.specs.declared.Pointer.{Pointer}
@@ -52,7 +52,7 @@ use Rattle.unbounded_proof_each_act.proofs.Step as step
 -- what a bit of a state says
 said : (b n : ℕ) (t : Bool) → n / b % 2 ≡ bit t → has b n ≡ t
 unfolding has
-said b n true e = eq_eqb (n / b % 2) 1 e
+said b n true e = eq-eqb (n / b % 2) 1 e
 said b n false e = ne_eqb (n / b % 2) 1 (λ z. let y : ◌≡◌ {A = ℕ} 0 1 = sym e ∙ z in omega arith)
 
 -- a hand that is done, and one that is not
@@ -113,7 +113,7 @@ module _ (blocks : List Block) (slots : List Slot) (ws : List Worker) (meter : �
     pop_tops p m g =
         either To' (past_slots sizes (word p m)) V1 _
         (λ h. goes V1 (standing s w V1 v1 (leave_head s inv w none none p m g)) refl tt tt)
-        (λ h. let l : p % 32 < 31 = (let ne = eqb_false (p % 32) 31 (sym (past_word p m) ∙ h) in omega arith) in go m g l)
+        (λ h. let l : p % 32 < 31 = (let ne = eqb-false (p % 32) 31 (sym (past_word p m) ∙ h) in omega arith) in go m g l)
       where
         go : (k : Bool) → Good s w none none (Head p k) → p % 32 < 31 → To' (cond (marked_of (word p k)) (take_or (word p k) (ptr s.front) (later (word p k))) (V3 (word p k) (ptr s.front)))
         go true z l =
@@ -134,12 +134,12 @@ module _ (blocks : List Block) (slots : List Slot) (ws : List Worker) (meter : �
   unfolding take_or
   pop_looks p b g =
       either (λ (z : Acted). Does (V3 (word p false) (ptr b)) 0 0 z) (same_position (word p false) E.tail) _ _
-      (λ h. let e : p ≡ s.tail = eqb_true p s.tail (sym (position_word p s.tail false s.closed) ∙ h) in
+      (λ h. let e : p ≡ s.tail = eqb-true p s.tail (sym (position_word p s.tail false s.closed) ∙ h) in
       let both : s.tail ≡ s.head = both_there s inv w none none p b g e in
       either (λ (z : Acted). Does (V3 (word p false) (ptr b)) 0 0 z) (marked_of E.tail) _ _
       (λ k. ends (Idle PopClosed) (standing s w (Idle PopClosed) idle (leave_looking s inv w none none p b g)) refl refl refl (k, positions both) tt)
       (λ k. ends (Idle Empty) (standing s w (Idle Empty) idle (leave_looking s inv w none none p b g)) refl refl refl (k, positions both) tt))
-      (λ h. let ne : p ≢ s.tail = eqb_false p s.tail (sym (position_word p s.tail false s.closed) ∙ h) in go b g ne)
+      (λ h. let ne : p ≢ s.tail = eqb-false p s.tail (sym (position_word p s.tail false s.closed) ∙ h) in go b g ne)
     where
       positions : s.tail ≡ s.head → (2 * s.tail + bit s.closed) / 2 ≡ (2 * s.head + bit s.mark) / 2
       positions e = half s.tail s.closed ∙ e ∙ sym (half s.head s.mark)
@@ -193,10 +193,10 @@ module _ (blocks : List Block) (slots : List Slot) (ws : List Worker) (meter : �
       won : s.head ≡ p → P (leave (head_to E (word (p + 1) k)) (G 0) (S 0 0) (taken sizes (word p m) (To b) (word (p + 1) k)))
       won eh =
           either (λ (q : Place). P (leave (head_to E (word (p + 1) k)) (G 0) (S 0 0) q)) (last_slot sizes (word p m)) (V6 (word p m) (To b) (word (p + 1) k)) (V10 (word p m) (To b))
-          (λ h. let l : p % 32 ≡ 30 = (let e = eqb_true (p % 32 + 1) 31 (sym (last_word p m) ∙ h) in omega arith) in
+          (λ h. let l : p % 32 ≡ 30 = (let e = eqb-true (p % 32 + 1) 31 (sym (last_word p m) ∙ h) in omega arith) in
           take eh (V6 (word p m) (To b) (word (p + 1) k)) (standing (takes w k s) w (V6 (word p m) (To b) (word (p + 1) k)) (v6 m k refl refl refl)
           (take_last s inv w none none p b k g eh l)) refl refl tt tt)
-          (λ h. let l : p % 32 < 30 = (let e = eqb_false (p % 32 + 1) 31 (sym (last_word p m) ∙ h) in omega (arith, g.seen.0)) in
+          (λ h. let l : p % 32 < 30 = (let e = eqb-false (p % 32 + 1) 31 (sym (last_word p m) ∙ h) in omega (arith, g.seen.0)) in
           take eh (V10 (word p m) (To b)) (standing (takes w k s) w (V10 (word p m) (To b)) (v10 m refl refl) (take_slot s inv w none none p b k g eh l)) refl refl tt tt)
 
   -- the header of a block of the chain
@@ -320,8 +320,8 @@ module _ (blocks : List Block) (slots : List Slot) (ws : List Worker) (meter : �
       at_slot blocks slots ws meter s w here (V11 (word p m) (To b)) b p m (λ i. act_v11 sizes E (G b) (S b i) (word p m) (To b))
       (either (λ (q : Place). Does (V11 (word p m) (To b)) b (p % 32) (leave E (G b) (S b (p % 32)) q)) (last_slot sizes (word p m))
       (V13 (To b) 0 (S b (p % 32)).value) (V12 (word p m) (To b) (S b (p % 32)).value)
-      (λ h. last (let e = eqb_true (p % 32 + 1) 31 (sym (last_word p m) ∙ h) in omega arith))
-      (λ h. other (let e = eqb_false (p % 32 + 1) 31 (sym (last_word p m) ∙ h) in omega (arith, g.seen.0.2))))
+      (λ h. last (let e = eqb-true (p % 32 + 1) 31 (sym (last_word p m) ∙ h) in omega arith))
+      (λ h. other (let e = eqb-false (p % 32 + 1) 31 (sym (last_word p m) ∙ h) in omega (arith, g.seen.0.2))))
     where
       live : s.own b ≡ Chain (p / 32)
       live = pop_live s inv w p b g.seen.0

@@ -8,7 +8,7 @@ use native.Mathlib.Omega.{arith}
 use native.Mathlib.Decide.{ℕ_discrete}
 use lib.Dec.{eqb}
 use lib.ListN.{length, get_or, set}
-use borrow.Author.Tests.{eq_eqb, ne_eqb, eqb_true, eqb_false}
+use borrow.Author.Tests.{eq-eqb, ne_eqb, eqb-true, eqb-false}
 use Rattle.unbounded_words.specs.declared.Index.{Index}
 use Rattle.unbounded_words.specs.declared.Pointer.{Pointer}
 use Rattle.unbounded_words.specs.declared.Pointer.TheVariants.{None, To}
@@ -118,11 +118,11 @@ module _ (blocks : List Block) (slots : List Slot) (ws : List Worker) (meter : �
   unfolding lacks_next
   last_of a p k =
       either (λ (t : Bool). t ≡ true → (p % 32 ≡ 30) × (a ≡ none)) (last_slot sizes (word p false)) (none_of (ptr a)) false
-      (λ h z. (let e = eqb_true (p % 32 + 1) 31 (sym (last_word p false) ∙ h) in omega arith, is_none a z)) (λ h z. absurd (true≢false (sym z))) k
+      (λ h z. (let e = eqb-true (p % 32 + 1) 31 (sym (last_word p false) ∙ h) in omega arith, is_none a z)) (λ h z. absurd (true≢false (sym z))) k
 
   not_last : (a : Ptr) (p : ℕ) → lacks_next sizes (ptr a) (word p false) ≡ false → p % 32 ≡ 30 → none_of (ptr a) ≡ false
   unfolding lacks_next
-  not_last a p k e = sym (ap (λ (t : Bool). cond t (none_of (ptr a)) false) (last_word p false ∙ eq_eqb (p % 32 + 1) 31 (omega arith))) ∙ k
+  not_last a p k e = sym (ap (λ (t : Bool). cond t (none_of (ptr a)) false) (last_word p false ∙ eq-eqb (p % 32 + 1) 31 (omega arith))) ∙ k
 
   none_or_to : (a : Ptr) → none_of (ptr a) ≡ false → (c : ℕ) × (a ≡ to c)
   none_or_to none e = absurd (true≢false e)
@@ -165,7 +165,7 @@ module _ (blocks : List Block) (slots : List Slot) (ws : List Worker) (meter : �
         (λ h. absurd (true≢false (sym h ∙ mark_word p false)))
         (λ h. either To' (past_slots sizes (word p false)) (U1 (ptr a) x) _
         (λ k. goes (U1 (ptr a) x) (standing s w (U1 (ptr a) x) (u1 refl) (leave_tail s inv w a none p false g)) refl tt tt)
-        (λ k. with_block a p x g (let ne = eqb_false (p % 32) 31 (sym (past_word p false) ∙ k) in omega arith) (back_of s.blocks s.phys) refl (lacks_next sizes (ptr a) (word p false)) refl))
+        (λ k. with_block a p x g (let ne = eqb-false (p % 32) 31 (sym (past_word p false) ∙ k) in omega arith) (back_of s.blocks s.phys) refl (lacks_next sizes (ptr a) (word p false)) refl))
 
   -- U3: block k is taken and set aside
   module _ (k : ℕ) (few : k < 64) (free : s.own k ≡ Free) where
@@ -258,11 +258,11 @@ module _ (blocks : List Block) (slots : List Slot) (ws : List Worker) (meter : �
       won : s.tail ≡ p → s.closed ≡ false → P (leave (tail_to E (later (word p false))) (G 0) (S 0 0) (claimed sizes (ptr a) (word p false) (To b) x))
       won et ec =
           either (λ (q : Place). P (leave (tail_to E (later (word p false))) (G 0) (S 0 0) q)) (last_slot sizes (word p false)) (U9 (ptr a) (word p false) (To b) x) (U12 (ptr a) (word p false) (To b) x)
-          (λ h. let l : p % 32 ≡ 30 = (let e = eqb_true (p % 32 + 1) 31 (sym (last_word p false) ∙ h) in omega arith) in
+          (λ h. let l : p % 32 ≡ 30 = (let e = eqb-true (p % 32 + 1) 31 (sym (last_word p false) ∙ h) in omega arith) in
           let c = has-next l in
           claim (U9 (ptr a) (word p false) (To b) x) (standing (claims w x s) w (U9 (ptr a) (word p false) (To b) x) (u9 {c = c.0} (ap ptr c.1) refl refl)
           (subst (λ (z : Ptr). Good (claims w x s) w z none (Back p b x)) c.1 (claim_last s inv w a none p b x g et l))) refl refl refl tt tt)
-          (λ h. let l : p % 32 < 30 = (let e = eqb_false (p % 32 + 1) 31 (sym (last_word p false) ∙ h) in omega (arith, g.seen.0)) in
+          (λ h. let l : p % 32 < 30 = (let e = eqb-false (p % 32 + 1) 31 (sym (last_word p false) ∙ h) in omega (arith, g.seen.0)) in
           claim (U12 (ptr a) (word p false) (To b) x) (standing (claims w x s) w (U12 (ptr a) (word p false) (To b) x) (u12 refl refl refl)
           (claim_slot s inv w a none p b x g et l)) refl refl refl tt tt)
         where

@@ -7,7 +7,7 @@ use native.Mathlib.Omega.{arith}
 use native.Mathlib.Decide.{dec_lt}
 use lib.Dec.{eqb, ltb}
 use lib.ListN.{length, get_or, take, length-replicate, get_or-eq_default}
-use borrow.Author.Tests.{eqb_true, eqb_false}
+use borrow.Author.Tests.{eqb-true, eqb-false}
 use Rattle.queue_entries.specs.Limits.{workers_most, in_limits}
 use Rattle.queue_entries.proofs.Limits.{limit_some, limit_most}
 use Rattle.queue_entries.specs.Schedules.{run_by, search_by, schedule_by}
@@ -74,7 +74,7 @@ refused_make w workers = go (shaped w) (eqb (make_of sizes workers).refusal 0) r
         → (cond a (cond b (after_of d) (after d.refusal w)) (after 6 w)).words ≡ w
     go false b e h = refl
     go true false e h = refl
-    go true true e h = absurd (h (eqb_true d.refusal 0 e))
+    go true true e h = absurd (h (eqb-true d.refusal 0 e))
 
 -- nothing of an empty schedule is run
 none_run : (m : Machine) → (run_of sizes m []).machine ≡ m
@@ -94,9 +94,9 @@ module _ (w : Words) (s : List ℕ) where
   refused_run = go (stand w) refl
     where
       same : (gone.refusal ≡ 0 → ⊥) → gone.place ≡ 0 → (b : Bool) → eqb gone.refusal 9 ≡ b → gone.machine ≡ machine_in w
-      same h p true e = refused_unchanged.unread (machine_in w) s (eqb_true gone.refusal 9 e)
+      same h p true e = refused_unchanged.unread (machine_in w) s (eqb-true gone.refusal 9 e)
       same h p false e =
-          refused_unchanged.run (machine_in w) s h (eqb_false gone.refusal 9 e) ∙ ap (λ (k : ℕ). (run_of sizes (machine_in w) (take (2 * k) s)).machine) p ∙ none_run (machine_in w)
+          refused_unchanged.run (machine_in w) s h (eqb-false gone.refusal 9 e) ∙ ap (λ (k : ℕ). (run_of sizes (machine_in w) (take (2 * k) s)).machine) p ∙ none_run (machine_in w)
 
       go : (b : Bool) → stand w ≡ b → ((cond b (ended_of gone) (ended (reply 6 0) w)).answer.refusal ≡ 0 → ⊥) → (cond b (ended_of gone) (ended (reply 6 0) w)).answer.number ≡ 0
           → (cond b (ended_of gone) (ended (reply 6 0) w)).words ≡ w
@@ -223,7 +223,7 @@ led (first ∷ second ∷ rest) w i so = go (λ k. led rest x.words k (stand_aft
         }
     go leads false e =
         let more = leads i in
-        let same : machine_in w ≡ machine_in x.words = ap machine_in (sym (refused_step w first second (eqb_false x.answer 0 e))) in
+        let same : machine_in w ≡ machine_in x.words = ap machine_in (sym (refused_step w first second (eqb-false x.answer 0 e))) in
         let goes : run_of_lem false i ≡ run_from sizes (machine_in x.words) i (taken_by face x.words rest) = ap (λ (m : Machine). run_from sizes m i (taken_by face x.words rest)) same in
         record {
           accepted = ap (λ (b : Bool). (run_of_lem b i).refusal) e ∙ ap (λ (r : Ran). r.refusal) goes ∙ more.accepted;
@@ -247,8 +247,8 @@ module _ (w : Words) (workers : ℕ) (made : (make_words w workers).answer ≡ 0
       by_tests a b = cond a (cond b (after_of d) (after d.refusal w)) (after 6 w)
 
       go : (a : Bool) → shaped w ≡ a → (b : Bool) → eqb d.refusal 0 ≡ b → Fresh
-      go true ea true eb = record { refusal_is = eqb_true d.refusal 0 eb; words_are = λ i. (by_tests (ea i) (eb i)).words }
-      go true ea false eb = absurd (eqb_false d.refusal 0 eb (sym (λ i. (by_tests (ea i) (eb i)).answer) ∙ made))
+      go true ea true eb = record { refusal_is = eqb-true d.refusal 0 eb; words_are = λ i. (by_tests (ea i) (eb i)).words }
+      go true ea false eb = absurd (eqb-false d.refusal 0 eb (sym (λ i. (by_tests (ea i) (eb i)).answer) ∙ made))
       go false ea b eb = let six : ◌≡◌ {A = ℕ} 6 0 = sym (λ i. (by_tests (ea i) (eb i)).answer) ∙ made in absurd (omega (arith, six))
 
   few : in_limits workers workers_most ≡ true

@@ -7,7 +7,7 @@ use native.Mathlib.Omega.{arith}
 use native.Mathlib.Decide.{dec_lt}
 use lib.Dec.{eqb}
 use lib.ListN.{length, take}
-use borrow.Author.Tests.{eqb_true}
+use borrow.Author.Tests.{eqb-true}
 use Rattle.queue_entries.specs.Schedules.{run_by}
 use Rattle.queue_schedules.proofs.Schedules.{schedule_broken, schedule_odd, schedule_found, schedule_none, Ways, is_broken, is_odd, is_unread, is_read, way}
 use Rattle.unbounded_words.specs.Words.{sizes}
@@ -76,7 +76,7 @@ module _ (w : Words) (so : stand w ≡ true) (s : List ℕ) where
 
   read : run_words w s ≡ words_by w 0 s → length s % 2 ≡ 0 → (b : Bool) → eqb (run_words w s).answer.refusal 9 ≡ b → As (run_words w s) (cond b [] (take (2 * (run_words w s).answer.number) s))
   unfolding left_by
-  read e even true h = (refused_words.unread w s (eqb_true (run_words w s).answer.refusal 9 h), refl)
+  read e even true h = (refused_words.unread w s (eqb-true (run_words w s).answer.refusal 9 h), refl)
   read e even false h =
       let same : (words_by w 0 s).answer.number - 0 ≡ (run_words w s).answer.number = omega (arith, ap (λ (x : Ended). x.answer.number) e) in
       (ap (λ (x : Ended). x.words) e ∙ (left_run s w 0 so).1 ∙ ap (λ (k : ℕ). left_by face w (take (2 * k) s)) same, even_take (run_words w s).answer.number s even)

@@ -6,7 +6,7 @@ use mathlib.Core.Path.{◌≡◌, refl, sym, ap, ◌∙◌, subst}
 use native.Mathlib.Omega.{arith}
 use lib.Dec.{eqb}
 use lib.ListN.{length, get_or, take, replicate, length-replicate}
-use borrow.Author.Tests.{eq_eqb}
+use borrow.Author.Tests.{eq-eqb}
 use Rattle.queue_entries.specs.Limits.{workers_most, in_limits}
 use Rattle.queue_entries.specs.declared.Entry.TheVariants.{Unreadable}
 use Rattle.queue_entries.specs.Entries.{stray_of, order_of, entry_of, entry_but}
@@ -115,7 +115,7 @@ blanks : Words
 blanks = words (replicate 8 0) (replicate 4096 0) (replicate 80 0)
 
 long : (n : ℕ) → eqb (length (replicate {A = ℕ} n 0)) n ≡ true
-long n = eq_eqb (length (replicate {A = ℕ} n 0)) n (length-replicate {A = ℕ} n 0)
+long n = eq-eqb (length (replicate {A = ℕ} n 0)) n (length-replicate {A = ℕ} n 0)
 
 blanks_shaped : shaped blanks ≡ true
 unfolding blanks shaped

@@ -6,8 +6,8 @@ use mathlib.Core.List.{List, [], ◌∷◌, ◌++◌}
 use mathlib.Core.Logic.{◌≢◌, ◌⊎◌, inl, inr}
 use mathlib.Core.Path.{◌≡◌, refl, sym, ap, ◌∙◌, subst}
 use lib.Dec.{eqb}
-use lib.ListN.{length, take, length_append}
-use borrow.Author.Tests.{eqb_true}
+use lib.ListN.{length, take, length-append}
+use borrow.Author.Tests.{eqb-true}
 use Rattle.queue_entries.specs.Entries.{entry_of}
 use Rattle.queue_entries.specs.declared.Call.{Call}
 use Rattle.queue_entries.specs.declared.Call.TheVariants as call
@@ -359,7 +359,7 @@ module _ (limit : ℕ) where
         asked = q;
         items = refl;
         closed = refl;
-        full = λ h. absurd (omega (arith, eqb_true (length q.items) (length q.items + 1) h));
+        full = λ h. absurd (omega (arith, eqb-true (length q.items) (length q.items + 1) h));
         room = λ h z. absurd (omega (arith, z, short, few_items actor change_of 0 (take a.moment st), few_first a.moment st));
         says = same_reply (answer_of q a.call) r [] more (a.plain ∙ is);
       }
@@ -394,7 +394,7 @@ module _ (workers : ℕ) (a : Allowed workers) (limit : ℕ) where
       }
 
   longer : (st : Story) (x : stories.Element Event) → length (st ++ x ∷ []) ≡ length st + 1
-  longer st x = length_append st (x ∷ []) ∙ omega arith
+  longer st x = length-append st (x ∷ []) ∙ omega arith
 
   -- an act, by the place that it leads to
   module _ (m : Machine) (st : Story) (o : So m st) (k : Kept m st) (w : ℕ) (busy : (view_of sizes (stood m w)).busy ≡ true) (next : Machine)
@@ -489,7 +489,7 @@ module _ (workers : ℕ) (a : Allowed workers) (limit : ℕ) where
       (λ earlier later e r more split is.
       let z = said_idle e.after r more is in
       let t = both.0.answers earlier later e z.0 split z.1 in
-      says limit earlier e z.0 r more z.2 (omega (arith, short, ap length split, length_append earlier (Does e ∷ later))) t.0 t.1)
+      says limit earlier e z.0 r more z.2 (omega (arith, short, ap length split, length-append earlier (Does e ∷ later))) t.0 t.1)
     where
       both : So (machine_after table workers s) (story_of table workers s) × Kept (machine_after table workers s) (story_of table workers s)
       both = both_after s

@@ -1,1 +1,3 @@
 // What a log of the unbounded queue never shows, proved. No code.
+#![tactic(auto)]
+

@@ -6,7 +6,7 @@ use native.Mathlib.Decide.{dec_lt}
 use mathlib.Core.Path.{◌≡◌, refl, sym, ap, ◌∙◌}
 use mathlib.Core.Bool.{Bool, true, false, cond}
 use lib.Dec.{eqb}
-use borrow.Author.Tests.{eq_eqb, eqb_true, eqb_false}
+use borrow.Author.Tests.{eq-eqb, eqb-true, eqb-false}
 use Rattle.unbounded_words.specs.declared.Index.{Index}
 use Rattle.unbounded_words.specs.Words.{sizes, wide, index, past_slots, marked_of, with_mark, later, minus, settled, behind, count_of}
 use Rattle.unbounded_proof_words.proofs.Words.{word, half, past_word, unmarked_word, later_word}
@@ -35,7 +35,7 @@ settled_near : (p : ℕ) → (counted (settled_at p) ≡ counted p) × (p ≤ se
 settled_near p = go (eqb (p % 32) 31) refl
   where
     go : (b : Bool) → eqb (p % 32) 31 ≡ b → (counted (cond b (p + 1) p) ≡ counted p) × (p ≤ cond b (p + 1) p) × (cond b (p + 1) p ≤ p + 1)
-    go true e = let z = eqb_true (p % 32) 31 e in (omega arith, omega arith, omega arith)
+    go true e = let z = eqb-true (p % 32) 31 e in (omega arith, omega arith, omega arith)
     go false e = (refl, omega arith, omega arith)
 
 -- both words with head's block as the first
@@ -93,7 +93,7 @@ count_word p q m k l s =
       where
         go : Dec (q < p) → q + 1 ≤ p
         go (yes i) = omega arith
-        go (no i) = let same : q ≡ p = omega arith in absurd (eqb_false (p % 32) 31 d (ap (λ (n : ℕ). n % 32) (sym same) ∙ eqb_true (q % 32) 31 e))
+        go (no i) = let same : q ≡ p = omega arith in absurd (eqb-false (p % 32) 31 d (ap (λ (n : ℕ). n % 32) (sym same) ∙ eqb-true (q % 32) 31 e))
     order false false d e = l
 
 -- ---- the mark
@@ -110,7 +110,7 @@ later_up x l = let z : (x.0 + 2) % wide ≡ x.0 + 2 = mod-eq_of_lt (omega arith)
 
 pub mark_marked : (x : Index) → marked_of (with_mark x) ≡ true
 unfolding marked_of with_mark
-mark_marked x = eq_eqb ((x.0 - x.0 % 2 + 1) % 2) 1 (omega arith)
+mark_marked x = eq-eqb ((x.0 - x.0 % 2 + 1) % 2) 1 (omega arith)
 
 pub marked_up : (x : Index) → x.0 ≤ (with_mark x).0
 unfolding with_mark

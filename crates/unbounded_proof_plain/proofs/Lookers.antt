@@ -8,7 +8,7 @@ use mathlib.Core.Bool.{Bool, true, false, cond, true≢false}
 use mathlib.Core.List.{List, []}
 use lib.Dec.{eqb}
 use lib.ListN.{length}
-use borrow.Author.Tests.{eq_eqb, ne_eqb, eqb_true, eqb_false}
+use borrow.Author.Tests.{eq-eqb, ne_eqb, eqb-true, eqb-false}
 use Rattle.queue_entries.specs.declared.Call.TheVariants as call
 use Rattle.queue_schedules.proofs.Schedules.{either}
 use Rattle.queue_schedules.proofs.Splits.{no_cons}
@@ -132,7 +132,7 @@ module _ (st : Story) (e : Ends) (sc : Scene st e) (w : ℕ) where
   len3 g s t i o lose =
       either (Tells (Len3 t i)) (eqb e.tail.0 t.0) _ _
       (λ z. says st e sc w (Len3 t i) calm (Len (count_of sizes t i)) (plain.Count (count_of sizes t i)) refl (quietly st e sc w (Len3 t i) (Len (count_of sizes t i)) refl) call.Len refl
-      (keep st e sc w (Len3 t i) calm (Idle (Len (count_of sizes t i))) refl _ _ _ _ (o.2 (eqb_true e.tail.0 t.0 z))))
+      (keep st e sc w (Len3 t i) calm (Idle (Len (count_of sizes t i))) refl _ _ _ _ (o.2 (eqb-true e.tail.0 t.0 z))))
       (λ z. go st e sc w (Len3 t i) calm Len1 refl (on st e sc w (Len3 t i) calm Len1 _ _ _ o.0))
     where
       calm : Mild st e sc w (Len3 t i)
@@ -166,7 +166,7 @@ module _ (st : Story) (e : Ends) (sc : Scene st e) (w : ℕ) where
 
       look : (b : Bool) → eqb (length Q.items) 0 ≡ b → SeenSome (N Empty1 (Empty2 e.head)) w ⊎ NoneYet (N Empty1 (Empty2 e.head)) w e.head
       look true z =
-          let none : length Q.items ≡ 0 = eqb_true (length Q.items) 0 z in
+          let none : length Q.items ≡ 0 = eqb-true (length Q.items) 0 z in
           inr (record {
             pending = moment ∙ ap (λ (b : Bool). cond b AfterNextTail (At (known st).count)) z;
             before = st;
@@ -198,7 +198,7 @@ module _ (st : Story) (e : Ends) (sc : Scene st e) (w : ℕ) where
             named = moment ∙ ap (λ (b : Bool). cond b AfterNextTail (At (known st).count)) z ∙ ap At (known_count actor change_of 0 st);
             begun = begun;
             inside = omega (arith, longer st (Does (A Empty1 (Empty2 e.head))));
-            some = subst (λ (x : Queue). 0 < length x.items) (sym (now_at st (Does (A Empty1 (Empty2 e.head))))) (positive (length Q.items) (eqb_false (length Q.items) 0 z));
+            some = subst (λ (x : Queue). 0 < length x.items) (sym (now_at st (Does (A Empty1 (Empty2 e.head))))) (positive (length Q.items) (eqb-false (length Q.items) 0 z));
           })
         where
           positive : (n : ℕ) → n ≢ 0 → 0 < n
@@ -214,7 +214,7 @@ module _ (st : Story) (e : Ends) (sc : Scene st e) (w : ℕ) where
   empty2 i o true z =
       says st e sc w (Empty2 i) calm Yes plain.Yes refl (record { gave = λ v z. absurd (yes_popped z); saw = λ j y y₁. seen_so }) call.IsEmpty refl
       (decided st e sc w (Empty2 i) calm (Idle Yes) refl call.IsEmpty plain.Yes o.0
-      (ap yes_if (eq_eqb (length Q.items) 0 (none (position e.tail) (position i) (eqb_true (position i) (position e.tail) z) o.2))))
+      (ap yes_if (eq-eqb (length Q.items) 0 (none (position e.tail) (position i) (eqb-true (position i) (position e.tail) z) o.2))))
     where
       calm : Mild st e sc w (Empty2 i)
       calm = mild st e sc w (λ q. refl) (λ q. refl) refl
@@ -229,7 +229,7 @@ module _ (st : Story) (e : Ends) (sc : Scene st e) (w : ℕ) where
             its_own = o.3.own;
             loads = o.3.loads;
             begun = o.3.begun;
-            filling = λ v y. sc.fills (ap (λ (n : ℕ). n % 32) (sym (eqb_true (position i) (position e.tail) z)) ∙ o.3.left v y);
+            filling = λ v y. sc.fills (ap (λ (n : ℕ). n % 32) (sym (eqb-true (position i) (position e.tail) z)) ∙ o.3.left v y);
           }
 
       none : (p k : ℕ) → k ≡ position e.tail → counted k ≤ length (takers_of h) → length Q.items ≡ 0
@@ -270,7 +270,7 @@ module _ (st : Story) (e : Ends) (sc : Scene st e) (w : ℕ) where
           extra = record { gave = unpopped No refl; saw = λ j y z. absurd (not_yes z); was_open = λ b z. absurd (true≢false (sym b)) }
 
           far : position i < position e.tail
-          far = apart (position i) (position e.tail) o.1 (eqb_false (position i) (position e.tail) z)
+          far = apart (position i) (position e.tail) o.1 (eqb-false (position i) (position e.tail) z)
             where
               apart : (a b : ℕ) → a ≤ b → a ≢ b → a < b
               apart a b l ne = go (dec_lt a b)

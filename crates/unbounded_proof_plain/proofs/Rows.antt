@@ -7,7 +7,7 @@ use mathlib.Core.List.{List, [], ◌∷◌, ◌++◌, append-nil}
 use lib.Dec.{eqb, ltb}
 use lib.ListN.{length, get_or, take, drop}
 use lib.Seq.{drop-cons}
-use borrow.Author.Tests.{eqb_true}
+use borrow.Author.Tests.{eqb-true}
 use Rattle.queue_entries.specs.declared.Call.{Call}
 use Rattle.queue_entries.specs.declared.Call.TheVariants as call
 use Rattle.queue_schedules.proofs.Schedules.{either}
@@ -48,7 +48,7 @@ popped_yes z = let q : ◌≡◌ {A = ℕ} 0 1 = cc in omega arith
 
 same_is : (a b : Index) → same a b ≡ true → a ≡ b
 unfolding same
-same_is a b z = ap index (eqb_true a.0 b.0 z)
+same_is a b z = ap index (eqb-true a.0 b.0 z)
 
 abbrev pub telling : Answer → Bool
 telling Nothing = false

@@ -7,7 +7,7 @@ use mathlib.Core.Bool.{true, false, true≢false}
 use mathlib.Core.List.{List, [], ◌∷◌, ◌++◌}
 use lib.Dec.{eqb}
 use lib.ListN.{length}
-use borrow.Author.Tests.{eqb_true}
+use borrow.Author.Tests.{eqb-true}
 use Rattle.queue_entries.specs.declared.Call.{Call}
 use Rattle.queue_entries.specs.declared.Call.TheVariants as call
 use Rattle.queue_schedules.proofs.Splits.{Order, earlier, same, later, one_more, no_split}
@@ -81,7 +81,7 @@ one_change (HandsOut v) b z = refl
 pub item_is : (l : List ℕ) → eqb (length l) 1 ≡ true → (x : ℕ) × (l ≡ x ∷ [])
 item_is [] z = absurd (true≢false (sym z))
 item_is (x ∷ []) z = (x, refl)
-item_is (x ∷ y ∷ l) z = absurd (let n = eqb_true (length (x ∷ y ∷ l)) 1 z in omega arith)
+item_is (x ∷ y ∷ l) z = absurd (let n = eqb-true (length (x ∷ y ∷ l)) 1 z in omega arith)
 
 pub takes_some : (s u : Shared) (w : ℕ) (p q : Place) → Logs s u w p q → takes_by (sign_of p) (sign_of q) ≡ true → counted s.head < counted s.tail
 takes_some s u w p q (puts x item no_taking slot et ei eh eg loose) z = absurd (true≢false (sym z ∙ no_taking))

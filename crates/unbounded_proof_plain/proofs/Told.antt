@@ -7,7 +7,7 @@ use mathlib.Core.Logic.{◌≢◌, ◌⊎◌, inl, inr}
 use mathlib.Core.Bool.{Bool, true, false, cond, true≢false}
 use mathlib.Core.List.{List, [], ◌∷◌, ◌++◌, append-nil, append_assoc}
 use lib.Dec.{eqb}
-use lib.ListN.{length, get_or, drop, length_append, get_or-append}
+use lib.ListN.{length, get_or, drop, length-append, get_or-append}
 use lib.Seq.{drop-cons, drop-append-le}
 use Rattle.queue_entries.specs.Limits.{workers_most}
 use Rattle.queue_entries.specs.declared.Call.{Call}
@@ -128,7 +128,7 @@ module _ (workers : ℕ) (team : workers ≤ workers_most) where
     empty_now : (j : ℕ) (x : Index) → NoneYet st j x → (known st).queue.items ≡ []
     empty_now j x z =
         ap (λ (c : Queue). c.items) (sym (queue_now actor change_of 0 st))
-        ∙ z.nothing (length st) (omega (arith, ap length z.is, length_append z.before (Does z.load ∷ z.since))) (omega arith)
+        ∙ z.nothing (length st) (omega (arith, ap length z.is, length-append z.before (Does z.load ∷ z.since))) (omega arith)
 
     module _ (w : ℕ) (mine : w < m.count) where
       in_row : w < length m.workers
@@ -195,7 +195,7 @@ module _ (workers : ℕ) (team : workers ≤ workers_most) where
               go (step.takes no_item taking slot some et ei eh eg) =
                   let less : length (takers_of h) < length (notions.items_of h) = omega (arith, scene.tails, scene.heads, ap counted tail_at, ap counted head_at) in
                   let front = o.items ∙ drop-cons (notions.items_of h) (length (takers_of h)) 0 less in
-                  let long : length (takers_of h ++ w ∷ []) ≡ suc (length (takers_of h)) = length_append (takers_of h) (w ∷ []) ∙ omega arith in
+                  let long : length (takers_of h ++ w ∷ []) ≡ suc (length (takers_of h)) = length-append (takers_of h) (w ∷ []) ∙ omega arith in
                   rw (taking, no_item, front)
                   (append-nil (drop (suc (length (takers_of h))) (notions.items_of h))
                   ∙ sym (waiting_is (notions.items_of h) (takers_of h ++ w ∷ []) (gave [] no_item ∙ append-nil (notions.items_of h)) (took true taking) ∙ ap (λ (n : ℕ). drop n (notions.items_of h)) long))
@@ -235,7 +235,7 @@ module _ (workers : ℕ) (team : workers ≤ workers_most) where
             item_on n v z =
                 let more = ap notions.items_of (acts_end st (Does act)) ∙ items_more h act in
                 record {
-                  made = omega (arith, ap length more, length_append (notions.items_of h) (item_of act), z.made);
+                  made = omega (arith, ap length more, length-append (notions.items_of h) (item_of act), z.made);
                   is = ap (λ (y : List ℕ). get_or y n 0) more ∙ get_or-append (notions.items_of h) (item_of act) 0 n z.made ∙ z.is;
                 }
 
@@ -243,7 +243,7 @@ module _ (workers : ℕ) (team : workers ≤ workers_most) where
             claim_on n z = subst (λ (y : List Event). CallClaim y j n) (sym (acts_end st (Does act))) (claim_more h act j n (λ y b e. ne (sym y)) z)
 
             taken_on : length (takers_of h) ≤ length (takers_of (acts_in st'))
-            taken_on = omega (arith, ap length (ap takers_of (acts_end st (Does act)) ∙ takers_more h act), length_append (takers_of h) (cond (takes act) (w ∷ []) []))
+            taken_on = omega (arith, ap length (ap takers_of (acts_end st (Does act)) ∙ takers_more h act), length-append (takers_of h) (cond (takes act) (w ∷ []) []))
 
             kept : (n : ℕ) → moment_of j st ≡ At n → moment_of j st' ≡ At n
             kept n z = moment_else st act j ne ∙ ap (heard (change_of act) ((known st).count + 1)) z

@@ -5,8 +5,8 @@ use mathlib.Core.Path.{◌≡◌, refl, sym, ap, ◌∙◌, subst}
 use mathlib.Core.Logic.{◌≢◌, ◌⊎◌, inl, inr}
 use mathlib.Core.Bool.{Bool, true, cond}
 use mathlib.Core.List.{List, [], ◌∷◌, ◌++◌, append_assoc}
-use lib.ListN.{length, length_append}
-use borrow.Author.Tests.{eq_eqb, ne_eqb}
+use lib.ListN.{length, length-append}
+use borrow.Author.Tests.{eq-eqb, ne_eqb}
 use Rattle.queue_entries.specs.declared.Call.{Call}
 use Rattle.queue_entries.specs.declared.Call.TheVariants as call
 use Rattle.queue_plain.specs.Plain.{Reply, Queue, answer_of}
@@ -39,7 +39,7 @@ module _ (st : Story) where
     pub moment_own : moment_of e.worker (st ++ Does e ∷ []) ≡ timed (timing_of e) (known st) (moment_of e.worker st)
     moment_own =
         moment_act e.worker
-        ∙ ap (λ (b : Bool). cond b (timed (timing_of e) (known st) (moment_of e.worker st)) (heard (change_of e) ((known st).count + 1) (moment_of e.worker st))) (eq_eqb e.worker e.worker refl)
+        ∙ ap (λ (b : Bool). cond b (timed (timing_of e) (known st) (moment_of e.worker st)) (heard (change_of e) ((known st).count + 1) (moment_of e.worker st))) (eq-eqb e.worker e.worker refl)
 
     pub moment_else : (j : ℕ) → j ≢ e.worker → moment_of j (st ++ Does e ∷ []) ≡ heard (change_of e) ((known st).count + 1) (moment_of j st)
     moment_else j ne =
@@ -50,7 +50,7 @@ module _ (st : Story) where
     place_act j = followed_end actor change_of (place_with j) (fresh 0) (Idle Nothing) st (Does e)
 
     pub place_own : place_in e.worker (st ++ Does e ∷ []) ≡ e.after
-    place_own = place_act e.worker ∙ ap (λ (b : Bool). cond b e.after (place_in e.worker st)) (eq_eqb e.worker e.worker refl)
+    place_own = place_act e.worker ∙ ap (λ (b : Bool). cond b e.after (place_in e.worker st)) (eq-eqb e.worker e.worker refl)
 
     pub place_else : (j : ℕ) → j ≢ e.worker → place_in j (st ++ Does e ∷ []) ≡ place_in j st
     place_else j ne = place_act j ∙ ap (λ (b : Bool). cond b e.after (place_in j st)) (ne_eqb j e.worker ne)
@@ -63,13 +63,13 @@ module _ (st : Story) where
     place_begin j = followed_end actor change_of (place_with j) (fresh 0) (Idle Nothing) st (Begun w c)
 
     pub place_begun : place_in w (st ++ Begun w c ∷ []) ≡ begin_of c
-    place_begun = place_begin w ∙ ap (λ (b : Bool). cond b (begin_of c) (place_in w st)) (eq_eqb w w refl)
+    place_begun = place_begin w ∙ ap (λ (b : Bool). cond b (begin_of c) (place_in w st)) (eq-eqb w w refl)
 
     pub place_unbegun : (j : ℕ) → j ≢ w → place_in j (st ++ Begun w c ∷ []) ≡ place_in j st
     place_unbegun j ne = place_begin j ∙ ap (λ (b : Bool). cond b (begin_of c) (place_in j st)) (ne_eqb j w ne)
 
   pub longer : (x : Element) → length (st ++ x ∷ []) ≡ length st + 1
-  longer x = length_append st (x ∷ []) ∙ omega arith
+  longer x = length-append st (x ∷ []) ∙ omega arith
 
   -- a moment that has been stays as it was
   pub past : (x : Element) (n : ℕ) → n ≤ length st → queue_at n (st ++ x ∷ []) ≡ queue_at n st

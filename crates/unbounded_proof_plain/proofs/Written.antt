@@ -7,9 +7,9 @@ use mathlib.Core.Logic.{◌≢◌, ◌⊎◌, inl, inr}
 use mathlib.Core.Bool.{Bool, true, false, cond, true≢false}
 use mathlib.Core.List.{List, [], ◌∷◌, ◌++◌, append-nil, append_assoc}
 use lib.Dec.{eqb}
-use lib.ListN.{length, get_or, length_append, get_or-append}
+use lib.ListN.{length, get_or, length-append, get_or-append}
 use lib.Seq.{get_or-append_seam}
-use borrow.Author.Tests.{eqb_true}
+use borrow.Author.Tests.{eqb-true}
 use Rattle.unbounded_words.specs.declared.Index.{Index}
 use Rattle.unbounded_words.specs.Words.{sizes}
 use Rattle.unbounded_places.specs.declared.Slot.{Slot}
@@ -52,11 +52,11 @@ tailers_long : (h : List Event) → length (tailers_of h) ≡ length (items_of h
 unfolding tailers_of items_of
 tailers_long [] = refl
 tailers_long (e ∷ h) =
-    length_append (cond (eqb (length (item_of e)) 1) (e.worker ∷ []) []) (tailers_of h)
-    ∙ omega (arith, tailers_long h, one (eqb (length (item_of e)) 1) refl, length_append (item_of e) (items_of h))
+    length-append (cond (eqb (length (item_of e)) 1) (e.worker ∷ []) []) (tailers_of h)
+    ∙ omega (arith, tailers_long h, one (eqb (length (item_of e)) 1) refl, length-append (item_of e) (items_of h))
   where
     one : (b : Bool) → eqb (length (item_of e)) 1 ≡ b → length (cond b (e.worker ∷ []) []) ≡ length (item_of e)
-    one true z = sym (eqb_true (length (item_of e)) 1 z)
+    one true z = sym (eqb-true (length (item_of e)) 1 z)
     one false z = sym (ap length (unput (sign_of e.before) (sign_of e.after) z))
 
 -- ---- a claim that is not written yet
@@ -254,7 +254,7 @@ module _ (at then : ℕ → Place) (h : List Event) (w : ℕ) (q : Place) (went 
         go (no z) = claim (eqb (length (item_of act)) 1) refl
           where
             long : length (items_of h') ≡ length (items_of h) + length (item_of act)
-            long = ap length (items_more h act) ∙ length_append (items_of h) (item_of act)
+            long = ap length (items_more h act) ∙ length-append (items_of h) (item_of act)
 
             single : (l : List ℕ) → length l ≡ 1 → (x : ℕ) × (l ≡ x ∷ [])
             single [] e = absurd (omega arith)
@@ -263,7 +263,7 @@ module _ (at then : ℕ → Place) (h : List Event) (w : ℕ) (q : Place) (went 
 
             claim : (b : Bool) → eqb (length (item_of act)) 1 ≡ b → Wrote then h' k
             claim true y =
-                let one = eqb_true (length (item_of act)) 1 y in
+                let one = eqb-true (length (item_of act)) 1 y in
                 let x = single (item_of act) one in
                 let last : k ≡ length (items_of h) = omega (arith, long) in
                 subst (Wrote then h') (sym last) (new x.0 x.1)

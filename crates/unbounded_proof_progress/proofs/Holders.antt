@@ -5,7 +5,7 @@ use mathlib.Core.Logic.{◌≢◌}
 use mathlib.Core.Bool.{Bool, true, false, cond, true≢false}
 use mathlib.Core.List.{List}
 use native.Mathlib.Omega.{arith}
-use borrow.Author.Tests.{eq_eqb}
+use borrow.Author.Tests.{eq-eqb}
 use Rattle.unbounded_words.specs.declared.Pointer.{Pointer}
 use Rattle.unbounded_words.specs.declared.Pointer.TheVariants.{None, To}
 use Rattle.unbounded_words.specs.declared.Index.{Index}
@@ -153,7 +153,7 @@ module _ (workers : ℕ) (m : Machine) (h : List Event) (r : Reached workers m h
 
     written : s.push i ≡ Done → has WRITE (state_at sizes m b t) ≡ true
     unfolding has
-    written e = eq_eqb (state_at sizes m b t / 1 % 2) 1 state_is
+    written e = eq-eqb (state_at sizes m b t / 1 % 2) 1 state_is
       where
         cell : slot_at sizes m.slots k (i % 32) ≡ slot (state_of (is_done (s.push (32 * (i / 32) + i % 32))) (read_bit (i % 32) (s.pop (32 * (i / 32) + i % 32))) (s.destroy (i / 32) (i % 32)))
             (s.val (32 * (i / 32) + i % 32))

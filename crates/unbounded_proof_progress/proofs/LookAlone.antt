@@ -5,7 +5,7 @@ use mathlib.Core.Bool.{Bool, true, false, cond, true≢false}
 use mathlib.Core.List.{List}
 use native.Mathlib.Omega.{arith}
 use native.Mathlib.Decide.{dec_lt}
-use borrow.Author.Tests.{eq_eqb}
+use borrow.Author.Tests.{eq-eqb}
 use Rattle.queue_entries.specs.Limits.{meter_most}
 use Rattle.queue_entries.specs.Entries.{entry_of}
 use Rattle.queue_entries.proofs.Pick as pick
@@ -220,7 +220,7 @@ none_taken IsClosed1 z = refl
 
 same_self : (t : Index) → same t t ≡ true
 unfolding same
-same_self t = eq_eqb t.0 t.0 refl
+same_self t = eq-eqb t.0 t.0 refl
 
 -- An act of a looker: the rank falls, and it looks on or is idle.
 abbrev Falls : Ends → Place → Acted → Type 0

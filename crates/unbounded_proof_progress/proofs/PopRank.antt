@@ -8,7 +8,7 @@ use native.Mathlib.Omega.{arith}
 use native.Mathlib.Decide.{dec_lt}
 use lib.Dec.{ltb, eqb}
 use lib.ListN.{set}
-use borrow.Author.Tests.{eq_eqb, eqb_true, ltb-true, ltb-false}
+use borrow.Author.Tests.{eq-eqb, eqb-true, ltb-true, ltb-false}
 use Rattle.queue_schedules.proofs.Schedules.{either}
 use Rattle.unbounded_words.specs.declared.Pointer.{Pointer}
 use Rattle.unbounded_words.specs.declared.Pointer.TheVariants.{None, To}
@@ -89,15 +89,15 @@ none_is (To c) z = absurd (true≢false (sym z))
 
 pub same_self : (h : Index) → same h h ≡ true
 unfolding same
-same_self h = eq_eqb h.0 h.0 refl
+same_self h = eq-eqb h.0 h.0 refl
 
 pub same_number : (a b : Index) → same a b ≡ true → a.0 ≡ b.0
 unfolding same
-same_number a b z = eqb_true a.0 b.0 z
+same_number a b z = eqb-true a.0 b.0 z
 
 pub at_gap : (i : Index) → past_slots sizes i ≡ true → offset_of sizes i ≡ 31
 unfolding past_slots
-at_gap i z = eqb_true (offset_of sizes i) 31 z
+at_gap i z = eqb-true (offset_of sizes i) 31 z
 
 pub mark_same : (a b : Index) → a.0 ≡ b.0 → marked_of a ≡ marked_of b
 unfolding marked_of
@@ -105,7 +105,7 @@ mark_same a b z = ap (λ (n : ℕ). eqb (n % 2) 1) z
 
 position_same : (a b : Index) → position a ≡ position b → same_position a b ≡ true
 unfolding same_position
-position_same a b z = eq_eqb (a.0 / 2) (b.0 / 2) z
+position_same a b z = eq-eqb (a.0 / 2) (b.0 / 2) z
 
 -- whoever stores a block's next has the slot in hand
 ties : (p : Place) (b : Pointer) (t : Index) → Tying p b t → PushingIn p b t

@@ -8,7 +8,7 @@ use native.Mathlib.Omega.{arith}
 use native.Mathlib.Decide.{ℕ_discrete}
 use lib.Dec.{eqb}
 use lib.ListN.{length, set}
-use borrow.Author.Tests.{eq_eqb, ne_eqb, eqb_true, eqb_false}
+use borrow.Author.Tests.{eq-eqb, ne_eqb, eqb-true, eqb-false}
 use Rattle.queue_entries.specs.declared.Entry.{Entry}
 use Rattle.queue_entries.specs.Entries.{entry_of}
 use Rattle.queue_schedules.specs.Alone.{act_by}
@@ -116,7 +116,7 @@ module _ (w : ℕ) where
   not_mine v n = ap {B = ℕ} (λ (t : Bool). cond t 1 0) (ne_eqb v w (λ e. n (sym e)))
 
   mine : (v : ℕ) → v ≡ w → ◌≡◌ {A = ℕ} (cond (eqb v w) 1 0) 1
-  mine v e = ap {B = ℕ} (λ (t : Bool). cond t 1 0) (eq_eqb v w e)
+  mine v e = ap {B = ℕ} (λ (t : Bool). cond t 1 0) (eq-eqb v w e)
 
   own : (m : Machine) → In m → (k i : ℕ) (l : List Slot) (lose : Bool) (n : ℕ) → n ≡ 1
       → Told m (stored sizes m w l k i (act_of sizes m.ends k (block_at m.blocks k) (slot_at sizes l k i) (place_of m.workers w) lose)) n
@@ -158,8 +158,8 @@ module _ (w : ℕ) where
   each m a b i = go (eqb (turn_with sizes act_of m a b).refusal 0) refl
     where
       go : (t : Bool) → eqb (turn_with sizes act_of m a b).refusal 0 ≡ t → Told m (turn_with sizes act_of m a b).machine (cond t (act_by w (entry_of a b)) 0)
-      go true e = turned_told m (entry_of a b) (turn_with sizes act_of m a b).machine i (turned m a b (eqb_true _ 0 e))
-      go false e = apart m (turn_with sizes act_of m a b).machine i (ap (λ (x : Machine). place_of x.workers w) (turn_kept m a b (eqb_false _ 0 e))) 0 refl
+      go true e = turned_told m (entry_of a b) (turn_with sizes act_of m a b).machine i (turned m a b (eqb-true _ 0 e))
+      go false e = apart m (turn_with sizes act_of m a b).machine i (ap (λ (x : Machine). place_of x.workers w) (turn_kept m a b (eqb-false _ 0 e))) 0 refl
 
 left_most : (p : Place) (t : Index) → Pushing p t → push_left p ≤ 5
 left_most p t push9 = omega arith

@@ -6,7 +6,7 @@ use mathlib.Core.Bool.{Bool, true, false, cond, not, true≢false}
 use mathlib.Core.List.{List}
 use native.Mathlib.Omega.{arith}
 use lib.Dec.{eqb}
-use borrow.Author.Tests.{eq_eqb, ne_eqb, eqb_true}
+use borrow.Author.Tests.{eq-eqb, ne_eqb, eqb-true}
 use Rattle.queue_entries.proofs.Pick.{both_right}
 use Rattle.queue_schedules.proofs.Schedules.{either}
 use Rattle.unbounded_words.specs.declared.Pointer.{Pointer}
@@ -328,7 +328,7 @@ cross_left p t cross10 z = omega arith
 
 same_word : (a b : Index) → a ≡ b → same a b ≡ true
 unfolding same
-same_word a b e = eq_eqb a.0 b.0 (ap (λ (i : Index). i.0) e)
+same_word a b e = eq-eqb a.0 b.0 (ap (λ (i : Index). i.0) e)
 
 module _ (workers : ℕ) (m : Machine) (h : List Event) (r : Reached workers m h) (w : ℕ) (alone : (v : ℕ) (t : Index) → (v ≡ w → ⊥) → Crossing (stood m v) t → ⊥) where
   abbrev s : Shared
@@ -398,7 +398,7 @@ module _ (workers : ℕ) (m : Machine) (h : List Event) (r : Reached workers m h
       tail_is workers m h r ∙ ap (λ (p : ℕ). word p s.closed) (r.sim.inv.ends.none_yet none) ∙ ap (word 0) closed
     where
       empty : (b : Bool) → eqb s.blocks 0 ≡ b → s.blocks ≡ 0
-      empty true q = eqb_true s.blocks 0 q
+      empty true q = eqb-true s.blocks 0 q
       empty false q =
           absurd (true≢false (sym (ap (λ (y : Ends). none_of y.back) (sym r.sim.ends) ∙ z) ∙ ap (λ (b : Bool). none_of (cond b None (To (s.phys (s.blocks - 1))))) q))
 

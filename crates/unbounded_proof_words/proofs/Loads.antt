@@ -6,7 +6,7 @@ use mathlib.Core.Bool.{Bool, true, false, cond, not, true≢false}
 use native.Mathlib.Omega.{arith}
 use native.Mathlib.Decide.{ℕ_discrete, dec_lt}
 use lib.Dec.{eqb}
-use borrow.Author.Tests.{eq_eqb, ne_eqb, eqb_true, eqb_false}
+use borrow.Author.Tests.{eq-eqb, ne_eqb, eqb-true, eqb-false}
 use Rattle.unbounded_words.specs.declared.Pointer.{Pointer}
 use Rattle.unbounded_words.specs.declared.Pointer.TheVariants.{None, To}
 use Rattle.unbounded_proof_invariant.proofs.Queue.{Ptr, none, to, Hand, Open, Done, By, Shared, Inv}
@@ -36,7 +36,7 @@ pub back_some : (n : ℕ) (phys : ℕ → ℕ) (b : ℕ) → back_of n phys ≡ 
 back_some n phys b e = go (ℕ_discrete n 0)
   where
     go : Dec (n ≡ 0) → (0 < n) × (b ≡ phys (n - 1))
-    go (yes z) = absurd (none_pointer b (sym (ap (λ (t : Bool). cond t None (To (phys (n - 1)))) (eq_eqb n 0 z)) ∙ e))
+    go (yes z) = absurd (none_pointer b (sym (ap (λ (t : Bool). cond t None (To (phys (n - 1)))) (eq-eqb n 0 z)) ∙ e))
     go (no z) = (omega arith, sym (to_pointer (phys (n - 1)) b (sym (ap (λ (t : Bool). cond t None (To (phys (n - 1)))) (ne_eqb n 0 z)) ∙ e)))
 
 module _ (s : Shared) (inv : Inv s) (w : ℕ) (a n : Ptr) where
@@ -115,7 +115,7 @@ module _ (s : Shared) (inv : Inv s) (w : ℕ) (a n : Ptr) where
       (o.0, o.1, o.2.0, o.2.1, omega arith, (λ e. let z : p / 32 ≢ s.tail / 32 = other_block e in omega arith))
     where
       other_block : not (eqb (p / 32) (s.tail / 32)) ≡ true → p / 32 ≢ s.tail / 32
-      other_block e q = true≢false (sym e ∙ ap not (eq_eqb (p / 32) (s.tail / 32) q))
+      other_block e q = true≢false (sym e ∙ ap not (eq-eqb (p / 32) (s.tail / 32) q))
 
   -- V6, V7
   pub next_known : (p b : ℕ) → Good s w a n (Going p b) → s.link (p / 32) ≡ true → Good s w a n (Gone p b (s.phys (p / 32 + 1)))

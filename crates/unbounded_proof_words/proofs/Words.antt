@@ -6,7 +6,7 @@ use mathlib.Core.Bool.{Bool, true, false}
 use native.Mathlib.Omega.{arith}
 use native.Mathlib.Nat.{mod-eq_of_lt}
 use lib.Dec.{eqb}
-use borrow.Author.Tests.{eq_eqb, ne_eqb, eqb_true}
+use borrow.Author.Tests.{eq-eqb, ne_eqb, eqb-true}
 use Rattle.unbounded_words.specs.declared.Index.{Index}
 use Rattle.unbounded_words.specs.Words.{sizes, wide, index, offset_of, past_slots, last_slot, marked_of, unmarked_of, with_mark, later, same, same_position, same_block}
 
@@ -34,7 +34,7 @@ last_word p m = ap (λ (k : ℕ). eqb (k + 1) 31) (offset_word p m)
 
 pub mark_word : (p : ℕ) (m : Bool) → marked_of (word p m) ≡ m
 unfolding marked_of
-mark_word p true = eq_eqb ((2 * p + 1) % 2) 1 (omega arith)
+mark_word p true = eq-eqb ((2 * p + 1) % 2) 1 (omega arith)
 mark_word p false = ne_eqb ((2 * p + 0) % 2) 1 (λ e. omega arith)
 
 pub unmarked_word : (p : ℕ) (m : Bool) → unmarked_of (word p m) ≡ word p false
@@ -54,10 +54,10 @@ later_word p false l = ap index (mod-eq_of_lt (omega arith) ∙ omega arith)
 
 pub same_yes : (p q : ℕ) (m k : Bool) → same (word p m) (word q k) ≡ true → (p ≡ q) × (m ≡ k)
 unfolding same
-same_yes p q true true e = let z : 2 * p + 1 ≡ 2 * q + 1 = eqb_true (2 * p + 1) (2 * q + 1) e in (omega arith, refl)
-same_yes p q false false e = let z : 2 * p + 0 ≡ 2 * q + 0 = eqb_true (2 * p + 0) (2 * q + 0) e in (omega arith, refl)
-same_yes p q true false e = let z : 2 * p + 1 ≡ 2 * q + 0 = eqb_true (2 * p + 1) (2 * q + 0) e in absurd (omega arith)
-same_yes p q false true e = let z : 2 * p + 0 ≡ 2 * q + 1 = eqb_true (2 * p + 0) (2 * q + 1) e in absurd (omega arith)
+same_yes p q true true e = let z : 2 * p + 1 ≡ 2 * q + 1 = eqb-true (2 * p + 1) (2 * q + 1) e in (omega arith, refl)
+same_yes p q false false e = let z : 2 * p + 0 ≡ 2 * q + 0 = eqb-true (2 * p + 0) (2 * q + 0) e in (omega arith, refl)
+same_yes p q true false e = let z : 2 * p + 1 ≡ 2 * q + 0 = eqb-true (2 * p + 1) (2 * q + 0) e in absurd (omega arith)
+same_yes p q false true e = let z : 2 * p + 0 ≡ 2 * q + 1 = eqb-true (2 * p + 0) (2 * q + 1) e in absurd (omega arith)
 
 pub position_word : (p q : ℕ) (m k : Bool) → same_position (word p m) (word q k) ≡ eqb p q
 unfolding same_position

@@ -5,7 +5,7 @@ use mathlib.Core.List.{List}
 use native.Mathlib.Omega.{arith}
 use lib.Dec.{eqb}
 use lib.ListN.{get_or}
-use borrow.Author.Tests.{eq_eqb, ne_eqb, lt-ltb, le-ltb}
+use borrow.Author.Tests.{eq-eqb, ne_eqb, lt-ltb, le-ltb}
 use Rattle.unbounded_words.specs.Words.{sizes, number_of}
 use Rattle.unbounded_places.specs.declared.Slot.{Slot}
 use Rattle.unbounded_places.specs.declared.Block.{Block}
@@ -26,7 +26,7 @@ module _ (a b : ℕ → ℕ) (p : ℕ) where
 module _ (gs : List Block) (b : ℕ → ℕ) where
   pub next_at : (p k : ℕ) → p % 64 ≡ 0 → p / 64 ≡ k → number_of sizes (block_at gs k).next ≡ pooled (header_word gs) b p
   unfolding header_word
-  next_at p k r q = ap (λ (j : ℕ). number_of sizes (block_at gs j).next) (sym q) ∙ sym (rw (eq_eqb (p % 64) 0 r) refl) ∙ head_part (header_word gs) b p (omega (arith, r))
+  next_at p k r q = ap (λ (j : ℕ). number_of sizes (block_at gs j).next) (sym q) ∙ sym (rw (eq-eqb (p % 64) 0 r) refl) ∙ head_part (header_word gs) b p (omega (arith, r))
 
   pub free_at : (p k : ℕ) → p % 64 ≡ 1 → p / 64 ≡ k → bit (block_at gs k).free ≡ pooled (header_word gs) b p
   unfolding header_word
@@ -37,7 +37,7 @@ module _ (gs : List Block) (b : ℕ → ℕ) where
 module _ (a : ℕ → ℕ) (ss : List Slot) (p j : ℕ) (from : 2 ≤ p % 64) (is : slot_of_word p ≡ j) where
   pub state_at : p % 2 ≡ 0 → (get_or ss j (slot 0 0)).state ≡ pooled a (slot_word ss) p
   unfolding slot_word
-  state_at r = ap (λ (i : ℕ). (get_or ss i (slot 0 0)).state) (sym is) ∙ sym (rw (eq_eqb (p % 2) 0 r) refl) ∙ slot_part a (slot_word ss) p from
+  state_at r = ap (λ (i : ℕ). (get_or ss i (slot 0 0)).state) (sym is) ∙ sym (rw (eq-eqb (p % 2) 0 r) refl) ∙ slot_part a (slot_word ss) p from
 
   pub value_at : p % 2 ≡ 1 → (get_or ss j (slot 0 0)).value ≡ pooled a (slot_word ss) p
   unfolding slot_word

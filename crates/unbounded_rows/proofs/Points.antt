@@ -5,7 +5,7 @@ use mathlib.Core.List.{List, [], ◌∷◌}
 use native.Mathlib.Omega.{arith}
 use native.Mathlib.Decide.{ℕ_discrete, dec_lt}
 use lib.ListN.{length, get_or, set, length-set}
-use lib.Seq.{get_or-set_same, get_or_set_other}
+use lib.Seq.{get_or-set_same, get_or-set_other}
 use Rattle.unbounded_rows.specs.Rows.{from, row}
 
 module _ {A : Type 0} (d : A) where
@@ -58,7 +58,7 @@ module _ {A : Type 0} (d : A) where
       where
         go : (j : ℕ) → j < i + 1 → Dec (j ≡ i) → get_or (set all i x) j d ≡ f j
         go j m (yes h) = subst (λ (k : ℕ). get_or (set all i x) k d ≡ f k) (sym h) (get_or-set_same all i x d (taken_long l) ∙ e)
-        go j m (no h) = get_or_set_other all i j x d h ∙ z.so_far j (earlier (dec_lt j i))
+        go j m (no h) = get_or-set_other all i j x d h ∙ z.so_far j (earlier (dec_lt j i))
           where
             earlier : Dec (j < i) → j < i
             earlier (yes a) = a
@@ -80,7 +80,7 @@ module _ (g : ℕ → ℕ) where
     where
       go : Dec (p ≡ q) → Right (set zs q v) p
       go (yes h) = here zs q v l e p h
-      go (no h) = get_or_set_other zs q p v 0 h ∙ r
+      go (no h) = get_or-set_other zs q p v 0 h ∙ r
 
 pub still_in : (l : List ℕ) (j i a : ℕ) → j < length l → j < length (set l i a)
 still_in l j i a = subst (λ (n : ℕ). j < n) (sym (length-set l i a))

@@ -7,7 +7,7 @@ use native.Mathlib.Omega.{arith}
 use native.Mathlib.Decide.{ℕ_discrete, dec_lt}
 use lib.Dec.{eqb, ltb}
 use lib.ListN.{length, get_or, set}
-use borrow.Author.Tests.{eq_eqb, ne_eqb, eqb_true, lt-ltb, ltb-true}
+use borrow.Author.Tests.{eq-eqb, ne_eqb, eqb-true, lt-ltb, ltb-true}
 use Rattle.queue_entries.specs.Limits.{workers_most, all}
 use Rattle.queue_entries.proofs.Pick.{both_left, both_right}
 use Rattle.queue_schedules.proofs.Records.{every, all_of}
@@ -60,8 +60,8 @@ unfolding head_from ends_in laid_out_rows
 whole_head ws n =
     eight (λ (ws : List ℕ). laid_out_rows ws ≡ true → head_from (ends_in ws) (word_at ws 4) (word_at ws 5) ≡ ws)
     (λ a b c d e f g h l.
-    let none : g ≡ 0 = eqb_true g 0 (both_left (eqb g 0) _ l) in
-    let number : h ≡ layout = eqb_true h layout (both_right (eqb g 0) _ l) in
+    let none : g ≡ 0 = eqb-true g 0 (both_left (eqb g 0) _ l) in
+    let number : h ≡ layout = eqb-true h layout (both_right (eqb g 0) _ l) in
     (λ i. a ∷ word_back b i ∷ c ∷ word_back d i ∷ e ∷ f ∷ sym none i ∷ sym number i ∷ [])) ws n
 
 -- ---- the pool, read and written again
@@ -82,7 +82,7 @@ module _ (ws : List ℕ) (n : length ws ≡ 4096) (h : bits ws ≡ true) where
   two_ways a l = go (ℕ_discrete a 1)
     where
       go : Dec (a ≡ 1) → bit (eqb a 1) ≡ a
-      go (yes e) = ap bit (eq_eqb a 1 e) ∙ sym e
+      go (yes e) = ap bit (eq-eqb a 1 e) ∙ sym e
       go (no e) = let none : a ≡ 0 = omega (arith, e, l) in ap bit (ne_eqb a 1 e) ∙ sym none
 
   word_again : (p : ℕ) → p < 4096 → word_at ws p ≡ pooled (header_word (blocks_in ws)) (slot_word (slots_in ws)) p
@@ -248,11 +248,11 @@ module _ (h p rs : List ℕ) where
 
   pub shape_2 : length h ≡ 8 → (length p ≡ 4096 → ⊥) → false ≡ shaped (words h p rs)
   unfolding shaped
-  shape_2 a b = sym (rw (eq_eqb (length h) 8 a, ne_eqb (length p) 4096 b) refl)
+  shape_2 a b = sym (rw (eq-eqb (length h) 8 a, ne_eqb (length p) 4096 b) refl)
 
   pub shape_3 : length h ≡ 8 → length p ≡ 4096 → eqb (length rs) 80 ≡ shaped (words h p rs)
   unfolding shaped
-  shape_3 a b = sym (rw (eq_eqb (length h) 8 a, eq_eqb (length p) 4096 b) refl)
+  shape_3 a b = sym (rw (eq-eqb (length h) 8 a, eq-eqb (length p) 4096 b) refl)
 
   pub record Shape : Type 0 where
     pub head_words : length h ≡ 8
@@ -264,9 +264,9 @@ module _ (h p rs : List ℕ) where
   shape_of s =
       let rest = both_right (eqb (length h) 8) _ s in
       record {
-        head_words = eqb_true (length h) 8 (both_left (eqb (length h) 8) _ s);
-        pool_words = eqb_true (length p) 4096 (both_left (eqb (length p) 4096) _ rest);
-        record_words = eqb_true (length rs) 80 (both_right (eqb (length p) 4096) _ rest);
+        head_words = eqb-true (length h) 8 (both_left (eqb (length h) 8) _ s);
+        pool_words = eqb-true (length p) 4096 (both_left (eqb (length p) 4096) _ rest);
+        record_words = eqb-true (length rs) 80 (both_right (eqb (length p) 4096) _ rest);
       }
 
   module _ (s : Bool) (es : s ≡ shaped (words h p rs)) where
@@ -305,7 +305,7 @@ module _ (h : List ℕ) where
 
   pub by_layout : word_at h 6 ≡ 0 → eqb (word_at h 7) layout ≡ laid_out_rows h
   unfolding laid_out_rows
-  by_layout e = sym (rw (eq_eqb (word_at h 6) 0 e) refl)
+  by_layout e = sym (rw (eq-eqb (word_at h 6) 0 e) refl)
 
 -- ---- one to one
 pub record Standing (w : Words) : Type 0 where
@@ -346,8 +346,8 @@ pub written_stand : (m : Machine) → Sayable m → stand (words_of m) ≡ true
 unfolding stand shaped laid_out_rows head_from pool_of records_of
 written_stand m s =
     rw (
-      eq_eqb (length (pool_of m.blocks m.slots)) 4096 (long_from 0 4096 0 (pooled (header_word m.blocks) (slot_word m.slots))),
-      eq_eqb (length (records_of m.workers)) 80 (long_from 0 80 0 (record_word m.workers)),
+      eq-eqb (length (pool_of m.blocks m.slots)) 4096 (long_from 0 4096 0 (pooled (header_word m.blocks) (slot_word m.slots))),
+      eq-eqb (length (records_of m.workers)) 80 (long_from 0 80 0 (record_word m.workers)),
       bits_there m.blocks m.slots,
       placed_there m.workers s.place_said,
     )

@@ -1,4 +1,6 @@
 // The machine as words in the host's memory: eight words, 64 for each block of the pool, five for each of its sixteen records (specs/Rows.antt has the layout).
+#![tactic(auto)]
+
 ghost use Rattle.std.specs.Prelude.{◌≡◌, ◌+◌, ◌*◌, ◌/◌, ◌<◌, length};
 ghost use Rattle.unbounded_rows.specs.Rows.{words, bit, head_from, head_of, pool_of, records_of, ends_in, block_in, slot_in, record_in, blocks_in, slots_in, records_in, machine_in, shaped, laid_out_rows, bits, placed, placed_at, stand, with_blocks, with_slots, with_record};
 

@@ -5,7 +5,7 @@ use mathlib.Core.Bool.{Bool, true, false, cond, not}
 use mathlib.Core.List.{List, [], ◌∷◌}
 use native.Mathlib.Omega.{arith}
 use lib.ListN.{get_or, set, length, drop, length-drop, length-set}
-use borrow.Author.Tests.{ne_eqb, eq_eqb}
+use borrow.Author.Tests.{ne_eqb, eq-eqb}
 use Rattle.queue_entries.specs.Limits.{workers_most}
 use Rattle.queue_entries.specs.declared.Order.{Order}
 use Rattle.queue_entries.specs.declared.Order.TheVariants.{Begin, Act}
@@ -189,7 +189,7 @@ module _ (m : Machine) (s : List ℕ) (b : Bool) (e : b ≡ broken_of sizes m) w
   module _ (h : b ≡ false) where
     pub odd_run : length s % 2 ≡ 1 → ran 11 0 m ≡ run_of sizes m s
     unfolding schedule_by
-    odd_run k = no _ b _ _ _ e h (sym (simp (eq_eqb _ _ k)))
+    odd_run k = no _ b _ _ _ e h (sym (simp (eq-eqb _ _ k)))
 
     module _ (k : length s % 2 ≡ 1 → ⊥) (f : Finding) (g : f ≡ search_by entry_here 0 s) where
       pub unread_run : (i : ℕ) → f ≡ UnreadableAt i → ran 9 i m ≡ run_of sizes m s

@@ -1,4 +1,6 @@
 // A schedule on any machine: 6, 11 and 9 of the whole, then the one loop that all entries go through.
+#![tactic(auto)]
+
 ghost use Rattle.std.specs.Prelude.{◌≡◌, false};
 ghost use Rattle.unbounded_words.specs.Words.{sizes};
 ghost use Rattle.unbounded_machine.specs.Broken.{broken_in};

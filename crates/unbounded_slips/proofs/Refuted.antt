@@ -4,7 +4,7 @@ use mathlib.Core.Path.{◌≡◌, refl, sym, ap, ◌∙◌, subst}
 use mathlib.Core.Bool.{Bool, true, false, cond, true≢false}
 use mathlib.Core.List.{List, [], ◌∷◌, ◌++◌}
 use native.Mathlib.Omega.{arith}
-use lib.ListN.{length, get_or, length_append}
+use lib.ListN.{length, get_or, length-append}
 use Rattle.queue_entries.specs.declared.Order.TheVariants.{Act}
 use Rattle.queue_entries.specs.declared.Entry.TheVariants.{Asks}
 use Rattle.queue_entries.specs.declared.Entry.TheVariants.{Unreadable}
@@ -82,17 +82,17 @@ takes_only (HandsOut v) b e = refl
 
 -- A plain queue has what was put and not taken.
 more : (g : List Event) (e : Event) (l : List ℕ) (t : Bool) → item_of e ≡ l → takes e ≡ t → length (items_of (g ++ e ∷ [])) ≡ length (items_of g) + length l
-more g e l t a b = ap length (items_more g e ∙ ap (λ (y : List ℕ). items_of g ++ y) a) ∙ length_append (items_of g) l
+more g e l t a b = ap length (items_more g e ∙ ap (λ (y : List ℕ). items_of g ++ y) a) ∙ length-append (items_of g) l
 
 fewer : (g : List Event) (e : Event) (t : Bool) → takes e ≡ t → length (takers_of (g ++ e ∷ [])) ≡ length (takers_of g) + length (cond t (e.worker ∷ []) [])
-fewer g e t b = ap length (takers_more g e ∙ ap (λ (y : Bool). takers_of g ++ cond y (e.worker ∷ []) []) b) ∙ length_append (takers_of g) (cond t (e.worker ∷ []) [])
+fewer g e t b = ap length (takers_more g e ∙ ap (λ (y : Bool). takers_of g ++ cond y (e.worker ∷ []) []) b) ∙ length-append (takers_of g) (cond t (e.worker ∷ []) [])
 
 pub balanced : (h : List Event) (q : List ℕ) → Fifo h q → length (items_of h) ≡ length (takers_of h) + length q
 unfolding items_of takers_of
 balanced h q start = refl
 balanced h q (enqueue g p e x f is) =
     more g e (x ∷ []) false is (puts_only (sign_of e.before) (sign_of e.after) x is)
-    ∙ omega (arith, balanced g p f, length_append p (x ∷ []), fewer g e false (puts_only (sign_of e.before) (sign_of e.after) x is))
+    ∙ omega (arith, balanced g p f, length-append p (x ∷ []), fewer g e false (puts_only (sign_of e.before) (sign_of e.after) x is))
 balanced h q (dequeue g p e x f is) = more g e [] true (takes_only (sign_of e.before) (sign_of e.after) is) is ∙ omega (arith, balanced g (x ∷ q) f, fewer g e true is)
 balanced h q (rest g p e f none is) = more g e [] false none is ∙ omega (arith, balanced g p f, fewer g e false is)
 

@@ -1,4 +1,6 @@
 // Request 12's table with the lookers: which action is taken at which place. The actions themselves: crates unbounded_acts and unbounded_pops.
+#![tactic(auto)]
+
 ghost use Rattle.std.specs.Prelude.{◌≡◌};
 ghost use Rattle.unbounded_words.specs.Words.{sizes};
 ghost use Rattle.unbounded_acts.specs.Acts.{act_of};

@@ -4,7 +4,7 @@ use unbounded_machine::Machine;
 use unbounded_places::{Answer, Block, Ends, Place, Slot, Worker};
 
 // What a line says of a machine: handing this on is cheaper than the machine.
-#[derive(Drop)]
+#[derive(Clone, Copy)]
 pub struct Standing {
     pub ends: Ends,
     pub meter: u64,

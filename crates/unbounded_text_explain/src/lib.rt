@@ -1,4 +1,6 @@
 // The lines of the unbounded queue in plain words, by numbers: no machine in hand. docs/GUIDE.md has the table of the sentences.
+#![tactic(auto)]
+
 pub mod acts;
 pub mod ends;
 pub mod lines;
@@ -8,14 +10,14 @@ pub mod stood;
 use unbounded_text_places::code::WORDS;
 
 // What an entry is told by: head's and tail's index words and tail's block, and where its worker stands.
-#[derive(Drop)]
+#[derive(Clone, Copy)]
 pub struct Seen {
     pub ends: [u64; 3],
     pub stood: [u64; WORDS],
 }
 
 // An entry that was run: its place and its two numbers; what was seen before it and after it.
-#[derive(Drop)]
+#[derive(Clone, Copy)]
 pub struct Entered {
     pub place: u64,
     pub first: u64,

@@ -1,7 +1,7 @@
 // What is noted along a run: claims at each end, counted, exchanges lost, and who has the item that is followed.
 use crate::{Entered, stood};
 
-#[derive(Drop)]
+#[derive(Clone, Copy)]
 pub struct Notes {
     pub tails: u64,
     pub heads: u64,

@@ -1,5 +1,7 @@
 // What is asked of a place, as `unbounded_places::view_of` says it, in two copies with one caller each: the loop over a schedule asks before an act and after
 // it, and a function that two call is not put into the loop (docs/SPEED.md, "The unbounded queue").
+#![tactic(auto)]
+
 ghost use Rattle.std.specs.Prelude.{◌≡◌};
 ghost use Rattle.unbounded_words.specs.Words.{sizes};
 ghost use Rattle.unbounded_places.specs.Places.{at, exchanging, taking, on_block, on_slot, on_indexed, view_of};

@@ -1,14 +1,16 @@
 // Index words, pointers to blocks and the pool's sizes: the constants of src/unbounded.rs and what it computes with them.
+#![tactic(auto)]
+
 ghost use Rattle.std.specs.Prelude.{◌≡◌};
 ghost use Rattle.unbounded_words.specs.Words.{sizes, offset_of, past_slots, last_slot, marked_of, unmarked_of, with_mark, later, same, same_position, same_block, minus, settled, behind, count_of, none_of, number_of};
 
 // A word of head.index or of tail.index: a position in all bits but the lowest, and the mark.
 // "If set in head, indicates that the block is not the last one. If set in tail, indicates that the queue is closed."
-#[derive(Drop)]
+#[derive(Clone, Copy)]
 pub struct Index(pub u64);
 
 // A block of the pool by its number, or no block.
-#[derive(Drop)]
+#[derive(Clone, Copy)]
 pub enum Pointer {
     None,
     To(u64),

@@ -4,7 +4,7 @@ use bounded_text_words::WORDS;
 use replay_input::source::Reading;
 use replay_survey::Whole;
 
-#[derive(Drop)]
+#[derive(Clone, Copy)]
 pub struct Loaded {
     pub words: [u64; WORDS],
     pub made: bool,

@@ -1,4 +1,6 @@
 // Runs a schedule, from a file or from standard input, and tries every sequence of acts from where it ends.
+#![tactic(auto)]
+
 mod load;
 mod many;
 

@@ -1,5 +1,7 @@
 // Ways to end, each a row of a table that the caller lends: the ends of up to three workers, two numbers each, how many sequences end so, and
 // what the acts cost that are shown of it, with the place in the list of the sequence that they begin.
+#![tactic(auto)]
+
 
 // The numbers of a row, and the most rows.
 pub const ROW: usize = 9;

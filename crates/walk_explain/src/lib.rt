@@ -1,5 +1,7 @@
 // The ways in which all workers together end, in plain words, and for each the shortest schedule that ends so, whole and in words. All that is no schedule stands
 // in comments, so that what is told can be saved and replayed as it is.
+#![tactic(auto)]
+
 mod end;
 
 use bounded_text_words::WORDS;
@@ -7,7 +9,7 @@ use text_sums::Sum;
 use text_words::writing::Written;
 
 // Which ending is asked for, from 1, 0: all of them; and the file of the schedule that was run, to be told again, with the sum of its bytes.
-#[derive(Drop)]
+#[derive(Clone, Copy)]
 pub struct Asked {
     pub depth: u64,
     pub ending: u64,
@@ -16,7 +18,7 @@ pub struct Asked {
 }
 
 // Where the text goes on, and whether there is the ending that was asked for.
-#[derive(Drop)]
+#[derive(Clone, Copy)]
 pub struct Found {
     pub at: usize,
     pub found: bool,

@@ -1,7 +1,7 @@
 // A list without the sequences in which an exchange is made to fail: what is kept moves to its start.
 
 // How many bytes of the list are kept, and how many sequences.
-#[derive(Drop)]
+#[derive(Clone, Copy)]
 pub struct Kept {
     pub bytes: usize,
     pub sequences: u64,

@@ -1,4 +1,6 @@
 // A list of sequences: a byte for the length of each, then a byte for each act.
+#![tactic(auto)]
+
 pub mod failures;
 pub mod said;
 

@@ -1,4 +1,6 @@
 // The arguments of walk.
+#![tactic(auto)]
+
 use text_options::Arguments;
 
 // The options in the order of the table.
@@ -26,7 +28,7 @@ const VERSION: usize = 10;
 
 const TELLS_ON: usize = 11;
 
-#[derive(Drop)]
+#[derive(Clone, Copy)]
 pub struct Options {
     // handed to making as it stands
     pub edition: u64,

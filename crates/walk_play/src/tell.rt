@@ -8,7 +8,7 @@ use text_sums::Sum;
 // The longest list, in bytes.
 const BUFFER: usize = 4194304;
 
-#[derive(Drop)]
+#[derive(Clone, Copy)]
 pub struct Asked {
     pub depth: u64,
     pub list: bool,

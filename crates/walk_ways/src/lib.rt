@@ -1,5 +1,7 @@
 // In which ways the sequences of a list end: for each worker, and for all together. An end is two numbers: 0 and 0 of a call under way, else
 // one more than its answer's code (bounded_codes) and the item in it. A machine is in hand only where a sequence is run.
+#![tactic(auto)]
+
 use bounded_machine::Machine;
 use bounded_places::Worker;
 use bounded_text_words::WORDS;
@@ -22,7 +24,7 @@ fn put_words(words: &mut [u64], acts: &[u8]) {
     }
 }
 
-#[derive(Drop)]
+#[derive(Clone, Copy)]
 struct End {
     kind: u64,
     item: u64,

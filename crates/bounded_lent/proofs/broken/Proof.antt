@@ -19,7 +19,7 @@ use contract.Monad.{Fun, fact_i}
 use contract.Lifetimes.{AllOutlive}
 use contract.Running.{tables, tables_of}
 use types.Kit.{Item, ‵, raw, ◌⊛◌, ⋆, at_ret, ◌$◌, ◌∵◌, !, qed, by, move, keep, drop, use0, use1, use2, split, join, fsplit, fjoin, fjoin3, feq_i, suffices, frame, done}
-use types.Part.{agg, whole, sub, look_in}
+use types.Part.{agg, whole, sub, lookIn}
 use types.Run.{look, init, store, forget, stop, hop, fld, from, load, un, true_lit, of_opd, and_then, no_more, assigns, land, first, branches, skips, returns}
 use types.Run.{returns_within, exec, enter, alloc1, alloc0, params1, pass1, pass0, free1, free0}
 use sound.WpLaws.{FmC, fm_of, WpFn-mono}
@@ -205,7 +205,7 @@ module _ {M : Type 1} {𝓤 : Ura M} (𝓛 : Logic 𝓤) (at_mem : Memory → SP
         let ge = ends_are (ends_on h.ring) g₁₅ g₁₆ in
         assigns ! (agg ! (and_then ! (load ! (from ! (stop !)) (look ! 13 refl)) (and_then ! (load ! (from ! (stop !)) (look ! 11 refl)) (no_more !))))
         (from ! (stop !)) (init ! 23 refl ((LL.lawful E.the_type E'.the_laws 𝓛).typed (ends_on h.ring) _ ge).0) $
-        assigns ! (of_opd ! (load ! (from ! (fld ! refl (stop !))) (look_in ! 27 (sub ! 1 refl (whole !))))) (from ! (stop !)) (init ! 7 refl (tt, record { fits = room.0 })) $
+        assigns ! (of_opd ! (load ! (from ! (fld ! refl (stop !))) (lookIn ! 27 (sub ! 1 refl (whole !))))) (from ! (stop !)) (init ! 7 refl (tt, record { fits = room.0 })) $
         calls_value ! fm ring_fits_lem.ended (ring_fits_lem.clauses 𝓛 at_mem run) known-ring (
           tt,
           tt,

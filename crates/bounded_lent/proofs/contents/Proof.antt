@@ -20,7 +20,7 @@ use contract.Monad.{Fun, fact_i}
 use contract.Lifetimes.{AllOutlive}
 use contract.Running.{tables, tables_of}
 use types.Kit.{Item, ‵, raw, ◌⊛◌, ⋆, at_ret, ◌$◌, ◌∵◌, !, qed, by, move, keep, drop, use0, use1, split, join, fsplit, fsplit3, fjoin, suffices, frame, done}
-use types.Part.{agg, whole, sub, look_in}
+use types.Part.{agg, whole, sub, lookIn}
 use types.Run.{look, init, store, forget, stop, hop, fld, from, load, addr, lit, false_lit, of_opd, and_then, no_more, assigns, land, first, branches, skips}
 use types.Run.{returns, returns_within, exec, enter, alloc1, alloc0, params1, pass1, pass0, free1, free0}
 use sound.WpLaws.{FmC, fm_of, WpFn-mono}
@@ -309,9 +309,9 @@ module _ {M : Type 1} {𝓤 : Ura M} (𝓛 : Logic 𝓤) (at_mem : Memory → SP
         assigns ! (of_opd ! (load ! (from ! (hop ! (look ! 33 refl) (fld ! {τ = lone (G.the_row).mir} {d = 0} refl (stop !))))
         (look_by ! 2 q₃ (inside 𝓛 (ring_of 𝓛 q₃ h b o h.ring) (part_look 𝓛 G.the_row ring_known q₃ h.ring b (o + 0))))))
         (from ! (stop !)) (init ! 13 refl ((LL.lawful G.the_type G'.the_laws 𝓛).typed h.ring _ gg).0) $
-        assigns ! (addr ! (from ! (fld ! refl (hop ! (look_in ! 29 (sub ! 0 refl (whole !))) (stop !))))) (from ! (stop !)) (init ! 11 refl (tt, tt)) $
+        assigns ! (addr ! (from ! (fld ! refl (hop ! (lookIn ! 29 (sub ! 0 refl (whole !))) (stop !))))) (from ! (stop !)) (init ! 11 refl (tt, tt)) $
         assigns ! (agg ! (and_then ! (load ! (from ! (stop !)) (look ! 11 refl))
-        (and_then ! (load ! (from ! (fld ! refl (stop !))) (look_in ! 29 (sub ! 1 refl (whole !)))) (no_more !)))) (from ! (stop !))
+        (and_then ! (load ! (from ! (fld ! refl (stop !))) (lookIn ! 29 (sub ! 1 refl (whole !)))) (no_more !)))) (from ! (stop !))
         (init ! 9 refl (tt, (tt, (record { fits = room''.0 }, tt)))) $
         move ! (5 ∷ []) $
         calls_filled ! fm (contents-on.clauses 𝓛 at_mem run) known_on idle h.ring gg b'' o'' ws room'' (λ κs a. tt) (λ κs γ. id⊢ 𝓤 (emp 𝓤))

@@ -24,7 +24,7 @@ use types.Logic.{Logic}
 use contract.Monad.{Fun}
 use contract.Running.{tables, tables_of}
 use types.Kit.{Item, ‵, ◌⊛◌, ⋆, any_q, at_ret, runs, Sq, ◌$◌, ◌∵◌, !, qed, by, move, keep, drop, split, join, rewrite, fsplit, fjoin, suffices, frame, done}
-use types.Part.{whole, sub, look_in}
+use types.Part.{whole, sub, lookIn}
 use types.Run.{look, init, store, forget, stop, hop, fld, from, load, lit, of_opd, and_then, no_more, bin, assigns, assigns_last, land, first, blocks, stays}
 use types.Run.{leaves_loop, returns, exec, loops, again, Below, enter, alloc1, alloc0, params1, pass1, pass0, free1, free0}
 use sound.WpLaws.{FmC, fm_of, WpFn-mono}
@@ -219,7 +219,7 @@ module _ {M : Type 1} {𝓤 : Ura M} (𝓛 : Logic 𝓤) (at_mem : Memory → SP
           let wr = ((LL.lawful R.the_type R'.the_laws 𝓛).typed r _ gr).0 in
           land ! (from ! (stop !)) (init ! 8 refl wr) $
           assigns ! (bin ! (load ! (from ! (stop !)) (look ! 12 refl)) (lit ! tt) (record { fits = row_fits })) (from ! (stop !)) (init ! 6 refl (tt, record { fits = row_fits })) $
-          assigns ! (bin ! (load ! (from ! (fld ! refl (stop !))) (look_in ! 24 (sub ! 0 refl (whole !)))) (load ! (from ! (stop !)) (look ! 6 refl)) tt) (from ! (stop !)) (init ! 4 refl (tt, tt)) $
+          assigns ! (bin ! (load ! (from ! (fld ! refl (stop !))) (lookIn ! 24 (sub ! 0 refl (whole !)))) (load ! (from ! (stop !)) (look ! 6 refl)) tt) (from ! (stop !)) (init ! 4 refl (tt, tt)) $
           assigns ! (of_opd ! (load ! (from ! (stop !)) (look ! 8 refl))) (from ! (hop ! (look ! 4 refl) (stop !)))
           (store_by ! 0 (‵ (row R.the_row full_share (set s.zs s.i r) b o))
           (inside 𝓛 (elem_put 𝓛 R.the_row worker_known full_share s.zs s.i idler r b o in_row)
@@ -272,7 +272,7 @@ module _ {M : Type 1} {𝓤 : Ura M} (𝓛 : Logic 𝓤) (at_mem : Memory → SP
       -- the records are opened
       move ! (25 ∷ []) $ fsplit ! $ fsplit ! $ drop ! $ fsplit ! $ move ! (27 ∷ []) $ split ! $ move ! (2 ∷ 3 ∷ 0 ∷ []) $ opens_slice ! tt R.the_row ys b o $
       -- [the records; the open borrow; obs; auth; true; the others'; _11; …; _0; …]
-      assigns ! (of_opd ! (load ! (from ! (fld ! refl (stop !))) (look_in ! 26 (sub ! 1 refl (whole !))))) (from ! (stop !)) (init ! 20 refl (tt, record { fits = room.0 })) $
+      assigns ! (of_opd ! (load ! (from ! (fld ! refl (stop !))) (lookIn ! 26 (sub ! 1 refl (whole !))))) (from ! (stop !)) (init ! 20 refl (tt, record { fits = room.0 })) $
       calls_value ! (fm_of 𝓤 H 𝓛.laws 𝓣) make-ring.ended (make-ring.clauses 𝓛 at_mem run) known-make
       (tt, tt, tt, (length ys, (capacity, (edition, tt))), (vint w64 (length ys) ∷ [], (vint w64 capacity ∷ [], (vint w64 edition ∷ [], tt)))) tt
       (asks 𝓤 (owns_make 𝓛 (usize ∷ u64 ∷ u64 ∷ []) (Ises (usize ∷ u64 ∷ u64 ∷ []))
@@ -289,7 +289,7 @@ module _ {M : Type 1} {𝓤 : Ura M} (𝓛 : Logic 𝓤) (at_mem : Memory → SP
       (made.refusal, (length ys, tt)) _ (parts.0, ((refl, room.0), tt))))
       word_known (λ r. r ≡ unless_refused made.refusal (length ys)) (λ r e. refl)
       (and_then ! (load ! (from ! (fld ! {τ = lone u64.mir} {d = 0} refl (stop !)))
-      (look_in ! 18 (sub ! 0 {τ = lone u64.mir} {d = 0} refl (whole !)))) (and_then ! (load ! (from ! (stop !)) (look ! 20 refl)) (no_more !)))
+      (lookIn ! 18 (sub ! 0 {τ = lone u64.mir} {d = 0} refl (whole !)))) (and_then ! (load ! (from ! (stop !)) (look ! 20 refl)) (no_more !)))
       (λ n is-n gn.
       land ! (from ! (stop !)) (init ! 16 refl (tt, record { fits = gn.1 })) $
       assigns ! (of_opd ! (lit ! tt)) (from ! (stop !)) (init ! 14 refl (tt, record { fits = lit< tt })) $

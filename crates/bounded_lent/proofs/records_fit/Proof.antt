@@ -24,7 +24,7 @@ use types.Logic.{Logic}
 use contract.Monad.{Fun, fact_i}
 use contract.Running.{tables, tables_of}
 use types.Kit.{Item, ‵, ◌⊛◌, ⋆, any_q, at_ret, runs, Sq, ◌$◌, ◌∵◌, !, qed, by, move, keep, drop, split, join, rewrite, fsplit, fjoin, suffices, frame, done}
-use types.Part.{whole, sub, look_in}
+use types.Part.{whole, sub, lookIn}
 use types.Run.{look, init, store, forget, stop, hop, fld, from, load, lit, true_lit, false_lit, of_opd, and_then, no_more, bin, assigns, assigns_last, land}
 use types.Run.{first, blocks, branches, skips, stays, leaves_loop, returns, returns_within, exec, loops, again, Below, enter, alloc1, alloc0, params1, pass1}
 use types.Run.{pass0, free1, free0}
@@ -209,7 +209,7 @@ module _ {M : Type 1} {𝓤 : Ura M} (𝓛 : Logic 𝓤) (at_mem : Memory → SP
         stays ! (load ! (from ! (stop !)) (look ! 12 refl)) $
         assigns ! (bin ! (load ! (from ! (stop !)) (look ! 14 refl)) (lit ! tt) (record { fits = row_fits s.i n below room.1 })) (from ! (stop !))
         (init ! 8 refl (tt, record { fits = row_fits s.i n below room.1 })) $
-        assigns ! (bin ! (load ! (from ! (fld ! refl (stop !))) (look_in ! 24 (sub ! 0 refl (whole !)))) (load ! (from ! (stop !)) (look ! 8 refl)) tt) (from ! (stop !)) (init ! 6 refl (tt, tt)) $
+        assigns ! (bin ! (load ! (from ! (fld ! refl (stop !))) (lookIn ! 24 (sub ! 0 refl (whole !)))) (load ! (from ! (stop !)) (look ! 8 refl)) tt) (from ! (stop !)) (init ! 6 refl (tt, tt)) $
         knows ! 0 (Is R.the_row (record_of_worker ys s.i) (worker_known.val (record_of_worker ys s.i) ∷ [])) (elem_is 𝓛 R.the_row worker_known q₃ ys s.i idler b o below) (λ gr.
         assigns ! (of_opd ! (load ! (from ! (hop ! (look ! 6 refl) (stop !)))
         (look_by ! 0 q₃ (inside 𝓛 (elem_look 𝓛 R.the_row worker_known q₃ ys s.i idler b o below)
@@ -278,7 +278,7 @@ module _ {M : Type 1} {𝓤 : Ura M} (𝓛 : Logic 𝓤) (at_mem : Memory → SP
       move ! (25 ∷ []) $ fsplit ! $ fsplit ! $ drop ! $ fsplit ! $ move ! (27 ∷ []) $ split ! $ move ! (3 ∷ 0 ∷ []) $
       looks_slice ! tt R.the_row (Is R.the_row) (shows 𝓛 R.the_row) (λ x. worker_known.val x ∷ []) worker_known.tells (worker_known.copy 𝓛) ys b o (λ q₃.
       -- [a share of the records; what shuts it; the borrow; true; res; the others'; _11; …; _0; …]
-      assigns ! (of_opd ! (load ! (from ! (fld ! refl (stop !))) (look_in ! 26 (sub ! 1 refl (whole !))))) (from ! (stop !)) (init ! 18 refl (tt, record { fits = room.0 })) $
+      assigns ! (of_opd ! (load ! (from ! (fld ! refl (stop !))) (lookIn ! 26 (sub ! 1 refl (whole !))))) (from ! (stop !)) (init ! 18 refl (tt, record { fits = room.0 })) $
       assigns ! (of_opd ! (lit ! tt)) (from ! (stop !)) (init ! 16 refl (tt, record { fits = lit< tt })) $
       keep ! (0 ∷ 1 ∷ 2 ∷ 4 ∷ 6 ∷ 7 ∷ 8 ∷ 9 ∷ 10 ∷ 11 ∷ 12 ∷ 13 ∷ 14 ∷ 15 ∷ 16 ∷ 17 ∷ 18 ∷ 19 ∷ 20 ∷ 21 ∷ 22 ∷ 23 ∷ 24 ∷ 25 ∷ 26 ∷ 27 ∷ 28 ∷ 29 ∷ []) $
       first ! $ blocks ! $ loops ! 𝓣 Nearer Nearer-wf (At 𝓣 known q₃ l₀ l₁ l₂ l₃ l₄ l₅ l₆ l₇ l₈ l₉ l₁₀ l₁₁)

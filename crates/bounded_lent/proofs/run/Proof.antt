@@ -12,7 +12,7 @@ use lib.ListN.{length, get_or}
 use lib.WfN.{lt-wf_rel}
 use native.Mathlib.Nat.{le_antisymm}
 use native.Mathlib.Omega.{arith}
-use borrow.Author.Tests.{eqb_true, eqb_false}
+use borrow.Author.Tests.{eqb-true, eqb-false}
 use seplogic.Ra.Ura.{Ura}
 use seplogic.Ra.TreeShare.{full_share}
 use mir.Syntax.{Ty, Body, named, erased, mut, imm, w64, unsigned, ty_int, ty_bool, ty_ptr, ty_ref, place, copy, int, assign, op2, add}
@@ -28,7 +28,7 @@ use contract.Lifetimes.{AllOutlive}
 use contract.Running.{tables, tables_of}
 use types.Kit.{Item, ‵, raw, ◌⊛◌, ⋆, any_q, at_ret, runs, Sq, ◌$◌, ◌∵◌, !, qed, by, move, keep, drop, use0, use1, split, join, rewrite, fsplit, fsplit3}
 use types.Kit.{fjoin, fjoin3, feq_i, suffices, frame, done}
-use types.Part.{agg, whole, sub, look_in}
+use types.Part.{agg, whole, sub, lookIn}
 use types.Run.{look, init, store, forget, stop, hop, fld, from, load, addr, lit, of_opd, and_then, no_more, bin, assigns, assigns_last, land, first, blocks}
 use types.Run.{branches, skips, stays, leaves_loop, returns, returns_within, exec, loops, again, Below, enter, alloc1, alloc0, params1, pass1, pass0, free1}
 use types.Run.{free0}
@@ -295,16 +295,16 @@ module _ {M : Type 1} {𝓤 : Ura M} (𝓛 : Logic 𝓤) (at_mem : Memory → SP
           rewrite ! 38 (λ (t : Bool). ‵ (fat full_share ty_bool l₁₂ 0 (vbool t))) less refl $
           stays ! (load ! (from ! (stop !)) (look ! 38 refl)) $
           assigns ! (addr ! (from ! (hop ! (look ! 60 refl) (stop !)))) (from ! (stop !)) (init ! 36 refl (tt, tt)) $
-          assigns ! (addr ! (from ! (fld ! refl (hop ! (look_in ! 58 (sub ! 0 refl (whole !))) (stop !))))) (from ! (stop !)) (init ! 34 refl (tt, tt)) $
+          assigns ! (addr ! (from ! (fld ! refl (hop ! (lookIn ! 58 (sub ! 0 refl (whole !))) (stop !))))) (from ! (stop !)) (init ! 34 refl (tt, tt)) $
           assigns ! (agg ! (and_then ! (load ! (from ! (stop !)) (look ! 34 refl))
-          (and_then ! (load ! (from ! (fld ! refl (stop !))) (look_in ! 58 (sub ! 1 refl (whole !)))) (no_more !)))) (from ! (stop !))
+          (and_then ! (load ! (from ! (fld ! refl (stop !))) (lookIn ! 58 (sub ! 1 refl (whole !)))) (no_more !)))) (from ! (stop !))
           (init ! 32 refl (tt, (tt, (record { fits = room.0 }, tt)))) $
           rewrite ! 32 (λ (m : ℕ). ‵ (fat full_share τW' l₁₅ 0 (slice_val (b', o') m))) (sym s.same) refl $
           assigns ! (bin ! (lit ! tt) (load ! (from ! (stop !)) (look ! 50 refl)) (record { fits = small (2 * s.i) (length ws) in-word room''.0 }))
           (from ! (stop !)) (init ! 30 refl (tt, record { fits = small (2 * s.i) (length ws) in-word room''.0 })) $
           assigns ! (bin ! (load ! (from ! (stop !)) (look ! 30 refl)) (lit ! tt) (record { fits = word_fits (2 * s.i) (length ws) in-word room''.1 }))
           (from ! (stop !)) (init ! 28 refl (tt, record { fits = word_fits (2 * s.i) (length ws) in-word room''.1 })) $
-          assigns ! (bin ! (load ! (from ! (fld ! refl (stop !))) (look_in ! 56 (sub ! 0 refl (whole !)))) (load ! (from ! (stop !)) (look ! 28 refl)) tt) (from ! (stop !)) (init ! 26 refl (tt, tt)) $
+          assigns ! (bin ! (load ! (from ! (fld ! refl (stop !))) (lookIn ! 56 (sub ! 0 refl (whole !)))) (load ! (from ! (stop !)) (look ! 28 refl)) tt) (from ! (stop !)) (init ! 26 refl (tt, tt)) $
           knows ! 2 (Is u64 (get_or ws (2 * s.i) 0) (vint w64 (get_or ws (2 * s.i) 0) ∷ [])) (elem_is 𝓛 u64 word_known q₃ ws (2 * s.i) 0 b'' o'' in-word) (λ g₁.
           assigns ! (of_opd ! (load ! (from ! (hop ! (look ! 26 refl) (stop !)))
           (look_by ! 2 q₃ (inside 𝓛 (elem_look 𝓛 u64 word_known q₃ ws (2 * s.i) 0 b'' o'' in-word)
@@ -316,7 +316,7 @@ module _ {M : Type 1} {𝓤 : Ura M} (𝓛 : Logic 𝓤) (at_mem : Memory → SP
           (from ! (stop !)) (init ! 20 refl (tt, record { fits = small (2 * s.i + 1) (length ws) in-next room''.0 })) $
           assigns ! (bin ! (load ! (from ! (stop !)) (look ! 20 refl)) (lit ! tt) (record { fits = word_fits (2 * s.i + 1) (length ws) in-next room''.1 }))
           (from ! (stop !)) (init ! 18 refl (tt, record { fits = word_fits (2 * s.i + 1) (length ws) in-next room''.1 })) $
-          assigns ! (bin ! (load ! (from ! (fld ! refl (stop !))) (look_in ! 56 (sub ! 0 refl (whole !)))) (load ! (from ! (stop !)) (look ! 18 refl)) tt) (from ! (stop !)) (init ! 16 refl (tt, tt)) $
+          assigns ! (bin ! (load ! (from ! (fld ! refl (stop !))) (lookIn ! 56 (sub ! 0 refl (whole !)))) (load ! (from ! (stop !)) (look ! 18 refl)) tt) (from ! (stop !)) (init ! 16 refl (tt, tt)) $
           knows ! 2 (Is u64 (get_or ws (2 * s.i + 1) 0) (vint w64 (get_or ws (2 * s.i + 1) 0) ∷ [])) (elem_is 𝓛 u64 word_known q₃ ws (2 * s.i + 1) 0 b'' o'' in-next) (λ g₂.
           assigns ! (of_opd ! (load ! (from ! (hop ! (look ! 16 refl) (stop !)))
           (look_by ! 2 q₃ (inside 𝓛 (elem_look 𝓛 u64 word_known q₃ ws (2 * s.i + 1) 0 b'' o'' in-next)
@@ -348,7 +348,7 @@ module _ {M : Type 1} {𝓤 : Ura M} (𝓛 : Logic 𝓤) (at_mem : Memory → SP
           (27 ∷ 28 ∷ []) $ free1 ! $ move ! (25 ∷ 26 ∷ []) $ free1 ! $ move ! (23 ∷ 24 ∷ []) $ free1 ! $ move ! (21 ∷ 22 ∷ []) $ free1 ! $ move !
           (19 ∷ 20 ∷ []) $ free1 ! $ move ! (17 ∷ 18 ∷ []) $ free1 ! $ move ! (15 ∷ 16 ∷ []) $ free1 ! $ move ! (13 ∷ 14 ∷ []) $ free1 ! $ move !
           (11 ∷ 12 ∷ []) $ free1 ! $ move ! (9 ∷ 10 ∷ []) $ free1 ! $ free0 ! $
-          by ! (exits (report r s.i) h zs (l ∙ s.same) (good r gr) (stops_here h₀ ys₀ ws total n s.i s.h s.ys now below r h zs e (eqb_false r 0 (fails (eqb r 0) bad)))))
+          by ! (exits (report r s.i) h zs (l ∙ s.same) (good r gr) (stops_here h₀ ys₀ ws total n s.i s.h s.ys now below r h zs e (eqb-false r 0 (fails (eqb r 0) bad)))))
           (λ fine. skips ! $ exec ! C Λ En more (any_q (Turned s)) $
           assigns_last ! (bin ! (load ! (from ! (stop !)) (look ! 50 refl)) (lit ! tt) (record { fits = next_fits })) (from ! (stop !)) (store ! 50 refl (tt, record { fits = next_fits })) $
           forget ! 14 refl $ forget ! 16 refl $ forget ! 18 refl $ forget ! 20 refl $ forget ! 22 refl $ forget ! 24 refl $ forget ! 26 refl $ forget ! 28 refl
@@ -359,7 +359,7 @@ module _ {M : Type 1} {𝓤 : Ura M} (𝓛 : Logic 𝓤) (at_mem : Memory → SP
             ys = zs;
             most = next-most;
             same = l ∙ s.same;
-            so_far = goes_on h₀ ys₀ ws total n s.i s.h s.ys now below r h zs e (eqb_true r 0 (twice-not (eqb r 0) fine)) l;
+            so_far = goes_on h₀ ys₀ ws total n s.i s.h s.ys now below r h zs e (eqb-true r 0 (twice-not (eqb r 0) fine)) l;
           }) falls))))
         where
           below : s.i < n
@@ -418,9 +418,9 @@ module _ {M : Type 1} {𝓤 : Ura M} (𝓛 : Logic 𝓤) (at_mem : Memory → SP
       move ! (6 ∷ 7 ∷ 2 ∷ []) $ opens_slice ! tt R.the_row ys₀ b' o' $ move ! (9 ∷ 10 ∷ 6 ∷ []) $ open_ref ! tt (mem T.the_row) {b = b} {o = o} $ move ! (0 ∷ 4 ∷ []) $
       -- [the ring; the records; the ring's open borrow; obs; auth; the records' open borrow; obs; auth; the schedule's token; true; what it owns; true; _25; …; _0; …]
       assigns ! (addr ! (from ! (hop ! (look ! 60 refl) (stop !)))) (from ! (stop !)) (init ! 44 refl (tt, tt)) $
-      assigns ! (addr ! (from ! (fld ! refl (hop ! (look_in ! 58 (sub ! 0 refl (whole !))) (stop !))))) (from ! (stop !)) (init ! 42 refl (tt, tt)) $
+      assigns ! (addr ! (from ! (fld ! refl (hop ! (lookIn ! 58 (sub ! 0 refl (whole !))) (stop !))))) (from ! (stop !)) (init ! 42 refl (tt, tt)) $
       assigns ! (agg ! (and_then ! (load ! (from ! (stop !)) (look ! 42 refl))
-      (and_then ! (load ! (from ! (fld ! refl (stop !))) (look_in ! 58 (sub ! 1 refl (whole !)))) (no_more !)))) (from ! (stop !))
+      (and_then ! (load ! (from ! (fld ! refl (stop !))) (lookIn ! 58 (sub ! 1 refl (whole !)))) (no_more !)))) (from ! (stop !))
       (init ! 40 refl (tt, (tt, (record { fits = room.0 }, tt)))) $
       calls_shown ! (fm_of 𝓤 H 𝓛.laws 𝓣) (broken.clauses 𝓛 at_mem run) known-broken b o h₀ b' o' ys₀ room (λ κs a. tt) (λ κs γ γ'. id⊢ 𝓤 (emp 𝓤))
       (λ r. r ≡ broken_lent h₀ ys₀) (λ κs γ γ' r e. refl)

@@ -19,7 +19,7 @@ use contract.Monad.{Fun, fact_i}
 use contract.Lifetimes.{AllOutlive}
 use contract.Running.{tables, tables_of}
 use types.Kit.{Item, ‵, ◌⊛◌, ⋆, at_ret, ◌$◌, ◌∵◌, !, qed, by, move, keep, drop, split, join, fsplit, fsplit3, fjoin, fjoin3, feq_i, suffices, frame, done}
-use types.Part.{agg, whole, sub, look_in}
+use types.Part.{agg, whole, sub, lookIn}
 use types.Run.{look, init, forget, stop, hop, fld, from, load, addr, lit, of_opd, and_then, no_more, assigns, land, first as at_first, branches, skips, returns}
 use types.Run.{returns_within, exec, enter, alloc1, alloc0, params1, pass1, pass0, free1, free0}
 use types.SemTy.{Body}
@@ -158,9 +158,9 @@ module _ {M : Type 1} {𝓤 : Ura M} (𝓛 : Logic 𝓤) (at_mem : Memory → SP
         move ! (3 ∷ 4 ∷ 0 ∷ []) $ opens_slice ! tt R.the_row ys b' o' $ move ! (7 ∷ 8 ∷ 5 ∷ []) $ open_ref ! tt (mem T.the_row) {b = b} {o = o} $ move ! (0 ∷ 4 ∷ []) $
         -- [the ring; the records; the ring's open borrow; obs; auth; the records' open borrow; obs; auth; true; the others'; _11; …; _0; …]
         assigns ! (addr ! (from ! (hop ! (look ! 30 refl) (stop !)))) (from ! (stop !)) (init ! 20 refl (tt, tt)) $
-        assigns ! (addr ! (from ! (fld ! refl (hop ! (look_in ! 28 (sub ! 0 refl (whole !))) (stop !))))) (from ! (stop !)) (init ! 18 refl (tt, tt)) $
+        assigns ! (addr ! (from ! (fld ! refl (hop ! (lookIn ! 28 (sub ! 0 refl (whole !))) (stop !))))) (from ! (stop !)) (init ! 18 refl (tt, tt)) $
         assigns ! (agg ! (and_then ! (load ! (from ! (stop !)) (look ! 18 refl))
-        (and_then ! (load ! (from ! (fld ! refl (stop !))) (look_in ! 28 (sub ! 1 refl (whole !)))) (no_more !)))) (from ! (stop !))
+        (and_then ! (load ! (from ! (fld ! refl (stop !))) (lookIn ! 28 (sub ! 1 refl (whole !)))) (no_more !)))) (from ! (stop !))
         (init ! 16 refl (tt, (tt, (record { fits = room.0 }, tt)))) $
         calls_shown ! fm (broken.clauses 𝓛 at_mem run) known-broken b o h b' o' ys room (λ κs a. tt) (λ κs γ γ'. id⊢ 𝓤 (emp 𝓤)) (λ r. r ≡ broken_lent h ys) (λ κs γ γ' r e. refl)
         (λ i j k. and_then ! (load ! (from ! (stop !)) (look ! 21 refl)) (and_then ! (load ! (from ! (stop !)) (look ! 17 refl)) (no_more !))) (λ t et.
@@ -178,9 +178,9 @@ module _ {M : Type 1} {𝓤 : Ura M} (𝓛 : Logic 𝓤) (at_mem : Memory → SP
         ∷ (τW₁', l₁₀) ∷ (τW', l₁₁) ∷ []) m.t-6 (at_ret ((word, l₀) ∷ (τR, l₁) ∷ (τW, l₂) ∷ (word, l₃) ∷ (word, l₄) ∷ (ty_bool, l₅) ∷ (τr', l₆) ∷ (τw', l₇)
         ∷ (τS', l₈) ∷ (τR', l₉) ∷ (τW₁', l₁₀) ∷ (τW', l₁₁) ∷ []) Post) $
         assigns ! (addr ! (from ! (hop ! (look ! 30 refl) (stop !)))) (from ! (stop !)) (init ! 14 refl (tt, tt)) $
-        assigns ! (addr ! (from ! (fld ! refl (hop ! (look_in ! 28 (sub ! 0 refl (whole !))) (stop !))))) (from ! (stop !)) (init ! 12 refl (tt, tt)) $
+        assigns ! (addr ! (from ! (fld ! refl (hop ! (lookIn ! 28 (sub ! 0 refl (whole !))) (stop !))))) (from ! (stop !)) (init ! 12 refl (tt, tt)) $
         assigns ! (agg ! (and_then ! (load ! (from ! (stop !)) (look ! 12 refl))
-        (and_then ! (load ! (from ! (fld ! refl (stop !))) (look_in ! 28 (sub ! 1 refl (whole !)))) (no_more !)))) (from ! (stop !))
+        (and_then ! (load ! (from ! (fld ! refl (stop !))) (lookIn ! 28 (sub ! 1 refl (whole !)))) (no_more !)))) (from ! (stop !))
         (init ! 10 refl (tt, (tt, (record { fits = room.0 }, tt)))) $
         calls_lent ! fm (turn.clauses 𝓛 at_mem run) known-turn b o h b' o' ys first second room g₁ g₂ (λ κs a. tt) (λ κs γ γ'. fact_i 𝓤 (broken_lent h ys ≡ false) (emp 𝓤) (sym et ∙ fails t good))
         (λ r h₁ zs. lent r h₁ zs ≡ turn_lent h ys first second) (λ κs γ γ' r h₁ zs. refl)

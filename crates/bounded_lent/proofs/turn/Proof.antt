@@ -20,7 +20,7 @@ use contract.Monad.{Fun, fact_i}
 use contract.Lifetimes.{AllOutlive}
 use contract.Running.{tables, tables_of}
 use types.Kit.{‵, ◌⊛◌, ⋆, ◌$◌, ◌∵◌, !, qed, by, move, keep, drop, split, join, fsplit, fsplit3, fjoin, fjoin3, feq_i, suffices, frame, done}
-use types.Part.{agg, whole, sub, look_in}
+use types.Part.{agg, whole, sub, lookIn}
 use types.Run.{look, init, store, forget, stop, hop, fld, from, load, addr, lit, of_opd, and_then, no_more, bin, assigns, land, returns, enter, alloc1, alloc0, params1, pass1, pass0, free1, free0}
 use types.SemTy.{Body}
 use types.Mut.{open_ref, close_ref}
@@ -189,7 +189,7 @@ module _ {M : Type 1} {𝓤 : Ura M} (𝓛 : Logic 𝓤) (at_mem : Memory → SP
         move ! (3 ∷ 4 ∷ 0 ∷ []) $ opens_slice ! tt R.the_row ys b' o' $ move ! (7 ∷ 8 ∷ 5 ∷ []) $ open_ref ! tt (mem T.the_row) {b = b} {o = o} $
         -- [the ring; the open borrow; obs; auth; the records; the open borrow; obs; auth; true; the others'; _27; …; _0; …]
         knows ! 0 (length h.ring.slots ≡ 1024) (slots_length 𝓛 full_share h b o) (λ slots-n.
-        assigns ! (of_opd ! (load ! (from ! (fld ! refl (stop !))) (look_in ! 60 (sub ! 1 refl (whole !))))) (from ! (stop !)) (init ! 54 refl (tt, record { fits = room.0 })) $
+        assigns ! (of_opd ! (load ! (from ! (fld ! refl (stop !))) (lookIn ! 60 (sub ! 1 refl (whole !))))) (from ! (stop !)) (init ! 54 refl (tt, record { fits = room.0 })) $
         calls_value ! fm worker-of.ended (worker-of.clauses 𝓛 at_mem run) known-worker (tt, tt, tt, (first, (n, tt)), (vint w64 first ∷ [], (vint w64 n ∷ [], tt))) tt
         (asks 𝓤 (owns_make 𝓛 (u64 ∷ usize ∷ []) (Ises (u64 ∷ usize ∷ [])) (uint_Makes 𝓛 w64, (uint_Makes 𝓛 w64, tt)) (first, (n, tt)) _ ((refl, g₁), ((refl, room.0), tt))))
         word_known (λ r. r ≡ worker_of first n) (λ r e. refl) (and_then ! (load ! (from ! (stop !)) (look ! 58 refl)) (and_then ! (load ! (from ! (stop !)) (look ! 54 refl)) (no_more !))) (λ w ew gw.
@@ -197,7 +197,7 @@ module _ {M : Type 1} {𝓤 : Ura M} (𝓛 : Logic 𝓤) (at_mem : Memory → SP
         let below-n = subst (λ (v : ℕ). v < n) (sym ew) (worker_below first n (some_record h ys u)) in
         let row_fits = row_small w n below-n room.1 in
         assigns ! (bin ! (load ! (from ! (stop !)) (look ! 52 refl)) (lit ! tt) (record { fits = row_fits })) (from ! (stop !)) (init ! 40 refl (tt, record { fits = row_fits })) $
-        assigns ! (bin ! (load ! (from ! (fld ! refl (stop !))) (look_in ! 60 (sub ! 0 refl (whole !)))) (load ! (from ! (stop !)) (look ! 40 refl)) tt) (from ! (stop !)) (init ! 38 refl (tt, tt)) $
+        assigns ! (bin ! (load ! (from ! (fld ! refl (stop !))) (lookIn ! 60 (sub ! 0 refl (whole !)))) (load ! (from ! (stop !)) (look ! 40 refl)) tt) (from ! (stop !)) (init ! 38 refl (tt, tt)) $
         knows ! 4 (Is R.the_row (record_of_worker ys w) (worker_known.val (record_of_worker ys w) ∷ [])) (elem_is 𝓛 R.the_row worker_known full_share ys w (record_of_worker [] 0) b' o' below-n) (λ gr.
         let wr = ((LL.lawful R.the_type R'.the_laws 𝓛).typed (record_of_worker ys w) _ gr).0 in
         assigns ! (of_opd ! (load ! (from ! (hop ! (look ! 38 refl) (stop !)))
@@ -338,12 +338,12 @@ module _ {M : Type 1} {𝓤 : Ura M} (𝓛 : Logic 𝓤) (at_mem : Memory → SP
         let wr' = ((LL.lawful R.the_type R'.the_laws 𝓛).typed t.worker _ parts.1.1.1.0).0 in
         -- all is stored back
         assigns ! (of_opd ! (load ! (from ! (fld ! {τ = lone (E.the_row).mir} {d = 8} refl (fld ! {τ = lone (P.the_row).mir} {d = 0} refl (stop !))))
-        (look_in ! 42 (sub ! 0 {τ = lone (P.the_row).mir} {d = 0} refl (sub ! 1 {τ = lone (E.the_row).mir} {d = 8} refl (whole !))))))
+        (lookIn ! 42 (sub ! 0 {τ = lone (P.the_row).mir} {d = 0} refl (sub ! 1 {τ = lone (E.the_row).mir} {d = 8} refl (whole !))))))
         (from ! (hop ! (look ! 62 refl) (fld ! {τ = lone (G.the_row).mir} {d = 0} refl (fld ! {τ = lone (P.the_row).mir} {d = 0} refl (stop !)))))
         (store_by ! 0 (‵ (part_at T.the_row full_share (h₀ t) b o)) (inside 𝓛 (head_hole 𝓛 full_share h b o t.ends.head)
         (part_put 𝓛 P.the_row stamp_known h.ring.head t.ends.head b (o + 0 + 0) ends-parts.0)) wh') $
         assigns ! (of_opd ! (load ! (from ! (fld ! {τ = lone (E.the_row).mir} {d = 8} refl (fld ! {τ = lone (P.the_row).mir} {d = 8} refl (stop !))))
-        (look_in ! 42 (sub ! 1 {τ = lone (P.the_row).mir} {d = 8} refl (sub ! 1 {τ = lone (E.the_row).mir} {d = 8} refl (whole !))))))
+        (lookIn ! 42 (sub ! 1 {τ = lone (P.the_row).mir} {d = 8} refl (sub ! 1 {τ = lone (E.the_row).mir} {d = 8} refl (whole !))))))
         (from ! (hop ! (look ! 62 refl) (fld ! {τ = lone (G.the_row).mir} {d = 0} refl (fld ! {τ = lone (P.the_row).mir} {d = 8} refl (stop !)))))
         (store_by ! 0 (‵ (part_at T.the_row full_share (h₁ t) b o)) (inside 𝓛 (tail_hole 𝓛 full_share (h₀ t) b o t.ends.tail)
         (part_put 𝓛 P.the_row stamp_known h.ring.tail t.ends.tail b (o + 0 + 8) ends-parts.1.0)) wt') $
@@ -352,23 +352,23 @@ module _ {M : Type 1} {𝓤 : Ura M} (𝓛 : Logic 𝓤) (at_mem : Memory → SP
         (fld ! {τ = ty_array (lone (S.the_row).mir) 1024} {d = 48} refl (stop !)))))) (from ! (stop !)) (init ! 14 refl (tt, tt)) $
         assigns ! (bin ! (load ! (from ! (stop !)) (look ! 14 refl)) (load ! (from ! (stop !)) (look ! 40 refl)) tt) (from ! (stop !)) (init ! 12 refl (tt, tt)) $
         assigns ! (of_opd ! (load ! (from ! (fld ! {τ = lone (S.the_row).mir} {d = 24} refl (stop !)))
-        (look_in ! 42 (sub ! 2 {τ = lone (S.the_row).mir} {d = 24} refl (whole !))))) (from ! (hop ! (look ! 12 refl) (stop !)))
+        (lookIn ! 42 (sub ! 2 {τ = lone (S.the_row).mir} {d = 24} refl (whole !))))) (from ! (hop ! (look ! 12 refl) (stop !)))
         (store_by ! 0 (‵ (part_at T.the_row full_share (h₂ k t) b o)) (inside 𝓛 (slot_put 𝓛 full_share (h₁ t) b o k (slot 0 0) t.slot in-slots)
         (part_put 𝓛 S.the_row slot_known taken t.slot b (k * 16 + (o + 0 + 48)) parts.1.1.0)) ws') $
         assigns ! (of_opd ! (load ! (from ! (fld ! {τ = lone u64.mir} {d = 80} refl (stop !)))
-        (look_in ! 42 (sub ! 4 {τ = lone u64.mir} {d = 80} refl (whole !)))))
+        (lookIn ! 42 (sub ! 4 {τ = lone u64.mir} {d = 80} refl (whole !)))))
         (from ! (hop ! (look ! 62 refl) (fld ! {τ = lone u64.mir} {d = 16432} refl (stop !))))
         (store_by ! 0 (‵ (part_at T.the_row full_share (h₃ k t) b o)) (inside 𝓛 (meter_hole 𝓛 full_share (h₂ k t) b o t.meter)
         (part_put 𝓛 u64 word_known h.meter t.meter b (o + 16432) parts.1.1.1.1.0)) (tt, record { fits = parts.1.1.1.1.0.1 })) $
         assigns ! (bin ! (load ! (from ! (stop !)) (look ! 52 refl)) (lit ! tt) (record { fits = row_fits })) (from ! (stop !)) (store ! 40 refl (tt, record { fits = row_fits })) $
-        assigns ! (bin ! (load ! (from ! (fld ! refl (stop !))) (look_in ! 60 (sub ! 0 refl (whole !)))) (load ! (from ! (stop !)) (look ! 40 refl)) tt) (from ! (stop !)) (init ! 10 refl (tt, tt)) $
+        assigns ! (bin ! (load ! (from ! (fld ! refl (stop !))) (lookIn ! 60 (sub ! 0 refl (whole !)))) (load ! (from ! (stop !)) (look ! 40 refl)) tt) (from ! (stop !)) (init ! 10 refl (tt, tt)) $
         assigns ! (of_opd ! (load ! (from ! (fld ! {τ = lone (R.the_row).mir} {d = 40} refl (stop !)))
-        (look_in ! 42 (sub ! 3 {τ = lone (R.the_row).mir} {d = 40} refl (whole !))))) (from ! (hop ! (look ! 10 refl) (stop !)))
+        (lookIn ! 42 (sub ! 3 {τ = lone (R.the_row).mir} {d = 40} refl (whole !))))) (from ! (hop ! (look ! 10 refl) (stop !)))
         (store_by ! 4 (‵ (row R.the_row full_share (set ys w t.worker) b' o'))
         (inside 𝓛 (elem_put 𝓛 R.the_row worker_known full_share ys w (record_of_worker [] 0) t.worker b' o' below-n)
         (part_put 𝓛 R.the_row worker_known (record_of_worker ys w) t.worker b' (w * 40 + o') parts.1.1.1.0)) wr') $
         assigns ! (of_opd ! (load ! (from ! (fld ! {τ = lone u64.mir} {d = 0} refl (stop !)))
-        (look_in ! 42 (sub ! 0 {τ = lone u64.mir} {d = 0} refl (whole !))))) (from ! (stop !)) (init ! 64 refl (tt, record { fits = parts.0.1 })) $
+        (lookIn ! 42 (sub ! 0 {τ = lone u64.mir} {d = 0} refl (whole !))))) (from ! (stop !)) (init ! 64 refl (tt, record { fits = parts.0.1 })) $
         close_ref ! tt (mem T.the_row) (h₃ k t) {b = b} {o = o} $ move ! (3 ∷ 4 ∷ 5 ∷ 6 ∷ []) $ closes_slice ! tt R.the_row ys (set ys w t.worker) (length-set ys w t.worker) b' o' $
         returns ! (look ! 62 refl) $ forget ! 8 refl $ forget ! 10 refl $ forget ! 12 refl $ forget ! 14 refl $ forget ! 16 refl $ forget ! 18 refl $ forget !
         20 refl $ forget ! 22 refl $ forget ! 24 refl $ forget ! 26 refl $ forget ! 28 refl $ forget ! 30 refl $ forget ! 32 refl $ forget ! 34 refl $

@@ -6,7 +6,7 @@ use mathlib.Core.List.{List, [], ◌∷◌, ◌++◌}
 use native.Mathlib.Omega.{arith}
 use lib.Dec.{leb}
 use lib.ListN as LN
-use lib.ListN.{length, take, length_append, take-append-drop}
+use lib.ListN.{length, take, length-append, take-append-drop}
 use lib.Seq.{length-take-le}
 use borrow.Author.Tests.{leb-true}
 use seplogic.Ra.Ura.{Ura}
@@ -247,8 +247,8 @@ module _ {M : Type 1} {𝓤 : Ura M} (𝓛 : Logic 𝓤) (at_mem : Memory → SP
         small-room n e g = (omega (arith, e, g), omega (arith, e, g))
 
         all-again : (n : ℕ) (zs : List Worker) → length zs ≡ length (take n all) → length (zs ++ LN.drop n all) ≡ 64
-        all-again n zs same = length_append zs (LN.drop n all) ∙ ap (λ (k : ℕ). k + length (LN.drop n all)) same
-            ∙ sym (length_append (take n all) (LN.drop n all)) ∙ ap length (take-append-drop n all) ∙ long
+        all-again n zs same = length-append zs (LN.drop n all) ∙ ap (λ (k : ℕ). k + length (LN.drop n all)) same
+            ∙ sym (length-append (take n all) (LN.drop n all)) ∙ ap length (take-append-drop n all) ∙ long
 
 module _ {M : Type 1} {𝓤 : Ura M} (𝓛 : Logic 𝓤) (at_mem : Memory → SProp 𝓤) (run : Routine → Fun 𝓤) (𝓣 : Tables 𝓤 𝓛.H)
     (k₁ : Triple 𝓤 (𝓣.C #at-most) (triple_of 𝓛 at_most.signature (at_most.spec 𝓛 at_mem run)))

@@ -3,7 +3,7 @@ use mathlib.Core.Path.{◌≡◌, refl, sym, ap, ◌∙◌}
 use mathlib.Core.List.{◌++◌}
 use native.Mathlib.Omega.{arith}
 use borrow.Author.Rules.{rules}
-use borrow.Author.Tests.{eqb_false}
+use borrow.Author.Tests.{eqb-false}
 use lib.ListN.{get_or, length, take, drop, length-set}
 use Rattle.unbounded_words.specs.Words.{sizes, offset_of, past_slots}
 use Rattle.unbounded_machine.specs.Machine.{slot, slot_at}
@@ -34,7 +34,7 @@ decreases-loop buffer₀ blocks₀ slots n b₀ h₀ t met₀ left₀ buffer blo
 slot-below-at : (c : tie.After-offset invariant-loop decreases-loop) → c.offset.result < 31
 unfolding past_slots
 slot-below-at c = let n : c.before.before.before.before.before.before.before.loop.h.0 / 2 % 32 ≡ 31
-    → ⊥ = eqb_false (c.before.before.before.before.before.before.before.loop.h.0 / 2 % 32) 31
+    → ⊥ = eqb-false (c.before.before.before.before.before.before.before.loop.h.0 / 2 % 32) 31
     (sym c.before.before.past-slots.ensures ∙ c.before.if5.false) in
     let o : c.offset.result ≡ c.before.before.before.before.before.before.before.loop.h.0 / 2 % 32 = c.offset.ensures in omega arith
 

@@ -1,0 +1,296 @@
+#!/usr/bin/env python3
+"""Turns proofs of the older form, a Proof.antt of goals that tie.spec joins, to Invariants.antt and Answers.antt.
+
+usage: answers.py [--names FILE] CRATE [FUNCTION..]     at the top of the repository
+
+It asks `rt check --generated --old-names` for each goal's old and new name (or reads FILE), renames the goals and the paths of
+what is known at them, leaves out answers that are `search rules` alone, since the check tries more than these where there is
+no answer, and says what it could not turn. A FUNCTION is a folder below proofs/.
+"""
+
+import glob
+import json
+import os
+import re
+import subprocess
+import sys
+import tempfile
+
+NAME = r"[^\s(){}.;,@\"«»]+"
+NEED = re.compile(rf"^({NAME}) : tie\.Need-({NAME})(.*)$")
+MEASURE = re.compile(rf"^(?:abbrev )?(?:pub )?({NAME}) : tie\.((?:invariant|decreases)-{NAME})$")
+
+
+def plain(s):
+    s = s.replace("-", "_").replace(".", "_")
+    return s[:-4] if s.endswith("_lem") else s
+
+
+def blocks(text):
+    """Items: runs of lines that begin at the left edge, with what is indented below."""
+    out = []
+    for line in text.split("\n"):
+        if line.strip() == "":
+            out.append([])
+        elif line[0] in " \t" and out and out[-1]:
+            out[-1].append(line)
+        else:
+            out.append([line])
+    return [b for b in out if b]
+
+
+class Turned:
+    def __init__(self, names, where):
+        self.where = where
+        self.names = names
+        self.parent, self.step, self.arm, self.typed = {}, {}, {}, {}
+        for i, (place, parent, (old, new), _callee, _) in enumerate(names["places"]):
+            self.parent[plain(place)] = plain(parent) if parent else None
+            self.step.setdefault(plain(place), (plain(old), new))
+            if i < len(names["arms"]) and names["arms"][i]:
+                self.arm.setdefault(plain(place), names["arms"][i])
+        self.needs = {}
+        for (old, new), (at, _) in zip(names["needs"], names["asked_at"]):
+            self.needs[plain(old)] = (new, plain(at))
+        self.left = []
+
+    def path(self, place, parts):
+        """The new path of what `c` with these parts is at an old place."""
+        parts = list(parts)
+        while parts and parts[0] == "before":
+            parts.pop(0)
+            if self.parent.get(place) is None:
+                return None
+            place = self.parent[place]
+        if not parts:
+            return place, []
+        head = plain(parts[0])
+        if head in ("args", "requires", "well_formed", "ranges", "type_inv"):
+            return place, parts
+        q = place
+        while q is not None and self.step.get(q, ("", ""))[0] != head:
+            q = self.parent.get(q)
+        if q is None:
+            return None
+        new = self.step[q][1]
+        rest = parts[1:]
+        arm = self.arm.get(q)
+        candidates = [self.arm[p] for p in self.arm if self.arm[p] and self.chain(p, q)]
+        if arm:
+            best = None
+            for field, step, old in arm[2]:
+                if plain(step) == head and [plain(x) for x in old] == [plain(x) for x in rest[: len(old)]]:
+                    if best is None or len(old) > len(best[1]):
+                        best = (field, old)
+            if best:
+                return place, [arm[0], best[0]] + rest[len(best[1]) :]
+        # a deeper arm may have taken this step's fields over
+        for a in candidates:
+            best = None
+            for field, step, old in a[2]:
+                if plain(step) == head and [plain(x) for x in old] == [plain(x) for x in rest[: len(old)]]:
+                    if best is None or len(old) > len(best[1]):
+                        best = (field, old)
+            if best and not best[0].endswith("-own"):
+                return place, [a[0], best[0]] + rest[len(best[1]) :]
+        return place, [new] + rest
+
+    def chain(self, p, q):
+        while p is not None:
+            if p == q:
+                return True
+            p = self.parent.get(p)
+        return False
+
+    def body(self, text, place, var="c"):
+        names = {var: place}
+        for m in re.finditer(rf"\blet ({NAME}) = {re.escape(var)}((?:\.before)*) in\b", text):
+            r = self.path(place, [p for p in m[2].split(".") if p])
+            if r:
+                names[m[1]] = r[0]
+
+        def one(m):
+            v, parts = m[1], m[2].split(".")[1:]
+            if v not in names:
+                return m[0]
+            r = self.path(names[v], parts)
+            if r is None:
+                self.left.append(f"{self.where}: {m[0]} at {names[v]}")
+                return m[0]
+            return "c" + "".join("." + p for p in r[1])
+
+        return re.sub(rf"(?<![\w.'-])({'|'.join(re.escape(n) for n in names)})((?:\.[^\s().,;{{}}@\"«»\]]+)+)", one, text)
+
+    def loop_body(self, old, params, text):
+        """An invariant's or a measure's text over the record l."""
+        loops = self.names["loops"]
+        changed = self.names["changed"]
+        k = next((i for i, ((o, n), _v) in enumerate(loops) if plain(o) == plain(old)), None)
+        if k is None:
+            return None, None
+        (o, new), vs = loops[k]
+        to = []
+        for v, c in zip(vs, changed[k]):
+            if c:
+                to += [f"l.initial.{v}", f"l.{v}"]
+            else:
+                to.append(f"l.{v}")
+        if len(to) != len(params):
+            self.left.append(f"{self.where}: the loop {old} has {len(params)} parameters, {to}")
+            return new, text
+        for p, t in zip(params, to):
+            if p == "_":
+                continue
+            text = re.sub(rf"(?<![\w.'₀-]){re.escape(p)}(?![\w'₀-])(?!\s*=(?!=))", "\0" + t.replace("\\", ""), text)
+        return new, text.replace("\0", "")
+
+
+def turn(root, crate, folder, names):
+    path = os.path.join(root, "crates", crate, "proofs", folder, "Proof.antt")
+    text = open(path, encoding="utf-8").read()
+    key = f"Rattle-{crate}-proofs.{folder.replace('/', '.')}.Lts"
+    if key not in names:
+        return [f"{path}: no names"]
+    t = Turned(names[key], f"{crate}/{folder}")
+    uses, answers, invariants, helpers = [], [], [], False
+    items = blocks(text)
+    i = 0
+    skip_names = set()
+    while i < len(items):
+        b = items[i]
+        line = b[0]
+        if line.startswith("use "):
+            if not re.search(r"\.(Statement|Tie|Reads|Lts)\b", line):
+                uses.append("\n".join(b))
+            i += 1
+            continue
+        if line.startswith("--"):
+            answers.append("\n".join(b))
+            i += 1
+            continue
+        m = MEASURE.match(line)
+        if m:
+            d = items[i + 1]
+            i += 2
+            extra = []
+            while d[0].startswith("unfolding"):
+                extra.append("\n".join(d))
+                d = items[i]
+                i += 1
+            whole = "\n".join(d)
+            head, eq, rest = whole.partition("=")
+            params = head.split()[1:]
+            kind, old = m[2].split("-", 1)
+            new, out = t.loop_body(old, params, rest)
+            if new is None:
+                t.left.append(f"{t.where}: no loop {old}")
+                new, out = old, rest
+            invariants.append(f"abbrev pub {kind}-{new} : goal.{kind}-{new}\n" + "".join(e + "\n" for e in extra) + f"{kind}-{new} l ={out}")
+            continue
+        m = NEED.match(line)
+        if m:
+            local = m[1]
+            i += 1
+            extra = []
+            while i < len(items) and items[i][0].startswith("unfolding"):
+                extra.append("\n".join(items[i]))
+                i += 1
+            d = "\n".join(items[i])
+            i += 1
+            found = t.needs.get(plain(m[2])) or t.needs.get(re.sub(r"^overflow_", "", plain(m[2])))
+            if not found:
+                t.left.append(f"{t.where}: no goal {m[2]} any more")
+                continue
+            new, place = found
+            head, eq, rest = d.partition("=")
+            params = head.split()[1:]
+            body = rest.strip()
+            if body == "search rules" and not extra:
+                continue
+            var = params[0] if params else "c"
+            body = t.body(rest, place, var)
+            answers.append(f"pub {new} : goal.{new}\n" + "".join(e + "\n" for e in extra) + f"{new} c ={body}")
+            continue
+        if re.match(rf"^pub {NAME}[-_]spec(?:-\d+)? :", line):
+            i += 2
+            continue
+        if "tie." in "\n".join(b):
+            t.left.append(f"{t.where}: {line}")
+        answers.append("\n".join(b))
+        i += 1
+    own = f"Rattle.{crate}.proofs.{folder.replace('/', '.')}"
+    base = os.path.dirname(path)
+    os.remove(path)
+
+    def join_items(xs):
+        out = []
+        for k, x in enumerate(xs):
+            # a signature and its clauses stay together
+            first = x.split("\n")[0]
+            if k and not re.match(rf"^{NAME} .*=|^{NAME} =|^unfolding", first):
+                out.append("")
+            out.append(x)
+        return "\n".join(out) + "\n"
+
+    def wanted(body):
+        keep = []
+        for u in uses:
+            m = re.search(r"\.\{(.*)\}", u, re.S)
+            if not m:
+                keep.append(u)
+                continue
+            ws = [w.strip() for w in m[1].split(",")]
+            there = []
+            for w in ws:
+                n = w.split(" as ")[-1].strip()
+                core = n.replace("◌", "")
+                if re.search(rf"(?<![\w'-]){re.escape(core)}(?![\w'])", body) or not re.match(r"\w", core) and core in body:
+                    there.append(w)
+            if there:
+                keep.append(u[: m.start()] + ".{" + ", ".join(there) + "}")
+        return keep
+
+    if invariants:
+        body = join_items(invariants)
+        with open(os.path.join(base, "Invariants.antt"), "w", encoding="utf-8") as f:
+            f.write("\n".join(wanted(body) + [f"use {own}.Given as goal", "", body]))
+    if any(": goal." in a for a in answers):
+        body = join_items(answers)
+        with open(os.path.join(base, "Answers.antt"), "w", encoding="utf-8") as f:
+            f.write("\n".join(wanted(body) + [f"use {own}.Goals as goal", "", body]))
+    elif not invariants and not os.listdir(base):
+        os.rmdir(base)
+    return t.left
+
+
+def main():
+    args = sys.argv[1:]
+    if not args or args[0] in ("-h", "--help"):
+        print(__doc__)
+        return
+    file = None
+    if args[0] == "--names":
+        file = args[1]
+        args = args[2:]
+    crate, only = args[0], args[1:]
+    root = os.getcwd()
+    where = os.path.join(root, "crates", crate)
+    if file is None:
+        d = tempfile.mkdtemp()
+        subprocess.run(["rt", "check", "--generated", d, "--old-names"], cwd=where, stdout=subprocess.DEVNULL, stderr=subprocess.DEVNULL)
+        file = os.path.join(d, "names.json")
+    names = json.load(open(file))
+    left = []
+    for p in sorted(glob.glob(os.path.join(where, "proofs", "**", "Proof.antt"), recursive=True)):
+        folder = os.path.relpath(os.path.dirname(p), os.path.join(where, "proofs"))
+        if only and folder not in only:
+            continue
+        if "tie.spec" not in open(p, encoding="utf-8").read():
+            left.append(f"{crate}/{folder}: a walk by hand")
+            continue
+        left += turn(root, crate, folder, names)
+    for l in left:
+        print("left: " + l)
+
+
+main()
