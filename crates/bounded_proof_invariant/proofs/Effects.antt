@@ -128,6 +128,7 @@ hand_loose st k w y l e = subst Loose (sym e) l
 pub loose_mine : (j : ℕ) (y : Cell) → Loose y → Mine j y → ⊥
 loose_mine j (Await k) l m = m
 loose_mine j (Hold k) l m = m
+loose_mine j (Hand _ _ _) l m = elim l [ ]
 
 module _ (c : ℕ) (s : Shared) (w i : ℕ) (small : i < c) (inv : Inv c s) where
   pub ok_at : (x : Cell) → s.cell i ≡ x → CellOk c s i x
@@ -229,6 +230,7 @@ module _ (c : ℕ) (s : Shared) (w i : ℕ) (small : i < c) (inv : Inv c s) wher
   loose_same : (y : Cell) → Loose y → CellOk c s i y → CellOk c (slot_to i y s.val s.written s) i y
   loose_same (Await k) l o = o
   loose_same (Hold k) l o = o
+  loose_same (Hand _ _ _) l o = elim l [ ]
 
   -- the slot itself afterwards
   pub cell_after : (e : Effect) → Fits c s w i e → CellOk c (after c w i e s) i ((after c w i e s).cell i)

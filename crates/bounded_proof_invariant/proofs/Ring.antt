@@ -39,6 +39,8 @@ Mine w (Hand st k v) = v ≡ w
 
 pub mine_one : (v w : ℕ) (x : Cell) → Mine v x → Mine w x → v ≡ w
 mine_one v w (Hand st k u) p q = sym p ∙ q
+mine_one v w (Await _) p q = elim p [ ]
+mine_one v w (Hold _) p q = elim p [ ]
 
 -- Head and tail claims so far, the slots with their values, and of each claim its item, its workers and whether its
 -- value has been written.
