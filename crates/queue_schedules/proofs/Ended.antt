@@ -9,8 +9,7 @@ use lib.ListN.{length}
 use borrow.Author.Tests.{eqb-true, eqb-false, ne_eqb}
 use Rattle.queue_entries.specs.declared.Entry.{Entry}
 use Rattle.queue_entries.specs.declared.Entry.TheVariants.{Unreadable, Asks}
-use Rattle.queue_entries.specs.declared.Finding.{Finding}
-use Rattle.queue_entries.specs.declared.Finding.TheVariants.{AllRead, UnreadableAt}
+use Rattle.queue_entries.specs.declared.Finding.TheVariants.{AllRead}
 use Rattle.queue_entries.specs.Schedules.{stops_at, search_by, run_by, schedule_by}
 
 module _ {M D R : Type 0} (refusal : D → ℕ) (machine : D → M) (turned : M → ℕ → ℕ → D) (told : ℕ → ℕ → M → R) (refusal_in : R → ℕ)

@@ -1,7 +1,7 @@
 -- One turn of a schedule's loop, from what is left of the run; what stands before and after the loop is in Schedules.antt.
 use Prim.Native.Nat.{ℕ, ◌+◌, ◌*◌, ◌<◌, ◌≤◌}
 use mathlib.Core.Path.{◌≡◌, sym, ap, ◌∙◌}
-use mathlib.Core.List.{List, [], ◌∷◌}
+use mathlib.Core.List.{List, ◌∷◌}
 use native.Mathlib.Omega.{arith}
 use lib.ListN.{get_or, length, drop, drop_of_length-le}
 use borrow.Author.Tests.{ne_eqb, eq-eqb}
