@@ -129,12 +129,9 @@ class Turned:
         if k is None:
             return None, None
         (o, new), vs = loops[k]
-        to = []
-        for v, c in zip(vs, changed[k]):
-            if c:
-                to += [f"l.initial.{v}", f"l.{v}"]
-            else:
-                to.append(f"l.{v}")
+        # what each variable was when the loop began, then those that it changes
+        to = [f"l.initial.{v}" if c else f"l.{v}" for v, c in zip(vs, changed[k])]
+        to += [f"l.{v}" for v, c in zip(vs, changed[k]) if c]
         if len(to) != len(params):
             self.left.append(f"{self.where}: the loop {old} has {len(params)} parameters, {to}")
             return new, text
