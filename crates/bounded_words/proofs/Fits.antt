@@ -1,6 +1,5 @@
 -- Words that are unmarked with an index below capacity, and how they stay so.
-use Rattle.std.proofs.Common.{◌≡◌, ℕ, zero, suc, ◌+◌, ◌-◌, ◌*◌, ◌/◌, ◌%◌, ◌^◌, ◌<◌, ◌≤◌, Bool, true, false, cond, eqb, ltb, sym, refl, ap, ◌∙◌, subst, mod-lt, mod-eq_of_lt, div-add-mod', arith, le-ltb, lt-ltb, eq-eqb, ne_eqb}
-use Prim.Native.Nat.{◌∣◌}
+use Rattle.std.proofs.Common.{◌≡◌, ℕ, ◌+◌, ◌-◌, ◌*◌, ◌/◌, ◌%◌, ◌<◌, Bool, true, false, cond, ltb, sym, refl, ◌∙◌, mod-lt, mod-eq_of_lt, div-add-mod', arith, le-ltb, lt-ltb, eq-eqb, ne_eqb}
 use native.Mathlib.Decide.{dec_lt}
 use native.Mathlib.Nat.{mod-add-mod, add-mod_right, mul-mod_left, mod-mod_of_dvd, mul-div_cancel', add-mul-mod_self_left}
 use lib.Arith.{mod-mul}

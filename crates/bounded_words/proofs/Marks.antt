@@ -1,5 +1,5 @@
 -- mark is the smallest power of two not below capacity + 1, and what follows for a ring's constants.
-use Rattle.std.proofs.Common.{◌≡◌, ℕ, zero, suc, ◌+◌, ◌-◌, ◌*◌, ◌/◌, ◌%◌, ◌^◌, ◌<◌, ◌≤◌, Bool, true, false, cond, ltb, sym, refl, ap, ◌∙◌, subst, arith, pow_pos, pow_mono, pow-add, le-ltb, lt-ltb}
+use Rattle.std.proofs.Common.{◌≡◌, ℕ, zero, suc, ◌+◌, ◌-◌, ◌*◌, ◌^◌, ◌<◌, ◌≤◌, cond, ltb, sym, refl, ap, ◌∙◌, subst, arith, pow_mono, pow-add, le-ltb, lt-ltb}
 use Prim.Native.Nat.{◌∣◌}
 use native.Mathlib.Decide.{dec_lt, dec_le}
 use native.Mathlib.Nat.{dvd-mul_left}
