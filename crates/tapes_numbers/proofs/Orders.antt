@@ -4,7 +4,7 @@ use mathlib.Core.Path.{◌≡◌, refl, sym, ap, ap₂, ◌∙◌}
 use mathlib.Core.List.{List, [], ◌∷◌, ◌++◌, reverse, reverse-reverse, reverse-append, reverse-cons, append_assoc, append-nil}
 use native.Mathlib.Omega.{arith}
 use native.Mathlib.Numerals.{add-one}
-use lib.ListN.{length, get_or, take, drop, set, length-reverse, length-drop, length-set, drop_of_length-le}
+use lib.ListN.{length, get_or, take, drop, set, length-reverse, length-drop}
 use lib.Seq.{split_at, set_split, set_at, get_or_at, take-suc-set, drop-cons, take_all, drop-length}
 use lib.Pow.{pow-add, pow_mono}
 use Rattle.tapes_numbers.specs.declared.Variant.{Variant}
