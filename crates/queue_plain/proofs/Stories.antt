@@ -6,7 +6,7 @@ use mathlib.Core.List.{List, [], ◌∷◌, ◌++◌, map, append_assoc, append-
 use mathlib.Core.Path.{◌≡◌, refl, sym, ap, ◌∙◌}
 use lib.Dec.{eqb}
 use mathlib.Core.Logic.{◌≢◌}
-use lib.ListN.{length, take, drop, length-append}
+use lib.ListN.{length, take, drop}
 use borrow.Author.Tests.{eq-eqb, ne_eqb}
 use Rattle.queue_entries.specs.declared.Call.{Call}
 use Rattle.queue_entries.specs.declared.Order.TheVariants.{Begin, Act}
@@ -14,7 +14,6 @@ use Rattle.queue_entries.specs.declared.Entry.{Entry}
 use Rattle.queue_entries.specs.declared.Entry.TheVariants.{Unreadable, Asks}
 use Rattle.queue_entries.specs.Entries.{entry_of}
 use Rattle.queue_entries.specs.Schedules.{history_by}
-use Rattle.queue_plain.specs.Plain.{Queue, queue}
 use Rattle.queue_plain.specs.Story.{Element, Begun, Does, Story, begun_in, elements_by, Change, beginning, doing_with, Known, fresh, changed_by, items_of}
 use Rattle.queue_plain.specs.Story.{act_in, acts_in, known_with, known_from, known, queue_at, came_from, went_from, followed_from}
 
