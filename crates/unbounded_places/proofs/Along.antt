@@ -5,11 +5,10 @@ use Rattle.queue_entries.proofs.Pick.{along}
 use Rattle.queue_entries.specs.declared.Call.{Call}
 use Rattle.unbounded_words.specs.declared.Index.{Index}
 use Rattle.unbounded_words.specs.declared.Pointer.{Pointer}
-use Rattle.unbounded_words.specs.Words.{sizes, offset_of, number_of}
+use Rattle.unbounded_words.specs.Words.{sizes, offset_of}
 use Rattle.unbounded_places.specs.declared.Place.{Place}
-use Rattle.unbounded_places.specs.declared.Uses.TheVariants as uses
 use Rattle.unbounded_places.specs.declared.View.{View}
-use Rattle.unbounded_places.specs.Places.{on_block, on_slot, on_indexed, view_of, begin_of}
+use Rattle.unbounded_places.specs.Places.{on_slot, on_indexed, view_of, begin_of}
 
 pub along_view : (p q : Place) (r : View) → p ≡ q → r ≡ view_of sizes q → r ≡ view_of sizes p
 along_view = along (view_of sizes)
