@@ -1,6 +1,6 @@
 -- Words and places are one to one: beside `read_back`.
 use Prim.Native.Nat.{ℕ}
-use mathlib.Core.Path.{◌≡◌, refl, sym, ap, ◌∙◌}
+use mathlib.Core.Path.{◌≡◌, refl, ap, ◌∙◌}
 use mathlib.Core.Bool.{true}
 use lib.Dec.{eqb}
 use borrow.Author.Tests.{eq-eqb, eqb-true}
@@ -8,7 +8,7 @@ use Rattle.queue_entries.proofs.Pick.{both_left, both_right}
 use Rattle.bounded_places.specs.declared.Place.{Place}
 use Rattle.bounded_codes.specs.declared.Coded.{Coded}
 use Rattle.bounded_codes.specs.Codes.{triple, code_of, place_in, same_as, stands_for}
-use Rattle.bounded_codes.proofs.Codes.{read_back_from, read_back}
+use Rattle.bounded_codes.proofs.Codes.{read_back}
 
 -- the words of a place stand for it
 pub written_stands : (p : Place) → stands_for (code_of p).code (code_of p).first (code_of p).second ≡ true

@@ -1,5 +1,5 @@
 -- A place as three words, its code and the two words that it holds, and back. One table of codes for whoever writes a place as numbers.
-use Rattle.std.specs.Prelude.{ℕ, ◌+◌, ◌-◌, Bool, true, false, cond, List, [], ◌∷◌, ltb, leb, eqb, get_or}
+use Rattle.std.specs.Prelude.{ℕ, ◌-◌, Bool, true, false, cond, List, [], ◌∷◌, ltb, leb, eqb, get_or}
 use Rattle.bounded_words.specs.Words.{stamp}
 use Rattle.bounded_places.specs.declared.Answer.{Answer}
 use Rattle.bounded_places.specs.declared.Answer.TheVariants as answer
