@@ -17,10 +17,8 @@ use Rattle.tapes_numbers.specs.declared.Variant.{Variant}
 use Rattle.tapes_numbers.specs.declared.Variant.TheVariants.{BigEndian, LittleEndian}
 use Rattle.tapes_numbers.specs.Numbers.{tag_of, number_of}
 use Rattle.tapes_fields.specs.Judged.{opens, allowed, entry_by, field_in, head_by, head_in, carried_by, carried}
-use Rattle.tapes_fields.specs.declared.Field.{Field}
 use Rattle.tapes_fields.specs.declared.Field.TheVariants.{Fault, End, Entry as Holds}
 use Rattle.tapes_fields.specs.Fields.{swapped, tag_for, item_long, size_of}
-use Rattle.tapes_fields.specs.declared.Head.{Head}
 use Rattle.tapes_fields.specs.declared.Head.TheVariants as head
 
 module _ (v : Variant) (tag long : ℕ) (s : List ℕ) (t : ℕ) (is : t ≡ tag_of v tag) where

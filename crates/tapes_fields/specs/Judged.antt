@@ -1,5 +1,5 @@
 -- Item 5: the fields of a tape as they are read, and what a tape can't carry.
-use Rattle.std.specs.Prelude.{ℕ, ◌+◌, ◌/◌, ◌-◌, Bool, true, false, cond, List, ltb, eqb, length, get_or, take, drop}
+use Rattle.std.specs.Prelude.{ℕ, ◌+◌, ◌/◌, ◌-◌, Bool, false, cond, List, ltb, eqb, length, get_or, take, drop}
 use Rattle.queue_entries.specs.declared.Entry.{Entry}
 use Rattle.queue_entries.specs.declared.Entry.TheVariants.{Unreadable, Asks}
 use Rattle.queue_entries.specs.Entries.{entry_of}
