@@ -6,7 +6,7 @@ use native.Mathlib.Omega.{arith}
 use Rattle.queue_entries.proofs.Pick.{below, above, equal, other}
 use Rattle.unbounded_words.specs.declared.Index.{Index}
 use Rattle.unbounded_words.specs.declared.Pointer.{Pointer}
-use Rattle.unbounded_words.specs.Words.{sizes, later, with_mark, unmarked_of}
+use Rattle.unbounded_words.specs.Words.{sizes, later, with_mark}
 use Rattle.unbounded_places.specs.declared.Slot.{Slot}
 use Rattle.unbounded_places.specs.declared.Block.{Block}
 use Rattle.unbounded_places.specs.declared.Ends.{Ends}
@@ -14,7 +14,7 @@ use Rattle.unbounded_places.specs.declared.Place.{Place}
 use Rattle.unbounded_places.specs.declared.Place.TheVariants.{Idle, V8, V13, V15}
 use Rattle.unbounded_places.specs.declared.Answer.TheVariants.{Len, Yes, No}
 use Rattle.unbounded_acts.specs.declared.Acted.{Acted}
-use Rattle.unbounded_acts.specs.Acts.{leave, head_to, tail_to, state_to, has, with, take_or, destroy_from, destroy_if, next_index, new_head, yes_no}
+use Rattle.unbounded_acts.specs.Acts.{leave, tail_to, state_to, has, with, take_or, destroy_from, destroy_if, yes_no}
 
 pub ends : (e e' : Ends) (g : Block) (s : Slot) (p : Place) (r : Acted) → r ≡ leave e' g s p → e' ≡ e → r ≡ leave e g s p
 ends e e' g s p r q h = q ∙ ap (λ (x : Ends). leave x g s p) h

@@ -1,0 +1,6 @@
+use Rattle.unbounded_acts.proofs.Arms.{tail_is}
+use borrow.Author.Rules.{rules}
+use Rattle.unbounded_acts.proofs.tail_to_marked.Goals as goal
+
+pub returns : goal.returns
+returns c = search (rules, tail_is)
