@@ -1,5 +1,5 @@
 -- One turn of the schedule's loop, from what is left of the run.
-use Prim.Native.Nat.{ℕ, ◌+◌, ◌*◌, ◌%◌, ◌<◌, ◌≤◌}
+use Prim.Native.Nat.{ℕ, ◌+◌, ◌*◌, ◌<◌, ◌≤◌}
 use mathlib.Core.Path.{◌≡◌, refl, sym, ap, ◌∙◌, subst}
 use mathlib.Core.Bool.{Bool, true, false}
 use mathlib.Core.List.{List, ◌∷◌}
@@ -10,7 +10,7 @@ use borrow.Author.Tests.{ne_eqb, ltb-true}
 use Rattle.queue_entries.specs.Schedules.{run_by}
 use Rattle.queue_entries.proofs.Searching.{two_words}
 use Rattle.queue_entries.specs.Limits.{meter_most}
-use Rattle.queue_entries.proofs.Pick.{below, above, no}
+use Rattle.queue_entries.proofs.Pick.{below, above}
 use Rattle.queue_entries.specs.declared.Call.{Call}
 use Rattle.queue_entries.specs.declared.Order.{Order}
 use Rattle.queue_entries.specs.declared.Order.TheVariants.{Begin, Act}
