@@ -1,12 +1,10 @@
 -- What the machine's functions rest on.
-use Prim.Native.Nat.{ℕ, zero, suc, ◌+◌, ◌-◌, ◌*◌, ◌%◌, ◌<◌, ◌≤◌}
+use Prim.Native.Nat.{ℕ, suc, ◌+◌, ◌-◌, ◌*◌, ◌<◌, ◌≤◌}
 use mathlib.Core.Path.{◌≡◌, refl, sym, ap, ◌∙◌}
-use mathlib.Core.Bool.{Bool, true, false, cond, not}
+use mathlib.Core.Bool.{Bool, true, false, not}
 use mathlib.Core.List.{List}
 use native.Mathlib.Omega.{arith}
-use lib.Dec.{ltb, eqb}
 use lib.ListN.{set, replicate}
-use borrow.Author.Tests.{lt-ltb, le-ltb}
 use Rattle.queue_entries.specs.Limits.{workers_most, in_limits}
 use Rattle.queue_entries.proofs.Pick.{along, yes, no, on, off, below, above}
 use Rattle.unbounded_words.specs.declared.Index.{Index}
@@ -17,7 +15,6 @@ use Rattle.unbounded_places.specs.declared.Block.{Block}
 use Rattle.unbounded_places.specs.declared.Ends.{Ends}
 use Rattle.unbounded_places.specs.declared.Place.{Place}
 use Rattle.unbounded_places.specs.declared.Uses.{Uses}
-use Rattle.unbounded_places.specs.declared.Uses.TheVariants as uses
 use Rattle.unbounded_places.specs.declared.View.{View}
 use Rattle.unbounded_places.specs.declared.Worker.{Worker}
 use Rattle.unbounded_places.specs.Places.{view_of}
@@ -27,7 +24,7 @@ use Rattle.unbounded_machine.specs.declared.Dropped.{Dropped}
 use Rattle.unbounded_machine.specs.Machine.{slot, block_at, live, free_block, free_blocks, empty_slots, idler, idlers, starts, machine_of, fresh_of, blank}
 use Rattle.unbounded_machine.specs.Drop.{walked, last_fits, without, walk_from, walk_of}
 use Rattle.unbounded_machine.specs.Broken.{uses_fit, record_fits, records_fit, all_idle, drop_fits, broken_in}
-use Rattle.unbounded_machine.specs.Turn.{lowest_from, lowest_free, cleared_from, cleared, block_used, slot_used}
+use Rattle.unbounded_machine.specs.Turn.{lowest_from, cleared_from, block_used, slot_used}
 
 pub fresh_is : (workers : ℕ) → machine_of starts (replicate 64 free_block) (replicate 1984 (slot 0 0)) (replicate workers_most idler) workers 0 ≡ fresh_of sizes workers
 unfolding fresh_of free_blocks empty_slots idlers

@@ -1,5 +1,5 @@
 -- The history of a run: its acts, oldest first, and what is counted from it.
-use Rattle.std.specs.Prelude.{ℕ, ◌+◌, List, [], ◌∷◌}
+use Rattle.std.specs.Prelude.{ℕ, List, [], ◌∷◌}
 use Rattle.queue_entries.specs.declared.Order.TheVariants.{Begin, Act}
 use Rattle.queue_entries.specs.declared.Entry.{Entry}
 use Rattle.queue_entries.specs.declared.Entry.TheVariants.{Unreadable, Asks}

@@ -1,5 +1,5 @@
 -- The machine: the ends, the pool, the workers' records. Fresh, blank, refused.
-use Rattle.std.specs.Prelude.{ℕ, zero, suc, ◌+◌, ◌*◌, Bool, true, false, cond, not, List, ltb, set, get_or, replicate}
+use Rattle.std.specs.Prelude.{ℕ, ◌+◌, ◌*◌, Bool, true, false, cond, not, List, ltb, get_or, replicate}
 use Rattle.queue_entries.specs.Limits.{workers_most}
 use Rattle.unbounded_words.specs.declared.Pointer.TheVariants.{None}
 use Rattle.unbounded_words.specs.Words.{Sizes, index}

@@ -1,9 +1,9 @@
 -- One entry: begin or act, with the refusals in order (begin 6, 9, 3, 4; act 6, 9, 3, 5, 7, 8, 23). Broken is judged at every entry.
-use Rattle.std.specs.Prelude.{ℕ, zero, suc, ◌+◌, ◌%◌, Bool, true, false, cond, List, ltb, eqb, set, get_or}
+use Rattle.std.specs.Prelude.{ℕ, zero, suc, ◌+◌, Bool, cond, List, ltb, set}
 use Rattle.queue_entries.specs.declared.Order.{Order}
 use Rattle.queue_entries.specs.declared.Entry.{Entry}
 use Rattle.queue_entries.specs.declared.Entry.TheVariants.{Unreadable, Asks}
-use Rattle.queue_entries.specs.Entries.{entry_of, verdict_for, entry_but}
+use Rattle.queue_entries.specs.Entries.{verdict_for, entry_but}
 use Rattle.queue_entries.specs.declared.Verdict.{Verdict}
 use Rattle.queue_entries.specs.declared.Verdict.TheVariants.{Refuse, Start, Move}
 use Rattle.unbounded_words.specs.Words.{Sizes}
@@ -13,7 +13,6 @@ use Rattle.unbounded_places.specs.declared.Ends.{Ends}
 use Rattle.unbounded_places.specs.declared.Place.{Place}
 use Rattle.unbounded_places.specs.declared.Uses.{Uses}
 use Rattle.unbounded_places.specs.declared.Uses.TheVariants as uses
-use Rattle.unbounded_places.specs.declared.View.{View}
 use Rattle.unbounded_places.specs.Places.{view_of, begin_of}
 use Rattle.unbounded_acts.specs.declared.Acted.{Acted}
 use Rattle.unbounded_acts.specs.Acts.{act_of}

@@ -1,0 +1,7 @@
+use mathlib.Core.Path.{ap, ◌∙◌}
+use Rattle.queue_entries.specs.Entries.{verdict_for}
+use Rattle.unbounded_places.specs.declared.View.{View}
+use Rattle.unbounded_machine.proofs.verdict_of.Goals as goal
+
+pub returns : goal.returns
+returns c = c.verdict_for.ensures ∙ ap (λ (v : View). verdict_for c.args.meter v.busy v.weak c.args.o) c.view_of-v.ensures
