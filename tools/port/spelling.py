@@ -124,6 +124,13 @@ def main():
         if a in kept and b not in every:
             table[a] = b
             del kept[a]
+    # what the first run turned, spelling.tsv beside this file: the same everywhere
+    with open(os.path.join(os.path.dirname(os.path.abspath(__file__)), "spelling.tsv"), encoding="utf-8") as f:
+        for line in f:
+            a, b = line.rstrip("\n").split("\t")
+            if a in table or a in kept:
+                table[a] = b
+                kept.pop(a, None)
     for a in kept:
         del table[a]
     if "--look" in sys.argv:

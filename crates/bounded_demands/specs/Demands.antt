@@ -53,7 +53,7 @@ use Rattle.bounded_causes.specs.declared.Causes.{Causes}
 use Rattle.bounded_causes.specs.declared.Watches.{Watches}
 use Rattle.bounded_causes.specs.declared.Named.{Named}
 use Rattle.bounded_causes.specs.Causes as causes
-use Rattle.bounded_causes.specs.Causes.{watched_most, watch_of, named_of}
+use Rattle.bounded_causes.specs.Causes.{watch_of, named_of}
 use Rattle.bounded_moments.specs.declared.Moments.{Moments}
 use Rattle.bounded_moments.specs.declared.Moment.{Moment}
 use Rattle.bounded_moments.specs.declared.Named.{Named as NamedMoment}
@@ -80,7 +80,7 @@ use Rattle.bounded.specs.Bounded.{make_of, step_of}
 use Rattle.bounded_orders.specs.declared.Metered.{Metered}
 use Rattle.bounded_orders.specs.Orders.{records_most, metered_of, Filled, filled, report}
 use Rattle.bounded_lent.specs.Lent.{held, Lent, Gone, gone}
-use Rattle.bounded_demands.specs.Stories.{Story, story_of, one_step, OnlySuch, unlooked, never_closes, between_claims, two_closes, known, queue_at, change_of, actor, reply_of, put_by, taken_by, given_back, At, moment_of, moment_named, in_story}
+use Rattle.bounded_demands.specs.Stories.{Story, story_of, one_step, OnlySuch, unlooked, never_closes, between_claims, two_closes, known, queue_at, change_of, actor, reply_of, put_by, taken_by, given_back, At, moment_of, moment_named, moment_named_of, in_story}
 use Rattle.bounded_demands.specs.Lending.{Lending, Promise, promised, holding, holds_did, holds_ran, steps, held_in, acts_lent, refusal_of, step_by_step, Doing, left_lent, all_taken_lent, step_on, run_on, fresh_lent, pushing_lent, stocked_lent, none_lent, spent_lent}
 use Rattle.bounded_demands.specs.Foretold.{foretold, Telling, told_by, told_in, tellings, as_foretold}
 use Rattle.bounded_demands.specs.Eight.{closed_f, case_f}
@@ -220,9 +220,9 @@ NamesMomentsOf many name capacity edition s =
     length s < wide → (earlier later : Story) (act : Event) → s ≡ earlier ++ Does act ∷ later → act.worker < many
     → in_story (name capacity earlier act) ≡ moment_of capacity edition act.worker (earlier ++ Does act ∷ [])
 
--- What the program names (`replay --moments`): of as many workers as can be lent, what `name_moment` of crate bounded_moments answers.
+-- What the program names (`replay --moments`): of the first sixteen workers, what `name_moment` of crate bounded_moments answers.
 abbrev pub NamesMomentsBy : (ℕ → Story → Event → Moment) → ℕ → ℕ → Story → Type 0
-NamesMomentsBy = NamesMomentsOf watched_most
+NamesMomentsBy = NamesMomentsOf workers_most
 
 abbrev pub NamesMoments : ℕ → ℕ → Story → Type 0
 NamesMoments = NamesMomentsBy moment_named
@@ -235,6 +235,12 @@ abbrev pub MomentsKeptInWindow : Definition → Type 0
 MomentsKeptInWindow d =
     (capacity workers edition : ℕ) → AllowedWith d.records capacity workers edition → (s : List ℕ) → KeepsWindow d (fresh_with d.records capacity workers edition) [] s
     → NamesMoments capacity edition (story_of d capacity workers edition s)
+
+-- By the same rule, kept for as many workers as are lent: at every act of every one of these.
+abbrev pub MomentsKeptOf : ℕ → Definition → Type 0
+MomentsKeptOf many d =
+    (capacity workers edition : ℕ) → AllowedWith d.records capacity workers edition → (s : List ℕ)
+    → NamesMomentsOf many (moment_named_of many) capacity edition (story_of d capacity workers edition s)
 
 -- ==== 1. Any machine, entry or schedule handed in gets an answer or a numbered refusal; a refused step changes nothing.
 -- That each gets an answer is what the functions of crates bounded and bounded_narrow promise: none has a `requires`, and each answer is equal to a

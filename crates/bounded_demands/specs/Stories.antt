@@ -218,7 +218,7 @@ moments_kept capacity s = moments_from (start capacity) s
 abbrev pub moment_named : ℕ → Story → Event → declared.Moment
 moment_named capacity earlier act = (named_of (moments_kept capacity earlier) act.worker act.before act.after).moment
 
--- By the same rule, kept for so many workers; `start` has room for as many as can be lent.
+-- By the same rule, kept for so many workers; `start` has room for sixteen.
 abbrev pub moments_kept_of : ℕ → ℕ → Story → Moments
 moments_kept_of many capacity s = moments_from (record { place = 0; tally = untallied; capacity = capacity; each = replicate many (of_worker (moments.Before 0)) }) s
 

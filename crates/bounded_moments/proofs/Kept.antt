@@ -1,5 +1,6 @@
 -- What `search` is given at the returns of the functions that keep the moments.
-use Rattle.std.proofs.Common.{◌≡◌, ℕ, zero, suc, ◌+◌, ◌%◌, ◌<◌, ◌≤◌, Bool, true, false, cond, not, eqb, List, [], ◌∷◌, map, length, get_or, set, sym, refl, ap, ◌∙◌, ap₂, true≢false, add-one, arith}
+use Rattle.std.proofs.Common.{◌≡◌, ℕ, zero, suc, ◌+◌, ◌%◌, ◌<◌, ◌≤◌, Bool, true, false, cond, not, eqb, List, [], ◌∷◌, map, length, get_or, set, sym, refl, ap, ◌∙◌, add-one, arith}
+use Rattle.queue_entries.specs.Limits.{workers_most}
 use Rattle.queue_entries.proofs.Pick.{along}
 use Rattle.bounded_words.specs.Limits.{wide}
 use Rattle.bounded_places.specs.declared.Answer.{Answer}
@@ -8,7 +9,6 @@ use Rattle.bounded_places.specs.declared.Place.{Place}
 use Rattle.bounded_places.specs.declared.Place.TheVariants.{Idle}
 use Rattle.bounded_places.specs.declared.View.{View}
 use Rattle.bounded_places.specs.declared.Moved.{Moved}
-use Rattle.bounded_places.specs.declared.Moved.TheVariants.{Neither, Tail, Head}
 use Rattle.bounded_places.specs.declared.Stand.{Stand}
 use Rattle.bounded_places.specs.Places.{view_of}
 use Rattle.bounded_machine.specs.declared.Tally.{Tally}
@@ -86,21 +86,6 @@ heard_more m place n xs now d y l e f = rw (add-one, e, f) (mapped_next (hears m
 pub heard_all : (m : Moved) (place n : ℕ) (xs now : List OfWorker) → length xs ≤ n → now ≡ mapped_to n (hears m place) xs → now ≡ heard_by_all m place xs
 unfolding heard_by_all
 heard_all m place n xs now l e = e ∙ mapped_whole (hears m place) n xs l
-
--- What is no claim leaves each as it was.
-heard_none : (place : ℕ) (x : Moment) → x ≡ heard_of Neither place x
-heard_none place (Before k) = refl
-heard_none place (After k) = refl
-heard_none place AfterNextTail = refl
-heard_none place AfterNextHead = refl
-
-pub heard_still : (m : Moved) (place : ℕ) (xs : List OfWorker) (b : Bool) → b ≡ cond (claims_tail m) true (claims_head m) → b ≡ false → xs ≡ heard_by_all m place xs
-unfolding heard_by_all
-heard_still Tail place xs b e f = absurd (true≢false (sym e ∙ f))
-heard_still Head place xs b e f = absurd (true≢false (sym e ∙ f))
-heard_still Neither place [] b e f = refl
-heard_still Neither place (x ∷ xs) b e f =
-    ap₂ (λ (y : OfWorker) (ys : List OfWorker). y ∷ ys) (ap of_worker (heard_none place x.moment)) (heard_still Neither place xs b e f)
 
 -- ---- what is kept put together
 

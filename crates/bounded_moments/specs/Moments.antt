@@ -1,5 +1,6 @@
 -- At which moment an answer is the plain queue's (crates/queue_plain): what an act makes of the moment of its own call and of the others', and what is kept of every worker to name it.
 use Rattle.std.specs.Prelude.{ℕ, Bool, cond, not, List, map, replicate, ◌==◌, slice_index_or, slice_set}
+use Rattle.queue_entries.specs.Limits.{workers_most}
 use Rattle.bounded_places.specs.declared.Answer.{Answer}
 use Rattle.bounded_places.specs.declared.Answer.TheVariants.{Nothing, Pushed, Full, Closed, Displaced, Popped, Empty, PopClosed, Len, Yes, No}
 use Rattle.bounded_places.specs.declared.Place.{Place}
@@ -9,7 +10,7 @@ use Rattle.bounded_places.specs.Places.{view_of}
 use Rattle.bounded_machine.specs.declared.Tally.{Tally}
 use Rattle.bounded_machine.specs.History.{moved_of, untallied, untaken_of}
 use Rattle.bounded_stock.specs.Stock.{one_more_act, tallied_of}
-use Rattle.bounded_causes.specs.Causes.{stand_of, claims_tail, claims_head, watched_most}
+use Rattle.bounded_causes.specs.Causes.{stand_of, claims_tail, claims_head}
 use Rattle.bounded_moments.specs.declared.Moment.{Moment}
 use Rattle.bounded_moments.specs.declared.Moment.TheVariants.{Before, After, AfterNextTail, AfterNextHead}
 use Rattle.bounded_moments.specs.declared.Timing.{Timing}
@@ -83,10 +84,10 @@ heard_of m place AfterNextHead = cond (claims_head m) (After place) AfterNextHea
 abbrev pub of_worker : Moment → OfWorker
 of_worker x = record { moment = x }
 
--- before the first entry; of as many workers as can be lent
+-- before the first entry
 abbrev pub start : ℕ → Moments
 start capacity =
-    record { place = 0; tally = untallied; capacity = capacity; each = replicate watched_most (of_worker (Before 0)) }
+    record { place = 0; tally = untallied; capacity = capacity; each = replicate workers_most (of_worker (Before 0)) }
 
 abbrev pub moment_in : List OfWorker → ℕ → Moment
 moment_in xs w = (slice_index_or xs w (of_worker (Before 0))).moment

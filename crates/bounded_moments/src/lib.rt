@@ -1,8 +1,7 @@
 // At which moment an answer is the plain queue's, kept along a run: what an answer means.
 #![tactic(auto)]
 
-ghost use Rattle.std.specs.Prelude.{◌≡◌, true, if◌then◌else◌, slice_set};
-ghost use Rattle.bounded_causes.specs.Causes.{claims_tail, claims_head};
+ghost use Rattle.std.specs.Prelude.{◌≡◌, if◌then◌else◌, slice_set};
 ghost use Rattle.bounded_machine.specs.History.{untaken_of};
 ghost use Rattle.bounded_moments.specs.Moments.{timing_said, timing_of, timed_of, heard_of, of_worker, start, moment_in, heard_by_all, begun_of, own_of, named_of};
 
@@ -49,7 +48,7 @@ pub struct Moments {
     // the claims so far
     pub tally: Tally,
     pub capacity: u64,
-    pub each: [OfWorker; bounded_causes::WATCHED],
+    pub each: [OfWorker; queue_entries::WORKERS],
 }
 
 #[derive(Clone, Copy)]
@@ -178,7 +177,7 @@ pub fn start(capacity: u64) -> Moments
 {
     let each = [OfWorker {
         moment: Moment::Before(0),
-    }; bounded_causes::WATCHED];
+    }; queue_entries::WORKERS];
     Moments {
         place: 0,
         tally: Tally {
@@ -191,39 +190,26 @@ pub fn start(capacity: u64) -> Moments
     }
 }
 
-fn moment_in(xs: [OfWorker; bounded_causes::WATCHED], w: u64) -> Moment
+fn moment_in(xs: [OfWorker; queue_entries::WORKERS], w: u64) -> Moment
     ensures { result ≡ moment_in xs w }
 {
-    if w < bounded_causes::WATCHED as u64 {
+    if w < queue_entries::WORKERS as u64 {
         let x = xs[w as usize];
         return x.moment;
     }
     Moment::Before(0)
 }
 
-fn claims(m: Moved) -> bool
-    ensures { result ≡ (if claims_tail m then true else claims_head m) }
-{
-    match m {
-        Moved::Neither => false,
-        Moved::Tail => true,
-        Moved::Head => true,
-    }
-}
-
 fn heard_by_all(
-    xs: [OfWorker; bounded_causes::WATCHED],
+    xs: [OfWorker; queue_entries::WORKERS],
     moved: Moved,
     place: u64,
-) -> [OfWorker; bounded_causes::WATCHED]
+) -> [OfWorker; queue_entries::WORKERS]
     ensures { result ≡ heard_by_all moved place xs }
 {
-    if claims(moved) {} else {
-        return xs;
-    }
     let mut now = xs;
     let mut i = 0;
-    while i < bounded_causes::WATCHED {
+    while i < queue_entries::WORKERS {
         let x = xs[i];
         let was = x.moment;
         let is = heard(moved, place, was);
@@ -234,14 +220,14 @@ fn heard_by_all(
 }
 
 fn with_own(
-    xs: [OfWorker; bounded_causes::WATCHED],
+    xs: [OfWorker; queue_entries::WORKERS],
     w: u64,
     own: Moment,
-) -> [OfWorker; bounded_causes::WATCHED]
+) -> [OfWorker; queue_entries::WORKERS]
     ensures { result ≡ slice_set xs w (of_worker own) }
 {
     let mut now = xs;
-    if w < bounded_causes::WATCHED as u64 {
+    if w < queue_entries::WORKERS as u64 {
         now[w as usize] = OfWorker { moment: own };
     }
     now

@@ -68,13 +68,13 @@ use Rattle.bounded_demands.specs.Walkings.{item10}
 use Rattle.bounded_demands.proofs.Walkings.{walks_counted}
 use Rattle.bounded_proof_walks.proofs.Walks.{walks_all, walk_told, walk_counts}
 use Rattle.bounded_demands.specs.Demands.{AnswersPlain, AnswersPlainInWindow, OneStep, OneStepInWindow, OneStepUnderEverySchedule, OneStepUnderEveryInWindow}
-use Rattle.bounded_demands.specs.Demands.{ClosesNotOneStep, LooksNotOneStep, MomentsKept, MomentsKeptInWindow}
+use Rattle.bounded_demands.specs.Demands.{ClosesNotOneStep, LooksNotOneStep, MomentsKept, MomentsKeptInWindow, MomentsKeptOf}
 use Rattle.bounded_proof_plain.proofs.Plain.{answers_plain, plain_in_window}
 use Rattle.bounded_proof_plain.proofs.Linearizable.{one_step_lem, one_step_in_window}
 use Rattle.bounded_proof_plain.proofs.Unlooked.{others, others_in_window}
 use Rattle.bounded_proof_plain.proofs.TwoCloses.{closes_not_one_step}
 use Rattle.bounded_proof_plain.proofs.BetweenClaims.{looks_not_one_step}
-use Rattle.bounded_proof_plain.proofs.Moments.{moments_kept, moments_in_window}
+use Rattle.bounded_proof_plain.proofs.Moments.{moments_kept, moments_in_window, moments_kept_of_lem}
 
 -- What an answer means: every run is a run of a plain queue, each answer its at a moment inside the call, nothing lost and nothing another's; of 64 bits, and of sixteen within the window. One step a
 -- call: linearizable in the classical sense, with push, force_push and pop, and in edition 2 with close and is_closed; in edition 1 two closes are not.
@@ -90,9 +90,9 @@ pub one_step_always :
     OneStepUnderEverySchedule document01 × OneStepUnderEverySchedule (with_records records_most SixtyFour) × OneStepUnderEveryInWindow (of_width Sixteen) × LooksNotOneStep document01
 one_step_always = (others workers_most, others records_most, others_in_window Sixteen workers_most, looks_not_one_step)
 
--- The moment that the program names is the one that the story has: held, of sixteen bits within the window, and lent.
-pub moments_named : MomentsKept document01 × MomentsKeptInWindow (of_width Sixteen) × MomentsKept (with_records records_most SixtyFour)
-moments_named = (moments_kept workers_most, moments_in_window Sixteen workers_most, moments_kept records_most)
+-- The moment that the program names is the one that the story has; and by the same rule of as many workers as are lent.
+pub moments_named : MomentsKept document01 × MomentsKeptInWindow (of_width Sixteen) × MomentsKeptOf records_most (with_records records_most SixtyFour)
+moments_named = (moments_kept workers_most, moments_in_window Sixteen workers_most, moments_kept_of_lem records_most records_most)
 
 -- 1. Any machine, entry or schedule handed in gets an answer or a numbered refusal (the functions of crates bounded and bounded_narrow have no
 -- `requires`); a refused step changes nothing; only one answer meets a promise.

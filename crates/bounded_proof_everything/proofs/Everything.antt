@@ -4,7 +4,7 @@ use Rattle.bounded_words.specs.declared.Width.TheVariants.{Sixteen, SixtyFour}
 use Rattle.bounded_orders.specs.Orders.{records_most}
 use Rattle.bounded_demands.specs.Notions.{document01, of_width, with_records, sixty_four, sixteen}
 use Rattle.bounded_demands.specs.Lending.{item11}
-use Rattle.bounded_demands.specs.Demands.{OneStepUnderEverySchedule, OneStepUnderEveryInWindow, LooksNotOneStep, MomentsKept, MomentsKeptInWindow, Mixed, MixedInWindow, LentMixed}
+use Rattle.bounded_demands.specs.Demands.{OneStepUnderEverySchedule, OneStepUnderEveryInWindow, LooksNotOneStep, MomentsKept, MomentsKeptInWindow, MomentsKeptOf, Mixed, MixedInWindow, LentMixed}
 use Rattle.bounded_logs.specs.Logs.{ShowsNone, MixedShowsNone, MixedShowsNoneInWindow, LentShowsNone}
 use Rattle.bounded_proof_all_demands.proofs.Headlines.{one_step_always, moments_named, in_any_mixture, lent_in_any_mixture}
 use Rattle.bounded_proof_logs.proofs.Ring.{shows_none}
@@ -41,7 +41,7 @@ use Rattle.bounded_proof_walks_slips.proofs.Refuted as walks-proved
 pub one_step_lem : OneStepUnderEverySchedule document01 × OneStepUnderEverySchedule (with_records records_most SixtyFour) × OneStepUnderEveryInWindow (of_width Sixteen) × LooksNotOneStep document01
 one_step_lem = one_step_always
 
-pub moments : MomentsKept document01 × MomentsKeptInWindow (of_width Sixteen) × MomentsKept (with_records records_most SixtyFour)
+pub moments : MomentsKept document01 × MomentsKeptInWindow (of_width Sixteen) × MomentsKeptOf records_most (with_records records_most SixtyFour)
 moments = moments_named
 
 -- Calls in any mixture: held, lent, and words in a host's memory (`HostedMixed` is among what stands of these, with the rest that is said of them).

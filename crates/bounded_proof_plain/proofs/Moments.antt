@@ -10,6 +10,7 @@ use native.Mathlib.Decide.{ℕ_discrete}
 use lib.Dec.{eqb}
 use lib.ListN.{length, set, length-set, length-map, length-append, length-replicate, get_or-map}
 use lib.Seq.{get_or-set_same, get_or-set_other}
+use Rattle.queue_entries.specs.Limits.{workers_most}
 use Rattle.queue_entries.specs.Entries.{entry_of}
 use Rattle.queue_entries.specs.declared.Call.{Call}
 use Rattle.queue_entries.specs.declared.Entry.{Entry}
@@ -31,7 +32,6 @@ use Rattle.bounded_machine.specs.Turn.{turn_at, turn_of_by}
 use Rattle.bounded_machine.specs.History.{events_of, moved_of, reads_at, counted, read_on, untallied, tally_of, untaken_of}
 use Rattle.bounded_stock.specs.Stock.{one_more_act, tallied_of}
 use Rattle.bounded_stock.proofs.Tallies.{tally_counts}
-use Rattle.bounded_causes.specs.Causes.{watched_most}
 use Rattle.bounded_moments.specs.declared.Moment as declared
 use Rattle.bounded_moments.specs.declared.Moment.TheVariants as moments
 use Rattle.bounded_moments.specs.declared.Moments.{Moments}
@@ -42,7 +42,7 @@ use Rattle.bounded_moments.specs.Moments.{timing_of, timed_of, heard_of, of_work
 use Rattle.bounded_demands.specs.Notions.{with_records, AllowedWith, KeepsWidestWindow, tally}
 use Rattle.bounded_demands.specs.Stories.{Element, Story, story_of, known, change_of, actor, Moment, At, AfterNextTail, AfterNextHead, timed, heard, moment_of}
 use Rattle.bounded_demands.specs.Stories.{moment_from, moments_with, moments_from, moments_kept_of, moment_named_of, in_story}
-use Rattle.bounded_demands.specs.Demands.{NamesMomentsOf, MomentsKept, MomentsKeptInWindow}
+use Rattle.bounded_demands.specs.Demands.{NamesMomentsOf, MomentsKept, MomentsKeptInWindow, MomentsKeptOf}
 use Rattle.bounded_proof_demand2.proofs.Turns.{Turned, began, did, turned}
 use Rattle.bounded_proof_demand2.proofs.Lists.{Last, Earlier, split_end}
 use Rattle.bounded_proof_demand2.proofs.Counts.{tally_end}
@@ -272,8 +272,12 @@ moments_of many bits records c workers ed a s keeps few =
     (λ h. sound_none many c ed) s keeps).1 few).names
 
 pub moments_in_window : (bits : Width) (records : ℕ) → MomentsKeptInWindow (with_records records bits)
-moments_in_window bits records c workers ed a s keeps = moments_of watched_most bits records c workers ed a s (widens (with_records records bits) (fresh_with records c workers ed) [] s keeps)
+moments_in_window bits records c workers ed a s keeps = moments_of workers_most bits records c workers ed a s (widens (with_records records bits) (fresh_with records c workers ed) [] s keeps)
 
 -- of 64 bits every schedule
 pub moments_kept : (records : ℕ) → MomentsKept (with_records records SixtyFour)
-moments_kept records c workers ed a s = moments_of watched_most SixtyFour records c workers ed a s (always records c workers ed a s)
+moments_kept records c workers ed a s = moments_of workers_most SixtyFour records c workers ed a s (always records c workers ed a s)
+
+-- and for as many workers as are lent
+pub moments_kept_of_lem : (many records : ℕ) → MomentsKeptOf many (with_records records SixtyFour)
+moments_kept_of_lem many records c workers ed a s = moments_of many SixtyFour records c workers ed a s (always records c workers ed a s)

@@ -1,10 +1,9 @@
 -- Which tables are no plain queue's: of each slip a schedule on which `AnswersPlain` is false (clause by clause: Clauses.antt); and of which `OneStep` is.
 use Rattle.std.specs.Prelude.{ℕ, List, [], ◌∷◌, ◌++◌}
-use Rattle.queue_entries.specs.Limits.{workers_most}
 use Rattle.bounded_words.specs.declared.Width.TheVariants.{SixtyFour}
 use Rattle.bounded_demands.specs.Notions.{acts, document01, with_records}
-use Rattle.bounded_demands.specs.Stories.{story_of, moment_named, moment_named_of}
-use Rattle.bounded_demands.specs.Demands.{AnswersPlain, OneStep, OneStepUnderEverySchedule, NamesMomentsBy}
+use Rattle.bounded_demands.specs.Stories.{story_of, moment_named}
+use Rattle.bounded_demands.specs.Demands.{AnswersPlain, OneStep, OneStepUnderEverySchedule, NamesMomentsBy, NamesMomentsOf}
 use Rattle.bounded_slips.specs.Slips.{unwritten, full_unseen, stamp_before_value, empty_unseen, len_looks_once, empty_tail_first, full_head_first, push_writes_late, force_forgets, closed_too_soon, closed_unseen, hands_out_again, another_item, another_forced, lost_says_pushed, empty_says_no, full_says_no, close_says_yes, closed_says_no, lost_drops_the_mark, force_keeps, push_stamp_untested, force_uncompared, empty_of_closed, len_forgets, slipped}
 use Rattle.bounded_slips.specs.Refuted.{Trial, trial, trial_in, does}
 
@@ -147,4 +146,4 @@ pub record RefutedOneStep : Type 0 where
   -- named by what is kept of no story
   pub moments_unkept : NamesMomentsBy (λ capacity earlier act. moment_named capacity [] act) 1 1 (story_of document01 1 2 1 (does 0 0 5 1)) → ⊥
   -- of seventeen workers, by what is kept of sixteen: the last one's second act
-  pub sixteen_kept : NamesMomentsBy (moment_named_of workers_most) 1 1 (story_of (with_records 17 SixtyFour) 1 17 1 (does 16 0 5 2)) → ⊥
+  pub sixteen_kept : NamesMomentsOf 17 moment_named 1 1 (story_of (with_records 17 SixtyFour) 1 17 1 (does 16 0 5 2)) → ⊥

@@ -1,9 +1,4 @@
 // One act, by the place at which it is taken.
-ghost use Rattle.std.specs.Prelude.{◌≤◌};
-ghost use Rattle.bounded_words.specs.Limits.{slots_most};
-ghost use Rattle.bounded_words.specs.Words.{Fair};
-
-use bounded_words::{Fixed, Stamp, Width};
 
 // An entry that was run: its place, its two words; the words of the ring and of its worker's record, before it and after it (crate bounded_rows); whether head, tail and
 // stamps have sixteen bits.
@@ -26,60 +21,38 @@ pub struct Claims {
     pub head: u64,
 }
 
-// The constants of a ring of this capacity.
-fn fixed_by(capacity: u64, edition: u64) -> Fixed
-    requires { capacity ≤ slots_most }
-    ensures { Fair result }
-{
-    let mark = bounded_words::mark_of(capacity);
-    let lap = 2 * mark;
-    Fixed {
-        mark: mark,
-        lap: lap,
-        capacity: capacity,
-        edition: edition,
+fn slot_of(ring: [u64; 8], word: u64) -> u64 {
+    let mark = ring[0];
+    if mark == 0 {
+        return 0;
     }
-}
-
-fn fixed_of(ring: [u64; 8]) -> Fixed
-    ensures { Fair result }
-{
-    let capacity = ring[2];
-    if capacity <= bounded_words::SLOTS as u64 {
-        return fixed_by(capacity, ring[3]);
-    }
-    fixed_by(0, ring[3])
-}
-
-pub fn slot_of(ring: [u64; 8], word: u64) -> u64 {
-    let f = fixed_of(ring);
-    bounded_words::index(f, Stamp(word))
+    word % mark
 }
 
 pub fn is_marked(ring: [u64; 8], word: u64) -> bool {
-    let f = fixed_of(ring);
-    bounded_words::marked(f, Stamp(word))
+    let mark = ring[0];
+    if mark == 0 {
+        return false;
+    }
+    word / mark % 2 == 1
 }
 
-pub fn width_of(narrow: bool) -> Width {
+fn in_width(narrow: bool, word: u64) -> u64 {
     if narrow {
-        Width::Sixteen
-    } else {
-        Width::SixtyFour
+        return word % 65536;
     }
+    word
 }
 
 // The word after this one.
 fn next(narrow: bool, ring: [u64; 8], word: u64) -> u64 {
-    let f = fixed_of(ring);
-    let w = bounded_words::next(width_of(narrow), f, Stamp(word));
-    w.0
-}
-
-// The word a lap before this one.
-fn lap_before(narrow: bool, ring: [u64; 8], word: u64) -> u64 {
-    let w = bounded_words::earlier(width_of(narrow), Stamp(word), ring[1]);
-    w.0
+    let i = slot_of(ring, word);
+    let j = std::num::wrapping_add_u64(i, 1);
+    if j < ring[2] {
+        return std::num::wrapping_add_u64(word, 1);
+    }
+    let begun = std::num::wrapping_sub_u64(word, i);
+    in_width(narrow, std::num::wrapping_add_u64(begun, ring[1]))
 }
 
 // The lap that a word is of.
@@ -98,7 +71,7 @@ fn numbers_of(e: Entered, c: Claims) -> [u64; 23] {
     let was = e.ring_before;
     let before = e.before;
     let after = e.after;
-    let g = lap_before(e.narrow, ring, before[1]);
+    let g = in_width(e.narrow, std::num::wrapping_sub_u64(before[1], ring[1]));
     let f = next(e.narrow, ring, before[1]);
     let j = next(e.narrow, ring, g);
     let k = slot_of(ring, ring[4]);

@@ -1,26 +1,28 @@
 // What stands at the end of a run of the ring: who is busy, what waits, what was lost.
-use replay_bounded_explain_lines::notes;
 use replay_bounded_explain_lines::notes::Counts;
-use replay_bounded_explain_lines::words::{RECORD, record_of, ring_of};
+use replay_bounded_explain_lines::words::{RECORD, get, record_of};
 
-fn hand_if(line: &mut [u8], at: usize, ring: [u64; 8], r: [u64; 5]) -> usize {
-    let place = bounded_codes::place_in(r[0], r[1], r[2]);
-    let stand = bounded_causes::stand_of(place);
-    if stand.hand {
-        let slot = [bounded_text_explain::acts::slot_of(ring, r[1])];
-        return text_output::form(line, at, b", slot # in its hand", &slot);
+fn hand_of(line: &mut [u8], at: usize, head: &[u64], code: u64, word: u64) -> usize {
+    let mark = get(head, 0);
+    if mark == 0 {
+        return at;
     }
-    at
+    match code {
+        15 | 18 | 26 | 29 | 30 | 31 | 32 => {
+            text_output::form(line, at, b", slot # in its hand", &[word % mark])
+        }
+        _ => at,
+    }
 }
 
 // busy: wN at PLACE
-fn busy_line(out: &mut [u8], at: usize, ring: [u64; 8], w: u64, r: [u64; 5]) -> usize {
+fn busy_line(out: &mut [u8], at: usize, head: &[u64], w: u64, r: [u64; 5]) -> usize {
     if r[0] < 11 {
         return at;
     }
     let p = text_output::form(out, at, b"busy: w# at ", &[w]);
     let q = bounded_text_explain::acts::place(out, p, r[0]);
-    let s = hand_if(out, q, ring, r);
+    let s = hand_of(out, q, head, r[0], r[1]);
     let t = text_output::byte(out, s, b'\n');
     text_output::settle(out, t)
 }
@@ -30,7 +32,7 @@ fn busy(out: &mut [u8], at: usize, head: &[u64], records: &[u64]) -> usize {
     let n = (records.len() / RECORD) as u64;
     let mut w = 0;
     while w < n {
-        p = busy_line(out, p, ring_of(head), w, record_of(records, w));
+        p = busy_line(out, p, head, w, record_of(records, w));
         w += 1;
     }
     p
@@ -47,7 +49,7 @@ fn waits(
     let mut list = [0u64; 1024];
     let told = bounded_host::fern_ring_contents(head, slots, records, &mut list);
     if told.refusal != 0 {
-        let n = std::num::wrapping_sub_u64(notes::tails(c), notes::heads(c));
+        let n = std::num::wrapping_sub_u64(c.tails, c.heads);
         return text_output::form(
             out,
             at,

@@ -1,46 +1,40 @@
 // The entries of a schedule, run on the words of a ring and its records, each with its line.
-ghost use Rattle.std.specs.Prelude.{◌≡◌, true, false};
-ghost use Rattle.bounded_lent.specs.Lent.{broken_lent};
-ghost use Rattle.bounded_rows.specs.Rows.{words, records_in, metered_in, stand};
-
-use bounded_causes::{Causes, Watches};
 use bounded_text_explain::acts::Entered;
+use bounded_words::Width;
 use replay_bounded_explain_lines::lines::Asked;
-use replay_bounded_explain_lines::notes::Counts;
-use replay_bounded_explain_lines::words::{record_of, ring_of};
+use replay_bounded_explain_lines::notes::{Causes, Counts};
+use replay_bounded_explain_lines::words::{after, get, record_of, ring_of};
 use replay_bounded_explain_lines::{lines, notes};
 use replay_survey::pieces::Run;
 
-// How far the run is, what is counted along it, and what is kept of every worker to name causes.
+// How far the run is, and what is counted along it.
 #[derive(Clone, Copy)]
 pub struct Going {
     pub run: Run,
     pub counts: Counts,
-    pub watches: Watches,
 }
 
-fn entered(
-    place: u64,
-    first: u64,
-    second: u64,
-    narrow: bool,
-    ring_before: [u64; 8],
-    before: [u64; 5],
-    head: &[u64],
-    records: &[u64],
-) -> Entered {
-    let ring = ring_of(head);
-    let after = record_of(records, first / 16);
-    Entered {
-        place: place,
-        first: first,
-        second: second,
-        narrow: narrow,
-        ring_before: ring_before,
-        ring: ring,
-        before: before,
-        after: after,
+fn width(narrow: bool) -> Width {
+    if narrow {
+        Width::Sixteen
+    } else {
+        Width::SixtyFour
     }
+}
+
+fn told_if(
+    it: bool,
+    o: Asked,
+    out: &mut [u8],
+    at: usize,
+    e: Entered,
+    c: Counts,
+    causes: Causes,
+) -> usize {
+    if it {
+        return lines::told(o, out, at, e, c, causes);
+    }
+    at
 }
 
 fn is_shown(o: Asked, seen: &mut [u64], e: Entered) -> bool {
@@ -50,44 +44,107 @@ fn is_shown(o: Asked, seen: &mut [u64], e: Entered) -> bool {
     true
 }
 
-// An entry that was accepted has its line, unless an item is followed whose life it does not belong to.
+fn run_on(place: u64, at: usize) -> Run {
+    Run {
+        place: std::num::wrapping_add_u64(place, 1),
+        refusal: 0,
+        whole: false,
+        at: at,
+    }
+}
+
+// An entry that was accepted.
 fn accepted(
+    at: usize,
+    c: Counts,
     o: Asked,
     seen: &mut [u64],
-    out: &mut [u8],
-    at: usize,
+    records: &[u64],
     e: Entered,
-    c: Counts,
-    back: bool,
-    causes: Causes,
-) -> usize {
-    if is_shown(o, seen, e) {
-        return lines::told(o, out, at, e, c, back, causes);
+    out: &mut [u8],
+) -> Going {
+    let shown = is_shown(o, seen, e);
+    if e.first % 16 < 8 {
+        return Going {
+            run: run_on(e.place, told_if(shown, o, out, at, e, c, notes::none())),
+            counts: c,
+        };
     }
-    at
+    let causes = notes::noted(seen, records, c, e);
+    let p = told_if(shown, o, out, at, e, c, causes);
+    let q = notes::tell_window(seen, e, out, p);
+    Going {
+        run: run_on(e.place, q),
+        counts: notes::counted(c, e),
+    }
 }
 
-// The lines of an entry that was run, or refused by this number.
-fn told(
+fn refused(r: Run, c: Counts, o: Asked, refusal: u64, w: u64, out: &mut [u8]) -> Going {
+    Going {
+        run: Run {
+            place: r.place,
+            refusal: refusal,
+            whole: false,
+            at: text_explain::words::refused(out, r.at, o.colours, r.place, refusal, w),
+        },
+        counts: c,
+    }
+}
+
+// The entry of two words, on any words; what is broken is refused.
+fn turn(
+    bits: Width,
+    head: &mut [u64],
+    slots: &mut [u64],
+    records: &mut [u64],
+    first: u64,
+    second: u64,
+) -> u64 {
+    if bounded_slices::broken(head, slots, records) {
+        return 6;
+    }
+    bounded_rows::turn(bits, head, slots, records, first, second)
+}
+
+fn step(
+    g: Going,
     o: Asked,
+    head: &mut [u64],
+    slots: &mut [u64],
+    records: &mut [u64],
     seen: &mut [u64],
+    first: u64,
+    second: u64,
     out: &mut [u8],
-    at: usize,
-    refusal: u64,
-    e: Entered,
-    c: Counts,
-    back: bool,
-    causes: Causes,
-) -> usize {
+) -> Going {
+    let run = g.run;
+    let counts = g.counts;
+    let was = ring_of(head);
+    let before = record_of(records, first / 16);
+    let refusal = turn(width(o.narrow), head, slots, records, first, second);
     if refusal != 0 {
-        return text_explain::words::refused(out, at, o.colours, e.place, refusal, e.first / 16);
+        return refused(run, counts, o, refusal, first / 16, out);
     }
-    let p = accepted(o, seen, out, at, e, c, back, causes);
-    notes::tell_window(seen, e, out, p)
+    let e = Entered {
+        place: run.place,
+        first: first,
+        second: second,
+        narrow: o.narrow,
+        ring_before: was,
+        ring: ring_of(head),
+        before: before,
+        after: record_of(records, first / 16),
+    };
+    accepted(run.at, counts, o, seen, records, e, out)
 }
 
-// To the list's end or to the first refusal, on words that stand for a ring and records that are not broken.
-fn steps(
+fn is_refused(g: Going) -> bool {
+    let run = g.run;
+    run.refusal != 0
+}
+
+// The k-th pair of the list, unless one before it was refused.
+fn step_at(
     g: Going,
     o: Asked,
     head: &mut [u64],
@@ -95,58 +152,19 @@ fn steps(
     records: &mut [u64],
     seen: &mut [u64],
     list: &[u64],
+    k: usize,
     out: &mut [u8],
-) -> Going
-    requires records_value { broken_lent (metered_in (words head.old slots.old records.old)) (records_in records.old) ≡ false }
-    requires records_value_2 { stand (words head.old slots.old records.old) ≡ true }
-{
-    let r = g.run;
-    let mut counts = g.counts;
-    let mut watches = g.watches;
-    let mut place = r.place;
-    let mut refusal = r.refusal;
-    let mut at = r.at;
-    let bits = bounded_text_explain::acts::width_of(o.narrow);
-    let n = list.len() / 2;
-    let mut i = 0;
-    while i < n && refusal == 0 {
-        let first = list[2 * i];
-        let second = list[2 * i + 1];
-        i += 1;
-        let ring_before = ring_of(head);
-        let before = record_of(records, first / 16);
-        refusal = bounded_rows::turn(bits, head, slots, records, first, second);
-        let e = entered(
-            place,
-            first,
-            second,
-            o.narrow,
-            ring_before,
-            before,
-            head,
-            records,
-        );
-        let named = notes::named(watches, e);
-        let kept = named.watches;
-        let causes = named.causes;
-        watches = kept;
-        at = told(o, seen, out, at, refusal, e, counts, named.back, causes);
-        counts = notes::counted(counts, e);
-        place = replay_survey::pieces::next_place(place, refusal);
+) -> Going {
+    if is_refused(g) {
+        return g;
     }
-    Going {
-        run: Run {
-            place: place,
-            refusal: refusal,
-            whole: r.whole,
-            at: at,
-        },
-        counts: counts,
-        watches: watches,
-    }
+    let at = after(k, k);
+    let first = get(list, at);
+    let second = get(list, after(at, 1));
+    step(g, o, head, slots, records, seen, first, second, out)
 }
 
-// The entries of one piece. Ring and records are judged once a piece: no entry breaks what is not broken.
+// To the list's end or to the first refusal.
 pub fn run(
     g: Going,
     o: Asked,
@@ -157,8 +175,13 @@ pub fn run(
     list: &[u64],
     out: &mut [u8],
 ) -> Going {
-    if bounded_slices::broken(head, slots, records) {
-        return g;
+    let mut going = g;
+    let n = list.len() / 2;
+    let mut k = 0;
+    while k < n {
+        let i = k;
+        k += 1;
+        going = step_at(going, o, head, slots, records, seen, list, i, out);
     }
-    steps(g, o, head, slots, records, seen, list, out)
+    going
 }

@@ -1,8 +1,6 @@
 // The lines of a run of the ring: of each entry, of what is refused, of the making.
 use crate::notes;
-use crate::notes::Counts;
-use bounded_causes::Causes;
-use bounded_places::Moved;
+use crate::notes::{Causes, Counts};
 use bounded_text_explain::acts::{Claims, Entered};
 use text_explain::columns;
 
@@ -39,8 +37,8 @@ fn causes_of(out: &mut [u8], c: Causes) -> usize {
     text_output::byte(out, t, b')')
 }
 
-fn causes_if(line: &mut [u8], at: usize, back: bool, c: Causes) -> usize {
-    if !back {
+fn with_causes(line: &mut [u8], at: usize, c: Causes) -> usize {
+    if !c.back {
         return at;
     }
     let mut text = [0u8; 64];
@@ -66,34 +64,30 @@ fn begin_line(line: &mut [u8], at: usize, w: u64, code: u64) -> usize {
 
 fn act_line(line: &mut [u8], at: usize, e: Entered, c: Counts) -> usize {
     let claims = Claims {
-        tail: notes::tails(c),
-        head: notes::heads(c),
+        tail: c.tails,
+        head: c.heads,
     };
     bounded_text_explain::acts::act(line, at, e, claims)
 }
 
 // A claim of an item that is followed has its lap.
 fn lap_if(line: &mut [u8], at: usize, follows: bool, e: Entered, c: Counts) -> usize {
+    let before = e.before;
+    let after = e.after;
     let ring = e.ring;
-    let moved = notes::moved_by(e);
     if !follows {
         return at;
     }
-    match moved {
-        Moved::Neither => at,
-        Moved::Tail => with_lap(line, at, notes::tails(c), ring[2]),
-        Moved::Head => with_lap(line, at, notes::heads(c), ring[2]),
+    if notes::is_tail_claim(before[0], after[0]) {
+        return with_lap(line, at, c.tails, ring[2]);
     }
+    if notes::is_head_claim(before[0], after[0]) {
+        return with_lap(line, at, c.heads, ring[2]);
+    }
+    at
 }
 
-fn entry_line(
-    line: &mut [u8],
-    o: Asked,
-    e: Entered,
-    c: Counts,
-    back: bool,
-    causes: Causes,
-) -> usize {
+fn entry_line(line: &mut [u8], o: Asked, e: Entered, c: Counts, causes: Causes) -> usize {
     let before = e.before;
     let p = columns::number(line, e.place);
     let q = begin_line(line, p, e.first / 16, before[0]);
@@ -102,21 +96,13 @@ fn entry_line(
     }
     let r = act_line(line, q, e, c);
     let s = lap_if(line, r, o.follows, e, c);
-    causes_if(line, s, back, causes)
+    with_causes(line, s, causes)
 }
 
-fn is_claim(e: Entered) -> bool {
-    let moved = notes::moved_by(e);
-    match moved {
-        Moved::Neither => false,
-        Moved::Tail => true,
-        Moved::Head => true,
-    }
-}
-
-fn colour_of(e: Entered, back: bool) -> u8 {
+fn colour_of(e: Entered, causes: Causes) -> u8 {
+    let before = e.before;
     let after = e.after;
-    if back {
+    if causes.back {
         return columns::AGAIN;
     }
     if e.first % 16 < 8 {
@@ -125,7 +111,7 @@ fn colour_of(e: Entered, back: bool) -> u8 {
     if bounded_text_explain::acts::is_close_lost(e) {
         return columns::CLOSE_LOST;
     }
-    if is_claim(e) {
+    if notes::is_tail_claim(before[0], after[0]) || notes::is_head_claim(before[0], after[0]) {
         return columns::CLAIM;
     }
     if after[0] < 11 {
@@ -134,19 +120,10 @@ fn colour_of(e: Entered, back: bool) -> u8 {
     columns::PLAIN
 }
 
-// Of an entry that was accepted, which goes back or not, and why.
-pub fn told(
-    o: Asked,
-    out: &mut [u8],
-    at: usize,
-    e: Entered,
-    c: Counts,
-    back: bool,
-    causes: Causes,
-) -> usize {
+pub fn told(o: Asked, out: &mut [u8], at: usize, e: Entered, c: Counts, causes: Causes) -> usize {
     let mut line = [0u8; columns::WIDE];
-    let n = entry_line(&mut line, o, e, c, back, causes);
-    columns::put(out, at, &line, n, o.colours, colour_of(e, back))
+    let n = entry_line(&mut line, o, e, c, causes);
+    columns::put(out, at, &line, n, o.colours, colour_of(e, causes))
 }
 
 pub fn told_making(

@@ -1,41 +1,64 @@
-// What is noted along a run of the ring to tell why a worker tries again, and whose life an entry belongs to: claims counted at each end and exchanges lost, what is kept of
-// every worker for its causes; which workers and slots have the item that is followed.
-use crate::words::get;
-use bounded_causes::{Causes, Named, Watches};
-use bounded_machine::Tally;
-use bounded_places::{Loss, Moved, Place};
+// What is noted along a run of the ring to tell why a worker tries again, and whose life an entry belongs to: claims counted at each end, how many there were when a worker
+// last looked, whether another had a slot in hand then; which workers and slots have the item that is followed.
+use crate::words::{RECORD, get};
 use bounded_text_explain::acts::Entered;
-use bounded_words::Claim;
 
 #[derive(Clone, Copy)]
 pub struct Counts {
-    pub tally: Tally,
+    pub tails: u64,
+    pub heads: u64,
+    // marks set in tail
+    pub marks: u64,
     pub differed: u64,
     pub failed: u64,
 }
 
-// The window's words stand first. Then of each worker: whether it is followed. Then of each slot: whether it has the item that is followed.
+#[derive(Clone, Copy)]
+pub struct Causes {
+    // the act goes back
+    pub back: bool,
+    pub schedule: bool,
+    pub own: bool,
+    pub other: bool,
+    pub hand: bool,
+}
+
+// The window's words stand first.
 const START: usize = replay_bounded_window::WORDS;
+
+// Of each worker: claims at its own end when it loaded or found a word, at the other end and whether another's hand was on a slot when it loaded a stamp, and whether
+// it is followed. Then of each slot: whether it has the item that is followed.
+const OWN: u64 = 0;
+
+const OTHER: u64 = 1;
+
+const HAND: u64 = 2;
+
+const FOLLOWED: u64 = 3;
+
+const FIELDS: u64 = 4;
 
 const WORKERS: u64 = 64;
 
 const SLOTS: u64 = 1024;
 
 // Last, whether it was followed at all.
-const MET: usize = START + 1088;
+const MET: usize = START + 1280;
 
-pub const NOTES: usize = START + 1089;
+pub const NOTES: usize = START + 1281;
 
-fn at_worker(w: u64) -> usize {
+fn at_worker(w: u64, field: u64) -> usize {
     if w < WORKERS {
-        return START + w as usize;
+        if field < FIELDS {
+            return START + (w * FIELDS + field) as usize;
+        }
     }
     NOTES
 }
 
 fn at_slot(i: u64) -> usize {
     if i < SLOTS {
-        return START + (WORKERS + i) as usize;
+        return START + (WORKERS * FIELDS + i) as usize;
     }
     NOTES
 }
@@ -46,58 +69,170 @@ fn put(notes: &mut [u64], i: usize, n: u64) {
     }
 }
 
+// ---- places, by their codes
+
+fn is_stamp_load(code: u64) -> bool {
+    match code {
+        16 | 22 | 23 => true,
+        _ => false,
+    }
+}
+
+fn is_pop(code: u64) -> bool {
+    match code {
+        16 | 17 | 18 | 19 | 32 | 33 => true,
+        _ => false,
+    }
+}
+
+fn is_p2(code: u64) -> bool {
+    match code {
+        22 | 23 => true,
+        _ => false,
+    }
+}
+
+fn is_first(code: u64) -> bool {
+    match code {
+        11 | 12 | 33 | 34 => true,
+        _ => false,
+    }
+}
+
+// From one place to the other goes back.
+fn is_back(from: u64, to: u64) -> bool {
+    match from {
+        24 | 25 => is_p2(to),
+        17 => to == 16,
+        16 | 19 | 21 | 22 | 23 | 27 | 28 => is_first(to),
+        _ => false,
+    }
+}
+
+// The worker has loaded or found a word of its own end.
+fn is_given(from: u64, to: u64) -> bool {
+    match from {
+        11 | 12 | 24 | 25 => is_p2(to),
+        17 | 33 => to == 16,
+        34 => to == 20,
+        _ => false,
+    }
+}
+
+pub fn is_tail_claim(from: u64, to: u64) -> bool {
+    match from {
+        24 | 25 => to == 26,
+        29 => true,
+        _ => false,
+    }
+}
+
+pub fn is_head_claim(from: u64, to: u64) -> bool {
+    match from {
+        17 => to == 18,
+        28 => to == 29,
+        _ => false,
+    }
+}
+
+fn has_hand(code: u64) -> bool {
+    match code {
+        15 | 18 | 26 | 29 | 30 | 31 | 32 => true,
+        _ => false,
+    }
+}
+
+fn code_at(records: &[u64], i: usize) -> u64 {
+    if i < WORKERS as usize {
+        return get(records, RECORD * i);
+    }
+    0
+}
+
+fn another_has_hand(records: &[u64], w: u64) -> bool {
+    let n = records.len() / RECORD;
+    let mut i = 0;
+    while i < n {
+        if i as u64 != w {
+            if has_hand(code_at(records, i)) {
+                return true;
+            }
+        }
+        i += 1;
+    }
+    false
+}
+
+// ---- causes
+
+fn tail_moves(c: Counts) -> u64 {
+    std::num::wrapping_add_u64(c.tails, c.marks)
+}
+
+fn own_of(c: Counts, code: u64) -> u64 {
+    if is_pop(code) { c.heads } else { tail_moves(c) }
+}
+
+fn other_of(c: Counts, code: u64) -> u64 {
+    if is_pop(code) { c.tails } else { c.heads }
+}
+
+pub fn none() -> Causes {
+    Causes {
+        back: false,
+        schedule: false,
+        own: false,
+        other: false,
+        hand: false,
+    }
+}
+
+fn causes_of(notes: &[u64], w: u64, c: Counts, e: Entered) -> Causes {
+    let before = e.before;
+    let after = e.after;
+    let stood = before[0];
+    if is_back(stood, after[0]) {} else {
+        return none();
+    }
+    let own = get(notes, at_worker(w, OWN)) != own_of(c, stood);
+    if stood == 21 {
+        let mut only = none();
+        only.back = true;
+        only.own = own;
+        return only;
+    }
+    Causes {
+        back: true,
+        schedule: before[4] != after[4],
+        own: own,
+        other: get(notes, at_worker(w, OTHER)) != other_of(c, stood),
+        hand: get(notes, at_worker(w, HAND)) != 0,
+    }
+}
+
+fn as_number(it: bool) -> u64 {
+    if it { 1 } else { 0 }
+}
+
 fn put_if(it: bool, notes: &mut [u64], i: usize, n: u64) {
     if it {
         put(notes, i, n);
     }
 }
 
-// ---- an act, by the records of its worker
-
-fn place_in(r: [u64; 5]) -> Place {
-    bounded_codes::place_in(r[0], r[1], r[2])
-}
-
-// What it lost, by the counts in them.
-fn lost(before: [u64; 5], after: [u64; 5]) -> Loss {
-    if before[4] != after[4] {
-        return Loss::BySchedule;
-    }
-    if before[3] != after[3] {
-        return Loss::ByWords;
-    }
-    Loss::Nothing
-}
-
-// Which end an entry claimed.
-pub fn moved_by(e: Entered) -> Moved {
-    let after = e.after;
-    bounded_stock::moved_by(place_in(after))
-}
-
-fn none(watches: Watches) -> Named {
-    Named {
-        watches: watches,
-        back: false,
-        causes: Causes {
-            schedule: false,
-            own: false,
-            other: false,
-            hand: false,
-        },
-    }
-}
-
-// Why the act goes back, where it does, and what is then kept of every worker; of a call that is begun nothing.
-pub fn named(watches: Watches, e: Entered) -> Named {
+// Why the act goes back, where it does; what it has looked at is noted.
+pub fn noted(notes: &mut [u64], records: &[u64], c: Counts, e: Entered) -> Causes {
     let before = e.before;
     let after = e.after;
-    if e.first % 16 < 8 {
-        return none(watches);
-    }
-    let stood = place_in(before);
-    let stands = place_in(after);
-    bounded_causes::name_causes(watches, e.first / 16, stood, stands, lost(before, after))
+    let w = e.first / 16;
+    let loads = is_stamp_load(before[0]);
+    let hand = as_number(another_has_hand(records, w));
+    put_if(loads, notes, at_worker(w, OTHER), other_of(c, before[0]));
+    put_if(loads, notes, at_worker(w, HAND), hand);
+    let causes = causes_of(notes, w, c, e);
+    let given = is_given(before[0], after[0]);
+    put_if(given, notes, at_worker(w, OWN), own_of(c, before[0]));
+    causes
 }
 
 // Behind the line of an entry that was accepted: whether it left the window of sixteen bits.
@@ -116,18 +251,14 @@ fn up_if(n: u64, it: bool) -> u64 {
     n
 }
 
-// After an entry that was accepted.
+// After an act.
 pub fn counted(c: Counts, e: Entered) -> Counts {
     let before = e.before;
     let after = e.after;
-    let tally = c.tally;
-    if e.first % 16 < 8 {
-        return c;
-    }
-    let stood = place_in(before);
-    let stands = place_in(after);
     Counts {
-        tally: bounded_stock::tally(tally, stood, stands),
+        tails: up_if(c.tails, is_tail_claim(before[0], after[0])),
+        heads: up_if(c.heads, is_head_claim(before[0], after[0])),
+        marks: up_if(c.marks, before[0] == 37 && after[0] == 4),
         differed: up_if(c.differed, before[3] != after[3]),
         failed: up_if(c.failed, before[4] != after[4]),
     }
@@ -135,26 +266,12 @@ pub fn counted(c: Counts, e: Entered) -> Counts {
 
 pub fn start() -> Counts {
     Counts {
-        tally: Tally {
-            tail: Claim(0),
-            head: Claim(0),
-            reads: 0,
-        },
+        tails: 0,
+        heads: 0,
+        marks: 0,
         differed: 0,
         failed: 0,
     }
-}
-
-pub fn tails(c: Counts) -> u64 {
-    let tally = c.tally;
-    let tail = tally.tail;
-    tail.0
-}
-
-pub fn heads(c: Counts) -> u64 {
-    let tally = c.tally;
-    let head = tally.head;
-    head.0
 }
 
 // ---- an item's life
@@ -162,7 +279,11 @@ pub fn heads(c: Counts) -> u64 {
 fn slot_in(e: Entered) -> u64 {
     let ring = e.ring;
     let before = e.before;
-    bounded_text_explain::acts::slot_of(ring, before[1])
+    let mark = ring[0];
+    if mark == 0 {
+        return 0;
+    }
+    before[1] % mark
 }
 
 // An act that writes a slot's value.
@@ -179,15 +300,17 @@ fn is_write(e: Entered) -> bool {
 
 fn has_item(e: Entered, item: u64) -> u64 {
     let before = e.before;
-    if before[2] == item { 1 } else { 0 }
+    as_number(before[2] == item)
 }
 
 // The entry begins the life of an item, or claims it to hand it out.
 fn takes_up(notes: &[u64], e: Entered, item: u64) -> bool {
+    let before = e.before;
+    let after = e.after;
     if e.first % 16 < 8 {
         return e.first % 16 < 2 && e.second == item;
     }
-    bounded_causes::claims_head(moved_by(e)) && get(notes, at_slot(slot_in(e))) != 0
+    is_head_claim(before[0], after[0]) && get(notes, at_slot(slot_in(e))) != 0
 }
 
 pub fn is_met(notes: &[u64]) -> bool {
@@ -196,7 +319,7 @@ pub fn is_met(notes: &[u64]) -> bool {
 
 // Whether an entry that was accepted belongs to the life of this item.
 pub fn is_of(notes: &mut [u64], e: Entered, item: u64) -> bool {
-    let w = at_worker(e.first / 16);
+    let w = at_worker(e.first / 16, FOLLOWED);
     let after = e.after;
     let taken = takes_up(notes, e, item);
     put_if(taken, notes, w, 1);

@@ -86,14 +86,16 @@ pub struct Options {
     pub wrong: bool,
 }
 
-// An edition, a width, lent records, causes, moments, losses or a stock are of no use to a queue that has none. Lent records are of 64 bits.
+// An edition, a width, lent records, causes, moments, losses or a stock are of no use to a queue that has none. Lent records are of 64 bits; moments are kept for sixteen
+// workers.
 fn of_queue(a: Arguments) -> Arguments {
     let values = a.values;
     let queue = values[QUEUE];
     let ring = [EDITION, BITS, LENT, CAUSES, MOMENTS, LOSSES, STOCK];
     let b = text_options::clashes(a, QUEUE, &ring, queue != BOUNDED);
     let c = text_options::clashes(b, QUEUE, &[SUMMARY], queue == UNBOUNDED);
-    text_options::clashes(c, BITS, &[LENT], values[BITS] == 1)
+    let d = text_options::clashes(c, BITS, &[LENT], values[BITS] == 1);
+    text_options::clashes(d, LENT, &[MOMENTS], text_options::is_given(d, LENT))
 }
 
 // Where a schedule is only told in words there is no run, and where a run is told in plain words there are no lines in numbers.
@@ -178,10 +180,9 @@ pub fn help() -> bool {
         b"replay [--queue NAME] [--edition N] [--bits N] [--lent] [--quiet] [--causes] [--moments] [--losses]\n\
         \x20      [--stock] [--summary] [--many] [--tape] [FILE]\n\
         replay --words-of [--queue NAME] [--many] [--tape] [FILE]\n\
-        replay --explain [--follow ITEM] [--from N] [--to N] [--worker K] [--queue NAME] [--edition N]\n\
-        \x20      [--bits N] [--lent] [--many] [--tape] [FILE]\n\
-        replay --calls [--json] [--from N] [--to N] [--worker K] [--queue NAME] [--edition N] [--bits N]\n\
-        \x20      [--lent] [--many] [--tape] [FILE]\n\
+        replay --explain [--follow ITEM] [--queue NAME] [--edition N] [--bits N] [--lent] [--many] [--tape]\n\
+        \x20      [FILE]\n\
+        replay --calls [--json] [--queue NAME] [--edition N] [--bits N] [--lent] [--many] [--tape] [FILE]\n\
         \n\
         Runs a schedule on the stamped ring, or on another queue. It is read from FILE, or from standard\n\
         input: unsigned decimal numbers separated by white space. The first is the capacity (1 to 1024), the\n\
@@ -217,7 +218,7 @@ pub fn help() -> bool {
         \x20 --bits 16   the ring whose head, tail and stamps have sixteen bits, so that they come round (64\n\
         \x20             unless told)\n\
         \x20 --lent      ring and records are lent for each entry, as a host's are: up to 64 workers; of 64\n\
-        \x20             bits\n\
+        \x20             bits, and with no --moments\n\
         \x20 --quiet     no line for each entry, one for the whole\n\
         \x20 --causes    after the worker, where its act goes back to an earlier place, because=LIST: schedule\n\
         \x20             (which made its exchange fail), own-end (moved or marked since its word was loaded or\n\
@@ -240,9 +241,6 @@ pub fn help() -> bool {
         \x20             hands it out\n\
         \x20 --calls     a row for each call: its first and last entry, answer, moment, exchanges lost, why it\n\
         \x20             tried again; then what came into a plain queue and went out of it, at which entry\n\
-        \x20 --from N    with --explain or --calls, only what entry N and later ones did\n\
-        \x20 --to N      with --explain or --calls, only what entry N and earlier ones did\n\
-        \x20 --worker K  with --explain or --calls, only what worker K did\n\
         \x20 --json      the lines, or with --calls the rows, as JSON, an object a line; docs/GUIDE.md has them\n\
         \x20 --words-of  prints the schedule in words, acts in a row gathered, and runs nothing; 9, 11: what no\n\
         \x20             words are for\n\

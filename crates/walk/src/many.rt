@@ -34,7 +34,6 @@ fn asked(o: Options, fd: i32, due: Sum) -> Asked {
     Asked {
         depth: o.depth,
         list: o.list,
-        no_fail: o.no_fail,
         many: o.many,
         explain: o.explain != 0,
         ending: o.ending,

@@ -1,4 +1,4 @@
-// The ways in which all workers together end, in plain words, and for each the shortest schedule that ends so, whole and in words. All that is no schedule stands
+// The ways in which all workers together end, in plain words, and for each the first of the shortest schedules that end so, whole and in words. All that is no schedule stands
 // in comments, so that what is told can be saved and replayed as it is.
 #![tactic(auto)]
 
@@ -45,12 +45,12 @@ fn header(out: &mut [u8], at: usize, depth: u64, sequences: u64, ways: usize) ->
     others(out, p, walk_ends::unlisted(ways))
 }
 
-fn heading(out: &mut [u8], at: usize, table: &[u64], row: usize, number: u64) -> usize {
+fn heading(out: &mut [u8], at: usize, table: &[u64], row: usize) -> usize {
+    let n = std::num::wrapping_add_usize(row, 1) as u64;
     let times = walk_ends::number(table, row, walk_ends::TIMES);
-    let acts = walk_ends::acts(table, row);
-    let changes = walk_ends::changes(table, row);
-    let form = b"ending #: sequences #, acts of the shortest #, changes of worker #\n";
-    comment(out, at, form, &[number, times, acts, changes])
+    let length = walk_ends::number(table, row, walk_ends::LENGTH);
+    let form = b"ending #: sequences #, acts of the shortest #\n";
+    comment(out, at, form, &[n, times, length])
 }
 
 // A schedule has no edition: replay is to be told of it.
@@ -108,16 +108,14 @@ fn told_of(
     acts: &[u8],
     table: &[u64],
     row: usize,
-    number: u64,
 ) -> usize {
-    let p = heading(out, at, table, row, number);
+    let p = heading(out, at, table, row);
     let q = end::lines(out, p, table, row, walk_ways::left(m, acts));
     let r = edition(out, q, m[bounded_text_words::EDITION]);
     let s = schedule(out, text_output::settle(out, r), o);
     way(out, s, acts)
 }
 
-// The i-th of n.
 fn ending(
     out: &mut [u8],
     at: usize,
@@ -125,14 +123,10 @@ fn ending(
     m: [u64; WORDS],
     list: &[u8],
     table: &[u64],
-    n: usize,
-    i: usize,
+    row: usize,
 ) -> usize {
-    let row = walk_ends::told_at(table, n, i);
     let place = walk_ends::number(table, row, walk_ends::PLACE) as usize;
-    let acts = walk_lists::first_acts_at(list, place, walk_ends::acts(table, row) as usize);
-    let number = std::num::wrapping_add_usize(i, 1) as u64;
-    told_of(out, at, o, m, acts, table, row, number)
+    told_of(out, at, o, m, walk_lists::acts_at(list, place), table, row)
 }
 
 fn and_mark(out: &mut [u8], at: usize) -> usize {
@@ -152,7 +146,7 @@ fn endings(
     let mut p = at;
     let mut i = 0;
     while i < n {
-        p = ending(out, p, o, m, list, table, n, i);
+        p = ending(out, p, o, m, list, table, i);
         p = and_mark(out, p);
         i += 1;
     }
@@ -189,8 +183,8 @@ fn one(
 ) -> Found {
     if o.ending <= n as u64 {
         if 0 < o.ending {
-            let i = (o.ending - 1) as usize;
-            return told(ending(out, at, o, m, list, table, n, i), true);
+            let row = (o.ending - 1) as usize;
+            return told(ending(out, at, o, m, list, table, row), true);
         }
     }
     missing(o.ending, n as u64);

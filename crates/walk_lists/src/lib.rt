@@ -1,7 +1,6 @@
 // A list of sequences: a byte for the length of each, then a byte for each act.
 #![tactic(auto)]
 
-pub mod failures;
 pub mod said;
 
 fn wide(b: u8) -> u64 {
@@ -57,28 +56,6 @@ pub fn acts_at(list: &[u8], at: usize) -> &[u8] {
         return after_first(&list[at..], n);
     }
     list
-}
-
-fn beginning(acts: &[u8], n: usize) -> &[u8] {
-    if n <= acts.len() {
-        return &acts[..n];
-    }
-    acts
-}
-
-// Only the first n of them.
-pub fn first_acts_at(list: &[u8], at: usize, n: usize) -> &[u8] {
-    beginning(acts_at(list, at), n)
-}
-
-// The worker of an act.
-pub fn worker_of(act: u8) -> u64 {
-    wide(act) % 16
-}
-
-// Whether an exchange is made to fail by it.
-pub fn is_failure(act: u8) -> bool {
-    wide(act) / 16 == 9
 }
 
 fn space(out: &mut [u8], at: usize, first: bool) -> usize {

@@ -16,17 +16,15 @@ const EXPLAIN: usize = 4;
 
 const MANY: usize = 5;
 
-const NO_FAIL: usize = 6;
+const HELP: usize = 6;
 
-const HELP: usize = 7;
+const TELLS: usize = 7;
 
-const TELLS: usize = 8;
+const SHORT_HELP: usize = 8;
 
-const SHORT_HELP: usize = 9;
+const VERSION: usize = 9;
 
-const VERSION: usize = 10;
-
-const TELLS_ON: usize = 11;
+const TELLS_ON: usize = 10;
 
 #[derive(Clone, Copy)]
 pub struct Options {
@@ -35,7 +33,6 @@ pub struct Options {
     // handed to the walk as it stands
     pub depth: u64,
     pub list: bool,
-    pub no_fail: bool,
     // the number of the argument that asks for endings in words; 0: none does
     pub explain: usize,
     // only this one of them, from 1; 0: all
@@ -80,7 +77,6 @@ fn options_of(a: Arguments) -> Options {
         edition: value_or(at[EDITION], values[EDITION], 1),
         depth: value_or(at[DEPTH], values[DEPTH], 12),
         list: at[LIST] != 0,
-        no_fail: at[NO_FAIL] != 0,
         explain: later(at[EXPLAIN], at[ENDING]),
         ending: values[ENDING],
         many: at[MANY] != 0,
@@ -95,7 +91,7 @@ fn options_of(a: Arguments) -> Options {
 // Says what is wrong, unless help or the version is asked for.
 pub fn read() -> Options {
     let table =
-        b"--edition=#|--depth=#|--ending=+|--list|--explain|--many|--no-fail|--help|--tell-status|-h|--version|--tell-status-on=#|--queue=!|--bits=!|--lent=!|--tape=!|";
+        b"--edition=#|--depth=#|--ending=+|--list|--explain|--many|--help|--tell-status|-h|--version|--tell-status-on=#|--queue=!|--bits=!|--lent=!|--tape=!|";
     let a = judged(text_options::read(table, 1));
     let o = options_of(a);
     if o.wrong && !o.help && !o.version {
@@ -113,7 +109,7 @@ pub fn read() -> Options {
 pub fn help() -> bool {
     io::write_all(
         libc::STDOUT_FILENO,
-        b"walk [--edition N] [--depth D] [--no-fail] [--list] [--many] [--explain] [--ending N] [SCHEDULE]\n\
+        b"walk [--edition N] [--depth D] [--list] [--many] [--explain] [--ending N] [SCHEDULE]\n\
         \n\
         Runs a schedule on the stamped ring, then tries every sequence of acts from there: of exactly so\n\
         many acts, or ending sooner because all workers are idle. There are 1 to 3 workers, and each must\n\
@@ -122,37 +118,31 @@ pub fn help() -> bool {
         \n\
         \x20 walked depth=D sequences=S bytes=B   the number of sequences, and of bytes that list them\n\
         \x20 wK=E sequences=S shortest A 0 ...    for each worker and each way that it ends: how many sequences\n\
-        \x20                                      end so, and the fewest acts to that answer, as the entries\n\
-        \x20                                      of a schedule\n\
+        \x20                                      end so, and the first of the shortest, its acts as the\n\
+        \x20                                      entries of a schedule\n\
         \x20 ends w0=E ... sequences=S shortest A 0 ...\n\
         \x20                                      the same for all workers together\n\
         \x20 unlisted sequences=S                 after 512 ways of one, or of all together: how many end in\n\
         \x20                                      still others\n\
         \n\
-        E is idle:ANSWER as replay has it, or busy where the call is still under way. Ways in which nobody\n\
-        is busy stand first, both kinds in the order in which they come: lowest worker first, code 8 before\n\
-        code 9. The acts shown are the first ones of a sequence, up to the last that gives an answer of the\n\
-        ending, none where all are busy: with the fewest acts, of these the fewest changes of worker, of\n\
-        these the fewest exchanges that are made to fail, of these the first.\n\
+        E is idle:ANSWER as replay has it, or busy where the call is still under way. Ways to end stand in\n\
+        the order in which they come: lowest worker first, code 8 before code 9.\n\
         \n\
         A refusal is one line on standard error, refused N: and what it means. Of the machine: 1 capacity,\n\
         2 workers, 18 edition; of the schedule, with the entry's place: 3 to 9, 11; of the walk: 19 more\n\
         than 3 workers or a depth above 12, 20 an idle worker, 21 fewer acts left on the meter than the\n\
-        depth, 22 a list longer than the buffer, which has 4194304 bytes: explore finds the endings without\n\
-        a list.\n\
+        depth, 22 a list longer than the buffer, which has 4194304 bytes.\n\
         Status: 0 walked, 1 refused, 2 the input or the arguments cannot be read, or not all can be written.\n\
         \n\
         \x20 --edition 2   the ring whose force_push keeps a close (1 unless told)\n\
         \x20 --depth D     the most acts of a sequence, 0 to 12: 12 unless told\n\
-        \x20 --no-fail     only sequences in which no weak exchange is made to fail (no code 9): others are not\n\
-        \x20               counted and not shown; the list with them must fit the buffer\n\
         \x20 --list        nothing but the sequences, one a line, as the entries of a schedule; one of no act\n\
         \x20               is an empty line\n\
         \x20 --many        several schedules, separated by a line with a single %; a line % follows each\n\
         \x20               output, and what is refused is told in its place\n\
-        \x20 --explain     the ways that all workers together end in, in plain words, and for each the schedule\n\
-        \x20               with the acts that are shown, whole and in words; all else is comments and a line %\n\
-        \x20               after each, so that replay --many runs it\n\
+        \x20 --explain     the ways that all workers together end in, in plain words, and for each the first of\n\
+        \x20               the shortest schedules that end so, whole and in words; all else is comments and a\n\
+        \x20               line % after each, so that replay --many runs it\n\
         \x20 --ending N    of these only the N-th, from 1, without %, for replay to run\n\
         \x20 --version     prints the version\n\
         \x20 -h, --help    prints this\n\

@@ -48,7 +48,7 @@ fn shortest(out: &mut [u8], at: usize, acts: &[u8]) -> usize {
     walk_lists::entries(out, q, acts)
 }
 
-fn row_of(
+fn row(
     out: &mut [u8],
     at: usize,
     count: u64,
@@ -61,25 +61,9 @@ fn row_of(
     let times = walk_ends::number(table, i, walk_ends::TIMES);
     let q = text_output::form(out, p, b" sequences=#", &[times]);
     let place = walk_ends::number(table, i, walk_ends::PLACE) as usize;
-    let acts = walk_lists::first_acts_at(list, place, walk_ends::acts(table, i) as usize);
-    let r = shortest(out, q, acts);
+    let r = shortest(out, q, walk_lists::acts_at(list, place));
     let s = text_output::byte(out, r, b'\n');
     text_output::settle(out, s)
-}
-
-// The i-th of n.
-fn row(
-    out: &mut [u8],
-    at: usize,
-    count: u64,
-    list: &[u8],
-    k: u64,
-    table: &[u64],
-    n: usize,
-    i: usize,
-) -> usize {
-    let told = walk_ends::told_at(table, n, i);
-    row_of(out, at, count, list, k, table, told)
 }
 
 fn rows(
@@ -94,7 +78,7 @@ fn rows(
     let mut p = at;
     let mut i = 0;
     while i < n {
-        p = row(out, p, count, list, k, table, n, i);
+        p = row(out, p, count, list, k, table, i);
         i += 1;
     }
     p

@@ -17,7 +17,7 @@ pub fn meaning(out: &mut [u8], at: usize, refusal: u64, numbers: &[u64]) -> usiz
         refused 19: more than 3 workers, or a depth above 12|\
         refused 20: worker # is idle|\
         refused 21: fewer acts left on the meter than the depth|\
-        refused 22: the list has # sequences in # bytes, and the buffer #; ./explore keeps none (installed: fern explore)|";
+        refused 22: the list has # sequences in # bytes, and the buffer #|";
     text_output::nth(out, at, list, refusal as usize, numbers)
 }
 

@@ -12,8 +12,6 @@ const BUFFER: usize = 4194304;
 pub struct Asked {
     pub depth: u64,
     pub list: bool,
-    // only sequences in which no exchange is made to fail
-    pub no_fail: bool,
     pub many: bool,
     // in words (walk_explain): every ending, 0, or this one; and the file of the schedule that was run, with the sum of its bytes
     pub explain: bool,
@@ -104,23 +102,6 @@ fn told_first(
     played(at, false)
 }
 
-// Of the list that the first n bytes are, or of what --no-fail leaves of it.
-fn told_of(
-    out: &mut [u8],
-    at: usize,
-    o: Asked,
-    m: [u64; WORDS],
-    sequences: u64,
-    buffer: &mut [u8],
-    n: usize,
-) -> Played {
-    if o.no_fail {
-        let kept = walk_lists::failures::left_out(buffer, n);
-        return told_first(out, at, o, m, kept.sequences, buffer, kept.bytes);
-    }
-    told_first(out, at, o, m, sequences, buffer, n)
-}
-
 fn listed(
     out: &mut [u8],
     at: usize,
@@ -130,7 +111,7 @@ fn listed(
     buffer: &mut [u8],
 ) -> Played {
     match bounded_walks::walk(bounded_text_faces::machine::read(m), o.depth, buffer) {
-        Told::Number(sequences) => told_of(out, at, o, m, sequences, buffer, n),
+        Told::Number(sequences) => told_first(out, at, o, m, sequences, buffer, n),
         Told::Refused(_) => played(at, false),
     }
 }

@@ -1,24 +1,17 @@
 use Rattle.std.proofs.Common.{◌≡◌, ◌-◌, ◌≤◌, refl, arith, rules}
-use Rattle.bounded_causes.specs.Causes.{watched_most}
-use Rattle.bounded_moments.proofs.Kept.{mapped_to, hears, heard_more, heard_all, heard_still}
+use Rattle.queue_entries.specs.Limits.{workers_most}
+use Rattle.bounded_moments.proofs.Kept.{mapped_to, hears, heard_more, heard_all}
 use Rattle.bounded_moments.proofs.heard_by_all.Statement.{statement}
 use Rattle.bounded_moments.proofs.heard_by_all.Tie as tie
 use Rattle.bounded_moments.proofs.heard_by_all.Reads as reads
 use Rattle.bounded_moments.proofs.heard_by_all.Lts as lts
-use Rattle.bounded_moments.proofs.claims.Reads as claims-reads
 use Rattle.bounded_moments.proofs.heard.Reads as heard-reads
 
 abbrev invariant-loop : tie.invariant-loop
-invariant-loop moved place xs now₀ i₀ now i = (i ≤ watched_most) × (now ≡ mapped_to i (hears moved place) xs)
+invariant-loop moved place xs now₀ i₀ now i = (i ≤ workers_most) × (now ≡ mapped_to i (hears moved place) xs)
 
 abbrev decreases-loop : tie.decreases-loop
-decreases-loop moved place xs now₀ i₀ now i = watched_most - i
-
-claims-requires : tie.Need-claims-requires invariant-loop decreases-loop
-claims-requires c κs = search rules
-
-returns : tie.Need-returns invariant-loop decreases-loop
-returns c = search (rules, heard_still)
+decreases-loop moved place xs now₀ i₀ now i = workers_most - i
 
 loop-holds : tie.Need-loop-init invariant-loop decreases-loop
 unfolding mapped_to
@@ -48,8 +41,8 @@ loop-less c = search rules
 loop-again : tie.Need-loop-preserved invariant-loop decreases-loop
 loop-again c = (search rules, search (rules, heard_more))
 
-returns-2 : tie.Need-returns-2 invariant-loop decreases-loop
-returns-2 c = heard_all _ _ _ _ _ (omega (arith, c.before.before.before.before.well-formed)) c.before.loop.invariant.1
+returns : tie.Need-returns invariant-loop decreases-loop
+returns c = heard_all _ _ _ _ _ (omega (arith, c.before.before.well-formed)) c.before.loop.invariant.1
 
 pub heard-by-all-spec : {M : Type 1} → statement M
 heard-by-all-spec =
@@ -57,8 +50,6 @@ heard-by-all-spec =
     (tie.spec
     invariant-loop
     decreases-loop
-    claims-requires
-    returns
     loop-holds
     mul-x
     array-copy-out-x
@@ -68,4 +59,4 @@ heard-by-all-spec =
     add-i
     loop-less
     loop-again
-    returns-2)
+    returns)

@@ -1,4 +1,7 @@
-use Rattle.std.proofs.Common.{◌≡◌, ◌-◌, ◌<◌, ◌≤◌, length, rules}
+use Prim.Native.Nat.{◌≤◌, ◌<◌, ◌-◌}
+use mathlib.Core.Path.{◌≡◌}
+use lib.ListN.{length}
+use borrow.Author.Rules.{rules}
 use Rattle.walk_lists.proofs.lines.Statement.{statement}
 use Rattle.walk_lists.proofs.lines.Tie as tie
 use Rattle.walk_lists.proofs.lines.Reads as reads

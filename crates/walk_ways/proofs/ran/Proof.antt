@@ -1,4 +1,6 @@
-use Rattle.std.proofs.Common.{arith, length-take, rules}
+use native.Mathlib.Omega.{arith}
+use lib.ListN.{length-take}
+use borrow.Author.Rules.{rules}
 use Rattle.walk_ways.proofs.ran.Statement.{statement}
 use Rattle.walk_ways.proofs.ran.Tie as tie
 use Rattle.walk_ways.proofs.ran.Reads as reads

@@ -18,32 +18,41 @@ invariant-loop o fd head₀ slots₀ records₀ seen₀ bytes₀ list₀ out₀ 
 abbrev decreases-loop : tie.decreases-loop
 decreases-loop o fd head₀ slots₀ records₀ seen₀ bytes₀ list₀ out₀ g₀ p₀ turns₀ head slots records seen bytes list out g p turns = turns
 
+-- src/play.rt:52:9
 start-requires : tie.Need-start-requires invariant-loop decreases-loop
 start-requires c κs = search rules
 
+-- src/play.rt:54:5
 loop-holds : tie.Need-loop-init invariant-loop decreases-loop
 loop-holds c = (refl, (refl, (refl, (refl, (refl, (refl, refl))))))
 
+-- src/play.rt:54:24
 goes-on-requires : tie.Need-goes-on-requires invariant-loop decreases-loop
 goes-on-requires c κs = search rules
 
+-- src/play.rt:55:9
 sub-turns : tie.Need-overflow-sub-turns invariant-loop decreases-loop
 sub-turns c = search rules
 
+-- src/play.rt:56:9
 next-requires : tie.Need-next-requires invariant-loop decreases-loop
 next-requires c κs = search rules
 
+-- src/play.rt:63:13
 entries-requires : tie.Need-entries-requires invariant-loop decreases-loop
 entries-requires c κs = search rules
 
+-- src/play.rt:57:9
 run-requires : tie.Need-run-requires invariant-loop decreases-loop
 run-requires c κs = search rules
 
+-- src/play.rt:54:5
 loop-less : tie.Need-loop-smaller invariant-loop decreases-loop
 loop-less c =
     let d = c.before.before.before.before.before.before.before.before.before.before.before.before.before.before in
     omega (arith, d.before.before.before.before.before.before.before.before.before.before.before.before.before.loop-test.true)
 
+-- src/play.rt:54:5
 loop-again : tie.Need-loop-preserved invariant-loop decreases-loop
 loop-again c =
     let d = c.before.before.before.before.before.before.before.before.before.before.before.before.before.before.before.before.before.before.before.before.before.before in
@@ -62,30 +71,38 @@ loop-again c =
       ),
     )
 
+-- src/play.rt:39:1
 ended-requires : tie.Need-ended-requires invariant-loop decreases-loop
 ended-requires c κs = search rules
 
 same_length : tie.Need-same-length invariant-loop decreases-loop
 same_length c = search rules
 
+-- src/play.rt:39:1
 same-length-2 : tie.Need-same-length-2 invariant-loop decreases-loop
 same-length-2 c = search rules
 
+-- src/play.rt:39:1
 same-length-3 : tie.Need-same-length-3 invariant-loop decreases-loop
 same-length-3 c = search rules
 
+-- src/play.rt:39:1
 same-length-4 : tie.Need-same-length-4 invariant-loop decreases-loop
 same-length-4 c = search rules
 
+-- src/play.rt:39:1
 same-length-5 : tie.Need-same-length-5 invariant-loop decreases-loop
 same-length-5 c = search rules
 
+-- src/play.rt:39:1
 same-length-6 : tie.Need-same-length-6 invariant-loop decreases-loop
 same-length-6 c = search rules
 
+-- src/play.rt:39:1
 returns : tie.Need-returns invariant-loop decreases-loop
 returns c = search rules
 
+-- src/play.rt:39:1
 same-length-7 : tie.Need-same-length-7 invariant-loop decreases-loop
 same-length-7 c = search rules
 

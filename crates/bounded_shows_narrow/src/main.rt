@@ -1,0 +1,142 @@
+// The face of sixteen bits on the compiled code: words that come round, and what is handed in. The file `stdout` is written from documents 01 and 02.
+#![tactic(auto)]
+
+use bounded_sixteen_bits::{Did, Machine, Ran};
+use queue_entries::Told;
+
+// A push of 5 and its five acts, a pop and its five.
+const ROUND: [u64; 24] = [
+    0, 5, 8, 0, 8, 0, 8, 0, 8, 0, 8, 0, 2, 0, 8, 0, 8, 0, 8, 0, 8, 0, 8, 0,
+];
+
+// ": REFUSAL at PLACE h=H t=T m=M"
+fn tell(refusal: u64, place: u64, m: Machine) {
+    let ring = m.ring;
+    let head = ring.head;
+    let tail = ring.tail;
+    let h = head.0 as u64;
+    let t = tail.0 as u64;
+    text_output::say(b": # at # h=# t=# m=#\n", &[refusal, place, h, t, m.meter]);
+}
+
+fn tell_did(did: Did) {
+    tell(did.refusal, 0, did.machine);
+}
+
+fn tell_ran(r: Ran) {
+    tell(r.refusal, r.place, r.machine);
+}
+
+fn tell_told(told: Told) {
+    match told {
+        Told::Refused(n) => text_output::say(b": refused #\n", &[n]),
+        Told::Number(n) => text_output::say(b": #\n", &[n]),
+    }
+}
+
+// 64 rounds, one after another: a schedule costs a widening and a narrowing of the whole ring.
+fn many() -> [u64; 1536] {
+    let mut list = [0u64; 1536];
+    let mut i = 0;
+    while i < 1536 {
+        list[i] = ROUND[i % 24];
+        i += 1;
+    }
+    list
+}
+
+// The first words of a schedule, where it has so many.
+fn first(m: Machine, list: &[u64], words: usize) -> Machine {
+    if list.len() < words {
+        return m;
+    }
+    let part = &list[..words];
+    let r = bounded_narrow::run(m, part);
+    r.machine
+}
+
+// So many rounds of worker 0 alone: as many claims at either end.
+fn rounds(capacity: u64, edition: u64, n: u64) -> Machine {
+    let made = bounded_narrow::make(capacity, 1, edition);
+    let list = many();
+    let mut now = made.machine;
+    let mut k = 0;
+    while k < n / 64 {
+        let r = bounded_narrow::run(now, &list);
+        now = r.machine;
+        k += 1;
+    }
+    let rest = (n % 64) as usize;
+    first(now, &list, 24 * rest)
+}
+
+// The words of the ends after so many rounds, and after one more.
+fn come_round(capacity: u64, edition: u64, n: u64) {
+    let m = rounds(capacity, edition, n);
+    text_output::say(b"capacity # edition # rounds #", &[capacity, edition, n]);
+    tell_ran(bounded_narrow::run(m, &ROUND[..0]));
+    text_output::say(b"one more", &[]);
+    tell_ran(bounded_narrow::run(m, &ROUND));
+}
+
+fn making(capacity: u64, workers: u64, edition: u64) {
+    text_output::say(b"make # # #", &[capacity, workers, edition]);
+    tell_did(bounded_narrow::make(capacity, workers, edition));
+}
+
+fn makings() {
+    making(1, 1, 1);
+    making(1024, 16, 2);
+    making(1025, 0, 3);
+    making(1, 17, 3);
+    making(1, 1, 3);
+}
+
+fn looks(m: Machine) {
+    let mut items = [0u64; 2];
+    text_output::say(b"capacity", &[]);
+    tell_told(bounded_narrow::capacity(m));
+    text_output::say(b"contents", &[]);
+    tell_told(bounded_narrow::contents(m, &mut items));
+    text_output::say(b"items: # #\n", &items);
+    text_output::say(b"contents in no buffer", &[]);
+    tell_told(bounded_narrow::contents(m, &mut items[..0]));
+}
+
+fn entries(m: Machine) {
+    text_output::say(b"begin 6 0", &[]);
+    tell_did(bounded_narrow::begin(m, 6, 0));
+    text_output::say(b"begin 8 0", &[]);
+    tell_did(bounded_narrow::begin(m, 8, 0));
+    text_output::say(b"act 8 0", &[]);
+    tell_did(bounded_narrow::act(m, 8, 0));
+    text_output::say(b"step 16 0", &[]);
+    tell_did(bounded_narrow::step(m, 16, 0));
+}
+
+fn schedules(m: Machine) {
+    text_output::say(b"run 6 0 8 0", &[]);
+    tell_ran(bounded_narrow::run(m, &[6, 0, 8, 0]));
+    text_output::say(b"run 6", &[]);
+    tell_ran(bounded_narrow::run(m, &[6]));
+}
+
+// One item in, and the tail's word begun anew while the head's has not.
+fn where_they_begin_anew() {
+    let m = rounds(1, 1, 16383);
+    let pushed = bounded_narrow::run(m, &ROUND[..12]);
+    text_output::say(b"pushed", &[]);
+    tell_ran(pushed);
+    let full = pushed.machine;
+    looks(full);
+    entries(full);
+    schedules(full);
+}
+
+fn main() {
+    makings();
+    come_round(1, 1, 16383);
+    come_round(1, 2, 49152);
+    come_round(2, 1, 16383);
+    where_they_begin_anew();
+}
