@@ -1,11 +1,11 @@
 -- A tape field by field: what is written, and what is left of it.
-use Prim.Native.Nat.{ℕ, suc, ◌+◌, ◌*◌, ◌/◌, ◌-◌, ◌<◌, ◌≤◌}
+use Prim.Native.Nat.{ℕ, ◌+◌, ◌*◌, ◌/◌, ◌-◌, ◌<◌, ◌≤◌}
 use mathlib.Core.Path.{◌≡◌, refl, sym, ap, ap₂, ◌∙◌}
-use mathlib.Core.Bool.{Bool, true, false, cond}
+use mathlib.Core.Bool.{true}
 use mathlib.Core.List.{List, [], ◌∷◌, ◌++◌, append_assoc, append-nil}
 use native.Mathlib.Omega.{arith}
 use lib.ListN.{get_or, length, take, drop, length-append, length-drop, take-append-drop}
-use lib.Seq.{drop-append-add, take-add, drop-drop, take_at, drop_at, take-append_seam, length-take-le}
+use lib.Seq.{drop-append-add, take-add, drop-drop, take_at, drop_at, length-take-le}
 use borrow.Rule.Slice.PartMut.{put_mid, mid_of}
 use Rattle.tapes_numbers.specs.declared.Variant.{Variant}
 use Rattle.tapes_fields.specs.Fields.{head_of, entry_field_of, end_of, size_of, over}

@@ -1,11 +1,11 @@
 -- A tape field by field: what is heard, and what is left of it.
-use Prim.Native.Nat.{ℕ, zero, suc, ◌+◌, ◌*◌, ◌/◌, ◌%◌, ◌-◌, ◌<◌, ◌≤◌}
+use Prim.Native.Nat.{ℕ, zero, suc, ◌+◌, ◌*◌, ◌/◌, ◌-◌, ◌<◌, ◌≤◌}
 use mathlib.Core.Path.{◌≡◌, refl, sym, ap, ap₂, ◌∙◌}
 use mathlib.Core.Bool.{Bool, true, false, cond}
 use mathlib.Core.List.{List, [], ◌∷◌, ◌++◌, append_assoc}
 use native.Mathlib.Omega.{arith}
 use lib.Dec.{eqb}
-use lib.ListN.{get_or, length, take, drop, set, length-drop, length-append}
+use lib.ListN.{length, take, drop, set, length-drop, length-append}
 use lib.Seq.{take_all, drop-drop, take-add, length-take-le}
 use borrow.Author.Tests.{eq-eqb, ne_eqb}
 use Rattle.tapes_numbers.specs.declared.Variant.{Variant}

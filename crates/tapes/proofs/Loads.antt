@@ -1,16 +1,15 @@
 -- How long a tape is, and whether it can carry its entries.
-use Prim.Native.Nat.{ℕ, suc, ◌+◌, ◌*◌, ◌/◌, ◌-◌, ◌<◌, ◌≤◌}
-use mathlib.Core.Path.{◌≡◌, refl, sym, ap, ◌∙◌, subst}
+use Prim.Native.Nat.{ℕ, ◌+◌, ◌*◌, ◌/◌, ◌<◌, ◌≤◌}
+use mathlib.Core.Path.{◌≡◌, refl, sym, ap, ◌∙◌}
 use mathlib.Core.Bool.{Bool, true, false, cond}
-use mathlib.Core.List.{List, [], ◌∷◌, ◌++◌}
+use mathlib.Core.List.{List, [], ◌∷◌}
 use native.Mathlib.Omega.{arith}
 use lib.ListN.{get_or, length, drop}
-use Rattle.tapes_numbers.specs.declared.Variant.{Variant}
 use Rattle.tapes_fields.specs.Fields.{size_of}
 use Rattle.tapes_fields.specs.Judged.{carried}
 use Rattle.tapes.specs.declared.Load.{Load}
 use Rattle.tapes.specs.declared.Load.TheVariants.{Unfit, Bytes}
-use Rattle.tapes.specs.Written.{load_from, entries_of, tape_of}
+use Rattle.tapes.specs.Written.{load_from}
 use Rattle.tapes.proofs.Pairs.{pair_at, pairs_over}
 
 load_none : (place long : ℕ) (l : List ℕ) → length l < 2 → load_from place long l ≡ Bytes long
