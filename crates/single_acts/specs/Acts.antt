@@ -1,5 +1,5 @@
 -- The acts of src/single.rs, row by row: place | action | then. Beside each row the source's lines; `state` is the word that was found.
-use Rattle.std.specs.Prelude.{ℕ, Bool, cond}
+use Rattle.std.specs.Prelude.{ℕ, cond}
 use Rattle.single_words.specs.declared.State.{State}
 use Rattle.single_words.specs.Words.{state, same, pushed_in, closed_in, filled, unlocked, taken_of, closed_of_word}
 use Rattle.single_places.specs.declared.Single.{Single}

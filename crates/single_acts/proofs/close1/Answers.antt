@@ -1,0 +1,10 @@
+use Rattle.queue_entries.proofs.Pick.{picks}
+use Rattle.single_acts.proofs.Arms.{parts}
+use borrow.Author.Rules.{rules}
+use Rattle.single_acts.proofs.close1.Goals as goal
+
+pub returns-then-closed : goal.returns-then-closed
+returns-then-closed c = search (rules, picks, parts)
+
+pub returns-else-closed : goal.returns-else-closed
+returns-else-closed c = search (rules, picks, parts)
