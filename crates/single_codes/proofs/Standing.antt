@@ -8,7 +8,7 @@ use Rattle.queue_entries.proofs.Pick.{both_left, both_right}
 use Rattle.single_places.specs.declared.Place.{Place}
 use Rattle.single_codes.specs.declared.Coded.{Coded}
 use Rattle.single_codes.specs.Codes.{triple, code_of, place_in, same_as, stands_for}
-use Rattle.single_codes.proofs.Codes.{read_back_from, read_back}
+use Rattle.single_codes.proofs.Codes.{read_back}
 
 -- the words of a place stand for it
 pub written_stands : (p : Place) → stands_for (code_of p).code (code_of p).first (code_of p).second ≡ true
