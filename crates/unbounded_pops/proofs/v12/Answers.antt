@@ -1,0 +1,6 @@
+use Rattle.unbounded_acts.proofs.Arms.{parts, destroy_is}
+use borrow.Author.Rules.{rules}
+use Rattle.unbounded_pops.proofs.v12.Goals as goal
+
+pub returns : goal.returns
+returns c = search (rules, parts, destroy_is)
