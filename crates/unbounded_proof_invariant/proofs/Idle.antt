@@ -1,13 +1,13 @@
 -- With all workers idle nothing is in hand: both ends stand at slots, everything below them is done, and the blocks that are not free are those from
 -- head's to the last.
-use mathlib.Core.Path.{◌≡◌, refl, sym, ap, ◌∙◌, subst}
+use mathlib.Core.Path.{◌≡◌, refl}
 use mathlib.Core.Logic.{◌≢◌, ◌⊎◌, inl, inr}
-use mathlib.Core.Bool.{Bool, true, false}
-use Prim.Native.Nat.{ℕ, zero, suc, ◌+◌, ◌*◌, ◌-◌, ◌/◌, ◌%◌, ◌≤◌, ◌<◌}
+use mathlib.Core.Bool.{true}
+use Prim.Native.Nat.{ℕ, ◌+◌, ◌*◌, ◌/◌, ◌%◌, ◌≤◌, ◌<◌}
 use native.Mathlib.Omega.{arith}
-use native.Mathlib.Decide.{dec_lt, ℕ_discrete}
-use Rattle.unbounded_proof_invariant.proofs.Queue.{Ptr, none, to, Hand, Open, Done, By, Dest, Wait, Freed, Walk, Parked, Own, Free, Aside, Chain, Shared, DestOk, Inv}
-use Rattle.unbounded_proof_invariant.proofs.Kept.{hand_open_done, wait_not_freed, parked_not_freed}
+use native.Mathlib.Decide.{dec_lt}
+use Rattle.unbounded_proof_invariant.proofs.Queue.{none, to, Hand, Open, Done, By, Dest, Wait, Freed, Walk, Parked, Aside, Chain, Shared, DestOk, Inv}
+use Rattle.unbounded_proof_invariant.proofs.Kept.{wait_not_freed}
 use Rattle.unbounded_proof_invariant.proofs.Views.{Rest}
 use Rattle.unbounded_proof_invariant.proofs.Own.{Good, none_not_to}
 

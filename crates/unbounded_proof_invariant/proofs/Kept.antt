@@ -2,12 +2,12 @@
 use mathlib.Core.Path.{◌≡◌, refl, sym, ap, ◌∙◌, subst}
 use mathlib.Core.Logic.{◌≢◌}
 use mathlib.Core.Bool.{Bool, true, false, true≢false}
-use Prim.Native.Nat.{ℕ, ◌+◌, ◌*◌, ◌-◌, ◌/◌, ◌%◌, ◌≤◌, ◌<◌}
+use Prim.Native.Nat.{ℕ, ◌+◌, ◌*◌, ◌/◌, ◌%◌, ◌≤◌, ◌<◌}
 use native.Mathlib.Omega.{arith}
-use native.Mathlib.Decide.{ℕ_discrete, dec_lt}
+use native.Mathlib.Decide.{ℕ_discrete}
 use Rattle.queue_schedules.proofs.Upd.{upd, upd_same, upd_else, upd_at}
-use Rattle.unbounded_proof_invariant.proofs.Queue.{Ptr, none, to, Hand, Open, Done, By, Dest, Wait, Freed, Walk, Parked, Own, Free, Aside, Chain, Shared}
-use Rattle.unbounded_proof_invariant.proofs.Queue.{EndsOk, HandsOk, DestOk, DestsOk, ItemsOk, OwnsOk, Inv}
+use Rattle.unbounded_proof_invariant.proofs.Queue.{none, to, Hand, Open, Done, By, Dest, Wait, Freed, Walk, Parked, Own, Free, Aside, Chain, Shared}
+use Rattle.unbounded_proof_invariant.proofs.Queue.{HandsOk, DestOk, DestsOk, OwnsOk, Inv}
 
 -- ---- constructors differ
 pub hand_open_done : (x : Hand) → x ≡ Open → x ≡ Done → ⊥
@@ -640,14 +640,14 @@ dest_agree j x y f g e a (Parked k) o = (
 
 module _ (dest : ℕ → Dest) (destroy new : ℕ → ℕ → Bool) (pop after : ℕ → Hand) (old : DestsOk dest destroy pop) (j : ℕ)
     (agree : (k : ℕ) → k ≢ j → (i : ℕ) → i < 31 → after (32 * k + i) ≡ pop (32 * k + i)) (bits : (k : ℕ) → k ≢ j → new k ≡ destroy k)
-    (d : Dest) (ok : DestOk (new j) after j d) (to-wait : d ≡ Wait → after (32 * j + 30) ≢ Done) (from-wait : after (32 * j + 30) ≢ Done → d ≡ Wait) where
+    (d : Dest) (ok : DestOk (new j) after j d) (to_wait : d ≡ Wait → after (32 * j + 30) ≢ Done) (from_wait : after (32 * j + 30) ≢ Done → d ≡ Wait) where
   dests_at : DestsOk (upd dest j d) new after
   dests_at = record {
     waiting = (λ k. at_or_else (λ (x : Dest). x ≡ Wait → after (32 * k + 30) ≢ Done) dest j k d
-        (λ e q. subst (λ (i : ℕ). after (32 * i + 30) ≢ Done) (sym e) (to-wait q))
+        (λ e q. subst (λ (i : ℕ). after (32 * i + 30) ≢ Done) (sym e) (to_wait q))
         (λ n q z. old.waiting k q (sym (agree k n 30 (omega arith)) ∙ z)));
     waits = (λ k z. at_or_else (λ (x : Dest). x ≡ Wait) dest j k d
-        (λ e. from-wait (subst (λ (i : ℕ). after (32 * i + 30) ≢ Done) e z))
+        (λ e. from_wait (subst (λ (i : ℕ). after (32 * i + 30) ≢ Done) e z))
         (λ n. old.waits k (λ q. z (agree k n 30 (omega arith) ∙ q))));
     dests = (λ k. at_or_else (λ (x : Dest). DestOk (new k) after k x) dest j k d
         (λ e. subst (λ (i : ℕ). DestOk (new i) after i d) (sym e) ok)

@@ -1,18 +1,17 @@
 -- A worker's own acts: what it relies on before and after, and that nothing is in its hands but what its place says.
-use mathlib.Core.Path.{◌≡◌, refl, sym, ap, ◌∙◌, subst}
+use mathlib.Core.Path.{◌≡◌, refl, sym, ap, ◌∙◌}
 use mathlib.Core.Logic.{◌≢◌, ◌⊎◌, inl, inr}
-use mathlib.Core.Bool.{Bool, true, false, true≢false}
-use Prim.Native.Nat.{ℕ, ◌+◌, ◌*◌, ◌/◌, ◌%◌, ◌≤◌, ◌<◌}
+use mathlib.Core.Bool.{Bool, true}
+use Prim.Native.Nat.{ℕ, ◌+◌, ◌*◌, ◌/◌, ◌%◌, ◌<◌}
 use native.Mathlib.Omega.{arith}
-use native.Mathlib.Decide.{ℕ_discrete}
 use Rattle.queue_schedules.proofs.Upd.{upd, upd_same, upd_else, upd_at}
-use Rattle.unbounded_proof_invariant.proofs.Queue.{Ptr, none, to, Hand, Open, Done, By, Dest, Wait, Freed, Walk, Parked, Own, Free, Aside, Chain, Shared, Inv}
-use Rattle.unbounded_proof_invariant.proofs.Kept.{hand_open_done, hand_by_open, hand_by_done, chain_number, aside_not_chain, walk_not_wait}
+use Rattle.unbounded_proof_invariant.proofs.Queue.{Ptr, none, to, Hand, Done, By, Dest, Freed, Walk, Parked, Own, Free, Aside, Chain, Shared, Inv}
+use Rattle.unbounded_proof_invariant.proofs.Kept.{hand_open_done, hand_by_done, chain_number, aside_not_chain, walk_not_wait}
 use Rattle.unbounded_proof_invariant.proofs.Kept.{walk_not_freed, at_or_else, claims, installs, fronts, moves, appends, steps, ties, writes, sets, takes}
-use Rattle.unbounded_proof_invariant.proofs.Kept.{heads, reads_last, reads, reads_on, walks, parks, owned, frees}
+use Rattle.unbounded_proof_invariant.proofs.Kept.{heads, reads, walks, parks, owned, frees}
 use Rattle.unbounded_proof_invariant.proofs.Views.{Seen, Rest, Installing, Tail, Claiming, Fronting, Back, Adding, Tying, Writing, Setting, Head}
 use Rattle.unbounded_proof_invariant.proofs.Views.{Looking, Taking, Going, Gone, Leading, Heading, Awaiting, Reading, Popped, Destroying, PushIn, PopIn}
-use Rattle.unbounded_proof_invariant.proofs.Views.{LookOk, SeenOk, Rely, seen_on}
+use Rattle.unbounded_proof_invariant.proofs.Views.{SeenOk, Rely, seen_on}
 use Rattle.unbounded_proof_invariant.proofs.Relied.{walk_not_parked, free_not_aside}
 
 -- ---- what is in hand at a place

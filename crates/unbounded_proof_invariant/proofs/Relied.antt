@@ -1,11 +1,11 @@
 -- Every kind of effect of worker w leaves to another, v, what it relies on.
-use mathlib.Core.Path.{◌≡◌, refl, sym, ap, ◌∙◌, subst}
+use mathlib.Core.Path.{◌≡◌, refl, sym, ap, ◌∙◌}
 use mathlib.Core.Logic.{◌≢◌}
-use mathlib.Core.Bool.{Bool, true, false}
-use Prim.Native.Nat.{ℕ, ◌+◌, ◌*◌, ◌/◌, ◌%◌, ◌≤◌, ◌<◌}
+use mathlib.Core.Bool.{Bool, true}
+use Prim.Native.Nat.{ℕ, ◌+◌, ◌*◌, ◌%◌, ◌<◌}
 use native.Mathlib.Omega.{arith}
-use Rattle.queue_schedules.proofs.Upd.{upd, upd_same, upd_else, upd_at}
-use Rattle.unbounded_proof_invariant.proofs.Queue.{Ptr, none, to, Hand, Open, Done, By, Dest, Wait, Freed, Walk, Parked, Own, Free, Aside, Chain, Shared, Inv}
+use Rattle.queue_schedules.proofs.Upd.{upd, upd_else}
+use Rattle.unbounded_proof_invariant.proofs.Queue.{Hand, Done, By, Dest, Wait, Freed, Walk, Parked, Own, Free, Aside, Chain, Shared, Inv}
 use Rattle.unbounded_proof_invariant.proofs.Kept.{hand_open_done, hand_by_open, hand_by_done, chain_number, aside_not_chain, walk_not_wait}
 use Rattle.unbounded_proof_invariant.proofs.Kept.{walk_not_freed, at_or_else, claims, installs, fronts, moves, appends, steps, ties, writes, sets, takes}
 use Rattle.unbounded_proof_invariant.proofs.Kept.{heads, reads_last, reads, reads_on, walks, parks, owned, frees}

@@ -1,11 +1,10 @@
 -- What a worker's place relies on, what an act of another leaves it, and that this is enough.
-use mathlib.Core.Path.{◌≡◌, refl, sym, ap, ◌∙◌, subst}
-use mathlib.Core.Logic.{◌≢◌}
-use mathlib.Core.Bool.{Bool, true, false}
+use mathlib.Core.Path.{◌≡◌, refl, sym, ap, ◌∙◌}
+use mathlib.Core.Bool.{Bool, true}
 use Prim.Native.Nat.{ℕ, ◌+◌, ◌*◌, ◌/◌, ◌%◌, ◌≤◌, ◌<◌}
 use native.Mathlib.Omega.{arith}
 use native.Mathlib.Decide.{dec_lt}
-use Rattle.unbounded_proof_invariant.proofs.Queue.{Ptr, none, to, Hand, Open, Done, By, Dest, Walk, Own, Aside, Chain, Shared, EndsOk, Inv}
+use Rattle.unbounded_proof_invariant.proofs.Queue.{Ptr, none, to, Done, By, Walk, Aside, Chain, Shared, Inv}
 use Rattle.unbounded_proof_invariant.proofs.Kept.{hand_open_done}
 
 -- By the places of request 12's table; p is the position of the loaded word, b its block, x the item.

@@ -1,3 +1,2 @@
 // The unbounded queue over positions: what it holds, the invariant, and the kinds of effect. Proofs only.
 #![tactic(auto)]
-
