@@ -1,33 +1,30 @@
 -- Blocks that change hands: taken, set in the chain, freed; on the machine's own lists. And the fresh machine.
-use Prim.Native.Nat.{ℕ, ◌+◌, ◌*◌, ◌-◌, ◌/◌, ◌%◌, ◌<◌, ◌≤◌}
+use Prim.Native.Nat.{ℕ, ◌+◌, ◌*◌, ◌-◌, ◌<◌, ◌≤◌}
 use mathlib.Core.Path.{◌≡◌, refl, sym, ap, ◌∙◌, subst}
 use mathlib.Core.Logic.{◌≢◌}
 use mathlib.Core.Bool.{Bool, true, false, cond}
 use mathlib.Core.List.{List}
 use native.Mathlib.Omega.{arith}
-use native.Mathlib.Decide.{ℕ_discrete}
-use lib.Dec.{eqb, ltb}
 use borrow.Author.Tests.{ne_eqb}
-use lib.ListN.{length, get_or, set, length-set}
+use lib.ListN.{length, set, length-set}
 use Rattle.queue_entries.specs.Limits.{workers_most}
 use Rattle.queue_schedules.proofs.Upd.{upd, upd_same, upd_else, upd_at}
 use Rattle.unbounded_words.specs.declared.Pointer.{Pointer}
 use Rattle.unbounded_words.specs.declared.Pointer.TheVariants.{None, To}
-use Rattle.unbounded_words.specs.declared.Index.{Index}
 use Rattle.unbounded_places.specs.declared.Slot.{Slot}
 use Rattle.unbounded_places.specs.declared.Block.{Block}
 use Rattle.unbounded_places.specs.declared.Ends.{Ends}
 use Rattle.unbounded_places.specs.declared.Place.{Place}
 use Rattle.unbounded_places.specs.declared.Worker.{Worker}
-use Rattle.unbounded_proof_invariant.proofs.Queue.{Ptr, none, to, Hand, Open, Done, By, Dest, Wait, Freed, Walk, Parked, Own, Free, Aside, Chain, Shared, Inv}
-use Rattle.unbounded_proof_invariant.proofs.Kept.{at_or_else, hand_by_open, hand_open_done, aside_not_chain, free_not_chain, chain_number, claims, installs}
-use Rattle.unbounded_proof_invariant.proofs.Kept.{fronts, moves, appends, steps, ties, writes, sets, takes, heads, reads_last, reads, reads_on, walks, parks}
-use Rattle.unbounded_proof_invariant.proofs.Kept.{owned, frees, closes, start, start_ok}
+use Rattle.unbounded_proof_invariant.proofs.Queue.{none, Open, Dest, Wait, Walk, Own, Free, Aside, Chain, Shared, Inv}
+use Rattle.unbounded_proof_invariant.proofs.Kept.{at_or_else, hand_by_open, hand_open_done, installs}
+use Rattle.unbounded_proof_invariant.proofs.Kept.{appends}
+use Rattle.unbounded_proof_invariant.proofs.Kept.{owned, frees, start}
 use Rattle.unbounded_proof_invariant.proofs.Views.{Rest, Rely}
 use Rattle.unbounded_proof_invariant.proofs.Own.{Good, none_not_to}
 use Rattle.unbounded_proof_words.proofs.Cells.{header_set}
 use Rattle.unbounded_proof_words.proofs.Words.{word}
-use Rattle.unbounded_proof_words.proofs.Stands.{Stands, idle, new_block, slot, block_at, slot_at, place_of, ptr, back_of, ends_of_ring, is_done, next_of, HeadRep, read_bit, state_of, SlotRep, Standing, Sim}
+use Rattle.unbounded_proof_words.proofs.Stands.{new_block, slot, block_at, slot_at, place_of, ptr, back_of, HeadRep, SlotRep, Standing, Sim}
 use Rattle.unbounded_proof_words.proofs.Frames.{others_stand, fresh_cell, fresh_header}
 
 -- a bit that cannot be set is clear

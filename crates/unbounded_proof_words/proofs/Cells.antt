@@ -1,32 +1,29 @@
 -- The effects that change words of a block or of a slot, on the machine's own lists.
-use Prim.Native.Nat.{ℕ, ◌+◌, ◌*◌, ◌-◌, ◌/◌, ◌%◌, ◌<◌, ◌≤◌}
+use Prim.Native.Nat.{ℕ, ◌+◌, ◌*◌, ◌<◌}
 use mathlib.Core.Path.{◌≡◌, refl, sym, ap, ◌∙◌, subst}
 use mathlib.Core.Logic.{◌≢◌}
 use mathlib.Core.Bool.{Bool, true, false, cond}
 use mathlib.Core.List.{List}
 use native.Mathlib.Omega.{arith}
 use native.Mathlib.Decide.{ℕ_discrete}
-use lib.Dec.{eqb, ltb}
 use borrow.Author.Tests.{lt-ltb}
-use lib.ListN.{length, get_or, set, length-set}
+use lib.ListN.{length, set, length-set}
 use Rattle.queue_entries.specs.Limits.{workers_most}
 use Rattle.queue_schedules.proofs.Upd.{upd, upd_same, upd_else, upd_at}
 use Rattle.unbounded_words.specs.declared.Pointer.{Pointer}
 use Rattle.unbounded_words.specs.declared.Pointer.TheVariants.{None, To}
-use Rattle.unbounded_words.specs.declared.Index.{Index}
 use Rattle.unbounded_places.specs.declared.Slot.{Slot}
 use Rattle.unbounded_places.specs.declared.Block.{Block}
 use Rattle.unbounded_places.specs.declared.Ends.{Ends}
 use Rattle.unbounded_places.specs.declared.Place.{Place}
 use Rattle.unbounded_places.specs.declared.Worker.{Worker}
-use Rattle.unbounded_proof_invariant.proofs.Queue.{Ptr, none, to, Hand, Open, Done, By, Dest, Wait, Freed, Walk, Parked, Own, Free, Aside, Chain, Shared, Inv}
-use Rattle.unbounded_proof_invariant.proofs.Kept.{at_or_else, hand_by_open, hand_open_done, aside_not_chain, free_not_chain, chain_number, claims, installs}
-use Rattle.unbounded_proof_invariant.proofs.Kept.{fronts, moves, appends, steps, ties, writes, sets, takes, heads, reads_last, reads, reads_on, walks}
-use Rattle.unbounded_proof_invariant.proofs.Kept.{destroy_bits, destroys, owned, frees, closes}
+use Rattle.unbounded_proof_invariant.proofs.Queue.{Hand, Open, Done, By, Dest, Own, Free, Aside, Chain, Shared, Inv}
+use Rattle.unbounded_proof_invariant.proofs.Kept.{at_or_else, hand_by_open, hand_open_done, free_not_chain}
+use Rattle.unbounded_proof_invariant.proofs.Kept.{ties, writes, sets, reads, reads_on}
+use Rattle.unbounded_proof_invariant.proofs.Kept.{destroy_bits, destroys}
 use Rattle.unbounded_proof_invariant.proofs.Views.{Rely}
-use Rattle.unbounded_proof_words.proofs.Words.{word}
-use Rattle.unbounded_proof_words.proofs.Stands.{new_block, slot, block_at, slot_at, place_of, ptr, back_of, ends_of_ring, is_done, next_of, HeadRep, read_bit, state_of, SlotRep, Standing, Sim}
-use Rattle.unbounded_proof_words.proofs.Frames.{get_same, get_other, others_stand, cell_same, write_bit, read_bit_lem, destroy_bit, fresh_cell, fresh_header}
+use Rattle.unbounded_proof_words.proofs.Stands.{new_block, slot, block_at, slot_at, place_of, is_done, HeadRep, read_bit, state_of, SlotRep, Standing, Sim}
+use Rattle.unbounded_proof_words.proofs.Frames.{get_same, get_other, others_stand, cell_same, write_bit, read_bit_lem, destroy_bit}
 
 -- ---- one header, and one slot, is set
 module _ (link : ℕ → Bool) (phys : ℕ → ℕ) (own : ℕ → Own) (blocks : List Block) (b : ℕ) (g : Block) (long : b < length blocks) where

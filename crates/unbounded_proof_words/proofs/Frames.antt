@@ -8,20 +8,16 @@ use native.Mathlib.Omega.{arith}
 use native.Mathlib.Decide.{ℕ_discrete}
 use lib.Dec.{ltb}
 use lib.ListN.{length, get_or, set}
-use borrow.Author.Tests.{le-ltb, lt-ltb}
-use Rattle.queue_schedules.proofs.Upd.{upd, upd_same, upd_else, upd_at}
+use Rattle.queue_schedules.proofs.Upd.{upd}
 use Rattle.unbounded_places.specs.declared.Slot.{Slot}
-use Rattle.unbounded_places.specs.declared.Block.{Block}
 use Rattle.unbounded_places.specs.declared.Place.{Place}
 use Rattle.unbounded_places.specs.declared.Worker.{Worker}
-use Rattle.unbounded_words.specs.declared.Pointer.{Pointer}
-use Rattle.unbounded_words.specs.declared.Pointer.TheVariants.{None, To}
-use Rattle.unbounded_proof_invariant.proofs.Queue.{Ptr, none, to, Hand, Open, Done, By, Dest, Wait, Own, Free, Aside, Chain, Shared, DestOk, Inv}
-use Rattle.unbounded_proof_invariant.proofs.Kept.{at_or_else, chain_number, aside_not_chain, free_not_chain}
+use Rattle.unbounded_proof_invariant.proofs.Queue.{Hand, Open, Done, By, Wait, Own, Free, Aside, Chain, Shared, DestOk, Inv}
+use Rattle.unbounded_proof_invariant.proofs.Kept.{at_or_else}
 use Rattle.unbounded_proof_invariant.proofs.Views.{Rely}
 use Rattle.unbounded_proof_invariant.proofs.Own.{good_on}
 use Rattle.unbounded_proof_words.proofs.Words.{bit}
-use Rattle.unbounded_proof_words.proofs.Stands.{new_block, slot, place_of, is_done, next_of, HeadRep, read_bit, state_of, SlotRep, Standing}
+use Rattle.unbounded_proof_words.proofs.Stands.{new_block, slot, place_of, is_done, next_of, read_bit, state_of, SlotRep, Standing}
 
 -- ---- what was read out and is stored back
 pub set_same : {A : Type 0} (l : List A) (k : ℕ) (d : A) → k < length l → set l k (get_or l k d) ≡ l

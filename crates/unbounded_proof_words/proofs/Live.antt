@@ -1,13 +1,13 @@
 -- No act touches a free block, and nothing is in two hands.
-use Prim.Native.Nat.{ℕ, ◌+◌, ◌-◌, ◌*◌, ◌/◌, ◌%◌, ◌<◌, ◌≤◌}
+use Prim.Native.Nat.{ℕ, ◌+◌, ◌-◌, ◌*◌, ◌/◌, ◌%◌, ◌<◌}
 use mathlib.Core.Path.{◌≡◌, refl, sym, ap, ◌∙◌, subst}
 use mathlib.Core.Logic.{◌≢◌}
-use mathlib.Core.Bool.{Bool, true, false}
+use mathlib.Core.Bool.{Bool, false}
 use mathlib.Core.List.{List}
 use native.Mathlib.Omega.{arith}
 use native.Mathlib.Decide.{dec_lt}
 use Rattle.unbounded_words.specs.declared.Pointer.{Pointer}
-use Rattle.unbounded_words.specs.declared.Pointer.TheVariants.{None, To}
+use Rattle.unbounded_words.specs.declared.Pointer.TheVariants.{To}
 use Rattle.unbounded_words.specs.declared.Index.{Index}
 use Rattle.unbounded_words.specs.Words.{sizes, offset_of, number_of}
 use Rattle.unbounded_places.specs.declared.Block.{Block}
@@ -18,8 +18,8 @@ use Rattle.unbounded_places.specs.declared.Place.{Place}
 use Rattle.unbounded_places.specs.declared.Uses.{Uses}
 use Rattle.unbounded_places.specs.declared.Uses.TheVariants as uses
 use Rattle.unbounded_places.specs.Places.{view_of}
-use Rattle.unbounded_proof_invariant.proofs.Queue.{Ptr, none, to, Hand, Open, Done, By, Dest, Freed, Own, Free, Aside, Chain, Shared, DestOk, Inv}
-use Rattle.unbounded_proof_invariant.proofs.Kept.{hand_open_done, hand_by_done, wait_not_freed, walk_not_freed, free_not_chain}
+use Rattle.unbounded_proof_invariant.proofs.Queue.{Ptr, none, to, Hand, Done, By, Freed, Own, Free, Aside, Chain, Shared, DestOk, Inv}
+use Rattle.unbounded_proof_invariant.proofs.Kept.{hand_open_done, hand_by_done, wait_not_freed, free_not_chain}
 use Rattle.unbounded_proof_invariant.proofs.Views.{Seen, Rest, Installing, Tail, Claiming, Fronting, Back, Adding, Tying, Writing, Setting, Head, Looking}
 use Rattle.unbounded_proof_invariant.proofs.Views.{Taking, Going, Gone, Leading, Heading, Awaiting, Reading, Popped, Destroying, PushIn, PopIn, SeenOk}
 use Rattle.unbounded_proof_invariant.proofs.Own.{push_of, pop_of, Good, none_not_to}

@@ -1,17 +1,16 @@
 -- The acts that change nothing: what a load tells its worker ("Decisions on words, in positions").
-use Prim.Native.Nat.{ℕ, ◌+◌, ◌*◌, ◌-◌, ◌/◌, ◌%◌, ◌<◌, ◌≤◌}
-use mathlib.Core.Path.{◌≡◌, refl, sym, ap, ◌∙◌, subst}
+use Prim.Native.Nat.{ℕ, ◌+◌, ◌-◌, ◌/◌, ◌%◌, ◌<◌, ◌≤◌}
+use mathlib.Core.Path.{◌≡◌, refl, sym, ap, ◌∙◌}
 use mathlib.Core.Logic.{◌≢◌}
 use mathlib.Core.Bool.{Bool, true, false, cond, not, true≢false}
 use native.Mathlib.Omega.{arith}
-use native.Mathlib.Decide.{ℕ_discrete, dec_lt}
+use native.Mathlib.Decide.{ℕ_discrete}
 use lib.Dec.{eqb}
-use borrow.Author.Tests.{eq-eqb, ne_eqb, eqb-true, eqb-false}
-use Rattle.unbounded_words.specs.declared.Pointer.{Pointer}
+use borrow.Author.Tests.{eq-eqb, ne_eqb}
 use Rattle.unbounded_words.specs.declared.Pointer.TheVariants.{None, To}
-use Rattle.unbounded_proof_invariant.proofs.Queue.{Ptr, none, to, Hand, Open, Done, By, Shared, Inv}
+use Rattle.unbounded_proof_invariant.proofs.Queue.{Ptr, none, to, Done, Shared, Inv}
 use Rattle.unbounded_proof_invariant.proofs.Kept.{done_or_not}
-use Rattle.unbounded_proof_invariant.proofs.Views.{Seen, Rest, Tail, Claiming, Head, Looking, Taking, Going, Gone, Leading, Awaiting, Reading, Popped, LookOk, SeenOk}
+use Rattle.unbounded_proof_invariant.proofs.Views.{Rest, Tail, Claiming, Head, Looking, Taking, Going, Gone, Leading, Awaiting, Reading, Popped, LookOk}
 use Rattle.unbounded_proof_invariant.proofs.Own.{Good, still, none_not_to}
 use Rattle.unbounded_proof_words.proofs.Stands.{back_of}
 

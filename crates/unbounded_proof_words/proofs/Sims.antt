@@ -1,17 +1,15 @@
 -- Each kind of effect on the machine's own words: what stood for a queue over positions stands for the queue after it.
-use Prim.Native.Nat.{ℕ, ◌+◌, ◌*◌, ◌-◌, ◌/◌, ◌%◌, ◌<◌, ◌≤◌}
-use mathlib.Core.Path.{◌≡◌, refl, sym, ap, ◌∙◌, subst}
+use Prim.Native.Nat.{ℕ, ◌+◌, ◌*◌, ◌<◌, ◌≤◌}
+use mathlib.Core.Path.{◌≡◌, refl, ap, ◌∙◌}
 use mathlib.Core.Logic.{◌≢◌}
-use mathlib.Core.Bool.{Bool, true, false, cond}
+use mathlib.Core.Bool.{Bool, true, false}
 use mathlib.Core.List.{List}
 use native.Mathlib.Omega.{arith}
-use native.Mathlib.Decide.{ℕ_discrete}
-use lib.Dec.{eqb, ltb}
-use lib.ListN.{length, get_or, set, length-set}
+use lib.ListN.{length, set, length-set}
 use Rattle.queue_entries.specs.Limits.{workers_most}
-use Rattle.queue_schedules.proofs.Upd.{upd, upd_same, upd_else, upd_at}
+use Rattle.queue_schedules.proofs.Upd.{upd}
 use Rattle.unbounded_words.specs.declared.Pointer.{Pointer}
-use Rattle.unbounded_words.specs.declared.Pointer.TheVariants.{None, To}
+use Rattle.unbounded_words.specs.declared.Pointer.TheVariants.{To}
 use Rattle.unbounded_words.specs.declared.Index.{Index}
 use Rattle.unbounded_words.specs.Words.{wide, later, with_mark}
 use Rattle.unbounded_places.specs.declared.Slot.{Slot}
@@ -19,12 +17,12 @@ use Rattle.unbounded_places.specs.declared.Block.{Block}
 use Rattle.unbounded_places.specs.declared.Ends.{Ends}
 use Rattle.unbounded_places.specs.declared.Place.{Place}
 use Rattle.unbounded_places.specs.declared.Worker.{Worker}
-use Rattle.unbounded_proof_invariant.proofs.Queue.{Ptr, none, to, Hand, Open, Done, By, Dest, Wait, Freed, Walk, Parked, Own, Free, Aside, Chain, Shared, Inv}
-use Rattle.unbounded_proof_invariant.proofs.Kept.{at_or_else, hand_by_open, hand_open_done, claims, installs, fronts, moves, appends, steps, ties, writes, sets}
-use Rattle.unbounded_proof_invariant.proofs.Kept.{takes, heads, reads_last, reads, reads_on, walks, parks, owned, frees, closes}
+use Rattle.unbounded_proof_invariant.proofs.Queue.{Hand, Open, Done, By, Shared, Inv}
+use Rattle.unbounded_proof_invariant.proofs.Kept.{at_or_else, hand_by_open, claims, fronts, moves, steps}
+use Rattle.unbounded_proof_invariant.proofs.Kept.{takes, heads, reads_last, walks, closes}
 use Rattle.unbounded_proof_invariant.proofs.Views.{Rely}
-use Rattle.unbounded_proof_words.proofs.Words.{bit, word, later_word, with_mark_word}
-use Rattle.unbounded_proof_words.proofs.Stands.{new_block, slot, block_at, slot_at, place_of, ptr, back_of, ends_of_ring, is_done, next_of, HeadRep, read_bit, state_of, SlotRep, Standing, Sim}
+use Rattle.unbounded_proof_words.proofs.Words.{word, later_word, with_mark_word}
+use Rattle.unbounded_proof_words.proofs.Stands.{slot_at, place_of, Standing, Sim}
 use Rattle.unbounded_proof_words.proofs.Frames.{others_stand, cell_same, claimed_done, claimed_read, last_read}
 
 pub rely_still : (s : Shared) (w : ℕ) → Rely s s w

@@ -1,17 +1,15 @@
 -- How a machine stands for a queue over positions.
-use Prim.Native.Nat.{ℕ, ◌+◌, ◌*◌, ◌-◌, ◌/◌, ◌%◌, ◌<◌, ◌≤◌}
-use mathlib.Core.Path.{◌≡◌, refl, sym, ap, ◌∙◌, subst}
+use Prim.Native.Nat.{ℕ, ◌+◌, ◌*◌, ◌-◌, ◌%◌, ◌<◌, ◌≤◌}
+use mathlib.Core.Path.{◌≡◌}
 use mathlib.Core.Logic.{◌≢◌}
 use mathlib.Core.Bool.{Bool, true, false, cond}
 use mathlib.Core.List.{List}
-use native.Mathlib.Omega.{arith}
 use lib.Dec.{eqb, ltb}
-use lib.ListN.{length, get_or, set}
-use Rattle.queue_entries.specs.Limits.{workers_most, meter_most}
+use lib.ListN.{length, get_or}
+use Rattle.queue_entries.specs.Limits.{workers_most}
 use Rattle.unbounded_words.specs.declared.Pointer.{Pointer}
 use Rattle.unbounded_words.specs.declared.Pointer.TheVariants.{None, To}
 use Rattle.unbounded_words.specs.declared.Index.{Index}
-use Rattle.unbounded_words.specs.Words.{sizes, wide, index}
 use Rattle.unbounded_places.specs.declared.Slot.{Slot}
 use Rattle.unbounded_places.specs.declared.Block.{Block}
 use Rattle.unbounded_places.specs.declared.Ends.{Ends}
@@ -22,7 +20,7 @@ use Rattle.unbounded_places.specs.declared.Place.TheVariants.{V7, V8, V9, V10, V
 use Rattle.unbounded_places.specs.declared.Place.TheVariants.{IsClosed1}
 use Rattle.unbounded_places.specs.declared.Answer.TheVariants.{Nothing, Pushed, Closed}
 use Rattle.unbounded_places.specs.declared.Worker.{Worker}
-use Rattle.unbounded_proof_invariant.proofs.Queue.{Ptr, none, to, Hand, Open, Done, By, Dest, Own, Free, Aside, Chain, Shared, Inv}
+use Rattle.unbounded_proof_invariant.proofs.Queue.{Ptr, none, to, Hand, Open, Done, By, Own, Free, Aside, Chain, Shared, Inv}
 use Rattle.unbounded_proof_invariant.proofs.Views.{Seen, Rest, Installing, Tail, Claiming, Fronting, Back, Adding, Tying, Writing, Setting, Head, Looking}
 use Rattle.unbounded_proof_invariant.proofs.Views.{Taking, Going, Gone, Leading, Heading, Awaiting, Reading, Popped, Destroying}
 use Rattle.unbounded_proof_invariant.proofs.Own.{Good}
