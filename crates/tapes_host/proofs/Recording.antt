@@ -9,7 +9,7 @@ use lib.ListN.{length, get_or, take, drop, set, length-drop, drop_of_length-le}
 use lib.Seq.{take_all, length-take-le}
 use borrow.Rule.Slice.PartMut.{put_mid, mid_of}
 use borrow.Author.Tests.{ltb-false, eqb-true}
-use Rattle.queue_entries.proofs.Pick.{yes, no, below, above, equal, other, along}
+use Rattle.queue_entries.proofs.Pick.{yes, no, below, above, equal, other}
 use Rattle.tapes_numbers.specs.declared.Variant.{Variant}
 use Rattle.tapes_numbers.specs.declared.Variant.TheVariants.{BigEndian, LittleEndian}
 use Rattle.tapes_numbers.specs.Numbers.{tag_of}
@@ -19,7 +19,7 @@ use Rattle.tapes_fields.proofs.Reading.{carried_means}
 use Rattle.tapes_host.specs.declared.Reply.{Reply}
 use Rattle.tapes_host.specs.declared.Recorder.{Recorder}
 use Rattle.tapes_host.specs.declared.Recorder.TheVariants.{Broken, At}
-use Rattle.tapes_host.specs.Host.{reply, name_of, about_of, Written, written, write_tape}
+use Rattle.tapes_host.specs.Host.{reply, name_of, about_of, written, write_tape}
 use Rattle.tapes_host.specs.Recorder.{recorded, recorder_of, entries_can, stands, stands_by, recorder_by, recorder_in, begun_by, begin_tape, put_at, append_at}
 use Rattle.tapes_host.specs.Recorder.{append_by, append_tape, end_at, end_by, end_tape}
 

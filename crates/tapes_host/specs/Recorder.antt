@@ -1,5 +1,5 @@
 -- A tape entry by entry: what a recorder's functions answer, and every lent slice as it is then.
-use Rattle.std.specs.Prelude.{ℕ, ◌+◌, ◌*◌, ◌-◌, ◌/◌, ◌%◌, Bool, true, false, cond, List, [], ◌∷◌, ◌++◌, eqb, leb, ltb, length, get_or, take, drop}
+use Rattle.std.specs.Prelude.{ℕ, ◌+◌, ◌*◌, ◌-◌, ◌/◌, ◌%◌, Bool, false, cond, List, [], ◌∷◌, ◌++◌, eqb, leb, ltb, length, get_or, take, drop}
 use Rattle.tapes_numbers.specs.declared.Variant.{Variant}
 use Rattle.tapes_numbers.specs.declared.Variant.TheVariants.{BigEndian, LittleEndian}
 use Rattle.tapes_fields.specs.Fields.{entry_field_of, end_of, size_of, over}
