@@ -6,9 +6,9 @@ from functools import cache
 from pathlib import Path
 
 root = Path(__file__).resolve().parent.parent
-KIT = {'check', 'libc', 'io', 'os', 'bytes', 'std'}
+KIT = {'bytes', 'std'}
 QUEUES = ('bounded', 'single', 'unbounded')
-PROGRAMS = ('replay', 'tape', 'walk', 'bench')
+PROGRAMS = ('replay', 'tape', 'walk')
 LAYERS = ('words|places|acts|pushes|forces|pops|lookers|table|views|machine|judged|entries|runs|orders|step_machine|step_record|sixteen_bits|narrow|lent|lent_by_value|'
           'codes|rows|slices|host|host_step|sixteen_rows|sixteen_host|stock|causes|moments|sequences|walks')
 
@@ -18,6 +18,7 @@ KINDS = [
     ('proof', r'(?P<of>\w+?)_(proof_\w+|slips)'),
     ('statement', r'(?P<of>\w+?)_(demands|logs)'),
     ('program', r'(?P<of>\w+?)_shows_\w+|' + '|'.join(PROGRAMS)),
+    ('export', r'(?P<of>\w+?)_host(_step)?_c|bench_\w+'),
     ('library', r'(?P<of>\w+?)_text(_\w+)?|text_\w+|(' + '|'.join(PROGRAMS) + r')_\w+'),
     ('machine', r'(?P<of>' + '|'.join(QUEUES) + r')(_(' + LAYERS + r'))?|(?P<tape>tapes)(_\w+)?'),
 ]
@@ -27,6 +28,7 @@ MAY_USE = {
     'statement': {'shared', 'machine', 'statement'},
     'proof': {'shared', 'machine', 'statement', 'proof'},
     'library': {'shared', 'machine', 'library'},
+    'export': {'shared', 'machine'},
     'program': {'shared', 'machine', 'library'},
 }
 
@@ -47,7 +49,7 @@ def listed():
         line = line.split('#')[0].strip()
         if line:
             name, _, rest = line.partition(':')
-            uses[name] = [dep for dep in rest.split() if dep not in KIT]
+            uses[name.split()[0]] = [dep for dep in rest.split() if dep not in KIT]
     return uses
 
 
@@ -88,8 +90,8 @@ def named(crate):
     able to name the type of every value; of this repository, then of the kit."""
     found, met = set(), set()
     for file in (root / 'crates' / crate).rglob('*'):
-        if file.suffix in ('.rt', '.antt'):
-            found |= set(re.findall(r'Rattle·(\w+)', file.read_text()))
+        if file.suffix in ('.rt', '.antt') and 'out' not in file.relative_to(root / 'crates' / crate).parts[:1]:
+            found |= set(re.findall(r'\bRattle\.(\w+)\.', file.read_text()))
     for text in sources(crate):
         found |= set(re.findall(r'\b(\w+)::', text))
         for of, name in re.findall(r'\b(\w+)::(?:\w+::)*(\w+)', text):
