@@ -16,6 +16,13 @@ HOME = Path(__file__).resolve().parent.parent
 PROGRAMS = ('archive', 'explore', 'picture', 'possible', 'replay', 'runs', 'shrink', 'step', 'tape', 'walk')
 
 
+# Options that a program's starter has, and what it starts does not have in its help; the usages that have them.
+OF_STARTER = {'replay': (('--explain', '--calls'), [
+    ('--from N', 'with --explain or --calls, only what entry N and later ones did'), ('--to N', 'with --explain or --calls, only what entry N and earlier ones did'),
+    ('--worker K', 'with --explain or --calls, only what worker K did'),
+])}
+
+
 class Help(NamedTuple):
     usage: list
     blocks: list  # of paragraphs, and of lists of terms, each with its text
@@ -55,6 +62,14 @@ def read(text):
     return Help(usage, [block for block in blocks if block])
 
 
+def help_of(program, text):
+    """What its --help says, and the options of its starter."""
+    told, (beside, terms) = read(text), OF_STARTER.get(program, ((), []))
+    more = ' '.join(f'[{term}]' for term, _ in terms)
+    usage = [line.replace('[FILE]', f'{more} [FILE]') if {*beside} & {*line.split()} else line for line in told.usage]
+    return Help(usage, told.blocks + [terms] * bool(terms))
+
+
 def summary_of(program):
     """What the comment of its starter says of it."""
     return re.search(rf'(?m)^# {program} .*?: (.*) \(--help says more\)\.$', (HOME / program).read_text())[1]
@@ -81,7 +96,7 @@ def page_of(program):
 
 
 def man(program, text, on, version):
-    told = read(text)
+    told = help_of(program, text)
     name = page_of(program)
     page = [f'.TH {name.upper()} 1 {on} "fernmoldew {version}" "Fernmoldew"', '.SH NAME', f'{name} \\- {roff(summary_of(program))}', '.SH SYNOPSIS']
     for number, usage in enumerate(told.usage):
@@ -141,7 +156,7 @@ def is_file(value):
 
 def bash_of(program, text):
     """A function that completes the words of one program, its name being the first."""
-    told = read(text)
+    told = help_of(program, text)
     options, commands = options_of(told), commands_of(told)
     cases = []
     for option, (value, values, _) in options.items():
@@ -181,7 +196,7 @@ complete -o default -F _fernmoldew_fern fern
 
 
 def zsh_of(program, text):
-    told = read(text)
+    told = help_of(program, text)
     words = []
     for option, (value, values, said) in options_of(told).items():
         said = re.sub(r"[\[\]:'\\]", ' ', re.split(r'[;:(]|\. ', said)[0]).strip()

@@ -20,8 +20,8 @@ judge sequential --calls N --seed S [--quiet] [--module CMD [--many]] [--batch E
 judge interleaved --acts N --seed S [--closing] [--quiet] [--module CMD [--many]] [--batch ENTRIES] [--save DIR]
 judge turns --turns N --seed S --bits 16 [--capacity N] [--quiet] [--module CMD [--many]] [--batch ENTRIES] [--save DIR]
 judge exhaustive [--compact | --depth ACTS] [--quiet] [--module CMD [--many]] [--batch ENTRIES] [--save DIR]
-judge walk FILE|- [--depth N] [--no-fail] [--list] [--buffer BYTES] [--many]
-judge walks [--depth N] [--no-fail] [--list] [--workers 2|3] [--module CMD --many] [--batch ENTRIES] [--save DIR]
+judge walk FILE|- [--depth N] [--list] [--buffer BYTES] [--many]
+judge walks [--depth N] [--list] [--workers 2|3] [--module CMD --many] [--batch ENTRIES] [--save DIR]
 judge list --seed S [--to DIR]
 judge check-against FILE.out FILE.in";
 
@@ -80,7 +80,7 @@ impl Options {
                 None => options.plain.push(argument),
                 Some(
                     flag @ ("quiet" | "many" | "compact" | "closing" | "causes" | "losses" | "stock" | "moments"
-                    | "plain" | "list" | "lent" | "no-fail"),
+                    | "plain" | "list" | "lent"),
                 ) => {
                     options.flags.push(flag.into());
                 }
@@ -193,8 +193,7 @@ fn unplain(tally: &Tally) -> Result<(), String> {
 
 fn walk_asked(options: &Options) -> Result<Walk, String> {
     let depth = options.number_or("depth", walk::DEPTH_MOST)?;
-    let buffer = options.optional_number("buffer")?;
-    Ok(Walk { depth, list: options.flag("list"), no_fail: options.flag("no-fail"), buffer })
+    Ok(Walk { depth, list: options.flag("list"), buffer: options.optional_number("buffer")? })
 }
 
 /// A differential run with its counts and its time.

@@ -17,8 +17,6 @@ pub struct Walk {
     pub depth: u64,
     /// The sequences and nothing else.
     pub list: bool,
-    /// Only sequences in which no exchange is made to fail.
-    pub no_fail: bool,
     /// The bytes of the buffer, if it is not as long as the list.
     pub buffer: Option<u64>,
 }
@@ -27,67 +25,29 @@ pub struct Walk {
 pub fn run(schedule: &Schedule, walk: Walk, tally: &mut Tally) -> Result<String, String> {
     tally.schedules += 1;
     refused(&reached(schedule)?, walk.depth)?;
-    let (mut list, mut all, mut kept) = (String::new(), Size::default(), Size::default());
+    let (mut list, mut sequences, mut bytes) = (String::new(), 0, 0);
     let mut counts: Vec<Counts> = (0..=schedule.workers).map(|_| Counts::default()).collect();
     each_sequence(schedule, walk.depth as usize, |acts, machine| {
-        all.add(acts);
+        sequences += 1;
+        bytes += 1 + acts.len() as u64;
         tally.add(&machine.tally);
-        if walk.no_fail && failures(acts) > 0 {
-            return;
-        }
-        kept.add(acts);
         if walk.list {
             list += &words(acts);
             list.push('\n');
         } else {
-            ends(&mut counts, machine, |counts, shown| counts.add(shown));
+            count(&mut counts, acts, machine);
         }
     });
-    tally.sequences += all.sequences;
-    tally.sequence_bytes += all.bytes;
-    let Size { sequences, bytes } = all;
+    tally.sequences += sequences;
+    tally.sequence_bytes += bytes;
     match walk.buffer {
         Some(buffer) if buffer < bytes => {
             let what = format!("the list has {sequences} sequences in {bytes} bytes, and the buffer {buffer}");
-            return Err(refused_as(22, &format!("{what}; ./explore keeps none (installed: fern explore)")));
+            Err(refused_as(22, &what))
         }
-        _ if walk.list => return Ok(list),
-        _ => {}
+        _ if walk.list => Ok(list),
+        _ => Ok(format!("walked depth={} sequences={sequences} bytes={bytes}\n{}", walk.depth, rows(&counts))),
     }
-    // The beginnings of all sequences are those of fewer acts.
-    for depth in 0..=walk.depth as usize {
-        each_sequence(schedule, depth, |acts, machine| {
-            if !walk.no_fail || failures(acts) == 0 {
-                ends(&mut counts, machine, |counts, shown| counts.offer(&shown, acts));
-            }
-        });
-    }
-    let Size { sequences, bytes } = kept;
-    Ok(format!("walked depth={} sequences={sequences} bytes={bytes}\n{}", walk.depth, rows(&counts)))
-}
-
-/// Of a list.
-#[derive(Default)]
-struct Size {
-    sequences: u64,
-    bytes: u64,
-}
-
-impl Size {
-    fn add(&mut self, acts: &[u64]) {
-        self.sequences += 1;
-        self.bytes += 1 + acts.len() as u64;
-    }
-}
-
-fn failures(acts: &[u64]) -> usize {
-    acts.iter().filter(|first| *first % 16 == 9).count()
-}
-
-/// The fewest acts are best, of these the fewest changes of worker, of these the fewest failures.
-fn rank(acts: &[u64]) -> (usize, usize, usize) {
-    let changes = acts.windows(2).filter(|pair| pair[0] / 16 != pair[1] / 16).count();
-    (acts.len(), changes, failures(acts))
 }
 
 /// The machine that a schedule leaves.
@@ -196,35 +156,31 @@ struct Counts(Vec<Ending>);
 struct Ending {
     shown: String,
     sequences: u64,
-    /// The best acts after which things stand so, and of these the first.
-    shortest: Option<Vec<u64>>,
+    /// The first of them.
+    shortest: Vec<u64>,
 }
 
 impl Counts {
-    fn add(&mut self, shown: String) {
-        match self.0.iter_mut().find(|ending| ending.shown == shown) {
-            Some(ending) => ending.sequences += 1,
-            None => self.0.push(Ending { shown, sequences: 1, shortest: None }),
-        }
-    }
-
-    fn offer(&mut self, shown: &str, acts: &[u64]) {
-        let Some(ending) = self.0.iter_mut().find(|ending| ending.shown == shown) else { return };
-        if ending.shortest.as_ref().is_none_or(|shortest| rank(acts) < rank(shortest)) {
-            ending.shortest = Some(acts.into());
+    fn add(&mut self, shown: String, acts: &[u64]) {
+        let Some(ending) = self.0.iter_mut().find(|ending| ending.shown == shown) else {
+            return self.0.push(Ending { shown, sequences: 1, shortest: acts.into() });
+        };
+        ending.sequences += 1;
+        if acts.len() < ending.shortest.len() {
+            ending.shortest = acts.into();
         }
     }
 }
 
 /// How a sequence ended: for each worker, and then for all together.
-fn ends(counts: &mut [Counts], machine: &Machine, mut see: impl FnMut(&mut Counts, String)) {
+fn count(counts: &mut [Counts], acts: &[u64], machine: &Machine) {
     let mut together = String::from("ends");
     for worker in 0..machine.workers() {
         let shown = worker_at_its_end(machine, worker as u64);
         let _ = write!(together, " {shown}");
-        see(&mut counts[worker], shown);
+        counts[worker].add(shown, acts);
     }
-    see(&mut counts[machine.workers()], together);
+    counts[machine.workers()].add(together, acts);
 }
 
 fn worker_at_its_end(machine: &Machine, worker: u64) -> String {
@@ -234,15 +190,10 @@ fn worker_at_its_end(machine: &Machine, worker: u64) -> String {
     }
 }
 
-/// Those in which nobody is busy come first.
 fn rows(counts: &[Counts]) -> String {
     let mut out = String::new();
-    for counts in counts {
-        let (busy, complete): (Vec<_>, Vec<_>) = counts.0.iter().partition(|ending| ending.shown.contains("=busy"));
-        for Ending { shown, sequences, shortest } in complete.into_iter().chain(busy) {
-            let acts = words(shortest.as_ref().expect("a sequence has itself as a beginning"));
-            let _ = writeln!(out, "{}", format!("{shown} sequences={sequences} shortest {acts}").trim_end());
-        }
+    for Ending { shown, sequences, shortest } in counts.iter().flat_map(|counts| &counts.0) {
+        let _ = writeln!(out, "{}", format!("{shown} sequences={sequences} shortest {}", words(shortest)).trim_end());
     }
     out
 }

@@ -17,15 +17,15 @@ fn walked(edition: u64, input: &str, walk: Walk) -> Result<String, String> {
 }
 
 fn printed(input: &str, depth: u64) -> String {
-    walked(1, input, Walk { depth, list: false, no_fail: false, buffer: None }).unwrap()
+    walked(1, input, Walk { depth, list: false, buffer: None }).unwrap()
 }
 
 fn listed(input: &str, depth: u64) -> String {
-    walked(1, input, Walk { depth, list: true, no_fail: false, buffer: None }).unwrap()
+    walked(1, input, Walk { depth, list: true, buffer: None }).unwrap()
 }
 
 fn refused(input: &str, depth: u64) -> String {
-    walked(1, input, Walk { depth, list: false, no_fail: false, buffer: None }).unwrap_err()
+    walked(1, input, Walk { depth, list: false, buffer: None }).unwrap_err()
 }
 
 #[test]
@@ -59,60 +59,19 @@ fn endings_of_a_push() {
     let lines = [
         "walked depth=9 sequences=5 bytes=44",
         "w0=idle:pushed sequences=3 shortest 8 0 8 0 8 0 8 0 8 0",
-        "w0=busy sequences=2 shortest",
+        "w0=busy sequences=2 shortest 8 0 8 0 9 0 8 0 9 0 8 0 9 0 8 0 8 0",
         "ends w0=idle:pushed sequences=3 shortest 8 0 8 0 8 0 8 0 8 0",
-        "ends w0=busy sequences=2 shortest",
+        "ends w0=busy sequences=2 shortest 8 0 8 0 9 0 8 0 9 0 8 0 9 0 8 0 8 0",
     ];
     assert_eq!(printed("1 1 0 5", 9), lines.join("\n") + "\n");
-}
-
-/// The first worker closes in one act, the second asks in two: of three acts all sequences are complete; of two one is, and nothing is shown after the last answer.
-#[test]
-fn complete_endings_come_first_and_nothing_is_padded() {
-    let lines = [
-        "walked depth=2 sequences=3 bytes=9",
-        "w0=idle:yes sequences=2 shortest 8 0",
-        "w0=busy sequences=1 shortest",
-        "w1=idle:yes sequences=1 shortest 24 0 24 0",
-        "w1=busy sequences=2 shortest",
-        "ends w0=idle:yes w1=busy sequences=2 shortest 8 0",
-        "ends w0=busy w1=idle:yes sequences=1 shortest 24 0 24 0",
-    ];
-    assert_eq!(printed("1 2 6 0 20 0", 2), lines.join("\n") + "\n");
-    let complete = printed("1 2 0 5 16 6", 12);
-    let ends: Vec<_> = complete.lines().filter(|line| line.starts_with("ends ")).collect();
-    let first_busy = ends.iter().position(|line| line.contains("=busy")).unwrap();
-    assert!(first_busy > 0 && ends[first_busy..].iter().all(|line| line.contains("=busy")), "{ends:?}");
-    // worker 1 pushes alone while worker 0 stands at its begin
-    assert!(
-        ends.iter().any(|line| line.starts_with("ends w0=busy w1=idle:pushed ")
-            && line.ends_with("shortest 24 0 24 0 24 0 24 0 24 0")),
-        "{ends:?}"
-    );
-}
-
-#[test]
-fn no_fail_leaves_out_what_fails() {
-    let asked = |list| Walk { depth: 9, list, no_fail: true, buffer: None };
-    assert_eq!(walked(1, "1 1 0 5", asked(true)).unwrap(), "8 0 8 0 8 0 8 0 8 0\n");
-    let lines = [
-        "walked depth=9 sequences=1 bytes=6",
-        "w0=idle:pushed sequences=1 shortest 8 0 8 0 8 0 8 0 8 0",
-        "ends w0=idle:pushed sequences=1 shortest 8 0 8 0 8 0 8 0 8 0",
-    ];
-    assert_eq!(walked(1, "1 1 0 5", asked(false)).unwrap(), lines.join("\n") + "\n");
-    // the whole list must fit: 5 sequences in 44 bytes
-    let short = Walk { buffer: Some(43), ..asked(true) };
-    assert!(walked(1, "1 1 0 5", short).unwrap_err().starts_with("refused 22: the list has 5 sequences in 44 bytes, "));
 }
 
 /// Case F: where a force_push loses a close, a second close says yes too.
 #[test]
 fn both_closes_say_yes_in_edition_1_alone() {
     let both = "w1=idle:yes w2=idle:yes";
-    let [source, kept] = [1, 2].map(|edition| {
-        walked(edition, TWO_CLOSES, Walk { depth: 12, list: false, no_fail: false, buffer: None }).unwrap()
-    });
+    let [source, kept] =
+        [1, 2].map(|edition| walked(edition, TWO_CLOSES, Walk { depth: 12, list: false, buffer: None }).unwrap());
     let line = source.lines().find(|line| line.contains(both)).unwrap();
     let (ends, acts) = line.split_once(" shortest ").unwrap();
     assert!(ends.starts_with("ends w0=idle:displaced(7) w1=idle:yes w2=idle:yes sequences="), "{ends}");
@@ -139,17 +98,16 @@ fn refusals() {
     ] {
         assert_eq!(refused(input, depth), line);
     }
-    let edition = walked(3, "1 1 2 0", Walk { depth: 0, list: true, no_fail: false, buffer: None });
+    let edition = walked(3, "1 1 2 0", Walk { depth: 0, list: true, buffer: None });
     assert_eq!(edition.unwrap_err(), "refused 18: an edition that is not 1 or 2");
 }
 
 #[test]
 fn the_buffer_holds_the_list_or_is_refused() {
     for list in [false, true] {
-        let lent = |buffer| walked(1, "1 2 0 5 16 6", Walk { depth: 2, list, no_fail: false, buffer: Some(buffer) });
-        let line = "refused 22: the list has 4 sequences in 12 bytes, and the buffer 11; ./explore keeps none (installed: fern explore)";
-        assert_eq!(lent(11).unwrap_err(), line);
-        assert_eq!(lent(12), walked(1, "1 2 0 5 16 6", Walk { depth: 2, list, no_fail: false, buffer: None }));
+        let lent = |buffer| walked(1, "1 2 0 5 16 6", Walk { depth: 2, list, buffer: Some(buffer) });
+        assert_eq!(lent(11).unwrap_err(), "refused 22: the list has 4 sequences in 12 bytes, and the buffer 11");
+        assert_eq!(lent(12), walked(1, "1 2 0 5 16 6", Walk { depth: 2, list, buffer: None }));
     }
 }
 
@@ -162,7 +120,7 @@ fn walks_are_compared() {
             let module = Some(Module { command, many: true });
             let place = concat!(env!("CARGO_TARGET_TMPDIR"), "/walks");
             let mut run = Run::new(Queue::ring(edition, Bits::SixtyFour), module, 5000, place.into());
-            walks::drive(&mut run, Walk { depth: 4, list: !list.is_empty(), no_fail: false, buffer: None }, None)
+            walks::drive(&mut run, Walk { depth: 4, list: !list.is_empty(), buffer: None }, None)
         };
         assert_eq!(driven(4), Ok(()));
         assert!(driven(3).unwrap_err().contains("the module differs"));

@@ -270,7 +270,7 @@ def by_calls(starter, asked, out):
     rest = asked.rest
     if given is not None and asked.file is not None:
         rest = [word for word in rest if word not in ('--', asked.file)]
-    more = options_for(asked.queue)
+    more = options_for(asked.queue, asked.lent)
     with Started([*starter, '--explain', *rest], given) as words:
         # told by the first run alone; two of one input that is given share where it is read, so that the second waits for the first
         said = list(words) if given is not None else iter(words)

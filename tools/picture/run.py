@@ -144,7 +144,7 @@ def run_of(replay, queue, options, first, last, most=MOST['svg']):
     if end == entries - 1:
         contents = next(line for line in quiet if line.startswith('contents'))
         run.ending = {'contents': 'nothing waits', 'contents refused 4': 'a worker is busy at the end'}.get(contents, contents.replace('contents', 'waits:', 1))
-    more = ('--causes', '--moments') if queue == 'bounded' else ()
+    more = ('--causes', '--moments') if queue == 'bounded' and ('--lent', '') not in options else ()
     if entries:
         explained(run, replay.lines('--explain'))
         fold(run, reading, replay.lines(*more), {} if more else reading.back, quiet)

@@ -1,7 +1,7 @@
 """A run by its calls, and the plain queue along it: replay's lines of numbers, folded, beside its lines in plain words.
 
-Which act is whose, where a worker stands, what was lost and why are replay's. So is the moment of an answer of the ring; of the one-slot and the unbounded queue, where
-replay names none, it is looked up by the table of docs/PROMISES.md (`Moments`), which the readings have (queues.py)."""
+Which act is whose, where a worker stands, what was lost and why are replay's. So is the moment of an answer where replay names it; where it names none (the one-slot
+and the unbounded queue, records that are lent) it is looked up by the table of docs/PROMISES.md (`Moments`), which the readings have (queues.py)."""
 
 import re
 from collections import deque
@@ -104,13 +104,13 @@ class Call:
 
 class Moments:
     """Where a plain queue gives each answer, along a run, by the table of docs/PROMISES.md. Asked where replay names no moment."""
-    LOOK = 'empty1', 'empty2'  # of is_empty: a no that is not so yet there is so from the next claim of tail on
+    LOOKS = {'is_empty': (('empty1', 'empty2'), 'tail'), 'is_full': (('full1', 'full2'), 'head')}  # a no that is not so yet at the look is so from the next claim of that end on
 
     def __init__(self, reading):
         self.reading, self.waiting = reading, 0
         self.acts = {}  # by worker: of its call the last act of each way, with how much waited just before
-        self.since = {}  # by worker: the first claim of tail since its look
-        self.looking = set()  # workers whose look none has followed
+        self.since = {}  # by worker: the first claim since its look
+        self.looking = {'tail': set(), 'head': set()}  # workers whose look no claim of that end has followed
 
     def begin(self, worker):
         self.acts[worker] = {}
@@ -121,19 +121,21 @@ class Moments:
         self.acts[worker][way] = entry, self.waiting
         for end, _ in claims:
             self.waiting += 1 if end == 'tail' else -1
-            if end == 'tail':
-                self.since.update(dict.fromkeys(self.looking, entry))
-                self.looking.clear()
-        if way == self.LOOK:
-            self.looking.add(worker)
+            self.since.update(dict.fromkeys(self.looking[end], entry))
+            self.looking[end].clear()
+        look, end = self.LOOKS.get(call, (None, None))
+        if way == look:
+            self.looking[end].add(worker)
             self.since.pop(worker, None)
         return self.moment(entry, worker, call, after.kind) if after.idle else None
 
     def moment(self, entry, worker, call, answer):
         acts = self.acts[worker]
-        if answer == 'no' and self.LOOK in acts:
-            looked, waited = acts[self.LOOK]
-            return f'{looked}' if waited > 0 else f'{self.since[worker]}+' if worker in self.since else '-'
+        look, _ = self.LOOKS.get(call, (None, None))
+        if answer == 'no' and look in acts:
+            looked, waited = acts[look]
+            is_so = waited > 0 if call == 'is_empty' else waited < len(self.reading.fresh)
+            return f'{looked}' if is_so else f'{self.since[worker]}+' if worker in self.since else '-'
         return str(max((acts[way][0] for way in self.reading.decided(call, answer) if way in acts), default=entry))
 
 
@@ -198,11 +200,11 @@ class Fold:
         call, claims = self.open[line.worker], self.reading.claims(before, line.stand)
         self.plain.add(line, claims)
         self.count(call, line, said)
-        moment = line.at() or self.moments.add(line.entry, line.worker, call.name, before, line.stand, claims)
+        moment = self.moments.add(line.entry, line.worker, call.name, before, line.stand, claims)
         if line.stand.idle:
             call.ended, call.answer = line.entry, line.stand.kind
             call.value = int(line.stand.words[0]) if line.stand.words else None
-            call.moment = moment
+            call.moment = line.at() or moment
             del self.open[line.worker]
         return line
 
@@ -218,16 +220,16 @@ class Fold:
             call.retries.append((line.entry, causes))
 
 
-def options_for(queue):
+def options_for(queue, lent):
     """What replay is asked to add to a line, so that a fold has all that it names."""
-    return ('--causes', '--losses', '--moments') if queue == 'bounded' else ()
+    return () if queue != 'bounded' else ('--causes', '--losses') if lent else ('--causes', '--losses', '--moments')
 
 
 def calls_told(program, text, capacity):
     """The table of a schedule's calls and the plain queue along it, of one that is run to its end or up to a refusal."""
     fold = Fold(READINGS[program.queue](capacity, 16 if program.narrow else 64))
     words = beside_numbers(program.run(text, '--explain')[1:])
-    for line in program.run(text, *options_for(program.queue)):
+    for line in program.run(text, *options_for(program.queue, program.lent)):
         numbers = line_of(line)
         fold.add(line, said_of(next(words)) if numbers and numbers.worker is not None else None)
     return [*table(fold.calls), *plain_lines(fold.plain.changes)]

@@ -8,6 +8,8 @@ LOOKERS = {'len': 'len', 'empty': 'is_empty', 'full': 'is_full', 'close': 'close
 CALLS = ('push', 'force_push', 'pop', 'len', 'is_empty', 'is_full', 'close', 'is_closed')  # by code
 ACT, FAIL = 8, 9  # codes of acts
 WITH_ITEM = ('push', 'force_push')
+LOADS_OF_HEAD = (('len2', 'len3'),)
+MOVED = {('len3', 'len1'): 'moved', ('len3', 'len2'): 'moved'}
 
 
 class Stand(NamedTuple):
@@ -64,7 +66,7 @@ class Reading:
     pushes, forces, pops = (), (), ()  # first places
     fresh_ends = '0', '0'  # the words of tail and head of a fresh machine
     weak = frozenset()  # places whose exchange the schedule may make fail
-    moments = {}  # of an answer, or of a call and its answer, where replay names no moment, the acts before the last of which a plain queue gives it: docs/PROMISES.md
+    moments = {}  # of an answer, or of a call and its answer, the acts before the last of which a plain queue gives it: docs/PROMISES.md
 
     @classmethod
     def call_of(cls, stand):
@@ -112,9 +114,13 @@ class Ring(Reading):
     """The ring, at either width, its records lent or not."""
     worker = 5
     hands = frozenset(('P4', 'P5', 'F7', 'F8', 'F9', 'O4', 'O5'))
+    back = {('P2', 'P1'): 'stamp', ('P3', 'P2'): 'lost', ('P6', 'P1'): 'moved', ('F6', 'P1'): 'lost',
+            ('O2', 'O1'): 'stamp', ('O3', 'O2'): 'lost', ('O6', 'O1'): 'moved', **MOVED}
     pushes, pops = ('P1',), ('O1',)
     weak = frozenset(('P3', 'F6', 'O3'))
     tail_claims, head_claims = (('P3', 'P4'), ('F7', 'F8')), (('O3', 'O4'), ('F6', 'F7'))
+    gave_tail = ('P1', 'P2'), ('P3', 'P2')
+    moments = {'pushed': tail_claims[:1], 'popped': head_claims[:1], 'full': gave_tail, 'displaced': gave_tail, 'len': LOADS_OF_HEAD}
 
     def __init__(self, capacity, bits):
         self.mark = 1
@@ -223,10 +229,10 @@ class Unbounded(Reading):
     hands = pushing | popping
     back = {('U2', 'U1'): 'end', ('U8', 'U1'): 'end', ('U7', 'U8'): 'lost', ('U5', 'U1'): 'lost', ('U5', 'U15'): 'lost',
             ('V2', 'V1'): 'end', ('V5', 'V1'): 'end', ('V3', 'V1'): 'end', ('V4', 'V5'): 'lost',
-            ('V6', 'V6'): 'waits', ('V10', 'V10'): 'waits', ('len3', 'len1'): 'moved', ('len3', 'len2'): 'moved'}
+            ('V6', 'V6'): 'waits', ('V10', 'V10'): 'waits', **MOVED}
     pushes, pops = ('U1',), ('V1',)
     weak = frozenset(('U7', 'V4'))
-    moments = {'pushed': (('U7', 'U9'), ('U7', 'U12')), 'popped': (('V4', 'V6'), ('V4', 'V10')), ('push', 'closed'): (('U1', 'U2'), ('U7', 'U8')), 'len': (('len2', 'len3'),)}
+    moments = {'pushed': (('U7', 'U9'), ('U7', 'U12')), 'popped': (('V4', 'V6'), ('V4', 'V10')), ('push', 'closed'): (('U1', 'U2'), ('U7', 'U8')), 'len': LOADS_OF_HEAD}
     SLOTS = 31
 
     def __init__(self, capacity, bits):

@@ -6,7 +6,7 @@ import signal
 import sys
 
 import replay
-from machine import Entry, Finish, Machine, act
+from machine import Entry, Machine, act
 from manners import Told, copy_of, is_told, printed, read, run, say, shown, written
 from queues import CALLS, FAIL, WITH_ITEM
 
@@ -65,8 +65,7 @@ class Session:
 
     def __init__(self, machine, tell, refuse, is_prompt):
         self.machine, self.tell, self.refuse, self.is_prompt = machine, tell, refuse, is_prompt
-        self.pending = []  # entries and finishes of a script that are not run yet
-        self.begun = {}  # of each worker the code of the call that it was last told to begin
+        self.pending = []  # entries of a script that are not run yet
         self.seen = None  # how things stood when that was last shown
         self.refused = False
         self.is_saved, self.is_warned = True, False
@@ -76,15 +75,13 @@ class Session:
     def flush(self):
         """Runs what is pending. An entry that is refused is dropped with the rest of its line; so are an idle worker's acts up to its next call, which are refused alike."""
         refused = {}  # by line, and told in their order
-        pending, self.pending = self.pending, []
-        while pending:
+        while self.pending:
             start = self.machine.at
-            done, refusal = self.machine.take(pending)
+            ran, refusal = self.machine.run(self.pending)
             self.happened(start)
-            left, pending = pending[done:], []
+            left, self.pending = self.pending[ran:], []
             if refusal is None:
-                pending = left
-                continue
+                break
             words, idle = self.machine.words_of(refusal), refusal.entry.worker if refusal.number == 5 else None
             refused[refusal.entry.origin] = words
             for entry in left:
@@ -93,9 +90,12 @@ class Session:
                 if entry.worker == idle:
                     refused.setdefault(entry.origin, words)
                 elif entry.origin not in refused:
-                    pending.append(entry)
+                    self.pending.append(entry)
         for origin in sorted(refused, key=lambda origin: origin.number or 0):
             self.is_refused(origin, refused[origin])
+
+    def refuse_entry(self, refusal):
+        self.is_refused(refusal.entry.origin, self.machine.words_of(refusal))
 
     def is_refused(self, origin, words):
         self.refused = True
@@ -195,7 +195,6 @@ class Session:
             if len(rest) != 1 + (what in WITH_ITEM):
                 raise Unread(f'expected: w{worker} {what}' + ' and an item, which is a number' * (what in WITH_ITEM))
             self.take([Entry(16 * worker + CALLS.index(what), number_in(rest[1], 'an item, which is a number') if what in WITH_ITEM else 0, origin)])
-            self.begun[worker] = CALLS.index(what)
         elif what in ('act', 'fail') and len(rest) <= 2:
             count = number_in(rest[1], 'a number of acts, from 1') if len(rest) == 2 else 1
             if not count:
@@ -204,9 +203,21 @@ class Session:
                 raise Unread(f'{count} acts: 100000 are the most')
             self.take([act(worker, origin) if what == 'act' else Entry(16 * worker + FAIL, 0, origin)] * count)
         elif rest == ['finish']:
-            self.take([Finish(worker, origin, self.begun.get(worker))])
+            self.flush()
+            self.finish(worker, origin)
         else:
             raise Unread(f'{" ".join(rest)}: no call, act, fail or finish')
+
+    def finish(self, worker, origin):
+        start = self.machine.at
+        awaited, refusal = self.machine.finish(worker, origin)
+        self.happened(start)
+        if refusal:
+            self.refuse_entry(refusal)
+        elif awaited is not None:
+            self.is_refused(origin, f'w{worker} does not answer alone: it waits for {" and ".join(awaited) or "nobody that has a slot in hand"}')
+        if self.is_prompt:
+            self.stands()
 
     def until(self, rest, origin):
         machine = self.machine

@@ -9,8 +9,6 @@ from queues import ACT, IDLE, READINGS
 from replay import Program
 
 ROUNDS = 64  # acts of one worker in a row, at most: alone a call of the unbounded queue ends in 43
-USUAL = 5  # acts of a call alone, of which nothing is known yet
-FEW = 16
 MOST = 100_000  # entries
 
 
@@ -23,14 +21,6 @@ class Entry(NamedTuple):
     @property
     def worker(self):
         return self.first // 16
-
-
-class Finish(NamedTuple):
-    """Acts of a worker until its call answers; the call's code, as far as it is known."""
-    worker: int
-    origin: object = None
-    call: int = None
-    first = ACT  # as of an act
 
 
 def act(worker, origin=None):
@@ -55,21 +45,12 @@ class Refusal(NamedTuple):
         return self.asked[self.place]
 
 
-class Waits(NamedTuple):
-    """Of a call that does not answer alone: whom it waits for, in replay's words."""
-    entry: Finish
-    awaited: list
-    number = None
-
-
 class Machine:
     def __init__(self, command, options):
         self.program = Program(command, options)
         self.queue, self.narrow = self.program.queue, self.program.narrow
         self.head = []  # capacity, of the ring, and workers
         self.entries, self.rows, self.at = [], [], 0
-        self.took = {}  # of each call's code, how many acts it took when it was last finished
-        self.together = FEW  # so many finishes are run at once
         self.made = ''
 
     # Making
@@ -158,44 +139,8 @@ class Machine:
             raise Told('the slots that replay ends with are not those of its lines')
         return self.at - start, refusal
 
-    def take(self, items):
-        """Entries and finishes from here on: how many of them were done, and the refusal of the next, what it waits for, or None.
-
-        They are run at once, which costs little more than one of them: a finish with as many acts as such a call took last. Where it takes fewer, what follows is left for the
-        next time; where more, it is left too, and done alone when it is the first. As long as that is right, twice as many are run at once the next time."""
-        if isinstance(items[0], Finish):
-            refusal = self.finish(items[0])
-            return int(refusal is None), refusal
-        asked, ends, guessed, together = [], [], 0, self.together
-        for item in items:
-            guessed += isinstance(item, Finish)
-            more = [item] if isinstance(item, Entry) else [act(item.worker, item.origin)] * self.took.get(item.call, USUAL)
-            if guessed > together or guessed and self.at + len(asked) + len(more) > MOST:
-                break
-            asked += more
-            ends.append(len(asked))
-        start = self.at
-        ran, refusal = self.run(asked)
-        begin, self.together = 0, FEW
-        for done, (item, end) in enumerate(zip(items, ends)):
-            if isinstance(item, Finish):
-                acts = next((at + 1 for at, row in enumerate(self.rows[start + begin:start + min(ran, end)]) if row.line.stand.idle), None)
-                if acts is None:
-                    self.cut(start + begin)
-                    return done, None
-                self.took[item.call] = acts
-                if begin + acts < end:
-                    return done + 1, None
-            elif ran < end:
-                return done, refusal
-            begin = end
-        self.together = 2 * together
-        return len(ends), None
-
     def words_of(self, refusal):
         """As replay has it, but that nothing is run."""
-        if isinstance(refusal, Waits):
-            return f'w{refusal.entry.worker} does not answer alone: it waits for {" and ".join(refusal.awaited) or "nobody that has a slot in hand"}'
         said = next(text for text in self.program.run(self.text(refusal.asked), '--explain') if ' refused ' in text)
         return said[said.index('refused '):].partition(';')[0]
 
@@ -223,23 +168,22 @@ class Machine:
             self.move(at)
             del self.entries[at:], self.rows[at:]
 
-    def finish(self, asked):
-        """Acts until its call answers; where it does not alone, none. Gives the refusal, whom it waits for, or None."""
-        worker, start, ahead = asked.worker, self.at, (self.entries[self.at:], self.rows[self.at:])
-        _, refusal = self.run([act(worker, asked.origin)] * ROUNDS)
+    def finish(self, worker, origin):
+        """Acts until its call answers; where it does not alone, none. Gives whom it waits for, in replay's words, or None; and the refusal or None."""
+        start, ahead = self.at, (self.entries[self.at:], self.rows[self.at:])
+        _, refusal = self.run([act(worker, origin)] * ROUNDS)
         ways = [row.line.stand for row in self.rows[start:self.at]]
         answered = next((at for at, stand in enumerate(ways) if stand.idle), None)
         if answered is not None:
             self.cut(start + answered + 1)
-            self.took[asked.call] = answered + 1
-            return None
+            return None, None
         self.cut(start)
         self.entries[start:], self.rows[start:] = ahead
         if refusal:
-            return refusal
+            return None, refusal
         said = {int(found[1]): found[2] for found in (re.match(r'busy: (?=w(\d+))(.*)', text) for text in self.program.run(self.text(self.entries[:start]), '--explain')) if found}
         others = [(other, stand) for other, stand in sorted(self.stands.items()) if other != worker]
-        return Waits(asked, [said[other] for other in self.reading.awaited(ways[-ROUNDS // 2:], others)])
+        return [said[other] for other in self.reading.awaited(ways[-ROUNDS // 2:], others)], None
 
     def until(self, is_so, workers, origin):
         """Acts of these workers in turn, who is idle left out, until it is so of a row; gives whether it is, and not that nobody can act or nobody gets on."""
