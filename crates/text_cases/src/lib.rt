@@ -2,7 +2,6 @@
 // for is said by who goes through the rows. Rows in place of calls keep a program's check short.
 #![tactic(auto)]
 
-
 // The most numbers of a row.
 pub const NUMBERS: usize = 64;
 
