@@ -1,0 +1,139 @@
+// Descriptors that were open when the program was started, as the system's own files tell of them: nothing else reaches one by its number.
+ghost use Rattle.std.specs.Prelude.{◌≤◌, length};
+
+use crate::System;
+use crate::files::{File, is_plain, open, open_to_add, read};
+
+// The longest path of these.
+const PATH: usize = 64;
+
+fn put_byte(path: &mut [u8; PATH], at: usize, b: u8) -> usize {
+    if at < PATH {
+        path[at] = b;
+        return at + 1;
+    }
+    at
+}
+
+fn put(path: &mut [u8; PATH], at: usize, text: &[u8]) -> usize {
+    let mut n = at;
+    for b in text {
+        n = put_byte(path, n, *b);
+    }
+    n
+}
+
+fn put_number(path: &mut [u8; PATH], at: usize, number: u64) -> usize {
+    let mut digits = [0u8; 20];
+    let from = itoa::write_digits(number, &mut digits, 20);
+    put(path, at, &digits[from..])
+}
+
+fn opened(s: &System, folder: &[u8], number: u64, adds: bool) -> Option<File> {
+    let mut path = [0u8; PATH];
+    let n = put(&mut path, 0, folder);
+    let end = put_number(&mut path, n, number);
+    if path.len() < end {
+        return None;
+    }
+    if adds {
+        open_to_add(s, &path[..end])
+    } else {
+        open(s, &path[..end])
+    }
+}
+
+fn is_at(text: &[u8], at: usize, word: &[u8]) -> bool {
+    if text.len() < at {
+        return false;
+    }
+    text[at..].starts_with(word)
+}
+
+// Where the text goes on behind a word; its length: the word isn't in it.
+fn behind(text: &[u8], word: &[u8]) -> usize {
+    for i in 0..text.len() {
+        if is_at(text, i, word) {
+            return i.wrapping_add(word.len());
+        }
+    }
+    text.len()
+}
+
+fn with_digit(n: u64, base: u64, b: u8) -> u64 {
+    n.wrapping_mul(base)
+        .wrapping_add(u64::from(b.wrapping_sub(b'0')))
+}
+
+// A number behind a word, in digits of this base; 0: there is none.
+fn number_behind(text: &[u8], word: &[u8], base: u64) -> u64 {
+    let mut n = 0;
+    let mut i = behind(text, word);
+    while i < text.len() && text[i].is_ascii_digit() {
+        n = with_digit(n, base, text[i]);
+        i += 1;
+    }
+    n
+}
+
+// What the system tells of a descriptor: where it stands, and its flags, of which the last two bits say whether it may be read (0), written (1), or both (2).
+#[derive(Clone, Copy)]
+struct Told {
+    is_open: bool,
+    place: u64,
+    access: u64,
+}
+
+const READS: u64 = 0;
+
+const WRITES: u64 = 1;
+
+const BOTH: u64 = 2;
+
+fn told_in(text: &[u8]) -> Told {
+    Told {
+        is_open: true,
+        place: number_behind(text, b"pos:\t", 10),
+        access: number_behind(text, b"flags:\t", 8) % 4,
+    }
+}
+
+fn look(s: &System, number: u64) -> Told {
+    let mut text = [0u8; 256];
+    if let Some(file) = opened(s, b"/proc/self/fdinfo/", number, false) {
+        let got = read(s, &file, &mut text);
+        if 0 < got.n {
+            return told_in(&text[..got.n]);
+        }
+    }
+    Told {
+        is_open: false,
+        place: 0,
+        access: 0,
+    }
+}
+
+// What may be written to.
+pub fn to_write(s: &System, number: u64) -> Option<File> {
+    let t = look(s, number);
+    if t.is_open && (t.access == WRITES || t.access == BOTH) {
+        return opened(s, b"/proc/self/fd/", number, true);
+    }
+    None
+}
+
+fn if_plain(file: Option<File>) -> Option<File> {
+    match file {
+        Some(f) => if is_plain(&f) { Some(f) } else { None },
+        None => None,
+    }
+}
+
+// Standard input, where it is a plain file that stands at its start and may be read.
+pub fn whole_input(s: &System) -> Option<File> {
+    let t = look(s, 0);
+    if t.is_open && t.place == 0 && (t.access == READS || t.access == BOTH) {
+        return if_plain(opened(s, b"/proc/self/fd/", 0, false));
+    }
+    None
+}
