@@ -1,3 +1,2 @@
 // What is asked of tapes, as statements (specs/), with the proofs of those that need no law (proofs/). No code.
 #![tactic(auto)]
-

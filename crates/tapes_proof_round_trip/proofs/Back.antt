@@ -1,6 +1,6 @@
 -- Reading what was written, writing what was read, and what follows.
-use Prim.Native.Nat.{ℕ, zero, suc, ◌+◌, ◌*◌, ◌/◌, ◌%◌, ◌-◌, ◌^◌, ◌<◌, ◌≤◌}
-use mathlib.Core.Path.{◌≡◌, refl, sym, ap, ap₂, ◌∙◌, subst}
+use Prim.Native.Nat.{ℕ, ◌+◌, ◌/◌, ◌%◌, ◌^◌, ◌<◌, ◌≤◌}
+use mathlib.Core.Path.{◌≡◌, refl, sym, ap, ap₂, ◌∙◌}
 use mathlib.Core.Bool.{Bool, true, false, cond}
 use mathlib.Core.List.{List, [], ◌∷◌, ◌++◌, append_assoc}
 use native.Mathlib.Omega.{arith}
@@ -13,7 +13,7 @@ use Rattle.tapes_fields.specs.declared.Head.{Head}
 use Rattle.tapes_fields.specs.declared.Head.TheVariants as head
 use Rattle.tapes_fields.specs.Fields.{head_of, entry_field_of, end_of, item_long, size_of, over}
 use Rattle.tapes_fields.specs.Judged.{head_in}
-use Rattle.tapes_fields.proofs.Writing.{length_head, length_entry, length_end}
+use Rattle.tapes_fields.proofs.Writing.{length_entry}
 use Rattle.tapes_fields.proofs.Reading.{head_read}
 use Rattle.tapes.specs.declared.Load.{Load}
 use Rattle.tapes.specs.declared.Load.TheVariants.{Unfit, Bytes}
@@ -26,7 +26,7 @@ use Rattle.tapes.specs.Heard.{Heard, stopped, heard, hear_from, hear_in, count_i
 use Rattle.tapes.proofs.Fills.{head_past, length_tape}
 use Rattle.tapes.proofs.Answers.{load_long}
 use Rattle.tapes_demands.specs.Notions.{Below, entries_long}
-use Rattle.tapes_demands.specs.Demands.{Length, ReadBack, ReadingWhatWasWritten, WritingWhatWasRead, DifferentTapes}
+use Rattle.tapes_demands.specs.Demands.{Length, ReadingWhatWasWritten, WritingWhatWasRead, DifferentTapes}
 use Rattle.tapes_proof_round_trip.proofs.Numbers.{below_drop}
 use Rattle.tapes_proof_round_trip.proofs.Fields.{head_found, head_back, head_narrow}
 use Rattle.tapes_proof_round_trip.proofs.Tapes.{hear_written, Heard-back, hear_back}

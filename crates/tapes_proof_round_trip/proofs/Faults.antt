@@ -1,15 +1,14 @@
 -- The first fault, left to right.
 use Prim.Native.Nat.{ℕ, suc, ◌+◌, ◌-◌}
-use mathlib.Core.Path.{◌≡◌, refl, sym, ap, ◌∙◌, subst}
+use mathlib.Core.Path.{◌≡◌, refl, ap, ◌∙◌, subst}
 use mathlib.Core.Bool.{Bool, true, false, cond}
 use mathlib.Core.List.{List, [], ◌∷◌, ◌++◌}
-use mathlib.Core.Logic.{◌⊎◌, inl, inr}
+use mathlib.Core.Logic.{inl, inr}
 use native.Mathlib.Omega.{arith}
 use lib.Dec.{ltb, eqb}
 use lib.ListN.{length, drop, replicate, length-append, length-replicate}
 use borrow.Author.Tests.{ne_eqb, le-ltb}
 use Rattle.tapes_numbers.specs.declared.Variant.{Variant}
-use Rattle.tapes_numbers.specs.declared.Variant.TheVariants.{BigEndian, LittleEndian}
 use Rattle.tapes_fields.specs.declared.Head.{Head}
 use Rattle.tapes_fields.specs.declared.Head.TheVariants as head
 use Rattle.tapes_fields.specs.declared.Field.{Field}
@@ -17,7 +16,6 @@ use Rattle.tapes_fields.specs.declared.Field.TheVariants as field
 use Rattle.tapes_fields.specs.Fields.{head_of, end_of}
 use Rattle.tapes_fields.specs.Judged.{head_in, field_in}
 use Rattle.tapes_fields.proofs.Writing.{length_head, length_end}
-use Rattle.tapes.specs.declared.Reading.{Reading}
 use Rattle.tapes.specs.declared.Reading.TheVariants as reading
 use Rattle.tapes.specs.Heard.{Heard, stopped, heard, long_of, heard_by, hear_from, hear_in, count_in, read_by, read_after, read_of}
 use Rattle.tapes_demands.specs.Notions.{Below, OneOf}
@@ -33,15 +31,18 @@ below_sixteen number (inl p) e = omega arith
 below_sixteen number (inr (inl p)) e = omega arith
 below_sixteen number (inr (inr (inl p))) e = omega arith
 below_sixteen number (inr (inr (inr (inl p)))) e = omega arith
+below_sixteen number (inr (inr (inr (inr x5)))) e = elim x5 [ ]
 
 field_below : (number : ℕ) → OneOf number (12 ∷ 13 ∷ 14 ∷ []) → number ≡ 16 → ⊥
 field_below number (inl p) e = omega arith
 field_below number (inr (inl p)) e = omega arith
 field_below number (inr (inr (inl p))) e = omega arith
+field_below number (inr (inr (inr x4))) e = elim x4 [ ]
 
 head_below : (number : ℕ) → OneOf number (12 ∷ 13 ∷ []) → number ≡ 16 → ⊥
 head_below number (inl p) e = omega arith
 head_below number (inr (inl p)) e = omega arith
+head_below number (inr (inr x3)) e = elim x3 [ ]
 
 -- what is heard where the next field is known, one field at least allowed
 hear_next : (more : ℕ) (v : Variant) (at : ℕ) (s : List ℕ) (f : Field) → field_in v s ≡ f

@@ -1,8 +1,8 @@
 -- A field that was written is read, and a field that was read is the one that is written.
-use Prim.Native.Nat.{ℕ, zero, suc, ◌+◌, ◌*◌, ◌/◌, ◌%◌, ◌-◌, ◌^◌, ◌<◌, ◌≤◌}
+use Prim.Native.Nat.{ℕ, zero, suc, ◌+◌, ◌/◌, ◌%◌, ◌-◌, ◌^◌, ◌<◌, ◌≤◌}
 use mathlib.Core.Path.{◌≡◌, refl, sym, ap, ap₂, ◌∙◌}
 use mathlib.Core.Bool.{Bool, true, false, cond, not}
-use mathlib.Core.List.{List, [], ◌∷◌, ◌++◌, append_assoc, append-nil}
+use mathlib.Core.List.{List, [], ◌∷◌, ◌++◌, append_assoc}
 use mathlib.Core.Logic.{◌⊎◌, inl, inr, ⊎_elim}
 use native.Mathlib.Omega.{arith}
 use lib.Dec.{ltb, eqb}
@@ -17,14 +17,12 @@ use Rattle.tapes_numbers.specs.declared.Variant.{Variant}
 use Rattle.tapes_numbers.specs.declared.Variant.TheVariants.{BigEndian, LittleEndian}
 use Rattle.tapes_numbers.specs.Numbers.{tag_of, in_order, value_of, bytes_of, number_of}
 use Rattle.tapes_numbers.proofs.Orders.{length_bytes}
-use Rattle.tapes_fields.specs.declared.Head.{Head}
 use Rattle.tapes_fields.specs.declared.Head.TheVariants as head
-use Rattle.tapes_fields.specs.declared.Field.{Field}
 use Rattle.tapes_fields.specs.declared.Field.TheVariants as field
-use Rattle.tapes_fields.specs.Fields.{opening_of, field_of, head_of, swapped, tag_for, item_long, body_of, entry_field_of, end_of, size_of}
+use Rattle.tapes_fields.specs.Fields.{opening_of, head_of, swapped, tag_for, item_long, body_of, entry_field_of, end_of, size_of}
 use Rattle.tapes_fields.specs.Judged.{opens, allowed, head_by, head_in, entry_by, field_in, carried_by, carried}
 use Rattle.tapes_fields.proofs.Writing.{length_opening, length_entry, length_end, length_head, ended, field_long, swapped_fits}
-use Rattle.tapes_fields.proofs.Reading.{Carried, carried_means, EntryRead, entry_read, entry_code, HeadRead, head_read, end_read}
+use Rattle.tapes_fields.proofs.Reading.{Carried, EntryRead, entry_read, entry_code, HeadRead, end_read}
 use Rattle.tapes_demands.specs.Notions.{Below}
 use Rattle.tapes_proof_round_trip.proofs.Numbers.{below_take, below_drop, number_bytes, bytes_number, number_below}
 

@@ -1,24 +1,21 @@
 -- The writer's order, and that every tape of a schedule that can be carried is read.
-use Prim.Native.Nat.{ℕ, zero, suc, ◌+◌, ◌/◌, ◌%◌, ◌^◌, ◌<◌, ◌≤◌}
-use mathlib.Core.Path.{◌≡◌, refl, sym, ap, ◌∙◌, subst}
+use Prim.Native.Nat.{ℕ, suc, ◌+◌, ◌/◌, ◌%◌, ◌<◌, ◌≤◌}
+use mathlib.Core.Path.{◌≡◌, refl, ap, ◌∙◌, subst}
 use mathlib.Core.Bool.{Bool, true, false, cond}
 use mathlib.Core.List.{List, [], ◌∷◌, ◌++◌}
 use mathlib.Core.Logic.{◌⊎◌, inl, inr}
 use native.Mathlib.Omega.{arith}
-use native.Mathlib.Decide.{dec_lt}
 use lib.Dec.{ltb, eqb}
-use lib.ListN.{length, take, drop, length-append, replicate, length-replicate}
+use lib.ListN.{length, take, length-append, replicate, length-replicate}
 use borrow.Author.Tests.{lt-ltb, le-ltb, eq-eqb, ne_eqb}
-use Rattle.tapes_numbers.specs.declared.Variant.{Variant}
 use Rattle.tapes_fields.specs.Fields.{item_long, size_of}
 use Rattle.tapes_fields.specs.Judged.{carried}
-use Rattle.tapes.specs.declared.Load.{Load}
 use Rattle.tapes.specs.declared.Load.TheVariants.{Unfit, Bytes}
 use Rattle.tapes.specs.declared.Writing.TheVariants.{Refused, Tape}
 use Rattle.tapes.specs.declared.Reading.TheVariants as reading
 use Rattle.tapes.specs.Written.{most, tape_of, load_from, fitted, write_of, written_of}
 use Rattle.tapes.specs.Heard.{read_of, read_into}
-use Rattle.tapes_demands.specs.Notions.{Below, entries_long, Carries, Carriable}
+use Rattle.tapes_demands.specs.Notions.{entries_long, Carries}
 use Rattle.tapes_demands.specs.Demands.{WriterOrder, EveryTapeRead}
 use Rattle.tapes_proof_round_trip.proofs.Back.{lengths, reading_written}
 

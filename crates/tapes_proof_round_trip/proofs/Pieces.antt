@@ -1,5 +1,5 @@
 -- A tape in two pieces.
-use Prim.Native.Nat.{ℕ, zero, suc, ◌+◌, ◌%◌, ◌-◌, ◌^◌, ◌<◌, ◌≤◌}
+use Prim.Native.Nat.{ℕ, zero, suc, ◌+◌, ◌%◌, ◌-◌, ◌^◌, ◌≤◌}
 use mathlib.Core.Path.{◌≡◌, refl, sym, ap, ap₂, ◌∙◌}
 use mathlib.Core.Bool.{Bool, true, false, cond}
 use mathlib.Core.List.{List, [], ◌∷◌, ◌++◌, append_assoc}
@@ -16,10 +16,9 @@ use Rattle.tapes_fields.specs.declared.Field.{Field}
 use Rattle.tapes_fields.specs.declared.Field.TheVariants as field
 use Rattle.tapes_fields.specs.Fields.{opening_of, field_of, head_of, entry_field_of, end_of, size_of}
 use Rattle.tapes_fields.specs.Judged.{head_in, field_in}
-use Rattle.tapes_fields.proofs.Writing.{length_head, length_entry, length_end}
+use Rattle.tapes_fields.proofs.Writing.{length_head, length_entry}
 use Rattle.tapes_fields.proofs.Reading.{carried_means}
 use Rattle.tapes.specs.declared.Load.TheVariants.{Bytes}
-use Rattle.tapes.specs.declared.Reading.{Reading}
 use Rattle.tapes.specs.declared.Reading.TheVariants as reading
 use Rattle.tapes.specs.Written.{entries_of, tape_of, load_from}
 use Rattle.tapes.specs.Heard.{Heard, stopped, heard, joined, long_of, heard_by, hear_from, hear_in, count_in, read_by, read_after, read_of, read_into}

@@ -1,11 +1,11 @@
 -- A tape that was written is heard, and a tape that was heard is the one that is written.
-use Prim.Native.Nat.{ℕ, zero, suc, ◌+◌, ◌*◌, ◌/◌, ◌%◌, ◌-◌, ◌^◌, ◌<◌, ◌≤◌}
-use mathlib.Core.Path.{◌≡◌, refl, sym, ap, ap₂, ◌∙◌, subst}
+use Prim.Native.Nat.{ℕ, zero, suc, ◌+◌, ◌/◌, ◌%◌, ◌^◌, ◌<◌}
+use mathlib.Core.Path.{◌≡◌, refl, sym, ap, ◌∙◌, subst}
 use mathlib.Core.Bool.{Bool, true, false, cond}
 use mathlib.Core.List.{List, [], ◌∷◌, ◌++◌, append_assoc, append-nil}
 use native.Mathlib.Omega.{arith}
-use lib.Dec.{ltb, eqb}
-use lib.ListN.{length, take, drop, length-append, length-drop, drop_of_length-le}
+use lib.Dec.{eqb}
+use lib.ListN.{length, drop, length-append, drop_of_length-le}
 use lib.Seq.{drop_at}
 use borrow.Author.Tests.{eq-eqb, eqb-true}
 use Rattle.tapes_numbers.specs.declared.Variant.{Variant}
@@ -15,7 +15,6 @@ use Rattle.tapes_fields.specs.Fields.{entry_field_of, end_of, size_of}
 use Rattle.tapes_fields.specs.Judged.{field_in, carried}
 use Rattle.tapes_fields.proofs.Writing.{length_entry, length_end}
 use Rattle.tapes_fields.proofs.Reading.{carried_means}
-use Rattle.tapes.specs.declared.Load.{Load}
 use Rattle.tapes.specs.declared.Load.TheVariants.{Unfit, Bytes}
 use Rattle.tapes.specs.Written.{entries_of, load_from}
 use Rattle.tapes.specs.Heard.{Heard, stopped, heard, joined, long_of, heard_by, hear_from}
