@@ -17,17 +17,9 @@ HOME = Path(__file__).resolve().parent.parent
 TOLD = 'exec 4>&1; told=$("$@" 3>&1 >&4 4>&-); ended=$?; [ "$ended" = 0 ] || exit "$ended"; told=${told#"${told%?}"}; exit "${told:-2}"'
 
 
-@cache
-def tools():
-    kit = Path(subprocess.run(['rt', 'doc'], capture_output=True, text=True, check=True).stdout.strip()).resolve().parent.parent
-    return kit / 'on' / os.uname().machine / 'toolchain'
-
-
 def loaded(file):
-    """The words that run a program's file, on this processor or by the kit's emulator. Its status is not told."""
-    loader = [str(tools() / 'lib/ld-linux-x86-64.so.2'), '--library-path', str(tools() / 'lib'), str(file)]
-    emulator = tools() / 'bin/qemu-x86_64'
-    return [str(emulator), '-cpu', 'max,-erms', *loader] if emulator.exists() else loader
+    """The words that run a program's file. Its status is not told."""
+    return [str(file)]
 
 
 @cache
