@@ -6,24 +6,20 @@ use mathlib.Core.List.{List, [], ◌∷◌}
 use native.Mathlib.Omega.{arith}
 use lib.Dec.{eqb}
 use lib.ListN.{length}
-use borrow.Author.Tests.{eq-eqb, ne_eqb}
 use Rattle.queue_entries.specs.Limits.{in_limits}
 use Rattle.queue_entries.specs.Schedules.{run_by, search_by, schedule_by}
 use Rattle.queue_entries.specs.Entries.{entry_of}
 use Rattle.queue_entries.specs.declared.Finding.{Finding}
 use Rattle.queue_entries.specs.declared.Finding.TheVariants.{AllRead, UnreadableAt}
-use Rattle.queue_entries.specs.declared.Told.{Told}
 use Rattle.queue_entries.specs.declared.Told.TheVariants.{Number, Refused}
 use Rattle.queue_entries.specs.Told.{told}
 use Rattle.queue_entries.proofs.Pick.{yes, no, equal, other}
 use Rattle.queue_entries.proofs.Limits.{limit_most}
-use Rattle.bounded_words.specs.declared.Fixed.{Fixed}
 use Rattle.bounded_words.specs.Limits.{slots_most, editions_most}
 use Rattle.bounded_machine.specs.declared.Machine.{Machine}
 use Rattle.bounded_machine.specs.Machine.{fresh_of, blank}
 use Rattle.bounded_machine.proofs.Kept.{either}
 use Rattle.bounded_orders.specs.declared.Made.{Made}
-use Rattle.bounded_orders.specs.declared.Report.{Report}
 use Rattle.bounded_orders.specs.Orders.{make_by, make_refusal_with, make_refusal, made_from, made_of, unless_refused, report, read_through, judged_of, capacity_told}
 
 module _ (most capacity workers edition : ℕ) (a : Bool) (ea : a ≡ in_limits capacity slots_most) where

@@ -1,0 +1,9 @@
+use Rattle.bounded_orders.proofs.Listing.{sound_of, judged_here}
+use borrow.Author.Rules.{rules}
+use Rattle.bounded_orders.proofs.contents_on.Goals as goal
+
+pub contents_by-requires : goal.contents_by-requires
+contents_by-requires c = sound_of _ _ _ c.ring_fits-fits.ensures
+
+pub returns : goal.returns
+returns c = search (rules, judged_here)

@@ -1,0 +1,12 @@
+use Rattle.bounded_orders.proofs.Making.{slots_few, fresh_made, blank_made}
+use borrow.Author.Rules.{rules}
+use Rattle.bounded_orders.proofs.make.Goals as goal
+
+pub fresh-requires : goal.fresh-requires
+fresh-requires c = search (rules, slots_few)
+
+pub returns-then-number-eq0 : goal.returns-then-number-eq0
+returns-then-number-eq0 c = search (rules, fresh_made)
+
+pub returns-else-number-eq0 : goal.returns-else-number-eq0
+returns-else-number-eq0 c = search (rules, blank_made)
