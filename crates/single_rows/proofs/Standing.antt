@@ -1,5 +1,5 @@
 -- Words and machines are one to one; shapes.
-use Prim.Native.Nat.{ℕ, ◌+◌, ◌*◌, ◌<◌}
+use Prim.Native.Nat.{ℕ, ◌*◌, ◌<◌}
 use mathlib.Core.Path.{◌≡◌, refl, sym, ap, ◌∙◌}
 use mathlib.Core.Bool.{Bool, true, false, cond, true≢false}
 use mathlib.Core.List.{List, [], ◌∷◌}
@@ -14,7 +14,7 @@ use Rattle.single_places.specs.declared.Worker.{Worker}
 use Rattle.single_machine.specs.declared.Machine.{Machine}
 use Rattle.single_machine.specs.Machine.{machine_of}
 use Rattle.single_codes.specs.declared.Coded.{Coded}
-use Rattle.single_codes.specs.Codes.{triple, code_of, stands_for}
+use Rattle.single_codes.specs.Codes.{triple, stands_for}
 use Rattle.single_codes.proofs.Codes.{read_back}
 use Rattle.single_codes.proofs.Standing.{written_stands, written_back}
 use Rattle.single_rows.specs.Rows.{Words, words, layout, head_of, records_of, words_of, records_in, machine_in, shaped, placed, stand}

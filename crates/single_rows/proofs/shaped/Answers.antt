@@ -1,0 +1,9 @@
+use borrow.Author.Rules.{rules}
+use Rattle.single_rows.proofs.Standing.{shape_1, shape_2}
+use Rattle.single_rows.proofs.shaped.Goals as goal
+
+pub returns-else-head-eq-HEAD : goal.returns-else-head-eq-HEAD
+returns-else-head-eq-HEAD c = search (rules, shape_1)
+
+pub returns : goal.returns
+returns c = search (rules, shape_2)
