@@ -104,10 +104,30 @@ class Turned:
 
     def body(self, text, place, var="c"):
         names = {var: place}
-        for m in re.finditer(rf"\blet ({NAME}) = {re.escape(var)}((?:\.before)*) in\b", text):
-            r = self.path(place, [p for p in m[2].split(".") if p])
-            if r:
-                names[m[1]] = r[0]
+        # a `let` of an earlier place names no value any more
+        for m in re.finditer(rf"\blet ({NAME}) = ({NAME})((?:\.before)*) in\b", text):
+            if m[2] in names:
+                r = self.path(names[m[2]], [p for p in m[3].split(".") if p])
+                if r:
+                    names[m[1]] = r[0]
+                    text = text.replace(m[0], "\x01", 1)
+        text = re.sub(r"\x01\s*", "", text)
+        # a `let` of a path stands as long as what is cited of it begins with what it turns to
+        for m in list(re.finditer(rf"\blet ({NAME}) = ({NAME})((?:\.[^\s().,;{{}}@\"«»\]]+)+) in\b", text)):
+            if m[2] not in names:
+                continue
+            parts = m[3].split(".")[1:]
+            own = self.path(names[m[2]], parts)
+            rest = text[text.index(m[0]) + len(m[0]) :]
+            stays = own is not None
+            for u in re.finditer(rf"(?<![\w.'-]){re.escape(m[1])}((?:\.[^\s().,;{{}}@\"«»\]]+)*)(?![\w'-])", rest):
+                whole = self.path(names[m[2]], parts + u[1].split(".")[1:])
+                if own is None or whole is None or whole[1] != own[1] + u[1].split(".")[1:]:
+                    stays = False
+            if not stays:
+                at = text.index(m[0])
+                rest = re.sub(rf"(?<![\w.'-]){re.escape(m[1])}(?![\w'-])", lambda _: m[2] + m[3], rest)
+                text = text[:at] + rest.lstrip()
 
         def one(m):
             v, parts = m[1], m[2].split(".")[1:]
@@ -119,7 +139,8 @@ class Turned:
                 return m[0]
             return "c" + "".join("." + p for p in r[1])
 
-        return re.sub(rf"(?<![\w.'-])({'|'.join(re.escape(n) for n in names)})((?:\.[^\s().,;{{}}@\"«»\]]+)+)", one, text)
+        text = re.sub(rf"(?<![\w.'-])({'|'.join(re.escape(n) for n in names)})((?:\.[^\s().,;{{}}@\"«»\]]+)+)", one, text)
+        return re.sub(r"\bc\.well-formed\b", "c.well_formed", text)
 
     def loop_body(self, old, params, text):
         """An invariant's or a measure's text over the record l."""
