@@ -50,8 +50,8 @@ zeros_short (suc n) (suc i) = zeros_short n i
 pub none_short : ShortSlots (replicate slots_most (slot 0 0))
 none_short i = zeros_short slots_most i
 
-pub one_short_lem : (l : List places.Slot) (i : ℕ) (x : places.Slot) → ShortSlots l → x.stamp.0 < narrow → ShortSlots (set l i x)
-one_short_lem l i x o h k = placed l i k x (slot 0 0) (λ (z : places.Slot). z.stamp.0 < narrow) (λ e. h) (o k)
+pub one_short : (l : List places.Slot) (i : ℕ) (x : places.Slot) → ShortSlots l → x.stamp.0 < narrow → ShortSlots (set l i x)
+one_short l i x o h k = placed l i k x (slot 0 0) (λ (z : places.Slot). z.stamp.0 < narrow) (λ e. h) (o k)
 
 pub short_is : (m : machine.Machine) → m.ring.head.0 < narrow → m.ring.tail.0 < narrow → ShortSlots m.ring.slots → Short m
 short_is m head tail slots = record { head = head; tail = tail; slots = slots }

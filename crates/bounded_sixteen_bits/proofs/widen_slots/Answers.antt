@@ -3,7 +3,7 @@ use native.Mathlib.Omega.{arith}
 use borrow.Author.Rules.{rules}
 use lib.ListN.{get_or}
 use Rattle.bounded_sixteen_bits.specs.SixteenBits.{wide_slot}
-use Rattle.bounded_sixteen_bits.proofs.Slots.{none_done, one_done, all_done, none_short, one_short_lem}
+use Rattle.bounded_sixteen_bits.proofs.Slots.{none_done, one_done, all_done, none_short, one_short}
 use Rattle.bounded_sixteen_bits.proofs.widen_slots.Goals as goal
 
 pub loop-i-init : goal.loop-i-init
@@ -30,7 +30,7 @@ loop-i-smaller c = omega arith
 pub loop-i-preserved : goal.loop-i-preserved
 loop-i-preserved c = (
   one_done wide_slot (record { stamp = record { 0 = 0 }; value = 0 }) _ _ _ _ c.loop-i.invariant.0 (omega arith) refl,
-  one_short_lem c.loop-i.wide c.loop-i.i
+  one_short c.loop-i.wide c.loop-i.i
       (wide_slot (get_or c.args.slots c.loop-i.i
       (record { stamp = record { 0 = 0 }; value = 0 }))) c.loop-i.invariant.1 (search rules),
 )
