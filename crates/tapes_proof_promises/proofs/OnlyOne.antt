@@ -1,5 +1,5 @@
 -- Only one answer and one buffer meet each promise of tapes, as their own contracts say it.
-use mathlib.Core.Path.{◌≡◌, sym, ◌∙◌}
+use mathlib.Core.Path.{sym, ◌∙◌}
 use Rattle.tapes_proof_promises.specs.Own.{OnlyOneOwn}
 
 pub only_one_own : OnlyOneOwn

@@ -52,6 +52,7 @@ faithful = record {
 not_an_end : OneOf 12 (0 ∷ 6 ∷ []) → ⊥
 not_an_end (inl e) = omega arith
 not_an_end (inr (inl e)) = omega arith
+not_an_end (inr (inr x'')) = elim x'' [ ]
 
 -- twelve is none of the writer's
 not_twelve : OneOf 12 (0 ∷ 11 ∷ 17 ∷ 16 ∷ []) → ⊥
@@ -59,6 +60,7 @@ not_twelve (inl e) = omega arith
 not_twelve (inr (inl e)) = omega arith
 not_twelve (inr (inr (inl e))) = omega arith
 not_twelve (inr (inr (inr (inl e)))) = omega arith
+not_twelve (inr (inr (inr (inr x4)))) = elim x4 [ ]
 
 -- a tape of capacity 2 and one worker with no entry
 bare : List ℕ
