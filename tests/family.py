@@ -6,7 +6,7 @@ from functools import cache
 from pathlib import Path
 
 root = Path(__file__).resolve().parent.parent
-KIT = {'bytes', 'std'}
+KIT = {'bytes', 'itoa', 'std'}
 QUEUES = ('bounded', 'single', 'unbounded')
 PROGRAMS = ('replay', 'tape', 'walk')
 LAYERS = ('words|places|acts|pushes|forces|pops|lookers|table|views|machine|judged|entries|runs|orders|step_machine|step_record|sixteen_bits|narrow|lent|lent_by_value|'

@@ -20,7 +20,7 @@ RIGHT, HALF, GAP = 804, 124, 16
 PROGRAMS, PROOFS, STATEMENTS, TEXTS, MACHINES, SHARED = 100, 100, 200, 320, 430, 530
 LIBRARIES = STATEMENTS
 # The lines that several arrows share, below the libraries.
-TO_TAPES, TO_QUEUES, OF_BENCH = 288, TEXTS + HIGH / 2, TEXTS + HIGH - 12
+TO_TAPES, TO_QUEUES, OF_EXPORTS = 288, TEXTS + HIGH / 2, TEXTS + HIGH - 12
 
 
 def box_of(name):
@@ -32,7 +32,7 @@ def box_of(name):
     if kind == 'program':
         return ('shows',) if '_shows_' in name else ('programs',)
     if kind == 'library':
-        return ('texts',) if of else (first,) if first in ('text', 'bench') else ('libraries',)
+        return ('texts',) if of else (first,) if first == 'text' else ('libraries',)
     return (kind,)
 
 
@@ -44,7 +44,7 @@ BOXES = {
     ('shows',): (RIGHT + HALF + GAP, LIBRARIES, HALF, WHITE, '.._shows_..\nfor tests'),
     ('texts',): (RIGHT, TEXTS, 2 * HALF + GAP, WHITE, '.._text..: machines as text'),
     ('text',): (RIGHT, MACHINES, 2 * HALF + GAP, WHITE, 'text_..: text out, numbers in'),
-    ('bench',): (12, TEXTS, 80, WHITE, 'bench_..'),
+    ('export',): (12, TEXTS, 80, WHITE, '.._c\nbench_..'),
 }
 for queue, x in COLUMNS.items():
     BOXES['machine', queue] = (x, MACHINES, WIDE, WHITE, f'{queue}..')
@@ -67,9 +67,9 @@ for queue, x in COLUMNS.items():
     WAYS[('proof', queue), ('statement', queue)] = down(('proof', queue), ('statement', queue), x + NARROW / 2)
     WAYS[('statement', queue), ('machine', queue)] = down(('statement', queue), ('machine', queue), x + NARROW / 2)
     WAYS[('machine', queue), ('shared',)] = down(('machine', queue), ('shared',), x + WIDE / 2)
+    WAYS[('export',), ('machine', queue)] = [(92, OF_EXPORTS), (x + 24, OF_EXPORTS), (x + 24, MACHINES)]
     if queue != 'tapes':
         WAYS[('texts',), ('machine', queue)] = [(RIGHT, TO_QUEUES), (x + DROP, TO_QUEUES), (x + DROP, MACHINES)]
-        WAYS[('bench',), ('machine', queue)] = [(92, OF_BENCH), (x + 24, OF_BENCH), (x + 24, MACHINES)]
 for above, x in (('libraries', RIGHT + 24), ('shows', RIGHT + HALF + GAP + 24)):
     to = COLUMNS['tapes'] + DROP
     WAYS[(above,), ('machine', 'tapes')] = [(x, LIBRARIES + HIGH), (x, TO_TAPES), (to, TO_TAPES), (to, MACHINES)]
