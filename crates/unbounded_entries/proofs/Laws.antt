@@ -1,5 +1,5 @@
 -- Where an entry goes and what is looked at after it, test by test.
-use Rattle.std.proofs.Common.{◌≡◌, ℕ, ◌+◌, ◌%◌, ◌<◌, ◌≤◌, Bool, true, false, cond, not, eqb, sym, refl, ap, ◌∙◌}
+use Rattle.std.proofs.Common.{◌≡◌, ℕ, ◌+◌, ◌%◌, ◌<◌, ◌≤◌, Bool, true, false, not, eqb, sym, refl, ap, ◌∙◌}
 use Rattle.queue_entries.specs.Limits.{meter_most}
 use Rattle.queue_entries.specs.Entries.{verdict_for}
 use Rattle.queue_entries.proofs.Pick.{along, below, above, yes, no, on, off}

@@ -1,5 +1,5 @@
 -- An entry is its aim: what `turn_of` gives is refused as the aim says, or stores what is done where it goes.
-use Rattle.std.proofs.Common.{◌≡◌, ℕ, zero, suc, ◌+◌, ◌*◌, ◌<◌, ◌≤◌, Bool, true, false, cond, not, eqb, ltb, List, [], ◌∷◌, get_or, set, sym, refl, ap, ◌∙◌, subst, true≢false, arith, ltb-true, ne_eqb, eqb-true}
+use Rattle.std.proofs.Common.{◌≡◌, ℕ, zero, suc, ◌+◌, ◌<◌, ◌≤◌, Bool, true, false, cond, not, eqb, ltb, List, [], ◌∷◌, get_or, set, sym, refl, ap, ◌∙◌, subst, true≢false, arith, ltb-true, ne_eqb, eqb-true}
 use Rattle.queue_entries.specs.Limits.{workers_most, meter_most}
 use Rattle.queue_entries.proofs.Pick.{both_left, both_right}
 use Rattle.queue_entries.specs.declared.Call.{Call}
@@ -24,15 +24,15 @@ use Rattle.unbounded_acts.specs.Acts.{new_block, act_of}
 use Rattle.unbounded_machine.specs.declared.Machine.{Machine}
 use Rattle.unbounded_machine.specs.declared.Did.{Did}
 use Rattle.unbounded_machine.specs.Machine.{slot, slot_number, block_at, slot_at, live, machine_of, place_of, idler, refused, accepted}
-use Rattle.unbounded_machine.specs.Broken.{uses_fit, record_fits, broken_in, broken_of}
-use Rattle.unbounded_machine.specs.Turn.{entry_here, verdict_of, lowest_free, cleared, block_used, slot_used, begun, stored, acted_at, moved_by, carried_by, turn_by, turn_with, turn_of}
+use Rattle.unbounded_machine.specs.Broken.{uses_fit, record_fits, broken_of}
+use Rattle.unbounded_machine.specs.Turn.{entry_here, verdict_of, lowest_free, cleared, block_used, slot_used, begun, stored, acted_at, taken_by, used_by, moved_by, carried_by, turn_by, turn_with, turn_of}
 use Rattle.unbounded_machine.proofs.Fits.{either, unbroken_count, unbroken_records, of_record, live_below}
 use Rattle.unbounded_entries.specs.declared.Ask.{Ask}
 use Rattle.unbounded_entries.specs.declared.Aim.{Aim}
 use Rattle.unbounded_entries.specs.declared.Done.{Done}
 use Rattle.unbounded_entries.specs.declared.Look.{Look}
 use Rattle.unbounded_entries.specs.Looks.{looked, look_block, look_slot, look_uses, look_at, fits_at, same_pointer, same_header}
-use Rattle.unbounded_entries.specs.Aims.{asking, unasked, ask_in, ask_of, aimed, turned_away, aim_act, aim_by, aim_in, aim_of, way_acts, way_by_act, way_of, aim_at, leaves, done_of}
+use Rattle.unbounded_entries.specs.Aims.{asking, unasked, ask_in, ask_of, aimed, turned_away, aim_act, aim_by, aim_in, aim_of, way_by_act, way_of, aim_at, leaves, done_of}
 
 -- ---- what a verdict tells: a refusal has a number, a move is a busy worker's in time
 abbrev Sense : ℕ → Place → Verdict → Type 0
@@ -114,9 +114,23 @@ module _ (m : Machine) where
   by_test true d e x y p q = p refl
   by_test false d e x y p q = q refl
 
+  acted : (w k i : ℕ) (lose takes : Bool) → accepted (acted_at sizes act_of m w (place_of m.workers w) lose (cond takes (cleared sizes m.slots k) m.slots) k i) ≡ outcome m (aimed w (Act lose) takes k i (m.meter + 1))
+  unfolding acted_at stored leaves
+  acted w k i lose takes = refl
+
   moved : (w : ℕ) (lose : Bool) → moved_by sizes act_of m w (place_of m.workers w) lose ≡ outcome m (aim_act sizes m.blocks m.meter w (place_of m.workers w) lose)
-  unfolding moved_by acted_at stored aim_act leaves
-  moved w lose = by_test (view_of sizes (place_of m.workers w)).takes _ _ _ _ (λ t. by_test (ltb (lowest_free sizes m.blocks) 64) _ _ _ _ (λ g. refl) (λ g. refl)) (λ t. refl)
+  unfolding moved_by aim_act
+  moved w lose =
+      by_test (view_of sizes (place_of m.workers w)).takes
+      (cond (ltb (lowest_free sizes m.blocks) 64) (accepted (taken_by sizes act_of m w (place_of m.workers w) lose (lowest_free sizes m.blocks))) (refused 23 m))
+      (accepted (used_by sizes act_of m w (place_of m.workers w) lose))
+      (cond (ltb (lowest_free sizes m.blocks) 64) (aimed w (Act lose) true (lowest_free sizes m.blocks) 0 (m.meter + 1)) (turned_away 23))
+      (aimed w (Act lose) false (block_used (view_of sizes (place_of m.workers w)).uses) (slot_used (view_of sizes (place_of m.workers w)).uses) (m.meter + 1))
+      (λ t. by_test (ltb (lowest_free sizes m.blocks) 64)
+      (accepted (taken_by sizes act_of m w (place_of m.workers w) lose (lowest_free sizes m.blocks))) (refused 23 m)
+      (aimed w (Act lose) true (lowest_free sizes m.blocks) 0 (m.meter + 1)) (turned_away 23)
+      (λ g. acted w (lowest_free sizes m.blocks) 0 lose true) (λ g. refl))
+      (λ t. acted w (block_used (view_of sizes (place_of m.workers w)).uses) (slot_used (view_of sizes (place_of m.workers w)).uses) lose false)
 
   carried : (w : ℕ) (v : Verdict) → Sense m.meter (place_of m.workers w) v
       → carried_by sizes act_of m w (place_of m.workers w) v ≡ outcome m (aim_by sizes m.blocks m.meter w (place_of m.workers w) v)
