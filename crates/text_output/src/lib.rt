@@ -4,7 +4,7 @@
 // for the place at the end knows of it.
 #![tactic(auto)]
 
-use libc::STDOUT_FILENO;
+use text_system::System;
 
 pub const LOST: usize = usize::MAX;
 
@@ -35,8 +35,8 @@ pub fn text(out: &mut [u8], at: usize, s: &[u8]) -> usize {
 
 pub fn number(out: &mut [u8], at: usize, n: u64) -> usize {
     let mut digits = [0u8; 20];
-    let k = io::decimal(n, &mut digits);
-    text(out, at, &digits[..k])
+    let from = itoa::write_digits(n, &mut digits, 20);
+    text(out, at, &digits[from..])
 }
 
 // A # is written as the k-th number, and any other byte as it is.
@@ -109,10 +109,10 @@ pub fn nth(out: &mut [u8], at: usize, list: &[u8], n: usize, numbers: &[u64]) ->
     at
 }
 
-// Writes the text so far to standard output, and answers the place to go on at: 0, or LOST, and then errno says why.
-pub fn flush(out: &[u8], at: usize) -> usize {
+// Writes the text so far to standard output, and answers the place to go on at: 0, or LOST, and then the system says why.
+pub fn flush(system: &System, out: &[u8], at: usize) -> usize {
     if at <= out.len() {
-        if io::write_all(STDOUT_FILENO, &out[..at]) {
+        if text_system::streams::put(system, &out[..at]) {
             return 0;
         }
     }
@@ -120,24 +120,24 @@ pub fn flush(out: &[u8], at: usize) -> usize {
 }
 
 // Writes only where less than a line's room is left.
-pub fn settle(out: &[u8], at: usize) -> usize {
+pub fn settle(system: &System, out: &[u8], at: usize) -> usize {
     if at <= out.len() {
         if out.len() - at < LINE {
-            return flush(out, at);
+            return flush(system, out, at);
         }
     }
     at
 }
 
 // Ends the line, and writes it.
-pub fn end(out: &mut [u8], at: usize) {
+pub fn end(system: &System, out: &mut [u8], at: usize) {
     let p = byte(out, at, b'\n');
-    flush(out, p);
+    flush(system, out, p);
 }
 
 // A form, written at once; the text is at most 512 bytes long.
-pub fn say(form: &[u8], numbers: &[u64]) {
+pub fn say(system: &System, form: &[u8], numbers: &[u64]) {
     let mut out = [0u8; 512];
     let p = fill(&mut out, 0, form, 0, numbers);
-    flush(&out, p);
+    flush(system, &out, p);
 }
