@@ -1,24 +1,21 @@
 -- Blocks that are linked from head's to tail's: `Drop`'s walk is sound.
 use Prim.Native.Nat.{ℕ, zero, suc, ◌+◌, ◌*◌, ◌-◌, ◌/◌, ◌%◌, ◌^◌, ◌<◌, ◌≤◌}
 use mathlib.Core.Path.{◌≡◌, refl, sym, ap, ◌∙◌, subst}
-use mathlib.Core.Logic.{◌≢◌}
 use mathlib.Core.Bool.{Bool, true, false, cond, not, true≢false}
 use mathlib.Core.List.{List}
 use native.Mathlib.Omega.{arith}
 use lib.Dec.{ltb, eqb}
-use lib.ListN.{get_or, set}
-use borrow.Author.Tests.{lt-ltb, eq-eqb, ne_eqb, eqb-true, ltb-true, ltb-false}
+use borrow.Author.Tests.{lt-ltb, eq-eqb, ne_eqb, eqb-true, ltb-true}
 use Rattle.queue_entries.proofs.Pick.{both_left, both_right}
 use Rattle.unbounded_words.specs.declared.Index.{Index}
 use Rattle.unbounded_words.specs.declared.Pointer.{Pointer}
 use Rattle.unbounded_words.specs.declared.Pointer.TheVariants.{None, To}
-use Rattle.unbounded_words.specs.Words.{sizes, index, past_slots, unmarked_of, later, same, none_of, number_of}
+use Rattle.unbounded_words.specs.Words.{sizes, index, past_slots, unmarked_of, later, same, number_of}
 use Rattle.unbounded_places.specs.declared.Block.{Block}
 use Rattle.unbounded_places.specs.declared.Ends.{Ends}
-use Rattle.unbounded_acts.specs.Acts.{new_block, freed}
-use Rattle.unbounded_machine.specs.declared.Dropped.{Dropped}
+use Rattle.unbounded_acts.specs.Acts.{new_block}
 use Rattle.unbounded_machine.specs.Machine.{live, block_at}
-use Rattle.unbounded_machine.specs.Drop.{walked, last_fits, without, walk_from, walk_of}
+use Rattle.unbounded_machine.specs.Drop.{last_fits, without, walk_from, walk_of}
 use Rattle.unbounded_judged.specs.Judged.{lap_of, ahead_of, next_of, linked_from}
 use Rattle.unbounded_judged.proofs.Judged.{get_other}
 

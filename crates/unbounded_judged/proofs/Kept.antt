@@ -20,8 +20,7 @@ use Rattle.unbounded_machine.specs.Machine.{live, block_at, place_of}
 use Rattle.unbounded_machine.specs.Drop.{walk_of}
 use Rattle.unbounded_machine.proofs.Laws.{live_past, live_free, live_not}
 use Rattle.unbounded_judged.specs.declared.Known.{Known}
-use Rattle.unbounded_judged.specs.declared.Rest.{Rest}
-use Rattle.unbounded_judged.specs.Judged.{busy_from, busy_in, unknown, lap_of, ahead_of, in_order, same_laps, same_front, still_of, due_of, next_of, linked_from, linked_of, noted, rest_of}
+use Rattle.unbounded_judged.specs.Judged.{busy_from, busy_in, unknown, in_order, same_laps, same_front, still_of, due_of, next_of, linked_from, linked_of, noted, rest_of}
 
 pub first_count : (ws : List Worker) → 0 + busy_from sizes (workers_most - 0) 0 ws ≡ busy_in sizes ws
 unfolding busy_in
