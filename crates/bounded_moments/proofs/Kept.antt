@@ -1,6 +1,5 @@
 -- What `search` is given at the returns of the functions that keep the moments.
-use Rattle.std.proofs.Common.{◌≡◌, ℕ, zero, suc, ◌+◌, ◌%◌, ◌<◌, ◌≤◌, Bool, true, false, cond, not, eqb, List, [], ◌∷◌, map, length, get_or, set, sym, refl, ap, ◌∙◌, add-one, arith}
-use Rattle.queue_entries.specs.Limits.{workers_most}
+use Rattle.std.proofs.Common.{◌≡◌, ℕ, zero, suc, ◌+◌, ◌%◌, ◌<◌, ◌≤◌, Bool, cond, not, List, [], ◌∷◌, map, length, get_or, set, refl, ap, ◌∙◌, add-one, arith}
 use Rattle.queue_entries.proofs.Pick.{along}
 use Rattle.bounded_words.specs.Limits.{wide}
 use Rattle.bounded_places.specs.declared.Answer.{Answer}
@@ -16,12 +15,10 @@ use Rattle.bounded_machine.specs.History.{moved_of, untaken_of}
 use Rattle.bounded_stock.specs.Stock.{one_more_act, tallied_of}
 use Rattle.bounded_causes.specs.Causes.{stand_of, claims_tail, claims_head}
 use Rattle.bounded_moments.specs.declared.Moment.{Moment}
-use Rattle.bounded_moments.specs.declared.Moment.TheVariants.{Before, After, AfterNextTail, AfterNextHead}
+use Rattle.bounded_moments.specs.declared.Moment.TheVariants.{After, AfterNextTail, AfterNextHead}
 use Rattle.bounded_moments.specs.declared.Timing.{Timing}
-use Rattle.bounded_moments.specs.declared.Timing.TheVariants.{Now, Stays, IfSome, IfRoom}
 use Rattle.bounded_moments.specs.declared.OfWorker.{OfWorker}
 use Rattle.bounded_moments.specs.declared.Moments.{Moments}
-use Rattle.bounded_moments.specs.declared.Named.{Named}
 use Rattle.bounded_moments.specs.Moments.{timing_said, timing_of, timed_of, heard_of, of_worker, moment_in, heard_by_all, begun_of, own_of, named_of}
 
 -- ---- the rule, at a case that is known

@@ -1,5 +1,5 @@
 -- At which moment an answer is the plain queue's (crates/queue_plain): what an act makes of the moment of its own call and of the others', and what is kept of every worker to name it.
-use Rattle.std.specs.Prelude.{ℕ, Bool, cond, not, List, map, replicate, ◌==◌, slice_index_or, slice_set}
+use Rattle.std.specs.Prelude.{ℕ, cond, not, List, map, replicate, ◌==◌, slice_index_or, slice_set}
 use Rattle.queue_entries.specs.Limits.{workers_most}
 use Rattle.bounded_places.specs.declared.Answer.{Answer}
 use Rattle.bounded_places.specs.declared.Answer.TheVariants.{Nothing, Pushed, Full, Closed, Displaced, Popped, Empty, PopClosed, Len, Yes, No}
@@ -7,7 +7,6 @@ use Rattle.bounded_places.specs.declared.Place.{Place}
 use Rattle.bounded_places.specs.declared.Place.TheVariants.{Idle, P1, P2, P3, P4, P5, P6, F6, F7, F8, F9, O1, O2, O3, O4, O5, O6, Len1, Len2, Len3, Empty1, Empty2, Full1, Full2, Close1, IsClosed1}
 use Rattle.bounded_places.specs.declared.Moved.{Moved}
 use Rattle.bounded_places.specs.Places.{view_of}
-use Rattle.bounded_machine.specs.declared.Tally.{Tally}
 use Rattle.bounded_machine.specs.History.{moved_of, untallied, untaken_of}
 use Rattle.bounded_stock.specs.Stock.{one_more_act, tallied_of}
 use Rattle.bounded_causes.specs.Causes.{stand_of, claims_tail, claims_head}
