@@ -53,6 +53,7 @@ class Turned:
         for (old, new), (at, _) in zip(names["needs"], names["asked_at"]):
             self.needs[plain(old)] = (new, plain(at))
         self.left = []
+        self.helpers = {}
 
     def path(self, place, parts):
         """The new path of what `c` with these parts is at an old place."""
@@ -103,6 +104,12 @@ class Turned:
         return False
 
     def body(self, text, place, var="c"):
+        # a lemma of the file over c is written out where it is used: its c is another goal's
+        for n, (v, whole) in self.helpers.items():
+            put = lambda m: "(" + re.sub(rf"(?<![\w.'-]){re.escape(v)}(?![\w'-])", m[1], whole) + ")"
+            at = rf"{re.escape(n)} ({NAME}(?:\.before)*)(?![\w'.-])"
+            text = re.sub(rf"\({at}\)", put, text)
+            text = re.sub(rf"(?<![\w.'-]){at}", put, text)
         names = {var: place}
         # a `let` of an earlier place names no value any more
         for m in re.finditer(rf"\blet ({NAME}) = ({NAME})((?:\.before)*) in\b", text):
@@ -230,6 +237,11 @@ def turn(root, crate, folder, names):
             answers.append(f"pub {new} : goal.{new}\n" + "".join(e + "\n" for e in extra) + f"{new} c ={body}")
             continue
         if re.match(rf"^pub {NAME}[-_]spec(?:-\d+)? :", line):
+            i += 2
+            continue
+        h = re.match(rf"^(?:pub )?({NAME}) : \((\w+) : tie\.", line)
+        if h and i + 1 < len(items) and (d := re.match(rf"^{re.escape(h[1])} {h[2]} =(.*)$", "\n".join(items[i + 1]), re.S)):
+            t.helpers[h[1]] = (h[2], d[1].strip())
             i += 2
             continue
         if "tie." in "\n".join(b):
