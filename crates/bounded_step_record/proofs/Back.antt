@@ -13,7 +13,6 @@ use Rattle.queue_entries.specs.declared.Verdict.TheVariants.{Refuse, Start, Move
 use Rattle.queue_entries.specs.Entries.{entry_of, order_of, stray_of}
 use Rattle.bounded_words.specs.declared.Width.{Width}
 use Rattle.bounded_places.specs.declared.Slot.{Slot}
-use Rattle.bounded_places.specs.declared.Worker.{Worker}
 use Rattle.bounded_places.specs.Places.{begin_of}
 use Rattle.bounded_acts.specs.Acts.{act_of}
 use Rattle.bounded_machine.specs.declared.Machine.{Machine}
