@@ -39,9 +39,18 @@ def blocks(text):
     return [b for b in out if b]
 
 
+def parameters(root, crate, folder):
+    """A function's parameters by its text, where its name stands once."""
+    found = []
+    for p in glob.glob(os.path.join(root, "crates", crate, "src", "**", "*.rt"), recursive=True):
+        found += re.findall(rf"\bfn {re.escape(folder.split('/')[-1])}\s*(?:<[^(]*>)?\(([^)]*)\)", open(p, encoding="utf-8").read())
+    return re.findall(r"(?:^|,)\s*(?:mut )?(\w+)\s*:", found[0]) if len(found) == 1 else []
+
+
 class Turned:
-    def __init__(self, names, where):
+    def __init__(self, names, where, params=()):
         self.where = where
+        self.params = params
         self.names = names
         self.parent, self.step, self.arm, self.typed = {}, {}, {}, {}
         for i, (place, parent, (old, new), _callee, _) in enumerate(names["places"]):
@@ -147,6 +156,8 @@ class Turned:
             return "c" + "".join("." + p for p in r[1])
 
         text = re.sub(rf"(?<![\w.'-])({'|'.join(re.escape(n) for n in names)})((?:\.[^\s().,;{{}}@\"«»\]]+)+)", one, text)
+        # a parameter that was moved had a number for its name
+        text = re.sub(r"\bc\.args\.t(\d+)\b", lambda m: "c.args." + self.params[int(m[1]) - 1] if 0 < int(m[1]) <= len(self.params) else m[0], text)
         return re.sub(r"\bc\.well-formed\b", "c.well_formed", text)
 
     def loop_body(self, old, params, text):
@@ -176,7 +187,7 @@ def turn(root, crate, folder, names):
     key = f"Rattle-{crate}-proofs.{folder.replace('/', '.')}.Lts"
     if key not in names:
         return [f"{path}: no names"]
-    t = Turned(names[key], f"{crate}/{folder}")
+    t = Turned(names[key], f"{crate}/{folder}", parameters(root, crate, folder))
     uses, answers, invariants, helpers = [], [], [], False
     items = blocks(text)
     i = 0
