@@ -15,7 +15,7 @@ use Rattle.queue_entries.specs.Told.{told}
 use Rattle.queue_entries.specs.declared.Told.TheVariants as answer
 use Rattle.queue_walks.specs.Walks.{act_byte, walk_by}
 use Rattle.queue_walks.specs.Listed.{bytes_of}
-use Rattle.queue_walks.specs.Meaning.{Goes, none_left, all_idle_lem, goes_on}
+use Rattle.queue_walks.specs.Meaning.{Goes, none_left, none_busy, goes_on}
 use Rattle.queue_walks.proofs.Meaning.{walk_sound, walk_whole, walk_order, not_before}
 use Rattle.bounded_machine.specs.declared.Machine.{Machine}
 use Rattle.bounded_machine.specs.declared.Did.{Did}
@@ -53,7 +53,7 @@ run_more m i first second s h = simp (eq-eqb (turn_of m first second).refusal 0 
 run_tried : (depth : ℕ) (m : Machine) (s : List ℕ) (i : ℕ) → Few m → Tried depth m s → (run_from m i (entries_of s)).refusal ≡ 0
 unfolding run_by entries_of ran
 run_tried depth m s i f none_left = refl
-run_tried depth m s i f (all_idle_lem e) = refl
+run_tried depth m s i f (none_busy e) = refl
 run_tried depth m s i f (goes_on {left = less} {act = act} {s = t} worker code e low acts is ok more) =
     ap (λ (x : ℕ). (run_from m i (x ∷ 0 ∷ entries_of t)).refusal) (ap (λ (x : ℕ). 16 * (x % 16) + x / 16) is ∙ act_worker code worker (omega arith))
     ∙ ap (λ (r : Ran). r.refusal) (run_more m i (16 * worker + code) 0 (entries_of t) ok)

@@ -17,7 +17,7 @@ use Rattle.queue_entries.specs.declared.Told.TheVariants as answer
 use Rattle.bounded_walks.specs.declared.Sized.{Sized}
 use Rattle.bounded_walks.specs.declared.Sized.TheVariants as sized
 use Rattle.queue_walks.specs.Walks.{after, in_turn, choice_by, walk_by}
-use Rattle.queue_walks.specs.Meaning.{Before, lower, sooner, further, none_left, all_idle_lem, goes_on}
+use Rattle.queue_walks.specs.Meaning.{Before, lower, sooner, further, none_left, none_busy, goes_on}
 use Rattle.bounded_words.specs.Words.{doubled, mark_of, marked_of, unmarked_of, plus, minus, with_mark, next_of, same, one_past, lap_behind, lap_behind_one_past}
 use Rattle.bounded_places.specs.Places.{inside}
 use Rattle.bounded_acts.specs.Acts.{goes, losing, exchange_of, after_tail, tail_to, head_to, stamp_to, value_to, forced_tail}
@@ -74,7 +74,7 @@ not_there a b ne h = go (Memᴰ.cases_cons h)
     go (inr k) = absurd (Memᴰ.not-nil k)
 
 not_ended : (left : ℕ) (m : Machine) → all_idle m.workers ≡ false → Tried (suc left) m [] → ⊥
-not_ended left m busy (all_idle_lem e) = true≢false (sym e ∙ busy)
+not_ended left m busy (none_busy e) = true≢false (sym e ∙ busy)
 
 -- of a machine with nobody under way
 idle_number : walk_refusal (fresh_in sixty_four) 0 8 ≡ 20

@@ -1,7 +1,7 @@
 -- The list of a walk has every sequence that goes so, and no other, in order.
 use Prim.Native.Nat.{ℕ, zero, suc, ◌+◌, ◌*◌, ◌%◌, ◌<◌, ◌≤◌}
-use mathlib.Core.Path.{◌≡◌, refl, sym, ap, ◌∙◌, subst}
-use mathlib.Core.Bool.{Bool, true, false, cond, true≢false}
+use mathlib.Core.Path.{◌≡◌, refl, sym, ap, subst}
+use mathlib.Core.Bool.{Bool, true, false, cond}
 use mathlib.Core.List.Memᴰ
 use mathlib.Core.List.{List, [], ◌∷◌, ◌++◌, Memᴰ}
 use mathlib.Core.Logic.{◌⊎◌, inl, inr}
@@ -10,7 +10,7 @@ use native.Mathlib.Decide.{dec_lt}
 use lib.Dec.{eqb}
 use borrow.Author.Tests.{eq-eqb, eqb-true}
 use Rattle.queue_walks.specs.Walks.{act_byte, after, in_turn, choice_by, walk_by}
-use Rattle.queue_walks.specs.Meaning.{Goes, none_left, all_idle_lem, goes_on, Before, lower, sooner, further, InOrder}
+use Rattle.queue_walks.specs.Meaning.{Goes, none_left, none_busy, goes_on, Before, lower, sooner, further, InOrder}
 
 -- ---- acts before each of a list's sequences
 pub record Begins (acts : List ℕ) (list : List (List ℕ)) (s : List ℕ) : Type 0 where
@@ -117,7 +117,7 @@ module _ {M D : Type 0} (refusal : D → ℕ) (machine : D → M) (turn : M → 
   sound_step : (left : ℕ) (m : M) (s : List ℕ) → ((next : M) (t : List ℕ) → Memᴰ t (walk left next) → Going left next t)
       → (b : Bool) → idle m ≡ b → Memᴰ s (cond b ([] ∷ []) (in_turn (choice left m) (workers m) 0)) → Going (suc left) m s
   unfolding Going walk
-  sound_step left m s ih true e x = subst (Goes refusal machine turn workers idle (suc left) m) (sym (Memᴰ.eq_of_singleton x)) (all_idle_lem e)
+  sound_step left m s ih true e x = subst (Goes refusal machine turn workers idle (suc left) m) (sym (Memᴰ.eq_of_singleton x)) (none_busy e)
   sound_step left m s ih false e x =
       let c = turn_out (choice left m) (workers m) 0 s x in
       let t = choice_out left m c.worker c.code s c.there in
@@ -133,7 +133,7 @@ module _ {M D : Type 0} (refusal : D → ℕ) (machine : D → M) (turn : M → 
   pub walk_whole : (left : ℕ) (m : M) (s : List ℕ) → Goes refusal machine turn workers idle left m s → Memᴰ s (walk_by refusal machine turn workers idle left m)
   unfolding walk_by walk choice after_act
   walk_whole left m s none_left = Memᴰ.head refl
-  walk_whole left m s (all_idle_lem e) = rw e (Memᴰ.head refl)
+  walk_whole left m s (none_busy e) = rw e (Memᴰ.head refl)
   walk_whole left m s (goes_on {left = less} {s = t} worker code e low acts is ok more) =
       rw e (turn_in (choice less m) (workers m) 0 s worker code (omega arith) (omega arith) acts
       (subst (λ (b : ℕ). Memᴰ (b ∷ t) (choice less m worker code)) (sym is) (choice_in less m worker code t ok (walk_whole less (after_act m worker code) t more))))
@@ -216,6 +216,7 @@ module _ {M D : Type 0} (refusal : D → ℕ) (machine : D → M) (turn : M → 
 
 -- none is there twice
 pub not_before : (s : List ℕ) → Before s s → ⊥
+not_before [] x = elim x [ ]
 not_before (a ∷ s) (lower l) = omega arith
 not_before (a ∷ s) (sooner e l) = omega arith
 not_before (a ∷ s) (further e b) = not_before s b

@@ -1,5 +1,5 @@
 -- How a walk is told: its numbers, and its bytes in a buffer.
-use Rattle.std.specs.Prelude.{ℕ, suc, ◌+◌, ◌<◌, ◌^◌, List, [], ◌∷◌, ◌++◌, length}
+use Rattle.std.specs.Prelude.{ℕ, ◌+◌, ◌<◌, ◌^◌, List, [], ◌∷◌, ◌++◌, length}
 use Rattle.queue_walks.specs.declared.Walked.{Walked}
 
 -- A byte for its length, then a byte for each act.

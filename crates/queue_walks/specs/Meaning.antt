@@ -10,7 +10,7 @@ module _ {M D : Type 0} (refusal : D → ℕ) (machine : D → M) (turn : M → 
   -- entry that is accepted there, of code 8 or 9.
   pub data Goes : ℕ → M → List ℕ → Type 0 where
     none_left : {m : M} → Goes 0 m []
-    all_idle_lem : {left : ℕ} {m : M} → idle m ≡ true → Goes (suc left) m []
+    none_busy : {left : ℕ} {m : M} → idle m ≡ true → Goes (suc left) m []
     goes_on : {left : ℕ} {m : M} {act : ℕ} {s : List ℕ} (worker code : ℕ) → idle m ≡ false → worker < workers m → (code ≡ 8) ⊎ (code ≡ 9) → act ≡ act_byte code worker
         → refusal (turn m (16 * worker + code) 0) ≡ 0 → Goes left (machine (turn m (16 * worker + code) 0)) s → Goes (suc left) m (act ∷ s)
 
