@@ -163,14 +163,14 @@ pub fn put(s: &System, file: &File, bytes: &[u8]) -> bool {
     is_done(s, to.write_all(bytes))
 }
 
-// Where the file stands; None: nowhere, as a pipe.
-pub fn place(s: &System, file: &File) -> Option<u64> {
+// A pipe stands nowhere.
+pub fn is_at_start(s: &System, file: &File) -> bool {
     let mut of = file;
     match of.seek(SeekFrom::Current(0)) {
-        Ok(at) => Some(at),
+        Ok(at) => at == 0,
         Err(e) => {
             crate::failed_by(s, e);
-            None
+            false
         }
     }
 }
@@ -183,6 +183,36 @@ pub fn rewind(s: &System, file: &File) -> bool {
             crate::failed_by(s, e);
             false
         }
+    }
+}
+
+// What is read or written: a standard stream, or an open file.
+#[derive(Drop)]
+pub enum Flow {
+    Standard,
+    Of(File),
+}
+
+pub fn read_from(s: &System, from: &Flow, bytes: &mut [u8]) -> Got
+    ensures { result.n ≤ length bytes.new }
+{
+    match from {
+        Flow::Standard => crate::streams::read(s, bytes),
+        Flow::Of(file) => read(s, file, bytes),
+    }
+}
+
+pub fn put_to(s: &System, to: &Flow, bytes: &[u8]) -> bool {
+    match to {
+        Flow::Standard => crate::streams::put(s, bytes),
+        Flow::Of(file) => put(s, file, bytes),
+    }
+}
+
+pub fn file_of(flow: Flow) -> Option<File> {
+    match flow {
+        Flow::Standard => None,
+        Flow::Of(file) => Some(file),
     }
 }
 

@@ -38,6 +38,21 @@ pub fn read(s: &System, bytes: &mut [u8]) -> Got
     }
 }
 
+// Reads standard input until the buffer is full, or the input ends or a read fails; answers how many bytes it brought.
+pub fn read_full(s: &System, bytes: &mut [u8]) -> usize
+    ensures { result ≤ length bytes.new }
+{
+    let mut n = 0;
+    while n < bytes.len() {
+        let got = read(s, &mut bytes[n..]);
+        if got.n == 0 {
+            return n;
+        }
+        n += got.n;
+    }
+    n
+}
+
 pub(crate) fn is_done(s: &System, r: std::io::Result<()>) -> bool {
     match r {
         Ok(()) => true,
@@ -55,6 +70,19 @@ pub fn put(s: &System, text: &[u8]) -> bool {
 
 pub fn put_error(s: &System, text: &[u8]) -> bool {
     is_done(s, s.rt.stderr().write_all(text))
+}
+
+#[derive(Clone, Copy)]
+pub enum Stream {
+    Output,
+    Error,
+}
+
+pub fn put_to(s: &System, to: Stream, text: &[u8]) -> bool {
+    match to {
+        Stream::Output => put(s, text),
+        Stream::Error => put_error(s, text),
+    }
 }
 
 pub fn is_terminal(s: &System) -> bool {
