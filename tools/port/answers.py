@@ -47,6 +47,30 @@ def parameters(root, crate, folder):
     return re.findall(r"(?:^|,)\s*(?:mut )?(\w+)\s*:", found[0]) if len(found) == 1 else []
 
 
+def fields(body, names):
+    """A proof of clauses joined by ×, as the record of them that is asked today."""
+    if len(names) < 2 or re.match(r"\s*(record|search|let|λ|grind|simp|absurd)\b", body):
+        return body
+    text = body.strip()
+    parts, depth, at = [], 0, 1
+    if text.startswith("("):
+        for i, ch in enumerate(text):
+            depth += {"(": 1, "{": 1, ")": -1, "}": -1}.get(ch, 0)
+            if depth == 1 and ch == ",":
+                parts.append(text[at:i].strip())
+                at = i + 1
+            if depth == 0:
+                if i == len(text) - 1:
+                    parts.append(text[at:i].strip())
+                else:
+                    parts = []
+                break
+    if len(parts) != len(names):
+        ends = [".1" * i + ".0" for i in range(len(names) - 1)] + [".1" * (len(names) - 1)]
+        parts = [f"({text}){e}" for e in ends]
+    return " record { " + "; ".join(f"{n} = {p}" for n, p in zip(names, parts)) + " }"
+
+
 class Turned:
     def __init__(self, names, where, params=()):
         self.where = where
@@ -61,6 +85,7 @@ class Turned:
         self.needs = {}
         for (old, new), (at, _) in zip(names["needs"], names["asked_at"]):
             self.needs[plain(old)] = (new, plain(at))
+        self.asked = {plain(old): fs for old, fs in names.get("asked", {}).items()}
         self.left = []
         self.helpers = {}
 
@@ -244,7 +269,7 @@ def turn(root, crate, folder, names):
             if body == "search rules" and not extra:
                 continue
             var = params[0] if params else "c"
-            body = t.body(rest, place, var)
+            body = fields(t.body(rest, place, var), t.asked.get(plain(m[2]), []))
             answers.append(f"pub {new} : goal.{new}\n" + "".join(e + "\n" for e in extra) + f"{new} c ={body}")
             continue
         if re.match(rf"^pub {NAME}[-_]spec(?:-\d+)? :", line):
