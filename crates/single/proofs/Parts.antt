@@ -2,10 +2,10 @@
 use Prim.Native.Nat.{ℕ, ◌%◌, ◌<◌, ◌≤◌}
 use mathlib.Core.Path.{◌≡◌, refl, sym, ap, ◌∙◌}
 use mathlib.Core.Bool.{Bool, true, false}
-use mathlib.Core.List.{List, [], ◌∷◌, ◌++◌}
+use mathlib.Core.List.{List, [], ◌∷◌}
 use native.Mathlib.Omega.{arith}
 use lib.ListN.{length, set, drop}
-use borrow.Author.Tests.{lt-ltb, le-ltb, ne_eqb}
+use borrow.Author.Tests.{lt-ltb, le-ltb}
 use Rattle.queue_entries.proofs.Pick.{yes, no, below, above}
 use Rattle.queue_entries.specs.Limits.{workers_most, in_limits}
 use Rattle.queue_entries.specs.declared.Told.{Told}
@@ -19,7 +19,7 @@ use Rattle.single_machine.specs.declared.Ran.{Ran}
 use Rattle.single_machine.specs.Machine.{fresh_of, blank, refused, accepted}
 use Rattle.single_machine.specs.Broken.{broken_of, idle_from}
 use Rattle.single_machine.specs.Contents.{contents_of, count_in, contents_refusal, written, capacity_of}
-use Rattle.single_machine.specs.Run.{ran, run_of}
+use Rattle.single_machine.specs.Run.{run_of}
 use Rattle.single_machine.specs.Turn.{turn_of}
 use Rattle.single_machine.proofs.Turns.{single_queue, ran_refusal, ran_machine, turn_of_unread}
 use Rattle.single.specs.Single.{make_of, step_of, begin_step_of, act_step_of}

@@ -1,0 +1,34 @@
+use Rattle.single.proofs.Parts.{contents_6, contents_4, contents_none, contents_10, contents_one}
+use Rattle.single.proofs.contents.Goals as goal
+
+pub returns-then-broken : goal.returns-then-broken
+returns-then-broken c =
+    let r = contents_6 c.args.m c.args.buffer.now c.broken.result c.broken.ensures c.if-broken.true in
+    record { answer = r.0; lent = r.1 }
+
+pub returns-else-idle_from : goal.returns-else-idle_from
+returns-else-idle_from c =
+    let r = contents_4 c.args.m c.args.buffer.now c.broken.result c.broken.ensures
+    c.if-broken.false c.idle_from.result c.idle_from.ensures c.if-idle_from.false in
+    record { answer = r.0; lent = r.1 }
+
+pub returns-else-pushed : goal.returns-else-pushed
+returns-else-pushed c =
+    let r = contents_none c.args.m c.args.buffer.now c.broken.result c.broken.ensures
+    c.if-broken.false c.idle_from.result c.idle_from.ensures
+    c.if-idle_from.true c.pushed.result c.pushed.ensures c.if-pushed.false in
+    record { answer = r.0; lent = r.1 }
+
+pub returns-then-buffer-lt1 : goal.returns-then-buffer-lt1
+returns-then-buffer-lt1 c =
+    let r = contents_10 c.args.m c.args.buffer.now c.broken.result c.broken.ensures
+    c.if-broken.false c.idle_from.result c.idle_from.ensures
+    c.if-idle_from.true c.pushed.result c.pushed.ensures c.if-pushed.true c.if-buffer-lt1.true in
+    record { answer = r.0; lent = r.1 }
+
+pub returns : goal.returns
+returns c =
+    let r = contents_one c.args.m c.args.buffer.now c.broken.result c.broken.ensures
+    c.if-broken.false c.idle_from.result c.idle_from.ensures
+    c.if-idle_from.true c.pushed.result c.pushed.ensures c.if-pushed.true c.if-buffer-lt1.false in
+    record { answer = r.0; lent = r.1 }
