@@ -92,10 +92,14 @@ class Turned:
     def path(self, place, parts):
         """The new path of what `c` with these parts is at an old place."""
         parts = list(parts)
+        here = place
         while parts and parts[0] == "before":
             parts.pop(0)
             if self.parent.get(place) is None:
-                return None
+                # a step fewer than there were: by the names alone
+                while parts and parts[0] == "before":
+                    parts.pop(0)
+                break
             place = self.parent[place]
         if not parts:
             return place, []
@@ -105,6 +109,10 @@ class Turned:
         q = place
         while q is not None and self.step.get(q, ("", ""))[0] != head:
             q = self.parent.get(q)
+        if q is None and place != here:
+            q = place = here
+            while q is not None and self.step.get(q, ("", ""))[0] != head:
+                q = self.parent.get(q)
         if q is None:
             return None
         new = self.step[q][1]
