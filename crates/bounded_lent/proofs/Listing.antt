@@ -1,12 +1,11 @@
 -- What the contents of lent records are, as the code finds them out.
-use Prim.Native.Nat.{ℕ, ◌+◌, ◌<◌, ◌≤◌}
+use Prim.Native.Nat.{ℕ}
 use mathlib.Core.Path.{◌≡◌, refl, sym, ap, ◌∙◌}
 use mathlib.Core.Bool.{Bool, true, false, cond, not}
 use mathlib.Core.List.{List}
 use native.Mathlib.Omega.{arith}
 use lib.ListN.{length}
 use borrow.Author.Tests.{le-ltb}
-use Rattle.queue_entries.specs.Limits.{all}
 use Rattle.queue_entries.specs.declared.Told.TheVariants.{Refused}
 use Rattle.queue_entries.specs.Told.{told}
 use Rattle.bounded_words.specs.declared.Fixed.{Fixed}

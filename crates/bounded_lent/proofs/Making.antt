@@ -1,5 +1,5 @@
 -- Records made idle one after another, and what making leaves.
-use Prim.Native.Nat.{ℕ, zero, suc, ◌+◌, ◌<◌, ◌≤◌}
+use Prim.Native.Nat.{ℕ, zero, suc, ◌+◌, ◌≤◌}
 use mathlib.Core.Path.{◌≡◌, refl, sym, ap, ◌∙◌}
 use mathlib.Core.Bool.{Bool, true, false, cond}
 use mathlib.Core.List.{List, [], ◌∷◌}
@@ -9,9 +9,10 @@ use lib.Dec.{eqb}
 use lib.ListN.{length, set, replicate}
 use Rattle.bounded_places.specs.declared.Worker.{Worker}
 use Rattle.bounded_machine.specs.Machine.{idler, idlers, fresh_with, fresh_of, blank, accepted}
+use Rattle.bounded_machine.proofs.Kept.{either}
 use Rattle.bounded_orders.specs.declared.Made.{Made}
 use Rattle.bounded_orders.specs.Orders.{make_refusal, made_from, made_of, unless_refused}
-use Rattle.bounded_lent.specs.Lent.{Lent, lent, lent_of, make_lent}
+use Rattle.bounded_lent.specs.Lent.{lent, lent_of, make_lent}
 
 -- the first so many are idle, the rest as they were
 pub idle_first : ℕ → List Worker → List Worker
@@ -37,6 +38,10 @@ all_idle_lem : (ys : List Worker) → idle_first (length ys) ys ≡ replicate (l
 unfolding idle_first
 all_idle_lem [] = refl
 all_idle_lem (y ∷ ys) = ap (λ (zs : List Worker). idler ∷ zs) (all_idle_lem ys)
+
+pub at_most_all : (r n : ℕ) → unless_refused r n ≤ n
+unfolding unless_refused
+at_most_all r n = either (λ (k : ℕ). k ≤ n) (eqb r 0) n 0 (λ e. omega arith) (λ e. omega arith)
 
 pub made_lent : (ys : List Worker) (capacity edition : ℕ) (made : Made) → made ≡ made_of (length ys) capacity edition
     → lent made.refusal made.ring (idle_first (unless_refused made.refusal (length ys)) ys) ≡ make_lent ys capacity edition
