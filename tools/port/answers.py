@@ -65,10 +65,46 @@ def fields(body, names):
                 else:
                     parts = []
                 break
+    if parts and not parts[-1]:
+        parts.pop()
     if len(parts) != len(names):
         ends = [".1" * i + ".0" for i in range(len(names) - 1)] + [".1" * (len(names) - 1)]
         parts = [f"({text}){e}" for e in ends]
     return " record { " + "; ".join(f"{n} = {p}" for n, p in zip(names, parts)) + " }"
+
+
+def at_name(parts, names):
+    """The name where the older form had the place in a tuple that nests to the right, and what follows."""
+    parts = list(parts)
+    k = 0
+    while k < len(names) - 1:
+        if not parts or parts[0] not in ("0", "1"):
+            return None
+        if parts.pop(0) == "0":
+            break
+        k += 1
+    return [names[k]] + parts
+
+
+def last_fields(body, names):
+    """The same, behind a body's `let`s."""
+    m = re.match(r"\s*let\b", body)
+    if not m or len(names) < 2:
+        return fields(body, names)
+    depth, words, at, tail = 0, 0, 0, None
+    for w in re.finditer(r"[(){}]|(?<![\w.'-])(?:let|in)(?![\w'-])", body):
+        if w[0] in "({":
+            depth += 1
+        elif w[0] in ")}":
+            depth -= 1
+        elif depth == 0:
+            words += 1 if w[0] == "let" else -1
+            if w[0] == "in" and words == 0:
+                tail = w.end()
+    if tail is None or body[tail:].strip().startswith(("search", "omega", "rw", "let")):
+        return body
+    space = re.match(r"\s*", body[tail:])[0]
+    return body[:tail] + space + fields(body[tail:], names).strip()
 
 
 class Turned:
@@ -76,10 +112,11 @@ class Turned:
         self.where = where
         self.params = params
         self.names = names
-        self.parent, self.step, self.arm, self.typed = {}, {}, {}, {}
+        self.parent, self.step, self.arm, self.typed, self.index = {}, {}, {}, {}, {}
         for i, (place, parent, (old, new), _callee, _) in enumerate(names["places"]):
             self.parent[plain(place)] = plain(parent) if parent else None
             self.step.setdefault(plain(place), (plain(old), new))
+            self.index.setdefault(plain(place), i)
             if i < len(names["arms"]) and names["arms"][i]:
                 self.arm.setdefault(plain(place), names["arms"][i])
         self.needs = {}
@@ -104,6 +141,9 @@ class Turned:
         if not parts:
             return place, []
         head = plain(parts[0])
+        if head == "requires" and len(self.names["pre"]["fields"]) > 1:
+            found = at_name(parts[1:], self.names["pre"]["fields"])
+            return place, ["requires"] + found if found else parts
         if head in ("args", "requires", "well_formed", "ranges", "type_inv"):
             return place, parts
         q = place
@@ -136,6 +176,13 @@ class Turned:
                         best = (field, old)
             if best and not best[0].endswith("-own"):
                 return place, [a[0], best[0]] + rest[len(best[1]) :]
+        at = self.index[q]
+        said = self.names["clauses"][at]
+        callee = self.names["places"][at][3]
+        if rest and rest[0] == "ensures" and said and len(said["fields"]) > 1 and not (said["text"] or said["told"] or said["utf8"]):
+            rest = ["ensures"] + (at_name(rest[1:], said["fields"]) or rest[1:])
+        elif len(rest) > 1 and rest[0] in ("new", "auto") and callee in self.names["params"] and rest[1] in ("0", "1"):
+            rest = [rest[0]] + (at_name(rest[1:], self.names["params"][callee]) or rest[1:])
         return place, [new] + rest
 
     def chain(self, p, q):
@@ -277,7 +324,7 @@ def turn(root, crate, folder, names):
             if body == "search rules" and not extra:
                 continue
             var = params[0] if params else "c"
-            body = fields(t.body(rest, place, var), t.asked.get(plain(m[2]), []))
+            body = last_fields(t.body(rest, place, var), t.asked.get(plain(m[2]), []))
             answers.append(f"pub {new} : goal.{new}\n" + "".join(e + "\n" for e in extra) + f"{new} c ={body}")
             continue
         if re.match(rf"^pub {NAME}[-_]spec(?:-\d+)? :", line):
