@@ -23,7 +23,7 @@ use Rattle.unbounded_machine.specs.declared.Machine.{Machine}
 use Rattle.unbounded_machine.specs.declared.Ran.{Ran}
 use Rattle.unbounded_machine.specs.Machine.{block_at, place_of, refused, accepted}
 use Rattle.unbounded_machine.specs.Broken.{records_fit, drop_fits, broken_of}
-use Rattle.unbounded_machine.specs.Turn.{entry_here, cleared, lowest_free, turn_of}
+use Rattle.unbounded_machine.specs.Turn.{entry_here, cleared, lowest_free}
 use Rattle.unbounded_machine.specs.Run.{ran, run_from, run_of}
 use Rattle.unbounded_machine.proofs.Fits.{unbroken_count}
 use Rattle.unbounded_judged.specs.declared.Known.{Known}
@@ -38,7 +38,7 @@ use Rattle.unbounded_entries.specs.declared.Look.{Look}
 use Rattle.unbounded_entries.specs.Aims.{ask_of, way_of, aim_at}
 use Rattle.unbounded_entries.specs.Looks.{look_at, fits_at, same_header, tallied}
 use Rattle.unbounded_entries.proofs.Outcome.{slots_for, done_in, stored_by, aim_here, turned_refused, turned_done, in_parts, aim_unbroken, aim_counted, WasBusy}
-use Rattle.unbounded_entries.proofs.Outcome.{aim_was, done_busy, look_told, look_fits, headers}
+use Rattle.unbounded_entries.proofs.Outcome.{aim_fits, aim_was, done_busy, look_told, look_fits, headers}
 
 as_it_was : (l : List Block) (k : ℕ) → set l k (block_at l k) ≡ l
 as_it_was [] k = refl
@@ -72,6 +72,12 @@ module _ (s : List ℕ) (n i : ℕ) (m : Machine) (sound : Bool) (busy : ℕ) (k
       → (k : ℕ) → k ≡ cond way.takes (lowest_free sizes m.blocks) way.block → (a : Aim) → a ≡ aim_at sizes way k → a ≡ aim_here m (get_or s (2 * i) 0) (get_or s (2 * i + 1) 0)
   unfolding Stand
   aims = in_parts m (get_or s (2 * i) 0) (get_or s (2 * i + 1) 0) sound st.4
+
+  -- where the loop reads and stores
+  pub place_fits : (ask : Ask) → ask ≡ ask_of sound m.count (get_or s (2 * i) 0) (get_or s (2 * i + 1) 0) → (way : Aim) → way ≡ way_of sizes m.meter ask (place_of m.workers ask.worker)
+      → (k : ℕ) → k ≡ cond way.takes (lowest_free sizes m.blocks) way.block → (a : Aim) → a ≡ aim_at sizes way k → a.refusal ≡ 0
+      → (a.worker < workers_most) × (a.block < 64) × (a.slot < 31)
+  place_fits ask ea way ew k ek a e ok = aim_fits m _ _ a (aims ask ea way ew k ek a e) ok
 
   module _ (lt : i < n) (a : Aim) (e : a ≡ aim_here m (get_or s (2 * i) 0) (get_or s (2 * i + 1) 0)) where
     whole_from : run_from sizes m i (get_or s (2 * i) 0 ∷ get_or s (2 * i + 1) 0 ∷ drop (2 * (i + 1)) s) ≡ whole
