@@ -7,10 +7,8 @@ use lib.Dec.{eqb}
 use lib.ListN.{length}
 use borrow.Author.Tests.{eq-eqb, ne_eqb, eqb-true}
 use Rattle.queue_entries.specs.declared.Told.{Told}
-use Rattle.queue_entries.specs.declared.Told.TheVariants.{Number, Refused}
 use Rattle.queue_entries.specs.Told.{told}
 use Rattle.queue_entries.proofs.Pick.{along, both_left, both_right}
-use Rattle.single_places.specs.declared.Worker.{Worker}
 use Rattle.single_machine.specs.declared.Machine.{Machine}
 use Rattle.single_machine.specs.declared.Did.{Did}
 use Rattle.single_machine.specs.declared.Ran.{Ran}
@@ -18,7 +16,7 @@ use Rattle.single_machine.specs.Broken.{broken_of}
 use Rattle.single_machine.specs.Contents.{count_in, contents_refusal, written}
 use Rattle.single_machine.specs.Run.{run_of}
 use Rattle.single.specs.Single.{make_of, step_of}
-use Rattle.single_rows.specs.Rows.{Words, words, head_of, records_of, machine_in, shaped, stand}
+use Rattle.single_rows.specs.Rows.{words, head_of, records_of, machine_in, shaped, stand}
 use Rattle.single_rows.proofs.Standing.{standing}
 use Rattle.single_host.specs.declared.Reply.{Reply}
 use Rattle.single_host.specs.Host.{reply, broken_refusal, broken_words, after, after_of, make_words, step_words_of, ended, ended_of, run_words, reply_of, listed, contents_in, contents_words}
