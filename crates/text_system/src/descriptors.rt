@@ -122,18 +122,13 @@ pub fn to_write(s: &System, number: u64) -> Option<File> {
     None
 }
 
-fn if_plain(file: Option<File>) -> Option<File> {
-    match file {
-        Some(f) => if is_plain(&f) { Some(f) } else { None },
-        None => None,
-    }
-}
-
-// Standard input, where it is a plain file that stands at its start and may be read.
+// Standard input, where it is a plain file that stands at its start and may be read. Nothing else is opened: to open a pipe could wait.
 pub fn whole_input(s: &System) -> Option<File> {
     let t = look(s, 0);
     if t.is_open && t.place == 0 && (t.access == READS || t.access == BOTH) {
-        return if_plain(opened(s, b"/proc/self/fd/", 0, false));
+        if is_plain(s, b"/proc/self/fd/0") {
+            return open(s, b"/proc/self/fd/0");
+        }
     }
     None
 }

@@ -129,10 +129,14 @@ pub fn is_link(s: &System, name: &[u8]) -> bool {
     }
 }
 
-pub fn is_plain(file: &File) -> bool {
-    match file.metadata() {
-        Ok(m) => m.is_file(),
-        Err(_) => false,
+// What is no folder, device or pipe, by its name or behind a link.
+pub fn is_plain(s: &System, name: &[u8]) -> bool {
+    match path_of(s, name) {
+        Some(path) => match std::fs::metadata(&s.rt, path) {
+            Ok(m) => m.is_file(),
+            Err(_) => false,
+        },
+        None => false,
     }
 }
 
