@@ -1,18 +1,16 @@
 -- What contents rests on: a walk that is sound meets as many items as it counts, one a step.
-use Prim.Native.Nat.{ℕ, zero, suc, ◌+◌, ◌-◌, ◌*◌, ◌%◌, ◌/◌, ◌<◌, ◌≤◌}
+use Prim.Native.Nat.{ℕ, zero, suc, ◌+◌, ◌-◌, ◌<◌, ◌≤◌}
 use mathlib.Core.Path.{◌≡◌, refl, sym, ap, ◌∙◌, subst}
-use mathlib.Core.Bool.{Bool, true, false, cond, not, true≢false}
+use mathlib.Core.Bool.{Bool, true, false, cond, true≢false}
 use mathlib.Core.List.{List, [], ◌∷◌, ◌++◌, append_assoc}
 use native.Mathlib.Omega.{arith}
 use native.Mathlib.Numerals.{add-one}
-use lib.Dec.{ltb, eqb}
 use lib.ListN.{get_or, set, length, take, drop, length-drop}
 use lib.Seq.{drop-cons, take-suc, take_all, length-take-le, set_at}
-use borrow.Author.Tests.{ltb-true, eqb-false}
 use Rattle.queue_entries.specs.declared.Told.{Told}
 use Rattle.queue_entries.specs.declared.Told.TheVariants.{Number, Refused}
 use Rattle.queue_entries.specs.Told.{told}
-use Rattle.queue_entries.proofs.Pick.{yes, no, below, above, other, both_left}
+use Rattle.queue_entries.proofs.Pick.{yes, no, below, above, other}
 use Rattle.unbounded_words.specs.declared.Index.{Index}
 use Rattle.unbounded_words.specs.declared.Pointer.{Pointer}
 use Rattle.unbounded_words.specs.Words.{sizes, offset_of, past_slots, unmarked_of, later, same, number_of}
@@ -21,7 +19,7 @@ use Rattle.unbounded_places.specs.declared.Block.{Block}
 use Rattle.unbounded_acts.specs.Acts.{freed}
 use Rattle.unbounded_machine.specs.declared.Machine.{Machine}
 use Rattle.unbounded_machine.specs.declared.Dropped.{Dropped}
-use Rattle.unbounded_machine.specs.Machine.{slot, block_at, slot_at, live}
+use Rattle.unbounded_machine.specs.Machine.{block_at, slot_at, live}
 use Rattle.unbounded_machine.specs.Drop.{walked, last_fits, without, walk_from, walk_of, items_from, items_of}
 use Rattle.unbounded_machine.specs.Broken.{broken_of, all_idle}
 use Rattle.unbounded_machine.specs.Contents.{count_in, contents_of, contents_refusal, written}

@@ -23,9 +23,8 @@ use Rattle.unbounded_machine.specs.declared.Ran.{Ran}
 use Rattle.unbounded_machine.specs.Machine.{place_of, fresh_of, blank, refused, accepted}
 use Rattle.unbounded_machine.specs.Broken.{broken_of}
 use Rattle.unbounded_machine.specs.Turn.{entry_here, verdict_of, lowest_free, begun, used_by, taken_by, moved_by, carried_by, turn_by, turn_with, turn_of}
-use Rattle.unbounded_machine.specs.Run.{ran, run_from, run_of}
+use Rattle.unbounded_machine.specs.Run.{ran, run_of}
 use Rattle.unbounded_machine.proofs.Fits.{either}
-use Rattle.unbounded.specs.declared.Bound.{Bound}
 use Rattle.unbounded.specs.declared.Bound.TheVariants as bound
 use Rattle.unbounded.specs.Unbounded.{make_of, step_of, begin_step_of, act_step_of, capacity_of}
 

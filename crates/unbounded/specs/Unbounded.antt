@@ -1,5 +1,5 @@
 -- Making, beginning and acting, one call at a time.
-use Rattle.std.specs.Prelude.{ℕ, ◌+◌, ◌%◌, cond, ltb}
+use Rattle.std.specs.Prelude.{ℕ, ◌%◌, cond, ltb}
 use Rattle.queue_entries.specs.Limits.{workers_most, in_limits}
 use Rattle.unbounded_words.specs.Words.{Sizes}
 use Rattle.unbounded_machine.specs.declared.Machine.{Machine}
