@@ -1,5 +1,5 @@
 -- Demand 3's numbers, computed from the definitions.
-use mathlib.Core.Path.{refl, sym, ◌∙◌}
+use mathlib.Core.Path.{refl, sym}
 use mathlib.Core.Bool.{true≢false}
 use native.Mathlib.Omega.{arith}
 use Rattle.queue_entries.specs.Schedules.{run_by, search_by, schedule_by}

@@ -15,7 +15,7 @@ use Rattle.queue_schedules.proofs.Schedules.{either, picked}
 use Rattle.queue_numbers.specs.Numbers.{has}
 use Rattle.queue_numbers.proofs.Among.{within, wider, Sure, begins, acts, begin_sure, act_sure, code_begins, code_acts, schedule_among}
 use Rattle.single_places.specs.declared.Place.{Place}
-use Rattle.single_places.specs.Places.{view_of, begin_of}
+use Rattle.single_places.specs.Places.{view_of}
 use Rattle.single_machine.specs.declared.Machine.{Machine}
 use Rattle.single_machine.specs.declared.Did.{Did}
 use Rattle.single_machine.specs.Machine.{place_of, fresh_of, blank, refused, accepted}

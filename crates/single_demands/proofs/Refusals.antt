@@ -15,7 +15,6 @@ use Rattle.queue_entries.specs.declared.Verdict.{Verdict}
 use Rattle.queue_entries.specs.declared.Verdict.TheVariants.{Refuse, Start, Move}
 use Rattle.queue_schedules.proofs.Schedules.{either, picked, schedule_first, schedule_read, schedule_keeps, schedule_unread, schedule_kept}
 use Rattle.single_places.specs.declared.Place.{Place}
-use Rattle.single_places.specs.Places.{begin_of}
 use Rattle.single_machine.specs.declared.Machine.{Machine}
 use Rattle.single_machine.specs.declared.Did.{Did}
 use Rattle.single_machine.specs.Machine.{idler, idlers, place_of, fresh_of, blank, refused, accepted}

@@ -20,7 +20,7 @@ use Rattle.queue_plain.specs.Story.{items_of as items_begun}
 use Rattle.queue_schedules.specs.Reading.{Readable}
 use Rattle.queue_schedules.specs.Alone.{acts}
 use Rattle.single_words.specs.declared.State.{State}
-use Rattle.single_words.specs.Words.{state, locked_in, pushed_in, closed_in}
+use Rattle.single_words.specs.Words.{state, locked_in, closed_in}
 use Rattle.single_places.specs.declared.Answer.{Answer}
 use Rattle.single_places.specs.declared.Answer.TheVariants.{Full, Closed, Empty, PopClosed}
 use Rattle.single_places.specs.declared.Place.{Place}

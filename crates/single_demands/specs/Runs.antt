@@ -2,11 +2,11 @@
 -- queue does not; what is foretold and then answered; makings.
 use Rattle.std.specs.Prelude.{ℕ, ◌+◌, ◌*◌, Bool, true, false, ◌≡◌, List, [], ◌∷◌, ◌++◌, map}
 use Rattle.queue_entries.specs.declared.Told.{Told}
-use Rattle.queue_entries.specs.declared.Told.TheVariants.{Number, Refused}
+use Rattle.queue_entries.specs.declared.Told.TheVariants.{Number}
 use Rattle.queue_schedules.specs.Alone.{acts}
 use Rattle.single_words.specs.Words.{state}
 use Rattle.single_places.specs.declared.Place.{Place}
-use Rattle.single_places.specs.declared.Place.TheVariants.{Idle, A2, A3, B1, B2, B4, B5, C1, C2, C3}
+use Rattle.single_places.specs.declared.Place.TheVariants.{Idle, A2, B1, B2, B4, B5, C1, C2, C3}
 use Rattle.single_places.specs.declared.Answer.{Answer}
 use Rattle.single_places.specs.declared.Answer.TheVariants.{Pushed, Full, Closed, Displaced, Popped, Empty, PopClosed, Len, Yes, No}
 use Rattle.single_machine.specs.declared.Ran.{Ran}
