@@ -19,7 +19,6 @@ use Rattle.queue_walks.specs.Walks.{walkers_most, act_byte, after, choice_by}
 use Rattle.bounded_words.specs.declared.Width.TheVariants.{SixtyFour}
 use Rattle.bounded_words.specs.Limits.{slots_most}
 use Rattle.bounded_places.specs.declared.Slot.{Slot}
-use Rattle.bounded_places.specs.declared.Place.{Place}
 use Rattle.bounded_places.specs.declared.View.{View}
 use Rattle.bounded_places.specs.declared.Worker.{Worker}
 use Rattle.bounded_places.specs.Places.{view_of}
@@ -31,10 +30,9 @@ use Rattle.bounded_machine.specs.Machine.{slot, machine_of, record_of_worker, pl
 use Rattle.bounded_machine.specs.Broken.{broken_with, all_idle}
 use Rattle.bounded_machine.specs.Turn.{verdict_of, record_after, stored, acted_by, carried, turn, turn_of, turn_of_by}
 use Rattle.bounded_machine.proofs.Kept.{Unbroken, unbroken_of, of_unbroken, fair_in}
-use Rattle.bounded_machine.proofs.Turns.{fits_in, spot_below, lost_below, kept, moved_unbroken}
+use Rattle.bounded_machine.proofs.Turns.{fits_in, spot_below, lost_below, moved_unbroken}
 use Rattle.bounded_words.specs.Words.{Fair}
 use Rattle.bounded_sequences.specs.declared.State.{State}
-use Rattle.bounded_sequences.specs.declared.After.{After}
 use Rattle.bounded_sequences.specs.Sequences.{walk_of, choice_of, code_of, slots_of, machine_in, may_act, spot_in, left, act_in, after_of, ends_here, ends_soon, Ready, Sound}
 
 -- ---- the code of `may_act` and `act_on`

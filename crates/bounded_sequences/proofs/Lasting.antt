@@ -1,5 +1,5 @@
 -- The last act of a sequence is listed and not done, and that is the walk.
-use Prim.Native.Nat.{ℕ, zero, suc, ◌+◌, ◌-◌, ◌<◌, ◌≤◌}
+use Prim.Native.Nat.{ℕ, zero, suc, ◌+◌, ◌-◌, ◌<◌}
 use mathlib.Core.Path.{◌≡◌, refl, sym, ap, ◌∙◌, subst}
 use mathlib.Core.Bool.{Bool, true, false, cond, true≢false}
 use mathlib.Core.List.{List, [], ◌∷◌, ◌++◌}
@@ -13,9 +13,9 @@ use Rattle.bounded_places.specs.declared.Worker.{Worker}
 use Rattle.bounded_machine.specs.Machine.{record_of_worker}
 use Rattle.bounded_machine.specs.Broken.{all_idle}
 use Rattle.bounded_sequences.specs.declared.State.{State}
-use Rattle.bounded_sequences.specs.Sequences.{walk_of, choice_of, code_of, machine_in, may_act, ends_here, last_act, last_choice, ends_soon, last_from, soon_from, walk_from, Sound}
+use Rattle.bounded_sequences.specs.Sequences.{choice_of, code_of, machine_in, may_act, ends_here, last_act, last_choice, ends_soon, last_from, soon_from, walk_from, Sound}
 use Rattle.bounded_sequences.proofs.Acting.{in_time, choice_moves, choice_stays}
-use Rattle.bounded_sequences.proofs.Turning.{idle_here, some_left, ended, goes_on}
+use Rattle.bounded_sequences.proofs.Turning.{idle_here, ended, goes_on}
 
 -- ---- the code of `last_act`
 module _ (r : Worker) (w : ℕ) (lose : Bool) (path : List ℕ) (n : ℕ) where

@@ -9,7 +9,7 @@ use native.Mathlib.Omega.{arith}
 use lib.ListN.{length, get_or, set, take}
 use lib.Seq.{sets, set-set, set-get_or, take-suc-set}
 use Rattle.queue_walks.specs.declared.Walked.{Walked}
-use Rattle.queue_walks.specs.Walks.{act_byte, after, in_turn, choice_by, walk_by}
+use Rattle.queue_walks.specs.Walks.{act_byte, after, in_turn, walk_by}
 use Rattle.queue_walks.specs.Listed.{bytes_of, walked, counted, Room}
 use Rattle.queue_walks.proofs.Listing.{after_append, after_after, Ahead, ahead_all, ahead_done, ahead_first, ahead_next}
 use Rattle.bounded_words.specs.Limits.{slots_most}

@@ -1,14 +1,10 @@
 -- The walk of item 10 over the ring, and a machine whose slots are lent as two rows of numbers.
-use Rattle.std.specs.Prelude.{ℕ, ◌+◌, ◌-◌, ◌<◌, ◌≤◌, ◌≡◌, Bool, true, false, cond, List, [], ◌∷◌, ltb, eqb, length, set, take}
+use Rattle.std.specs.Prelude.{ℕ, ◌+◌, ◌-◌, ◌<◌, ◌≤◌, ◌≡◌, Bool, true, false, cond, List, [], ◌∷◌, ltb, eqb, set, take}
 use Rattle.queue_entries.specs.Limits.{meter_most}
-use Rattle.queue_walks.specs.declared.Walked.{Walked}
 use Rattle.queue_walks.specs.Walks.{walkers_most, depth_most, act_byte, after, in_turn, choice_by, walk_by}
-use Rattle.queue_walks.specs.Listed.{Room}
 use Rattle.bounded_words.specs.declared.Width.TheVariants.{SixtyFour}
-use Rattle.bounded_words.specs.Limits.{slots_most}
 use Rattle.bounded_words.specs.declared.Fixed.{Fixed}
 use Rattle.bounded_places.specs.declared.Slot.{Slot}
-use Rattle.bounded_places.specs.declared.Place.{Place}
 use Rattle.bounded_places.specs.declared.Worker.{Worker}
 use Rattle.bounded_places.specs.Places.{view_of}
 use Rattle.bounded_acts.specs.declared.Acted.{Acted}
