@@ -4,7 +4,6 @@
 // number of the letter x, and $x the form of that number in a second list, as text_output::nth has it.
 #![tactic(auto)]
 
-
 // Room for a key that is looked for; what is left of it is 0.
 pub const KEY: usize = 32;
 
