@@ -8,7 +8,7 @@ use Rattle.queue_entries.proofs.Pick.{both_left, both_right}
 use Rattle.unbounded_places.specs.declared.Place.{Place}
 use Rattle.unbounded_codes.specs.declared.Coded.{Coded}
 use Rattle.unbounded_codes.specs.Codes.{five, code_of, place_in, same_as, stands_for, SaidOf}
-use Rattle.unbounded_codes.proofs.Codes.{read_back_from, read_back}
+use Rattle.unbounded_codes.proofs.Codes.{read_back}
 
 -- words that stand for a place are its words
 pub written_back : (n a b c d : ℕ) → stands_for n a b c d ≡ true → code_of (place_in n a b c d) ≡ five n a b c d
