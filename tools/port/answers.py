@@ -141,7 +141,7 @@ class Turned:
         if not parts:
             return place, []
         head = plain(parts[0])
-        if head == "requires" and len(self.names["pre"]["fields"]) > 1:
+        if head == "requires" and self.names.get("pre") and len(self.names["pre"]["fields"]) > 1:
             found = at_name(parts[1:], self.names["pre"]["fields"])
             return place, ["requires"] + found if found else parts
         if head in ("args", "requires", "well_formed", "ranges", "type_inv"):
@@ -177,7 +177,7 @@ class Turned:
             if best and not best[0].endswith("-own"):
                 return place, [a[0], best[0]] + rest[len(best[1]) :]
         at = self.index[q]
-        said = self.names["clauses"][at]
+        said = self.names["clauses"][at] if at < len(self.names["clauses"]) else None
         callee = self.names["places"][at][3]
         if rest and rest[0] == "ensures" and said and len(said["fields"]) > 1 and not (said["text"] or said["told"] or said["utf8"]):
             rest = ["ensures"] + (at_name(rest[1:], said["fields"]) or rest[1:])
