@@ -1,26 +1,24 @@
 -- Refusal 23: exactly when a call needs a block and none is free.
 use Prim.Native.Nat.{ℕ, zero, suc, ◌+◌, ◌<◌, ◌≤◌}
-use mathlib.Core.Path.{◌≡◌, refl, sym, ap, ◌∙◌, subst}
+use mathlib.Core.Path.{◌≡◌, refl, sym, ap, ◌∙◌}
 use mathlib.Core.Bool.{Bool, true, false, cond, true≢false}
 use mathlib.Core.List.{List}
 use native.Mathlib.Omega.{arith}
 use native.Mathlib.Decide.{dec_lt}
 use lib.Dec.{ltb}
-use borrow.Author.Tests.{lt-ltb, le-ltb, ltb-true}
-use Rattle.queue_entries.specs.declared.Order.TheVariants.{Act}
+use borrow.Author.Tests.{lt-ltb}
 use Rattle.queue_entries.specs.declared.Verdict.TheVariants.{Move}
 use Rattle.queue_entries.specs.Limits.{meter_most}
 use Rattle.queue_entries.proofs.Pick as pick
 use Rattle.unbounded_words.specs.Words.{sizes}
 use Rattle.unbounded_places.specs.declared.Block.{Block}
-use Rattle.unbounded_places.specs.declared.Place.{Place}
 use Rattle.unbounded_places.specs.Places.{view_of}
 use Rattle.unbounded_acts.specs.Acts.{act_of}
 use Rattle.unbounded_machine.specs.declared.Machine.{Machine}
 use Rattle.unbounded_machine.specs.declared.Did.{Did}
 use Rattle.unbounded_machine.specs.Machine.{block_at, place_of, refused, accepted}
 use Rattle.unbounded_machine.specs.Broken.{broken_of}
-use Rattle.unbounded_machine.specs.Turn.{entry_here, lowest_from, lowest_free, used_by, taken_by, moved_by, carried_by, turn_by, turn_with}
+use Rattle.unbounded_machine.specs.Turn.{lowest_from, lowest_free, used_by, taken_by, moved_by, carried_by, turn_by, turn_with}
 use Rattle.unbounded_machine.proofs.Fits.{either}
 use Rattle.unbounded_demands.specs.Notions.{definition, Asking}
 use Rattle.unbounded_demands.specs.Demands.{NoBlock}

@@ -1,7 +1,7 @@
 -- An accepted act can break a machine that no schedule reaches.
 use Prim.Native.Nat.{ℕ, suc}
-use mathlib.Core.Path.{◌≡◌, refl, sym, ap, ◌∙◌}
-use mathlib.Core.Bool.{Bool, true, false, cond, not}
+use mathlib.Core.Path.{◌≡◌, refl, ap, ◌∙◌}
+use mathlib.Core.Bool.{true, false, not}
 use mathlib.Core.List.{List, [], ◌∷◌}
 use Rattle.queue_entries.specs.Limits.{in_limits, all}
 use Rattle.queue_entries.specs.Entries.{stray_of, order_of, entry_of, entry_but}

@@ -1,6 +1,6 @@
 -- Each refusal is given exactly when its ground holds and none before it.
 use Prim.Native.Nat.{ℕ, ◌%◌}
-use mathlib.Core.Path.{◌≡◌, refl, sym, ap, ◌∙◌}
+use mathlib.Core.Path.{◌≡◌, refl, ap, ◌∙◌}
 use mathlib.Core.Bool.{Bool, true, false, cond, not}
 use mathlib.Core.List.{List, [], ◌∷◌}
 use lib.Dec.{ltb}
@@ -24,7 +24,6 @@ use Rattle.unbounded_machine.specs.Broken.{broken_of, all_idle}
 use Rattle.unbounded_machine.specs.Contents.{count_in, contents_refusal}
 use Rattle.unbounded_machine.specs.Turn.{entry_here, lowest_free, taken_by, used_by, moved_by, carried_by, turn_by, turn_with, turn_of}
 use Rattle.unbounded_machine.specs.Run.{ran, run_of}
-use Rattle.unbounded.specs.declared.Bound.{Bound}
 use Rattle.unbounded.specs.declared.Bound.TheVariants as bound
 use Rattle.unbounded.specs.Unbounded as face
 use Rattle.unbounded_demands.specs.Demands.{RefusedExactly, refusals, entry_grounds, bound_number}

@@ -9,7 +9,7 @@ use Rattle.unbounded_acts.specs.Acts.{push_from, set_aside, claimed, take_or, po
 use Rattle.unbounded_machine.specs.Machine.{live, free_blocks, empty_slots, idlers, fresh_of, blank, refused, accepted}
 use Rattle.unbounded_machine.specs.Drop.{last_fits, without, walk_from, items_from, walk_of, items_of}
 use Rattle.unbounded_machine.specs.Broken.{record_fits, records_fit, all_idle, drop_fits, broken_in}
-use Rattle.unbounded_machine.specs.Turn.{entry_here, lowest_from, lowest_free, cleared_from, cleared, begun, stored, acted_at, moved_by, turn_with}
+use Rattle.unbounded_machine.specs.Turn.{lowest_from, lowest_free, cleared_from, cleared, begun, stored, acted_at, moved_by, turn_with}
 use Rattle.unbounded_machine.specs.Contents.{contents_of}
 use Rattle.unbounded_machine.specs.Run.{ran}
 use Rattle.unbounded_demands.specs.Notions.{acts}

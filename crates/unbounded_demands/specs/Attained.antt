@@ -1,7 +1,7 @@
 -- The table of the most acts that a push and a pop need alone: for each place a schedule after which worker 0 stands there, worker 1 is idle and worker 2 has only begun is_full, and the call
 -- needs exactly `push_most` or `pop_most` acts more. What is said of it: `AttainedBy` of Demands.antt, proved in crate unbounded_proof_attained. (Worker 2 waits for nobody and nobody for it;
 -- with a worker busy no act asks for `Drop`'s walk, which would be long to compute.)
-use Rattle.std.specs.Prelude.{ℕ, zero, suc, ◌+◌, ◌*◌, Bool, true, false, cond, not, List, [], ◌∷◌, ◌++◌}
+use Rattle.std.specs.Prelude.{ℕ, zero, suc, ◌+◌, ◌*◌, Bool, true, cond, not, List, [], ◌∷◌, ◌++◌}
 use Rattle.unbounded_words.specs.declared.Pointer.TheVariants.{None, To}
 use Rattle.unbounded_words.specs.Words.{sizes, index}
 use Rattle.unbounded_places.specs.declared.Answer.TheVariants.{Pushed}

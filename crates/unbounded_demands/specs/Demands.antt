@@ -40,7 +40,7 @@ use Rattle.unbounded_machine.specs.Run.{ran, run_from, run_of}
 use Rattle.unbounded_machine.specs.History.{events_of}
 use Rattle.unbounded.specs.declared.Bound.{Bound}
 use Rattle.unbounded.specs.Unbounded.{make_of, step_of, begin_step_of, act_step_of, capacity_of}
-use Rattle.unbounded_demands.specs.Notions.{Definition, Allowed, machine_after, acts_of, Acts, Asking, Pushing, Popping, Reads, value_at, state_at, takings_of, freeings_of, sign_of, HandsOut, items_of, takers_of, LatestIn, ItemIn, waiting, Fifo, position, Truth, chained}
+use Rattle.unbounded_demands.specs.Notions.{Definition, Allowed, machine_after, acts_of, Acts, Asking, Pushing, Popping, Reads, value_at, state_at, takings_of, freeings_of, sign_of, HandsOut, takers_of, LatestIn, ItemIn, waiting, Fifo, position, Truth, chained}
 use Rattle.unbounded_demands.specs.Waiting.{PushingIn, PoppingIn, OneSlot, Crossing, Tying, Leaving, Fronting, push_left, passed, own_acts, Holding, pop_most, push_most, look_most}
 use Rattle.unbounded_demands.specs.Attained.{Case, seen_by, exactly, old_pops, crossing_pops, ending_pops, beginning_pushes, going_pushes, ending_pushes}
 use Rattle.unbounded_demands.specs.Notions.{fresh_two, pushing_two, spent_two, wanting_two, fresh_one, stocked_one}
