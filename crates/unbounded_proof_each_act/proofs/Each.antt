@@ -1,23 +1,18 @@
 -- Every act of request 12's table, from wherever a worker stands, is an effect on the queue over positions.
-use Prim.Native.Nat.{ℕ, ◌+◌, ◌*◌, ◌<◌, ◌%◌}
-use mathlib.Core.Path.{◌≡◌, refl, sym, ap, ◌∙◌, subst}
-use mathlib.Core.Logic.{◌≢◌}
-use mathlib.Core.Bool.{Bool, true, false, cond, true≢false}
-use mathlib.Core.List.{List, []}
+use Prim.Native.Nat.{ℕ, ◌+◌, ◌<◌}
+use mathlib.Core.Path.{◌≡◌, refl, sym, ap, subst}
+use mathlib.Core.Bool.{Bool, true, false, true≢false}
+use mathlib.Core.List.{List}
 use native.Mathlib.Omega.{arith}
-use lib.ListN.{set}
-use Rattle.unbounded_words.specs.declared.Index.{Index}
-use Rattle.unbounded_words.specs.declared.Pointer.{Pointer}
-use Rattle.unbounded_words.specs.declared.Pointer.TheVariants.{None, To}
+use Rattle.unbounded_words.specs.declared.Pointer.TheVariants.{To}
 use Rattle.unbounded_words.specs.Words.{sizes, marked_of, with_mark, same, same_position, count_of}
 use Rattle.unbounded_places.specs.declared.Slot.{Slot}
 use Rattle.unbounded_places.specs.declared.Block.{Block}
 use Rattle.unbounded_places.specs.declared.Ends.{Ends}
 use Rattle.unbounded_places.specs.declared.Worker.{Worker}
-use Rattle.unbounded_places.specs.declared.Answer.{Answer}
 use Rattle.unbounded_places.specs.declared.Answer.TheVariants.{Len, Yes, No}
 use Rattle.unbounded_places.specs.declared.Place.{Place}
-use Rattle.unbounded_places.specs.declared.Place.TheVariants.{Idle, U1, U2, U3, U4, U5, U6, U7, U8, U9, U10, U11, U12, U13, U14, U15, V1, V2, V3, V4, V5, V6}
+use Rattle.unbounded_places.specs.declared.Place.TheVariants.{Idle, U1, U2, U3, U4, U5, U6, U7, U8, U9, U10, U11, U12, U13, U14, U15, V2, V3, V4, V5, V6}
 use Rattle.unbounded_places.specs.declared.Place.TheVariants.{V7, V8, V9, V10, V11, V12, V13, V14, V15, Len1, Len2, Len3, Empty1, Empty2, Full1, Close1}
 use Rattle.unbounded_places.specs.declared.Place.TheVariants.{IsClosed1}
 use Rattle.unbounded_places.specs.Places.{view_of}
@@ -26,14 +21,14 @@ use Rattle.unbounded_acts.specs.Acts.{leave, tail_to, yes_no, act_of}
 use Rattle.unbounded_machine.specs.Turn.{cleared, block_used, slot_used}
 use Rattle.unbounded_machine.proofs.Fits.{either}
 use Rattle.unbounded_demands.specs.Notions.{Plain, sign_of, item_by, takes_by, Sign}
-use Rattle.unbounded_proof_invariant.proofs.Queue.{Ptr, none, to, Own, Free, Shared, Inv}
+use Rattle.unbounded_proof_invariant.proofs.Queue.{Ptr, none, Free, Shared}
 use Rattle.unbounded_proof_invariant.proofs.Kept.{closes, closes_kept}
 use Rattle.unbounded_proof_invariant.proofs.Views.{Seen, Rest, Rely}
 use Rattle.unbounded_proof_invariant.proofs.Own.{Good}
-use Rattle.unbounded_proof_words.proofs.Words.{word, mark_word}
+use Rattle.unbounded_proof_words.proofs.Words.{word}
 use Rattle.unbounded_proof_words.proofs.Stands.{block_at, slot_at, ptr, ends_of_ring, Stands, idle, u1, u2, u3, u4, u5, u6, u7, u8, u9, u10, u11, u12, u13, u14, u15}
 use Rattle.unbounded_proof_words.proofs.Stands.{v1, v2, v3, v4, v5, v6, v7, v8, v9, v10, v11, v12, v13, v14, v15, len1, len2, len3, empty1, empty2, full1}
-use Rattle.unbounded_proof_words.proofs.Stands.{close1, closed1, Standing, Sim}
+use Rattle.unbounded_proof_words.proofs.Stands.{close1, closed1}
 use Rattle.unbounded_proof_words.proofs.Sims.{rely_still, sim_closes}
 use Rattle.unbounded_proof_each_act.proofs.Step.{held, tale_of, lets_go, quiet_logs, standing, Here, Step, TellsTrue, OutOk, on_ends, looks}
 use Rattle.unbounded_proof_each_act.proofs.Pushes.{push_loads, push_tops, push_takes, push_takes_first, push_installs, push_fronts, push_claims}

@@ -1,24 +1,23 @@
 -- The rows of pop: each is an effect on the queue over positions.
-use Prim.Native.Nat.{ℕ, ◌+◌, ◌*◌, ◌-◌, ◌/◌, ◌%◌, ◌<◌, ◌≤◌}
+use Prim.Native.Nat.{ℕ, ◌+◌, ◌*◌, ◌/◌, ◌%◌, ◌<◌, ◌≤◌}
 use mathlib.Core.Path.{◌≡◌, refl, sym, ap, ◌∙◌, subst}
 use mathlib.Core.Logic.{◌≢◌}
 use mathlib.Core.Bool.{Bool, true, false, cond, not, true≢false}
-use mathlib.Core.List.{List, [], ◌∷◌}
+use mathlib.Core.List.{List, []}
 use native.Mathlib.Omega.{arith}
 use native.Mathlib.Decide.{ℕ_discrete, dec_lt}
 use lib.Dec.{eqb, ltb}
-use lib.ListN.{length, get_or, set}
-use borrow.Author.Tests.{eq-eqb, ne_eqb, eqb-true, eqb-false, lt-ltb, le-ltb, ltb-true}
+use lib.ListN.{set}
+use borrow.Author.Tests.{eq-eqb, ne_eqb, eqb-true, eqb-false, lt-ltb, ltb-true}
 use Rattle.queue_schedules.proofs.Upd.{upd, upd_same, upd_else}
 use Rattle.unbounded_words.specs.declared.Index.{Index}
 use Rattle.unbounded_words.specs.declared.Pointer.{Pointer}
 use Rattle.unbounded_words.specs.declared.Pointer.TheVariants.{None, To}
-use Rattle.unbounded_words.specs.Words.{sizes, wide, offset_of, past_slots, last_slot, marked_of, unmarked_of, with_mark, later, same, same_position, same_block, none_of}
+use Rattle.unbounded_words.specs.Words.{sizes, wide, offset_of, past_slots, last_slot, marked_of, with_mark, later, same, same_position, same_block, none_of}
 use Rattle.unbounded_places.specs.declared.Slot.{Slot}
 use Rattle.unbounded_places.specs.declared.Block.{Block}
 use Rattle.unbounded_places.specs.declared.Ends.{Ends}
 use Rattle.unbounded_places.specs.declared.Worker.{Worker}
-use Rattle.unbounded_places.specs.declared.Answer.{Answer}
 use Rattle.unbounded_places.specs.declared.Answer.TheVariants.{Popped, Empty, PopClosed}
 use Rattle.unbounded_places.specs.declared.Place.{Place}
 use Rattle.unbounded_places.specs.declared.Place.TheVariants.{Idle, V1, V2, V3, V4, V5, V6, V7, V8, V9, V10, V11, V12, V13, V14, V15}
@@ -27,22 +26,22 @@ use Rattle.unbounded_acts.specs.Acts.{leave, head_to, front_to, freed, state_to,
 use Rattle.unbounded_acts.specs.Acts.{destroy_if, act_v2, act_v3, act_v4, act_v6, act_v7, act_v8, act_v9, act_v10, act_v11, act_v12, act_v13, act_v14, act_v15}
 use Rattle.unbounded_machine.proofs.Fits.{either}
 use Rattle.unbounded_demands.specs.Notions.{Plain, sign_of, item_by, takes_by, Sign}
-use Rattle.unbounded_proof_invariant.proofs.Queue.{Ptr, none, to, Hand, Open, Done, By, Dest, Wait, Freed, Walk, Parked, Own, Free, Aside, Chain, Shared, DestOk, Inv}
+use Rattle.unbounded_proof_invariant.proofs.Queue.{Ptr, none, to, Hand, Open, Done, By, Dest, Wait, Freed, Walk, Parked, Own, Chain, Shared, DestOk, Inv}
 use Rattle.unbounded_proof_invariant.proofs.Kept.{hand_by_done, free_not_chain, done_or_not, takes, takes_kept, moves, moves_kept, heads, heads_kept, reads_last}
 use Rattle.unbounded_proof_invariant.proofs.Kept.{reads_last_kept, reads, reads_kept, reads_on, reads_on_kept, walks, walks_kept, destroy_bits, destroys, parks}
 use Rattle.unbounded_proof_invariant.proofs.Kept.{parks_kept, frees, frees_kept}
 use Rattle.unbounded_proof_invariant.proofs.Views.{Seen, Rest, Head, Looking, Taking, Going, Gone, Leading, Heading, Awaiting, Reading, Destroying, PopIn, SeenOk, Rely}
 use Rattle.unbounded_proof_invariant.proofs.Views as views
 use Rattle.unbounded_proof_invariant.proofs.Relied.{takes_rely, moves_rely, heads_rely, reads_last_rely, reads_rely, reads_on_rely, walks_rely, parks_rely, frees_rely}
-use Rattle.unbounded_proof_invariant.proofs.Own.{Good, still, take_slot, take_last, move_good, head_good, read_good, destroy_good, walk_good, park_good, free_good}
-use Rattle.unbounded_proof_words.proofs.Words.{bit, half, word, offset_word, past_word, last_word, mark_word, unmarked_word, with_mark_word, later_word, same_yes, position_word, block_word}
-use Rattle.unbounded_proof_words.proofs.Stands.{new_block, slot, block_at, slot_at, ptr, back_of, ends_of_ring, is_done, next_of, HeadRep, read_bit, state_of, Stands, idle}
+use Rattle.unbounded_proof_invariant.proofs.Own.{Good, take_slot, take_last, move_good, head_good, read_good, destroy_good, walk_good, park_good, free_good}
+use Rattle.unbounded_proof_words.proofs.Words.{bit, half, word, past_word, last_word, mark_word, unmarked_word, with_mark_word, later_word, same_yes, position_word, block_word}
+use Rattle.unbounded_proof_words.proofs.Stands.{slot, block_at, slot_at, ptr, ends_of_ring, is_done, next_of, HeadRep, read_bit, state_of, idle}
 use Rattle.unbounded_proof_words.proofs.Stands.{v1, v2, v3, v4, v5, v6, v7, v8, v9, v10, v11, v12, v13, v14, v15, Standing, Sim}
 use Rattle.unbounded_proof_words.proofs.Frames.{write_said, read_said, destroy_said}
 use Rattle.unbounded_proof_words.proofs.Loads.{load_head, lost_head, leave_head, looking, taking_marked, leave_looking, both_there, taking, next_known, index_known, written, reads_item, read_out}
 use Rattle.unbounded_proof_words.proofs.Live.{pop_live, next_live}
 use Rattle.unbounded_proof_words.proofs.Sims.{sim_takes, sim_heads, sim_moves, sim_reads_last, sim_walks}
-use Rattle.unbounded_proof_words.proofs.Cells.{cell_at, small_at, sim_reads, sim_reads_on, sim_destroys}
+use Rattle.unbounded_proof_words.proofs.Cells.{cell_at, sim_reads, sim_reads_on, sim_destroys}
 use Rattle.unbounded_proof_words.proofs.Blocks.{sim_frees}
 use Rattle.unbounded_proof_each_act.proofs.Pushes.{with_clear, in_block, at_slot}
 use Rattle.unbounded_proof_each_act.proofs.Step.{counted, held, tale_of, Logs, neither, Quiet, lets_go, holds_on, quiet_logs, standing, Here, Step}

@@ -1,18 +1,15 @@
 -- The rows of push: each is an effect on the queue over positions.
-use Prim.Native.Nat.{ℕ, ◌+◌, ◌*◌, ◌-◌, ◌/◌, ◌%◌, ◌<◌, ◌≤◌}
+use Prim.Native.Nat.{ℕ, ◌+◌, ◌*◌, ◌/◌, ◌%◌, ◌<◌}
 use mathlib.Core.Path.{◌≡◌, refl, sym, ap, ◌∙◌, subst}
-use mathlib.Core.Logic.{◌≢◌}
 use mathlib.Core.Bool.{Bool, true, false, cond, true≢false}
 use mathlib.Core.List.{List, [], ◌∷◌}
 use native.Mathlib.Omega.{arith}
-use native.Mathlib.Decide.{ℕ_discrete}
-use lib.Dec.{eqb}
-use lib.ListN.{length, get_or, set}
+use lib.ListN.{set}
 use borrow.Author.Tests.{eq-eqb, ne_eqb, eqb-true, eqb-false}
 use Rattle.unbounded_words.specs.declared.Index.{Index}
 use Rattle.unbounded_words.specs.declared.Pointer.{Pointer}
 use Rattle.unbounded_words.specs.declared.Pointer.TheVariants.{None, To}
-use Rattle.unbounded_words.specs.Words.{sizes, wide, offset_of, past_slots, last_slot, marked_of, later, same, none_of}
+use Rattle.unbounded_words.specs.Words.{sizes, offset_of, past_slots, last_slot, marked_of, later, same, none_of}
 use Rattle.unbounded_places.specs.declared.Slot.{Slot}
 use Rattle.unbounded_places.specs.declared.Block.{Block}
 use Rattle.unbounded_places.specs.declared.Ends.{Ends}
@@ -27,26 +24,26 @@ use Rattle.unbounded_acts.specs.Acts.{set_aside, claimed, act_u2, act_u3, act_u4
 use Rattle.unbounded_machine.specs.Turn.{cleared}
 use Rattle.unbounded_machine.proofs.Fits.{either}
 use Rattle.unbounded_demands.specs.Notions.{Plain, sign_of, item_by, takes_by, Sign, Truth}
-use Rattle.unbounded_proof_invariant.proofs.Queue.{Ptr, none, to, Hand, Open, Done, By, Own, Free, Aside, Chain, Shared, Inv}
-use Rattle.unbounded_proof_invariant.proofs.Kept.{hand_by_done, aside_not_chain, free_not_chain, claims, claims_kept, installs, installs_kept, fronts}
+use Rattle.unbounded_proof_invariant.proofs.Queue.{Ptr, none, to, Hand, By, Own, Free, Aside, Chain, Shared, Inv}
+use Rattle.unbounded_proof_invariant.proofs.Kept.{aside_not_chain, free_not_chain, claims, claims_kept, installs, installs_kept, fronts}
 use Rattle.unbounded_proof_invariant.proofs.Kept.{fronts_kept, appends, appends_kept, steps, steps_kept, ties, ties_kept, writes, writes_kept, sets, sets_kept}
 use Rattle.unbounded_proof_invariant.proofs.Kept.{owned, owned_kept}
-use Rattle.unbounded_proof_invariant.proofs.Views.{Seen, Rest, Installing, Tail, Claiming, Fronting, Back, Adding, Tying, Writing, Setting, SeenOk, Rely}
+use Rattle.unbounded_proof_invariant.proofs.Views.{Rest, Installing, Tail, Claiming, Fronting, Back, Adding, Tying, Writing, Setting, SeenOk}
 use Rattle.unbounded_proof_invariant.proofs.Relied.{free_not_aside, claims_rely, installs_rely, fronts_rely, appends_rely, steps_rely, ties_rely, writes_rely, sets_rely, owned_rely}
 use Rattle.unbounded_proof_invariant.proofs.Own.{Good, still, new_aside, claim_slot, claim_last, step_good, tie_good, write_good, set_good, take_aside}
 use Rattle.unbounded_proof_invariant.proofs.Own.{take_new, give_back, install_good, front_good, append_good}
 use Rattle.unbounded_proof_words.proofs.Words.{bit, word, offset_word, past_word, last_word, mark_word, same_yes}
-use Rattle.unbounded_proof_words.proofs.Stands.{new_block, slot, block_at, slot_at, ptr, back_of, ends_of_ring, is_done, read_bit, state_of, PushAnswers, pushed, closed}
-use Rattle.unbounded_proof_words.proofs.Stands.{Stands, idle, u1, u2, u3, u4, u5, u6, u7, u8, u9, u10, u11, u12, u13, u14, u15, Standing, Sim}
+use Rattle.unbounded_proof_words.proofs.Stands.{new_block, slot, block_at, slot_at, ptr, back_of, ends_of_ring, is_done, read_bit, PushAnswers, pushed, closed}
+use Rattle.unbounded_proof_words.proofs.Stands.{idle, u1, u2, u3, u4, u5, u6, u7, u8, u9, u10, u11, u12, u13, u14, u15, Standing, Sim}
 use Rattle.unbounded_proof_words.proofs.Frames.{set_same, write_said}
-use Rattle.unbounded_proof_words.proofs.Loads.{back_none, back_some, load_tail, lost_tail, same_tail, leave_tail, first_of_all, claiming}
+use Rattle.unbounded_proof_words.proofs.Loads.{back_none, load_tail, lost_tail, same_tail, leave_tail, first_of_all, claiming}
 use Rattle.unbounded_proof_words.proofs.Live.{push_live}
 use Rattle.unbounded_proof_words.proofs.Sims.{sim_claims, sim_steps, sim_fronts}
 use Rattle.unbounded_proof_words.proofs.Cells.{cell_at, small_at, sim_ties, sim_writes, sim_sets}
 use Rattle.unbounded_proof_words.proofs.Blocks.{sim_installs, sim_appends, sim_takes_block, sim_gives_back}
 use Rattle.unbounded_proof_each_act.proofs.Takings.{cleared_long, cleared_here, cleared_there}
-use Rattle.unbounded_proof_each_act.proofs.Step.{counted, held, tale_of, quiet, Logs, puts, neither, Quiet, lets_go, quiet_logs, standing, Here, Step}
-use Rattle.unbounded_proof_each_act.proofs.Step.{TellsTrue, OutOk, small, built, on_ends, on_header, on_slot, loads, looks, still_back}
+use Rattle.unbounded_proof_each_act.proofs.Step.{held, tale_of, puts, neither, Quiet, lets_go, quiet_logs, standing, Here, Step}
+use Rattle.unbounded_proof_each_act.proofs.Step.{TellsTrue, OutOk, small, built, on_ends, on_header, on_slot, looks, still_back}
 
 -- a block set aside is not free, and not of the chain
 aside_not_free : (x : Own) (w : ℕ) → x ≡ Aside w → x ≡ Free → ⊥
@@ -241,7 +238,7 @@ module _ (blocks : List Block) (slots : List Slot) (ws : List Worker) (meter : �
   pub push_claims : (a : Ptr) (p b x : ℕ) (lose : Bool) → (p % 32 ≡ 30 → (c : ℕ) × (a ≡ to c)) → Good s w a none (Claiming p b)
       → Does (U7 (ptr a) (word p false) (To b) x) 0 0 (act_u7 sizes E (G 0) (S 0 0) (ptr a) (word p false) (To b) x lose)
   unfolding tail_to claimed
-  push_claims a p b x lose has-next g =
+  push_claims a p b x lose has_next g =
       either P (same E.tail (word p false)) (cond lose (leave E (G 0) (S 0 0) (U8 (ptr a) (word p false) x)) _) (leave E (G 0) (S 0 0) (U8 (ptr a) E.tail x))
       (λ h. either P lose (leave E (G 0) (S 0 0) (U8 (ptr a) (word p false) x)) _
       (λ k. looks blocks slots ws meter s w here p0 (U8 (ptr a) (word p false) x)
@@ -259,7 +256,7 @@ module _ (blocks : List Block) (slots : List Slot) (ws : List Worker) (meter : �
       won et ec =
           either (λ (q : Place). P (leave (tail_to E (later (word p false))) (G 0) (S 0 0) q)) (last_slot sizes (word p false)) (U9 (ptr a) (word p false) (To b) x) (U12 (ptr a) (word p false) (To b) x)
           (λ h. let l : p % 32 ≡ 30 = (let e = eqb-true (p % 32 + 1) 31 (sym (last_word p false) ∙ h) in omega arith) in
-          let c = has-next l in
+          let c = has_next l in
           claim (U9 (ptr a) (word p false) (To b) x) (standing (claims w x s) w (U9 (ptr a) (word p false) (To b) x) (u9 {c = c.0} (ap ptr c.1) refl refl)
           (subst (λ (z : Ptr). Good (claims w x s) w z none (Back p b x)) c.1 (claim_last s inv w a none p b x g et l))) refl refl refl tt tt)
           (λ h. let l : p % 32 < 30 = (let e = eqb-false (p % 32 + 1) 31 (sym (last_word p false) ∙ h) in omega (arith, g.seen.0)) in

@@ -1,11 +1,10 @@
 -- What an act of a worker comes to: the queue over positions that the machine then stands for, what a history reads off it, and that its answer is true.
-use Prim.Native.Nat.{ℕ, ◌+◌, ◌*◌, ◌-◌, ◌/◌, ◌%◌, ◌<◌, ◌≤◌, ◌^◌}
+use Prim.Native.Nat.{ℕ, ◌+◌, ◌*◌, ◌-◌, ◌/◌, ◌%◌, ◌<◌, ◌≤◌}
 use mathlib.Core.Path.{◌≡◌, refl, sym, ap, ◌∙◌, subst}
-use mathlib.Core.Logic.{◌≢◌}
-use mathlib.Core.Bool.{Bool, true, false, cond, true≢false}
+use mathlib.Core.Bool.{Bool, true, false, true≢false}
 use mathlib.Core.List.{List, [], ◌∷◌}
 use native.Mathlib.Omega.{arith}
-use lib.ListN.{length, get_or, set}
+use lib.ListN.{set}
 use Rattle.queue_entries.specs.Limits.{workers_most, meter_most}
 use Rattle.queue_schedules.proofs.Upd.{upd}
 use Rattle.unbounded_words.specs.Words.{wide}
@@ -22,7 +21,7 @@ use Rattle.unbounded_acts.specs.declared.Acted.{Acted}
 use Rattle.unbounded_acts.specs.Acts.{leave}
 use Rattle.unbounded_demands.specs.Notions.{Sign, Plain, Exchange7, Exchange4, Pops, Pushes, HandsOut, sign_of, item_by, takes_by, Truth}
 use Rattle.unbounded_proof_invariant.proofs.Queue.{Ptr, Shared}
-use Rattle.unbounded_proof_invariant.proofs.Views.{Seen, Rely}
+use Rattle.unbounded_proof_invariant.proofs.Views.{Seen}
 use Rattle.unbounded_proof_invariant.proofs.Own.{Good}
 use Rattle.unbounded_proof_words.proofs.Stands.{new_block, slot, block_at, slot_at, ends_of_ring, Stands, Standing, Sim}
 use Rattle.unbounded_proof_words.proofs.Frames.{set_same}
