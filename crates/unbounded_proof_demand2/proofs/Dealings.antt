@@ -1,13 +1,13 @@
 -- Blocks taken and freed: what each row of the table does with the header that it is handed, and that a block is freed once for each taking.
 use Prim.Native.Nat.{ℕ, ◌+◌, ◌<◌}
-use mathlib.Core.Path.{◌≡◌, refl, sym, ap, ◌∙◌, subst}
+use mathlib.Core.Path.{◌≡◌, refl, sym, ap, ◌∙◌}
 use mathlib.Core.Logic.{◌≢◌}
-use mathlib.Core.Bool.{Bool, true, false, cond, not, true≢false}
+use mathlib.Core.Bool.{Bool, true, false, cond, not}
 use mathlib.Core.List.{List, [], ◌∷◌, ◌++◌}
 use native.Mathlib.Omega.{arith}
 use native.Mathlib.Decide.{ℕ_discrete}
-use lib.Dec.{eqb, ltb}
-use lib.ListN.{length, get_or, set}
+use lib.Dec.{eqb}
+use lib.ListN.{length, set}
 use borrow.Author.Tests.{eq-eqb, ne_eqb, lt-ltb}
 use Rattle.queue_schedules.proofs.Schedules.{picked}
 use Rattle.unbounded_words.specs.declared.Pointer.{Pointer}
@@ -26,7 +26,6 @@ use Rattle.unbounded_acts.specs.declared.Acted.{Acted}
 use Rattle.unbounded_acts.specs.Acts.{leave, next_to, freed, first_or, new_block, has, act_of}
 use Rattle.unbounded_machine.specs.declared.Event.{Event}
 use Rattle.unbounded_machine.specs.Machine.{block_at, live}
-use Rattle.unbounded_machine.specs.Turn.{block_used}
 use Rattle.unbounded_demands.specs.Notions.{Dealing, Leaves, Takes, Frees, dealing_of, new_of, is_to, takes_block, frees_block, takings_of, freeings_of}
 use Rattle.unbounded_proof_words.proofs.Frames.{get_same, get_other}
 

@@ -1,16 +1,15 @@
 -- Demand 2 of the unbounded queue, proved.
-use Prim.Native.Nat.{ℕ, zero, suc, ◌+◌, ◌*◌, ◌/◌, ◌%◌, ◌<◌, ◌≤◌}
+use Prim.Native.Nat.{ℕ, zero, suc, ◌+◌, ◌*◌, ◌/◌, ◌%◌, ◌<◌}
 use mathlib.Core.Path.{◌≡◌, refl, sym, ap, ◌∙◌, subst}
-use mathlib.Core.Logic.{◌≢◌}
 use mathlib.Core.Bool.{Bool, true, false, cond, not, true≢false}
 use mathlib.Core.List.{List, [], ◌∷◌, ◌++◌}
 use native.Mathlib.Omega.{arith}
 use native.Mathlib.Decide.{dec_lt}
 use lib.Dec.{eqb, ltb, leb}
 use lib.ListN.{length, get_or, drop, replicate, length-replicate}
-use borrow.Author.Tests.{eq-eqb, eqb-false, ne_eqb, lt-ltb, le-leb}
-use Rattle.queue_entries.specs.Limits.{workers_most, meter_most, in_limits, all}
-use Rattle.queue_entries.specs.declared.Order.TheVariants.{Begin, Act}
+use borrow.Author.Tests.{eq-eqb, ne_eqb, lt-ltb, le-leb}
+use Rattle.queue_entries.specs.Limits.{workers_most, in_limits}
+use Rattle.queue_entries.specs.declared.Order.TheVariants.{Act}
 use Rattle.queue_entries.specs.declared.Entry.{Entry}
 use Rattle.queue_entries.specs.declared.Entry.TheVariants.{Unreadable, Asks}
 use Rattle.queue_entries.specs.Entries.{entry_of, entry_but}
@@ -34,26 +33,24 @@ use Rattle.unbounded_places.specs.declared.Uses.TheVariants as uses
 use Rattle.unbounded_places.specs.declared.Place.{Place}
 use Rattle.unbounded_places.specs.declared.Place.TheVariants.{Idle}
 use Rattle.unbounded_places.specs.Places.{view_of}
-use Rattle.unbounded_acts.specs.Acts.{WRITE, has, new_block, act_of}
+use Rattle.unbounded_acts.specs.Acts.{has, new_block, act_of}
 use Rattle.unbounded_machine.specs.declared.Machine.{Machine}
 use Rattle.unbounded_machine.specs.declared.Did.{Did}
 use Rattle.unbounded_machine.specs.declared.Ran.{Ran}
 use Rattle.unbounded_machine.specs.declared.Event.{Event}
-use Rattle.unbounded_machine.specs.declared.Dropped.{Dropped}
 use Rattle.unbounded_machine.specs.Machine.{slot, block_at, slot_at, free_block, free_blocks, empty_slots, idler, idlers, fresh_of, live, accepted}
 use Rattle.unbounded_machine.specs.Drop.{walk_of, items_of}
 use Rattle.unbounded_machine.specs.Broken.{uses_fit, record_fits, records_fit, all_idle, drop_fits, broken_in, broken_of}
 use Rattle.unbounded_machine.specs.Contents.{contents_of}
 use Rattle.unbounded_machine.specs.Turn.{entry_here, cleared, lowest_free, block_used, slot_used, stored, acted_at, used_by, taken_by, turn_with}
-use Rattle.unbounded_machine.specs.Run.{ran, run_from, run_of}
 use Rattle.unbounded_machine.specs.History.{events_of}
 use Rattle.unbounded_demands.proofs.Refusals.{unbounded_queue, ran_machine}
 use Rattle.unbounded_demands.specs.Notions.{Definition, definition, Allowed, machine_after, acts_of, Acts, Pushing, push9, push10, push11, push12, push13}
 use Rattle.unbounded_demands.specs.Notions.{Popping, pop6, pop7, pop8, pop9, pop10, pop11, pop12, Reads, read11, value_at, state_at, takers_of, takings_of}
 use Rattle.unbounded_demands.specs.Notions.{freeings_of, LatestIn, ItemIn, waiting, Fifo, start, position, Truth, chained}
 use Rattle.unbounded_demands.specs.Notions as notions
-use Rattle.unbounded_demands.specs.Demands.{OneHand, ReadsWritten, NoneFree, AnswersTrue, FreedOnce, TakenChained, ContentsWait, Demand2, UnderEverySchedule, ActByAct, WholeSchedules}
-use Rattle.unbounded_proof_invariant.proofs.Queue.{Ptr, none, to, Hand, Done, Own, Free, Chain, Shared}
+use Rattle.unbounded_demands.specs.Demands.{OneHand, ReadsWritten, NoneFree, AnswersTrue, TakenChained, ContentsWait, Demand2, UnderEverySchedule, ActByAct, WholeSchedules}
+use Rattle.unbounded_proof_invariant.proofs.Queue.{Ptr, none, to, Hand, Own, Chain, Shared}
 use Rattle.unbounded_proof_invariant.proofs.Kept as kept
 use Rattle.unbounded_proof_invariant.proofs.Views.{Seen, Rest, Reading, SeenOk}
 use Rattle.unbounded_proof_invariant.proofs.Own.{push_of, pop_of, Good}
@@ -65,7 +62,7 @@ use Rattle.unbounded_proof_words.proofs.Loads.{back_some}
 use Rattle.unbounded_proof_words.proofs.Blocks.{start_good}
 use Rattle.unbounded_proof_each_act.proofs.Step.{counted, held, tale_of, TellsTrue, standing, Step}
 use Rattle.unbounded_proof_each_act.proofs.Takings.{lowest_free_lem}
-use Rattle.unbounded_proof_demand2.proofs.Turns.{stood, Busy, Turned, began, used, took, turned}
+use Rattle.unbounded_proof_demand2.proofs.Turns.{stood, Turned, began, used, took, turned}
 use Rattle.unbounded_proof_demand2.proofs.Dealings.{live_is}
 use Rattle.unbounded_proof_demand2.proofs.Reached.{Reached, turned_reached, idle_good, used_steps, took_steps}
 use Rattle.unbounded_proof_demand2.proofs.Walk.{whole_walk, chain_is, last_chained, no_walk, none_taken}

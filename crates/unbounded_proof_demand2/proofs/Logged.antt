@@ -1,5 +1,5 @@
 -- The history of a machine that stands for a queue over positions: the lists of claims, the claim rule, and a plain queue.
-use Prim.Native.Nat.{ℕ, zero, suc, ◌+◌, ◌-◌, ◌/◌, ◌%◌, ◌<◌, ◌≤◌}
+use Prim.Native.Nat.{ℕ, suc, ◌+◌, ◌%◌, ◌<◌, ◌≤◌}
 use mathlib.Core.Path.{◌≡◌, refl, sym, ap, ◌∙◌, subst}
 use mathlib.Core.Logic.{◌≢◌}
 use mathlib.Core.Bool.{Bool, true, false, cond, true≢false}
@@ -17,7 +17,7 @@ use Rattle.unbounded_places.specs.declared.Place.TheVariants.{IsClosed1}
 use Rattle.unbounded_places.specs.declared.Worker.{Worker}
 use Rattle.unbounded_machine.specs.declared.Event.{Event}
 use Rattle.unbounded_machine.specs.History.{event}
-use Rattle.unbounded_demands.specs.Notions.{Sign, HandsOut, sign_of, item_by, takes_by, item_of, takes, items_of, takers_of, LatestIn, ItemIn, waiting, Fifo, start, enqueue, dequeue, rest}
+use Rattle.unbounded_demands.specs.Notions.{HandsOut, sign_of, item_of, takes, items_of, takers_of, LatestIn, ItemIn, waiting, Fifo, enqueue, dequeue, rest}
 use Rattle.unbounded_demands.specs.Demands.{ClaimRule, OnceOut}
 use Rattle.unbounded_proof_invariant.proofs.Queue.{Shared}
 use Rattle.unbounded_proof_words.proofs.Stands.{place_of}
@@ -253,7 +253,7 @@ module _ (s u : Shared) (low : s.head ≤ s.tail) (ws : List Worker) (h : List E
     spent_kept v z xs ys act x k split by o l =
         subst (λ (i : ℕ). k < counted i) (sym (got_at v))
         (spent_more v (counted (s.got v)) (log.spent v (before v z))
-        (λ y by-w said. quiet_then (sym (ap (λ (i : Place). held (tale_of i)) (ap (place_of ws') (sym by-w) ∙ stands_w)) ∙ z) y said) xs ys act x k split by o l)
+        (λ y by_w said. quiet_then (sym (ap (λ (i : Place). held (tale_of i)) (ap (place_of ws') (sym by_w) ∙ stands_w)) ∙ z) y said) xs ys act x k split by o l)
 
   waiting_is : (items : List ℕ) (n : ℕ) → items_of h' ≡ items → length (takers_of h') ≡ n → waiting h' ≡ drop n items
   waiting_is items n a b = ap (λ (l : List ℕ). drop (length (takers_of h')) l) a ∙ ap (λ (i : ℕ). drop i items) b

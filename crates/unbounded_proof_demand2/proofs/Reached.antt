@@ -1,47 +1,35 @@
 -- Every machine that a schedule reaches from a fresh one stands for a queue over positions, and its history is that queue's.
-use Prim.Native.Nat.{ℕ, zero, suc, ◌+◌, ◌*◌, ◌%◌, ◌<◌, ◌≤◌}
+use Prim.Native.Nat.{ℕ, ◌<◌, ◌≤◌}
 use mathlib.Core.Path.{◌≡◌, refl, sym, ap, ◌∙◌, subst}
-use mathlib.Core.Logic.{◌≢◌}
-use mathlib.Core.Bool.{Bool, true, false, cond, true≢false}
+use mathlib.Core.Bool.{Bool, true, false, true≢false}
 use mathlib.Core.List.{List, [], ◌∷◌, ◌++◌, append-nil}
 use native.Mathlib.Omega.{arith}
 use native.Mathlib.Decide.{ℕ_discrete}
-use lib.ListN.{length, get_or, set, replicate, length-append, length-replicate}
+use lib.ListN.{length, set, length-append}
 use Rattle.queue_entries.specs.Limits.{workers_most, meter_most}
 use Rattle.queue_entries.specs.declared.Call.{Call}
 use Rattle.queue_entries.specs.declared.Call.TheVariants as call
 use Rattle.queue_entries.specs.declared.Entry.{Entry}
-use Rattle.queue_entries.specs.Entries.{entry_of}
-use Rattle.queue_schedules.proofs.Schedules.{Queue}
-use Rattle.queue_schedules.proofs.Histories.{entries_lead}
-use Rattle.queue_schedules.proofs.Splits.{no_split}
-use Rattle.unbounded_words.specs.declared.Pointer.{Pointer}
 use Rattle.unbounded_words.specs.declared.Pointer.TheVariants.{None}
 use Rattle.unbounded_words.specs.Words.{sizes, number_of}
 use Rattle.unbounded_places.specs.declared.Slot.{Slot}
 use Rattle.unbounded_places.specs.declared.Block.{Block}
 use Rattle.unbounded_places.specs.declared.Ends.{Ends}
 use Rattle.unbounded_places.specs.declared.Worker.{Worker}
-use Rattle.unbounded_places.specs.declared.Answer.TheVariants.{Nothing}
 use Rattle.unbounded_places.specs.declared.Uses.{Uses}
 use Rattle.unbounded_places.specs.declared.Uses.TheVariants as uses
 use Rattle.unbounded_places.specs.declared.Place.{Place}
-use Rattle.unbounded_places.specs.declared.Place.TheVariants.{Idle, U1, V1, Len1, Empty1, Full1, Close1, IsClosed1}
+use Rattle.unbounded_places.specs.declared.Place.TheVariants.{U1, V1, Len1, Empty1, Full1, Close1, IsClosed1}
 use Rattle.unbounded_places.specs.Places.{view_of, begin_of}
 use Rattle.unbounded_acts.specs.declared.Acted.{Acted}
-use Rattle.unbounded_acts.specs.Acts.{new_block, act_of}
+use Rattle.unbounded_acts.specs.Acts.{act_of}
 use Rattle.unbounded_machine.specs.declared.Machine.{Machine}
-use Rattle.unbounded_machine.specs.declared.Did.{Did}
-use Rattle.unbounded_machine.specs.declared.Ran.{Ran}
 use Rattle.unbounded_machine.specs.declared.Event.{Event}
-use Rattle.unbounded_machine.specs.Machine.{block_at, slot_at, free_block, free_blocks, empty_slots, idler, idlers, fresh_of, live}
-use Rattle.unbounded_machine.specs.Turn.{lowest_free, cleared, block_used, slot_used, begun, stored, acted_at, used_by, taken_by, turn_with}
-use Rattle.unbounded_machine.specs.Run.{ran}
+use Rattle.unbounded_machine.specs.Machine.{block_at, slot_at}
+use Rattle.unbounded_machine.specs.Turn.{lowest_free, cleared, block_used, slot_used, begun, stored, acted_at}
 use Rattle.unbounded_machine.specs.History.{event, events_of}
-use Rattle.unbounded.proofs.Steps.{turn_unchanged}
-use Rattle.unbounded_demands.specs.Notions.{Dealing, Leaves, Takes, Frees, dealing_of, new_of, items_of, takers_of, takings_of, freeings_of, Fifo, start, definition, Allowed, machine_after, acts_of}
-use Rattle.unbounded_proof_invariant.proofs.Queue.{Ptr, none, to, Own, Free, Aside, Chain, Shared}
-use Rattle.unbounded_proof_invariant.proofs.Kept as kept
+use Rattle.unbounded_demands.specs.Notions.{Dealing, Leaves, Takes, Frees, dealing_of}
+use Rattle.unbounded_proof_invariant.proofs.Queue.{Ptr, none, Own, Free, Aside, Chain, Shared}
 use Rattle.unbounded_proof_invariant.proofs.Views.{Seen, Rest}
 use Rattle.unbounded_proof_invariant.proofs.Own.{Good}
 use Rattle.unbounded_proof_words.proofs.Stands.{place_of, ends_of_ring, HeadRep, Stands, idle, u1, u2, u3, u4, u5, u6, u7, u8, u9, u10, u11, u12, u13, u14, u15, v1}
@@ -50,11 +38,10 @@ use Rattle.unbounded_proof_words.proofs.Stands.{closed1, Standing, Sim}
 use Rattle.unbounded_proof_words.proofs.Frames.{get_same, get_other}
 use Rattle.unbounded_proof_words.proofs.Live.{UsesOk, none_free}
 use Rattle.unbounded_proof_words.proofs.Sims.{sim_still}
-use Rattle.unbounded_proof_words.proofs.Blocks.{start_good}
 use Rattle.unbounded_proof_each_act.proofs.Step.{held, tale_of, standing, Here, Step}
 use Rattle.unbounded_proof_each_act.proofs.Takings.{lowest_free_lem}
 use Rattle.unbounded_proof_each_act.proofs.Each.{Acts, each}
-use Rattle.unbounded_proof_demand2.proofs.Turns.{stood, Busy, Turned, began, used, took, turned}
+use Rattle.unbounded_proof_demand2.proofs.Turns.{stood, Busy, Turned, began, used, took}
 use Rattle.unbounded_proof_demand2.proofs.Dealings.{dealt, Dealt, Even, even_kept, even_taken, even_freed}
 use Rattle.unbounded_proof_demand2.proofs.Logged.{Logged, logged_after}
 

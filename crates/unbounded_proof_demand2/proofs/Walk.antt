@@ -7,31 +7,30 @@ use mathlib.Core.Bool.{Bool, true, false, cond, not, true≢false}
 use mathlib.Core.List.{List, [], ◌∷◌}
 use native.Mathlib.Omega.{arith}
 use native.Mathlib.Decide.{ℕ_discrete, dec_lt}
-use lib.Dec.{eqb, ltb}
+use lib.Dec.{eqb}
 use lib.ListN.{length, get_or, set, drop, length-set}
 use lib.Seq.{drop-cons, drop-length}
 use borrow.Author.Tests.{eq-eqb, ne_eqb, eqb-true, lt-ltb}
 use Rattle.unbounded_words.specs.declared.Pointer.{Pointer}
 use Rattle.unbounded_words.specs.declared.Pointer.TheVariants.{None, To}
 use Rattle.unbounded_words.specs.declared.Index.{Index}
-use Rattle.unbounded_words.specs.Words.{sizes, wide, past_slots, unmarked_of, later, same, none_of, number_of, offset_of}
+use Rattle.unbounded_words.specs.Words.{sizes, wide, past_slots, unmarked_of, later, same, number_of, offset_of}
 use Rattle.unbounded_places.specs.declared.Slot.{Slot}
 use Rattle.unbounded_places.specs.declared.Block.{Block}
 use Rattle.unbounded_places.specs.declared.Ends.{Ends}
 use Rattle.unbounded_places.specs.declared.Worker.{Worker}
-use Rattle.unbounded_acts.specs.Acts.{freed}
 use Rattle.unbounded_machine.specs.declared.Dropped.{Dropped}
 use Rattle.unbounded_machine.specs.Machine.{live}
 use Rattle.unbounded_machine.specs.Drop.{walked, last_fits, without, walk_from, items_from, walk_of, items_of}
 use Rattle.unbounded_demands.specs.Notions.{chained}
-use Rattle.unbounded_proof_invariant.proofs.Queue.{Ptr, none, to, Hand, Open, Done, By, Dest, Own, Free, Aside, Chain, Shared, Inv}
+use Rattle.unbounded_proof_invariant.proofs.Queue.{Ptr, none, to, Hand, Open, Done, By, Own, Free, Aside, Chain, Shared, Inv}
 use Rattle.unbounded_proof_invariant.proofs.Kept.{done_or_not, hand_open_done, chain_number, free_not_chain}
 use Rattle.unbounded_proof_invariant.proofs.Views.{Rest}
 use Rattle.unbounded_proof_invariant.proofs.Own.{Good, none_not_to}
 use Rattle.unbounded_proof_invariant.proofs.Idle.{tail_slot, head_slot, tied, taken_is, is_taken, none_aside, value_is}
 use Rattle.unbounded_proof_words.proofs.Words.{word, offset_word, past_word, unmarked_word, later_word}
-use Rattle.unbounded_proof_words.proofs.Stands.{new_block, slot, block_at, slot_at, ptr, back_of, ends_of_ring, is_done, next_of, HeadRep, read_bit, state_of, SlotRep, Sim}
-use Rattle.unbounded_proof_words.proofs.Frames.{get_same, get_other}
+use Rattle.unbounded_proof_words.proofs.Stands.{new_block, block_at, slot_at, ptr, back_of, ends_of_ring, next_of, HeadRep, SlotRep, Sim}
+use Rattle.unbounded_proof_words.proofs.Frames.{get_other}
 use Rattle.unbounded_proof_words.proofs.Loads.{back_some}
 use Rattle.unbounded_proof_each_act.proofs.Step.{counted}
 
