@@ -32,7 +32,7 @@ def blocks(text):
     for line in text.split("\n"):
         if line.strip() == "":
             out.append([])
-        elif line[0] in " \t" and out and out[-1]:
+        elif line[0] in " \t)" and out and out[-1]:
             out[-1].append(line)
         else:
             out.append([line])
