@@ -94,6 +94,7 @@ module _ (bits : Width) (c mark n ed : ℕ) (g : Ground bits c mark n) (s : Shar
                 ap (λ (y : ℕ). same (Word s.head) (minus bits (Word y) (2 * mark))) (sym w) ∙ Stamps.before_is bits c mark n g s.head k near' ∙ eq-eqb s.head k e,
               );
         }
+    sees_tail (Hand _ _ _) o l = elim l [ ]
 
   -- a word of head
   module _ (le : m ≤ s.head) (late : s.head + c < m + n * c) where
@@ -130,3 +131,4 @@ module _ (bits : Width) (c mark n ed : ℕ) (g : Ground bits c mark n) (s : Shar
               eqb-false k m (sym (Stamps.stamp_past bits c mark n g true k m (o.0 ∙ sym at) r) ∙ p) (w ∙ e);
           empty = λ d. clash _ d (Stamps.stamp_same bits c mark n g true k m (o.0 ∙ sym at) r);
         }
+    sees_head (Hand _ _ _) o l = elim l [ ]

@@ -248,7 +248,7 @@ module _ (bits : Width) (c n workers : ℕ) (base : Base bits c n workers) (s : 
     pub spot_small : spot < c
     spot_small =
         let b : spot < m.ring.capacity =
-        spot_below (fixed_on m.ring) (view_of (stood m w)).held (rw pic.rule base.ground.laws.some) (word_fits_in m pic.unbroken w team busy) in
+        spot_below (fixed_on m.ring) (view_of (stood m w)).held (subst (λ (f : Fixed). 0 < f.capacity) (sym pic.rule) base.ground.laws.some) (word_fits_in m pic.unbroken w team busy) in
         subst (λ (z : ℕ). spot < z) (ap (λ (f : Fixed). f.capacity) pic.rule) b
 
     -- where the acting worker stands afterwards

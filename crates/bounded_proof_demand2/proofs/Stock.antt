@@ -267,6 +267,8 @@ owner_of (Hand st k w) = w
 
 mine_owner : (w : ℕ) (x : Cell) → Mine w x → owner_of x ≡ w
 mine_owner w (Hand st k v) e = e
+mine_owner w (Await _) e = elim e [ ]
+mine_owner w (Hold _) e = elim e [ ]
 
 -- ---- along a history
 

@@ -147,6 +147,7 @@ module _ (bits : Width) (c mark n ed : ℕ) (g : Ground bits c mark n) (s : Shar
           free = λ h. clash _ h here;
           lapped = lapped le late;
         }
+    finds_tail le late (Hand _ _ _) o l = elim l [ ]
 
     pub finds_head : m ≤ s.head → s.head + c < m + n * c → (x : Cell) → CellOk c s i x → Loose x → FindsHead bits f (ends_of_ring c mark n s b) (slot_of_ring c mark n x v) (Word m)
     finds_head le late (Await k) o l =
@@ -177,6 +178,7 @@ module _ (bits : Width) (c mark n ed : ℕ) (g : Ground bits c mark n) (s : Shar
               eqb-false k m (sym past ∙ p) (w ∙ e);
           empty = λ d. clash _ d here;
         }
+    finds_head le late (Hand _ _ _) o l = elim l [ ]
 
     -- A slot in hand whose stamp says that it is free at m waits for a claim that is not before head's.
     hand_free : m ≤ s.head → s.head + c < m + n * c → (st : Stage) (k : ℕ) → k % c ≡ i → HandOk c s i st k → same (slot_word c mark n (taking st) k) (Word m) ≡ true → s.head ≡ m

@@ -120,6 +120,7 @@ module _ (bits : Width) (c n workers : ℕ) (base : Base bits c n workers) (m : 
   held (Hold k) e l more o =
       let q : k ≡ s.head = near_one c s.head k some o.1 (omega (arith, o.2, r.pictured.inv.high)) o.0 in
       o.3.0 ∙ ap s.item q
+  held (Rattle.bounded_proof_invariant.proofs.Ring.Hand _ _ _) e l more o = elim l [ ]
 
   front_is : Loose (s.cell (s.head % c)) → 0 < length (waiting h) → value_at m m.ring.head ≡ get_or (waiting h) 0 0
   front_is l some-wait =
