@@ -9,9 +9,9 @@ from typing import NamedTuple
 KEPT = r'(?:(?:pub|abbrev|unfoldable) )*'
 HEAD = re.compile(rf'^{KEPT}(?:(data|record|module)\b|ruleset (\S+) =|(\S+)(?: \{{[^}}]*\}})* :(?: |$))', re.M)
 INNER = re.compile(rf'^ +{KEPT}(\S+)(?: \{{[^}}]*\}})* :(?: |$)', re.M)
-USE = re.compile(r'^ *(?:ghost |pub )*use (\S+?)(?:\.\{([^}]*)\}| as (\S+?));?$', re.M)
+USE = re.compile(r'^ *(?:ghost |pub )*use (\S+?)(?:\.\{([^}]*)\}| as (\S+?))?;?$', re.M)
 APART = re.compile(r'[\s(){}\[\].,;`"⌜⌝]+')
-OF_THE_BODY = ('Tie', 'Lts', 'Code')
+OF_THE_BODY = ('Goals', 'Given', 'Tie', 'Lts', 'Code')
 
 
 class NotUnderstood(Exception):
@@ -103,7 +103,7 @@ class Crate:
 
     def where(self, module):
         """The file of the crate's own that is this module, and the function whose module it is; None for each that it is not."""
-        own = re.fullmatch(rf'Rattle·{self.folder.name}·(?:specs|proofs)\.(.*)', module)
+        own = re.fullmatch(rf'Rattle\.{self.folder.name}\.((?:specs|proofs)\..*)', module)
         if not own:
             return None, None
         steps = own[1].split('.')
