@@ -132,7 +132,7 @@ class Crate:
         words = {word for word in APART.split(text) if word}
         found = set()
         for name, keys in scope.items():
-            if name in words or '_' in name and words & {*name.split('_')}:
+            if name in words or '◌' in name and words & {*name.split('◌')} - {''}:
                 found |= keys
         if part.file.startswith('src/'):
             said = {*re.findall(r'\w+', text)}
