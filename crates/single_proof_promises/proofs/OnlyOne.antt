@@ -1,5 +1,5 @@
 -- Only one answer meets each promise of the one-slot queue's functions, as their own contracts say it.
-use mathlib.Core.Path.{◌≡◌, sym, ◌∙◌}
+use mathlib.Core.Path.{sym, ◌∙◌}
 use Rattle.single_proof_promises.specs.Own.{OnlyOneOwn}
 
 pub only_one_own : OnlyOneOwn
