@@ -18,16 +18,16 @@ use Rattle.single_words.specs.declared.State.{State}
 use Rattle.single_words.specs.Words.{state, same, locked_in, pushed_in, closed_in, unlocked}
 use Rattle.single_places.specs.declared.Single.{Single}
 use Rattle.single_places.specs.declared.Answer.{Answer}
-use Rattle.single_places.specs.declared.Answer.TheVariants.{Pushed, Full, Closed, Displaced, Popped, Empty, PopClosed, Len, Yes, No}
+use Rattle.single_places.specs.declared.Answer.TheVariants.{Full, Closed, Empty, PopClosed, Len, Yes, No}
 use Rattle.single_places.specs.declared.Place.{Place}
 use Rattle.single_places.specs.declared.Place.TheVariants.{Idle, A1, A2, A3, B1, B2, B3, B4, B5, C1, C2, C3, Len1, Empty1, Full1, Close1, IsClosed1}
 use Rattle.single_places.specs.Places.{view_of, begin_of}
-use Rattle.single_acts.specs.Acts.{goes, len_of, act_of}
+use Rattle.single_acts.specs.Acts.{goes, act_of}
 use Rattle.single_machine.specs.declared.Machine.{Machine}
 use Rattle.single_machine.specs.declared.Did.{Did}
 use Rattle.single_machine.specs.declared.Event.{Event}
 use Rattle.single_machine.specs.Machine.{place_of, accepted}
-use Rattle.single_machine.specs.Turn.{turn_of, turn_of_by, turn, acted}
+use Rattle.single_machine.specs.Turn.{turn_of_by, turn, acted}
 use Rattle.single_machine.specs.History.{events_of}
 use Rattle.single_demands.specs.Notions.{source, Acts, Popping, popping_c2, popping_c3, waiting, closed_by, queue_answer, Looks, looks_len, looks_empty, looks_full}
 use Rattle.single_demands.specs.Notions.{looks_close, looks_closed, FullWord, EmptyWord, PopClosedWord, Truth}
@@ -35,7 +35,7 @@ use Rattle.single_demands.specs.Demands.{AnswersTrue, Decides, Means, LookersTru
 use Rattle.single_proof_demand2.proofs.Words.{word, locked_of, pushed_of, closed_of, same_is}
 use Rattle.single_proof_demand2.proofs.Effects.{out_of, fills, Expects}
 use Rattle.single_proof_demand2.proofs.Grip.{Grip, loose, held}
-use Rattle.single_proof_demand2.proofs.Turns.{Turned, began, did, turned, stood}
+use Rattle.single_proof_demand2.proofs.Turns.{Turned, did, turned, stood}
 use Rattle.single_proof_demand2.proofs.Reached.{Reached, hands, in_row, acted_stood}
 use Rattle.single_proof_demand2.proofs.Hands.{pushed, closed_holds, pop_in_progress}
 

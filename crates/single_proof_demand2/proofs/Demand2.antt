@@ -1,10 +1,9 @@
 -- Demand 2, proved.
-use Prim.Native.Nat.{ℕ, ◌%◌}
-use mathlib.Core.Path.{◌≡◌, sym, ap, ◌∙◌}
-use mathlib.Core.Bool.{true, false}
+use Prim.Native.Nat.{ℕ}
+use mathlib.Core.Path.{◌≡◌, ap, ◌∙◌}
+use mathlib.Core.Bool.{false}
 use mathlib.Core.List.{List, []}
 use native.Mathlib.Omega.{arith}
-use lib.ListN.{length}
 use Rattle.queue_schedules.proofs.Schedules.{schedule_odd, schedule_read}
 use Rattle.queue_schedules.proofs.Histories.{one_more}
 use Rattle.single_machine.specs.declared.Machine.{Machine}

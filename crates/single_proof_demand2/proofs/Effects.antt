@@ -15,7 +15,7 @@ use Rattle.queue_schedules.proofs.Schedules.{either}
 use Rattle.single_acts.specs.declared.Acted.{Acted}
 use Rattle.single_acts.specs.Acts.{goes, state_to, value_to, exchanged, unlocked_in, len_of, act_of}
 use Rattle.single_demands.specs.Notions.{Access, none, writes, swaps, reads, access_of, HandsOut, popped, displaced, is_close}
-use Rattle.single_proof_demand2.proofs.Words.{word, locked_of, pushed_of, closed_of, same_locked, same_pushed, same_closed, same_is, unlocked_word, taken_word, shut_word}
+use Rattle.single_proof_demand2.proofs.Words.{word, pushed_of, closed_of, same_locked, same_pushed, same_closed, same_is, unlocked_word, taken_word, shut_word}
 
 -- ---- hands
 pub data Hand : Type 0 where

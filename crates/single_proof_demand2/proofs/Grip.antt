@@ -7,8 +7,6 @@ use mathlib.Core.List.{List, [], ◌∷◌, ◌++◌}
 use native.Mathlib.Decide.{ℕ_discrete}
 use Rattle.single_places.specs.declared.Single.{Single}
 use Rattle.single_places.specs.declared.Place.{Place}
-use Rattle.single_places.specs.declared.Place.TheVariants.{B5, C3}
-use Rattle.single_places.specs.Places.{view_of}
 use Rattle.single_acts.specs.declared.Acted.{Acted}
 use Rattle.single_acts.specs.Acts.{goes, state_to, value_to}
 use Rattle.single_machine.specs.declared.Event.{Event}

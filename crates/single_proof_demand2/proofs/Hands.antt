@@ -1,7 +1,6 @@
 -- What the grip on the slot says of hands, of the word and of contents.
 use Prim.Native.Nat.{ℕ, ◌<◌, ◌≤◌}
-use mathlib.Core.Path.{◌≡◌, refl, sym, ap, ◌∙◌, subst}
-use mathlib.Core.Logic.{◌≢◌, ◌↔◌}
+use mathlib.Core.Path.{◌≡◌, refl, sym, ap, ◌∙◌}
 use mathlib.Core.Bool.{Bool, true, false, cond, true≢false}
 use mathlib.Core.List.{List, [], ◌∷◌}
 use native.Mathlib.Omega.{arith}
@@ -11,7 +10,6 @@ use lib.ListN.{length, get_or-eq_default}
 use borrow.Author.Tests.{le-ltb}
 use Rattle.queue_entries.specs.Limits.{workers_most}
 use Rattle.queue_schedules.proofs.Records.{every}
-use Rattle.single_words.specs.declared.State.{State}
 use Rattle.single_words.specs.Words.{locked_in, pushed_in, closed_in}
 use Rattle.single_places.specs.declared.Place.{Place}
 use Rattle.single_places.specs.declared.Place.TheVariants.{Idle, A1, A2, A3, B1, B2, B3, B4, B5, C1, C2, C3, Len1, Empty1, Full1, Close1, IsClosed1}
@@ -23,10 +21,10 @@ use Rattle.single_machine.specs.declared.Event.{Event}
 use Rattle.single_machine.specs.Machine.{place_of, idler}
 use Rattle.single_machine.specs.Broken.{record_fits, idle_from}
 use Rattle.single_machine.specs.Contents.{contents_of}
-use Rattle.single_demands.specs.Notions.{InHand, Popping, popping_c2, popping_c3, access_of, is_read, waiting, closed_by}
+use Rattle.single_demands.specs.Notions.{InHand, Popping, popping_c2, popping_c3, is_read, waiting}
 use Rattle.single_demands.specs.Demands.{ReadsWritten, OneHand, LockedInHand, PushedWaits, ClosedHolds, ContentsWait}
-use Rattle.single_proof_demand2.proofs.Words.{word, locked_of, pushed_of, closed_of}
-use Rattle.single_proof_demand2.proofs.Effects.{Hand, free, putting, put, swapping, swapped, taking, took, hand_of_worker, fills, holding, access_by, hand_is, access_is, holding_busy}
+use Rattle.single_proof_demand2.proofs.Words.{locked_of, pushed_of, closed_of}
+use Rattle.single_proof_demand2.proofs.Effects.{Hand, free, putting, put, swapping, swapped, taking, took, hand_of_worker, fills, holding, access_by, hand_is, access_is}
 use Rattle.single_proof_demand2.proofs.Grip.{Grip, loose, held, Standing, Rests, Does}
 use Rattle.single_proof_demand2.proofs.Turns.{stood}
 use Rattle.single_proof_demand2.proofs.Reached.{Reached, hands, idle_free}

@@ -1,15 +1,14 @@
 -- What one act more adds to a history.
-use Prim.Native.Nat.{ℕ, suc, ◌+◌, ◌<◌}
+use Prim.Native.Nat.{ℕ, ◌+◌, ◌<◌}
 use mathlib.Core.Path.{◌≡◌, refl, sym, ap, ◌∙◌, subst}
 use mathlib.Core.Logic.{◌≢◌}
 use mathlib.Core.Bool.{Bool, true, false, cond, true≢false}
 use mathlib.Core.List.{List, [], ◌∷◌, ◌++◌, append_assoc}
 use native.Mathlib.Omega.{arith}
 use lib.ListN.{length, length-append}
-use Rattle.single_places.specs.declared.Place.{Place}
 use Rattle.single_places.specs.Places.{view_of}
 use Rattle.single_machine.specs.declared.Event.{Event}
-use Rattle.single_demands.specs.Notions.{Every, AtEach, access_of, item_of, is_read, Holds, HandsOut, Unread, Latest, Stands, Came, Took, waits_after, waiting_from, waiting, is_close, closed_by}
+use Rattle.single_demands.specs.Notions.{Every, AtEach, access_of, item_of, is_read, Holds, Latest, Stands, Came, Took, waits_after, waiting_from, waiting, is_close, closed_by}
 use Rattle.single_demands.specs.Demands.{OnceOut, ReadsLatest}
 use Rattle.queue_schedules.proofs.Splits.{cons_first, no_cons, no_split, Order, earlier, same, later, order, at_lower}
 

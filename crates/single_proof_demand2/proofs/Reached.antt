@@ -5,11 +5,11 @@ use mathlib.Core.Logic.{◌≢◌}
 use mathlib.Core.Bool.{Bool, true, false, cond, true≢false}
 use mathlib.Core.List.{List, [], ◌∷◌, ◌++◌, append-nil}
 use native.Mathlib.Omega.{arith}
-use native.Mathlib.Decide.{dec_lt, ℕ_discrete}
+use native.Mathlib.Decide.{ℕ_discrete}
 use lib.ListN.{length, get_or, length-set, length-append, length-replicate}
 use lib.Seq.{get_or-set_same, get_or-set_other}
 use borrow.Author.Tests.{le-leb, ne_eqb}
-use Rattle.queue_entries.specs.Limits.{workers_most, meter_most, in_limits}
+use Rattle.queue_entries.specs.Limits.{workers_most, in_limits}
 use Rattle.queue_entries.specs.declared.Call.{Call}
 use Rattle.queue_entries.specs.declared.Call.TheVariants as call
 use Rattle.queue_entries.specs.declared.Entry.{Entry}
@@ -35,7 +35,6 @@ use Rattle.single_demands.specs.Notions.{Allowed, closed_by, is_close, waiting_f
 use Rattle.single_demands.specs.Demands.{GoesOut, TakesOut, ReadsLatest, PlainQueue}
 use Rattle.single_demands.proofs.Refusals.{fresh_unbroken}
 use Rattle.single_proof_demand2.proofs.Log.{each_more, each_none, closed_more}
-use Rattle.single_proof_demand2.proofs.Words.{word}
 use Rattle.single_proof_demand2.proofs.Effects.{Hand, free, hand_of_worker, fills, Expects, effect, expects_after}
 use Rattle.single_proof_demand2.proofs.Grip.{Grip, loose, held, Does, Led, from_loose, from_own, from_other}
 use Rattle.single_proof_demand2.proofs.Turns.{Turned, began, did, turned, stood}

@@ -3,4 +3,3 @@
 // effect keeps who holds the slot and what stands in it; Reached.antt, so under every schedule from a fresh machine; Demand2.antt, and that is the
 // demand. Theorems alone.
 #![tactic(auto)]
-
