@@ -47,11 +47,9 @@ def parameters(root, crate, folder):
     return re.findall(r"(?:^|,)\s*(?:mut )?(\w+)\s*:", found[0]) if len(found) == 1 else []
 
 
-def fields(body, names):
-    """A proof of clauses joined by ×, as the record of them that is asked today."""
-    if len(names) < 2 or re.match(r"\s*(record|search|let|λ|grind|simp|absurd)\b", body):
-        return body
-    text = body.strip()
+def split(text, n):
+    """The parts of a tuple that is written out, n of them; none where it is not."""
+    text = text.strip()
     parts, depth, at = [], 0, 1
     if text.startswith("("):
         for i, ch in enumerate(text):
@@ -67,9 +65,22 @@ def fields(body, names):
                 break
     if parts and not parts[-1]:
         parts.pop()
-    if len(parts) != len(names):
+    if len(parts) == 2 and n > 2:
+        rest = split(parts[1], n - 1)
+        if rest:
+            return [parts[0]] + rest
+    return parts if len(parts) == n else []
+
+
+def fields(body, names):
+    """A proof of clauses joined by ×, as the record of them that is asked today."""
+    if len(names) < 2 or re.match(r"\s*(record|search|let|λ|grind|simp|absurd)\b", body):
+        return body
+    text = body.strip()
+    parts = split(text, len(names))
+    if not parts:
         ends = [".1" * i + ".0" for i in range(len(names) - 1)] + [".1" * (len(names) - 1)]
-        parts = [f"({text}){e}" for e in ends]
+        return " let both = " + text + " in record { " + "; ".join(f"{n} = both{e}" for n, e in zip(names, ends)) + " }"
     return " record { " + "; ".join(f"{n} = {p}" for n, p in zip(names, parts)) + " }"
 
 
@@ -182,7 +193,7 @@ class Turned:
         if rest and rest[0] == "ensures" and said and len(said["fields"]) > 1 and not (said["text"] or said["told"] or said["utf8"]):
             rest = ["ensures"] + (at_name(rest[1:], said["fields"]) or rest[1:])
         elif len(rest) > 1 and rest[0] in ("new", "auto") and callee in self.names["params"] and rest[1] in ("0", "1"):
-            rest = [rest[0]] + (at_name(rest[1:], self.names["params"][callee]) or rest[1:])
+            rest = [rest[0]] + (at_name(rest[1:], self.names["params"][callee] + [""]) or rest[1:])
         return place, [new] + rest
 
     def chain(self, p, q):
@@ -238,7 +249,7 @@ class Turned:
         text = re.sub(rf"(?<![\w.'-])({'|'.join(re.escape(n) for n in names)})((?:\.[^\s().,;{{}}@\"«»\]]+)+)", one, text)
         # a parameter that was moved had a number for its name
         text = re.sub(r"\bc\.args\.t(\d+)\b", lambda m: "c.args." + self.params[int(m[1]) - 1] if 0 < int(m[1]) <= len(self.params) else m[0], text)
-        return re.sub(r"\bc\.well-formed\b", "c.well_formed", text)
+        return re.sub(r"\.(well|type)-(formed|inv)\b", r".\1_\2", text)
 
     def loop_body(self, old, params, text):
         """An invariant's or a measure's text over the record l."""

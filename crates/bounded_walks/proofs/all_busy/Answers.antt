@@ -1,0 +1,30 @@
+use Prim.Native.Nat.{ℕ, ◌-◌}
+use mathlib.Core.Path.{◌≡◌, ap}
+use native.Mathlib.Omega.{arith}
+use Rattle.queue_entries.specs.Limits.{all}
+use Rattle.queue_entries.proofs.Limits.{all_more, all_failed, all_passed}
+use Rattle.bounded_places.specs.declared.View.{View}
+use Rattle.bounded_places.specs.Places.{view_of}
+use Rattle.bounded_machine.specs.Machine.{place_of}
+use Rattle.bounded_walks.specs.Walks.{all_busy}
+use Rattle.bounded_walks.proofs.all_busy.Goals as goal
+
+pub loop-i-init : goal.loop-i-init
+loop-i-init c =
+    let e : c.args.m.count - 0 ≡ c.args.m.count = omega arith in
+    (omega arith, c.requires, ap (λ (k : ℕ). all k 0 (λ (i : ℕ). (view_of (place_of c.args.m.workers i)).busy)) e)
+
+pub loop-i-preserved : goal.loop-i-preserved
+loop-i-preserved c =
+    let l = c.loop-i in
+    (omega arith, l.invariant.1, all_more _ _ _ _ l.invariant.2 c.view_of-view.result.busy (omega arith) (ap (λ (v : View). v.busy) c.view_of-view.ensures) c.if-view.true)
+
+pub returns-else-view : goal.returns-else-view
+unfolding all_busy
+returns-else-view c =
+    let l = c.loop-i in
+    all_failed _ _ _ _ l.invariant.2 c.view_of-view.result.busy (omega arith) (ap (λ (v : View). v.busy) c.view_of-view.ensures) c.if-view.false
+
+pub returns : goal.returns
+unfolding all_busy
+returns c = all_passed _ _ _ _ c.loop-i.invariant.2 (omega arith)
