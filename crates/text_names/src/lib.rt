@@ -1,7 +1,6 @@
 // A file's name as a line may have it: what would end the line, or be obeyed by a terminal, is written as archive writes it; knows no queue.
 #![tactic(auto)]
 
-
 fn digit(n: u8) -> u8 {
     if n < 10 { b'0' + n } else { b'a' + n % 16 - 10 }
 }
