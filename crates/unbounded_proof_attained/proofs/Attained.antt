@@ -1,5 +1,4 @@
 -- The most acts that a push and a pop need alone, computed for each row of the table.
-use Prim.Native.Nat.{ℕ}
 use mathlib.Core.Path.{◌≡◌, refl, ap, ap₂, ◌∙◌}
 use mathlib.Core.List.{List, [], ◌∷◌, map}
 use Rattle.queue_entries.specs.Schedules.{run_by, search_by, schedule_by}
@@ -8,15 +7,14 @@ use Rattle.queue_entries.specs.Limits.{all, in_limits}
 use Rattle.unbounded_words.specs.Words.{sizes, past_slots, last_slot, marked_of, unmarked_of, with_mark, later, same, same_position, same_block, minus, settled, behind, count_of}
 use Rattle.unbounded_acts.specs.Acts.{leave, head_to, front_to, tail_to, back_to_words, next_to, freed, state_to, value_to, has, with, first_or, answered, lacks_next}
 use Rattle.unbounded_acts.specs.Acts.{push_from, set_aside, claimed, take_or, pop_from, new_head, taken, next_index, destroy_from, read_out_of, destroy_if, act_of}
-use Rattle.unbounded_machine.specs.declared.Machine.{Machine}
 use Rattle.unbounded_machine.specs.declared.Ran.{Ran}
 use Rattle.unbounded_machine.specs.Machine.{live, free_blocks, empty_slots, idlers, fresh_of, blank, refused, accepted}
-use Rattle.unbounded_machine.specs.Broken.{record_fits, records_fit, all_idle, drop_fits, broken_in, broken_of}
-use Rattle.unbounded_machine.specs.Turn.{Table, lowest_from, lowest_free, cleared_from, cleared, begun, stored, acted_at, moved_by, turn_with}
+use Rattle.unbounded_machine.specs.Broken.{record_fits, records_fit, all_idle, drop_fits, broken_in}
+use Rattle.unbounded_machine.specs.Turn.{lowest_from, lowest_free, cleared_from, cleared, begun, stored, acted_at, moved_by, turn_with}
 use Rattle.unbounded_machine.specs.Run.{ran, run_with}
 use Rattle.unbounded_demands.specs.Notions.{acts}
 use Rattle.unbounded_demands.specs.Attained.{Sight, Case, needed, sight_of, seen_by, exactly, pushes, pops, marked_pops, old_pops, crossing_pops, ending_pops, beginning_pushes, going_pushes, ending_pushes}
-use Rattle.unbounded_demands.specs.Demands.{AttainedIn, AttainedBy}
+use Rattle.unbounded_demands.specs.Demands.{AttainedBy}
 use Rattle.unbounded_proof_attained.proofs.First.{start, run_first}
 
 -- what is seen once the third worker has begun

@@ -1,7 +1,7 @@
 -- Each number that a function can refuse by is given, computed.
 use Prim.Native.Nat.{ℕ, suc}
-use mathlib.Core.Path.{◌≡◌, refl, sym, ap, ap₂, ◌∙◌}
-use mathlib.Core.Bool.{Bool, true, false, cond}
+use mathlib.Core.Path.{◌≡◌, refl, ap, ◌∙◌}
+use mathlib.Core.Bool.{true, false, cond}
 use mathlib.Core.List.{List, [], ◌∷◌}
 use lib.Dec.{ltb}
 use Rattle.unbounded_words.specs.declared.Pointer.TheVariants.{None, To}
@@ -21,9 +21,9 @@ use Rattle.unbounded_machine.specs.declared.Machine.{Machine}
 use Rattle.unbounded_machine.specs.declared.Ran.{Ran}
 use Rattle.unbounded_machine.specs.Machine.{live, free_blocks, empty_slots, idlers, fresh_of, blank, refused, accepted}
 use Rattle.unbounded_machine.specs.Broken.{record_fits, records_fit, all_idle, drop_fits, broken_in, broken_of}
-use Rattle.unbounded_machine.specs.Turn.{Table, lowest_from, lowest_free, cleared_from, cleared, begun, stored, acted_at, moved_by, turn_with}
+use Rattle.unbounded_machine.specs.Turn.{lowest_from, lowest_free, cleared_from, cleared, begun, stored, acted_at, moved_by, turn_with}
 use Rattle.unbounded_machine.specs.Run.{ran, run_with}
-use Rattle.unbounded_demands.specs.Notions.{definition, acts, machine_after, fresh_one, fresh_two, stocked_one}
+use Rattle.unbounded_demands.specs.Notions.{acts, fresh_one, fresh_two, stocked_one}
 use Rattle.unbounded_demands.specs.Demands.{EachNumber, refusals}
 use Rattle.unbounded_proof_demand2.proofs.Demand2.{demand2, unbroken, fresh_reached}
 use Rattle.unbounded_proof_attained.proofs.First.{one, begins, run_push}
