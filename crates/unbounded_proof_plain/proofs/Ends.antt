@@ -8,7 +8,7 @@ use mathlib.Core.Bool.{Bool, true, false, cond}
 use lib.Dec.{eqb}
 use borrow.Author.Tests.{eq-eqb, eqb-true, eqb-false}
 use Rattle.unbounded_words.specs.declared.Index.{Index}
-use Rattle.unbounded_words.specs.Words.{sizes, wide, index, past_slots, marked_of, with_mark, later, minus, settled, behind, count_of}
+use Rattle.unbounded_words.specs.Words.{sizes, wide, past_slots, marked_of, with_mark, later, minus, settled, behind, count_of}
 use Rattle.unbounded_proof_words.proofs.Words.{word, half, past_word, unmarked_word, later_word}
 use Rattle.unbounded_proof_each_act.proofs.Step.{counted}
 

@@ -74,10 +74,13 @@ module _ (s : Shared) (w q : ℕ) (at_end : s.head ≡ q + 1) (last : q % 32 ≡
 
 -- and so it is only there
 pub leaving_gap : (s : Shared) (w : ℕ) (p : Place) (a n : Ptr) (x : Seen) → Stands p a n x → SeenOk s w x → Emptying p → s.head % 32 ≡ 31
-leaving_gap s w p a n x (v6 m k eh ed ew) o leaving6 = omega (arith, o.1, o.2)
-leaving_gap s w p a n x (v7 m k eh ed ew ec) o leaving7 = omega (arith, o.1, o.2)
-leaving_gap s w p a n x (v8 m eh ed ec ew) o leaving8 = omega (arith, o.1, o.2)
-leaving_gap s w p a n x (v9 m eh ed ew) o leaving9 = omega (arith, o.1, o.2)
+leaving_gap s w p a n x st o e = go p a n x e st o
+  where
+    go : (p : Place) (a n : Ptr) (x : Seen) → Emptying p → Stands p a n x → SeenOk s w x → s.head % 32 ≡ 31
+    go p a n x leaving6 (v6 m k eh ed ew) o = omega (arith, o.1, o.2)
+    go p a n x leaving7 (v7 m k eh ed ew ec) o = omega (arith, o.1, o.2)
+    go p a n x leaving8 (v8 m eh ed ec ew) o = omega (arith, o.1, o.2)
+    go p a n x leaving9 (v9 m eh ed ew) o = omega (arith, o.1, o.2)
 
 -- ---- tail's index
 module _ (s : Shared) (inv : Inv s) (w q : ℕ) (at_end : s.tail ≡ q + 1) (last : q % 32 ≡ 30) where

@@ -27,7 +27,7 @@ use Rattle.unbounded_places.specs.declared.Answer.TheVariants.{Nothing, Pushed, 
 use Rattle.unbounded_places.specs.declared.Place.{Place}
 use Rattle.unbounded_places.specs.declared.Place.TheVariants.{Idle, Len1, Len2, Len3, Empty1, Empty2, Close1, IsClosed1}
 use Rattle.unbounded_acts.specs.declared.Acted.{Acted}
-use Rattle.unbounded_acts.specs.Acts.{leave, tail_to, has, act_of}
+use Rattle.unbounded_acts.specs.Acts.{leave, tail_to, act_of}
 use Rattle.unbounded_machine.specs.declared.Event.{Event}
 use Rattle.unbounded_demands.specs.Notions.{takers_of, position}
 use Rattle.unbounded_demands.specs.Stories.{Story, task_of, change_of, actor, known, roomy, queue_at, At, AfterNextTail, moment_of, Now, timing_to}
@@ -35,7 +35,7 @@ use Rattle.unbounded_demands.specs.Demands.{YesAtBlocksEnd, AtBlocksEnd}
 use Rattle.unbounded_proof_each_act.proofs.Step.{counted}
 use Rattle.unbounded_proof_plain.proofs.Ends.{mark_marked, marked_up}
 use Rattle.unbounded_proof_plain.proofs.Work.{moment_own, longer, past, now_at, then_at, Work, Decided, SeenSome, NoneYet, Due}
-use Rattle.unbounded_proof_plain.proofs.Scene.{Scene, Speaks, More, Outcome, act, now, q₀, none_came, how_many, stays, begun_same, here, same_items, same_takers, same_waits, to, meant, speaks}
+use Rattle.unbounded_proof_plain.proofs.Scene.{Scene, Speaks, More, Outcome, act, now, q₀, none_came, how_many, stays, begun_same, here, same_items, same_takers, same_waits, meant, speaks}
 use Rattle.unbounded_proof_plain.proofs.Rows.{quietly, Mild, mild, go, says, on, decided, keep}
 
 abbrev popped : Answer → Bool

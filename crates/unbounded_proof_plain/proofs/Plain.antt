@@ -174,9 +174,9 @@ module _ (workers : ℕ) (a : Allowed workers) where
     in_call_order : (earlier between later : Story) (first second : Event) (x y : Answer) (i j : ℕ) → st ≡ earlier ++ Does first ∷ between ++ Does second ∷ later → first.after ≡ Idle x
         → second.after ≡ Idle y → length earlier < ((known (earlier ++ Does first ∷ between)).each second.worker).begun
         → moment_of first.worker (earlier ++ Does first ∷ []) ≡ At i → moment_of second.worker (earlier ++ Does first ∷ between ++ Does second ∷ []) ≡ At j → i < j
-    in_call_order earlier between later first second x y i j is said-first said-second late at_i at_j =
-        go (o.answers earlier (between ++ Does second ∷ later) first x (is ∙ append_assoc earlier (Does first ∷ between) (Does second ∷ later)) said-first).0
-        (o.answers (earlier ++ Does first ∷ between) later second y is said-second).0
+    in_call_order earlier between later first second x y i j is said_first said_second late at_i at_j =
+        go (o.answers earlier (between ++ Does second ∷ later) first x (is ∙ append_assoc earlier (Does first ∷ between) (Does second ∷ later)) said_first).0
+        (o.answers (earlier ++ Does first ∷ between) later second y is said_second).0
       where
         pending : (n : ℕ) → ◌≡◌ {A = Moment} (At n) AfterNextTail → ⊥
         pending n e = let z : ◌≡◌ {A = ℕ} 0 1 = cc in omega arith

@@ -1,5 +1,5 @@
 -- Each act of the table, from what its worker's call has behind it to what it then has.
-use Prim.Native.Nat.{ℕ, suc, ◌+◌, ◌-◌, ◌≤◌, ◌<◌}
+use Prim.Native.Nat.{ℕ, suc, ◌+◌, ◌≤◌, ◌<◌}
 use native.Mathlib.Omega.{arith}
 use mathlib.Core.Path.{◌≡◌, refl, sym, ap, ◌∙◌, subst}
 use mathlib.Core.Bool.{Bool, true, false, cond, true≢false}
@@ -30,7 +30,7 @@ use Rattle.unbounded_places.specs.declared.Place.{Place}
 use Rattle.unbounded_places.specs.declared.Place.TheVariants.{Idle, U1, U3, U4, U7, U8, U9, U10, U11, U12, U14, V1, V3, V4, V5, V6, V10, V13, V15, Empty2}
 use Rattle.unbounded_places.specs.Places.{view_of}
 use Rattle.unbounded_acts.specs.declared.Acted.{Acted}
-use Rattle.unbounded_acts.specs.Acts.{leave, head_to, tail_to, has, first_or, answered, lacks_next, push_from, claimed, take_or, pop_from, new_head, taken, destroy_from, destroy_if, act_of}
+use Rattle.unbounded_acts.specs.Acts.{leave, head_to, tail_to, first_or, answered, lacks_next, push_from, claimed, take_or, pop_from, new_head, taken, destroy_from, destroy_if, act_of}
 use Rattle.unbounded_machine.specs.declared.Event.{Event}
 use Rattle.unbounded_demands.specs.Notions.{Pushing, push9, push12, takers_of, LatestIn, position}
 use Rattle.unbounded_demands.specs.Notions as notions

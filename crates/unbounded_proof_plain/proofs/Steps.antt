@@ -1,5 +1,5 @@
 -- What a turn makes of a machine's parts, of a call that begins and of a story's acts; and what the signs of an act tell.
-use Prim.Native.Nat.{ℕ, ◌-◌, ◌<◌}
+use Prim.Native.Nat.{ℕ, ◌<◌}
 use native.Mathlib.Omega.{arith}
 use mathlib.Core.Path.{◌≡◌, refl, sym, ap, ◌∙◌, subst}
 use mathlib.Core.Logic.{◌≢◌}
@@ -22,7 +22,7 @@ use Rattle.unbounded_acts.specs.declared.Acted.{Acted}
 use Rattle.unbounded_machine.specs.declared.Machine.{Machine}
 use Rattle.unbounded_machine.specs.declared.Event.{Event}
 use Rattle.unbounded_machine.specs.Turn.{begun, stored}
-use Rattle.unbounded_demands.specs.Notions.{Sign, Plain, Exchange7, Exchange4, Pops, Pushes, HandsOut, sign_of, item_by, takes_by, takes}
+use Rattle.unbounded_demands.specs.Notions.{Sign, Plain, Exchange7, Exchange4, Pops, Pushes, HandsOut, sign_of, item_by, takes_by}
 use Rattle.unbounded_demands.specs.Stories.{Element, Story, task_of}
 use Rattle.unbounded_proof_invariant.proofs.Queue.{Shared}
 use Rattle.unbounded_proof_words.proofs.Frames.{get_same, get_other}

@@ -31,7 +31,7 @@ use Rattle.unbounded_proof_invariant.proofs.Queue.{Ptr, none, to, Hand, Open, Do
 use Rattle.unbounded_proof_invariant.proofs.Kept.{hand_by_done}
 use Rattle.unbounded_proof_invariant.proofs.Views.{Seen, SeenOk}
 use Rattle.unbounded_proof_invariant.proofs.Own.{push_of, pop_of}
-use Rattle.unbounded_proof_words.proofs.Words.{word, half}
+use Rattle.unbounded_proof_words.proofs.Words.{half}
 use Rattle.unbounded_proof_words.proofs.Stands.{place_of, Stands, idle, u1, u2, u3, u4, u5, u6, u7, u8, u9, u10, u11, u12, u13, u14, u15, v1, v2, v3, v4, v5, v6}
 use Rattle.unbounded_proof_words.proofs.Stands.{v7, v8, v9, v10, v11, v12, v13, v14, v15, len1, len2, len3, empty1, empty2, full1, close1, closed1, Sim}
 use Rattle.unbounded_proof_words.proofs.Live.{push_held}
@@ -343,9 +343,12 @@ module _ (e : Ends) (blocks : List Block) (slots : List Slot) (ws : List Worker)
 
   -- at V12 the value was read from a slot with WRITE; past it nothing is in its hand
   own_pop : (p : Place) (a n : Ptr) (x : Seen) → Stands p a n x → SeenOk s w x → Handing p → (s.push (s.got w) ≡ Done) ⊎ (pop_of x ≡ none)
-  own_pop p a n x (v12 m eh ed) o hands12 = inl (ap s.push o.0.4 ∙ o.1)
-  own_pop p a n x (v14 ed l) o hands14 = inr refl
-  own_pop p a n x (v15 ed) o hands15 = inr refl
+  own_pop p a n x st o e = go p a n x e st o
+    where
+      go : (p : Place) (a n : Ptr) (x : Seen) → Handing p → Stands p a n x → SeenOk s w x → (s.push (s.got w) ≡ Done) ⊎ (pop_of x ≡ none)
+      go p a n x hands12 (v12 m eh ed) o = inl (ap s.push o.0.4 ∙ o.1)
+      go p a n x hands14 (v14 ed l) o = inr refl
+      go p a n x hands15 (v15 ed) o = inr refl
 
   read_done : s.push (s.got w) ≡ Done
   read_done = first (own_pop (place_of ws w) (sim.places w).aside (sim.places w).new (sim.places w).seen (sim.places w).at (sim.places w).good.seen hand)
@@ -354,14 +357,14 @@ module _ (e : Ends) (blocks : List Block) (slots : List Slot) (ws : List Worker)
       low = let l = (log.latest w holds).made in omega (arith, log.takers_long)
 
       popped : pop_of (sim.places w).seen ≡ none → (x : Hand) → s.pop (s.got w) ≡ x → s.push (s.got w) ≡ Done
-      popped Idle-then Open z = absurd (sim.inv.hands.popped (s.got w) low (log.claim_slot w holds) z)
-      popped Idle-then Done z = sim.inv.hands.order (s.got w) z
-      popped Idle-then (By c) z =
+      popped idle_then Open z = absurd (sim.inv.hands.popped (s.got w) low (log.claim_slot w holds) z)
+      popped idle_then Done z = sim.inv.hands.order (s.got w) z
+      popped idle_then (By c) z =
           let o = sim.places c in
           let has = pops_held s c (s.got w) (place_of ws c) o.aside o.new o.seen o.at o.good.seen (o.good.pops (s.got w) z) in
           let its : get_or (takers_of h) (counted (s.got w)) 0 ≡ c = ap (λ (i : ℕ). get_or (takers_of h) (counted i) 0) (sym has.1) ∙ (log.latest c has.0).its in
           let one : c ≡ w = sym its ∙ (log.latest w holds).its in
-          not_none (s.got w) (sym Idle-then ∙ (sim.places w).good.pops (s.got w) (z ∙ ap By one))
+          not_none (s.got w) (sym idle_then ∙ (sim.places w).good.pops (s.got w) (z ∙ ap By one))
 
       first : (s.push (s.got w) ≡ Done) ⊎ (pop_of (sim.places w).seen ≡ none) → s.push (s.got w) ≡ Done
       first (inl z) = z
