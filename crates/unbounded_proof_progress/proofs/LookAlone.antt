@@ -17,7 +17,6 @@ use Rattle.unbounded_places.specs.declared.Slot.{Slot}
 use Rattle.unbounded_places.specs.declared.Block.{Block}
 use Rattle.unbounded_places.specs.declared.Ends.{Ends}
 use Rattle.unbounded_places.specs.declared.Worker.{Worker}
-use Rattle.unbounded_places.specs.declared.Answer.TheVariants.{Yes, No}
 use Rattle.unbounded_places.specs.declared.Place.{Place}
 use Rattle.unbounded_places.specs.declared.Place.TheVariants.{Idle, U1, U2, U3, U4, U5, U6, U7, U8, U9, U10, U11, U12, U13, U14, U15, V1, V2, V3, V4, V5, V6}
 use Rattle.unbounded_places.specs.declared.Place.TheVariants.{V7, V8, V9, V10, V11, V12, V13, V14, V15, Len1, Len2, Len3, Empty1, Empty2, Full1, Close1}
@@ -28,7 +27,7 @@ use Rattle.unbounded_acts.specs.Acts.{leave, act_of}
 use Rattle.unbounded_machine.specs.declared.Machine.{Machine}
 use Rattle.unbounded_machine.specs.declared.Did.{Did}
 use Rattle.unbounded_machine.specs.declared.Event.{Event}
-use Rattle.unbounded_machine.specs.Machine.{block_at, slot_at, accepted}
+use Rattle.unbounded_machine.specs.Machine.{accepted}
 use Rattle.unbounded_machine.specs.Turn.{stored, acted_at, used_by, moved_by, turn_with}
 use Rattle.unbounded_machine.specs.History.{events_of}
 use Rattle.unbounded_demands.proofs.Refusals.{unbounded_queue}

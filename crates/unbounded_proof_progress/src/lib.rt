@@ -2,4 +2,3 @@
 // under way can meet; PushEnds.antt, a push with a slot in hand ends; Hands.antt, what a worker in whose hand a position is stands at; Holders.antt, so whoever
 // waits has a holder; Progress.antt, and that is what is said. Theorems alone.
 #![tactic(auto)]
-
