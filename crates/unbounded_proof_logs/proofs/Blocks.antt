@@ -40,7 +40,7 @@ use Rattle.unbounded_acts.specs.Acts.{act_of, leave}
 use Rattle.unbounded_machine.specs.declared.Machine.{Machine}
 use Rattle.unbounded_machine.specs.declared.Event.{Event}
 use Rattle.unbounded_machine.specs.Machine.{fresh_of, block_at, slot_at}
-use Rattle.unbounded_machine.specs.Turn.{begun, turn_with, acted_at, block_used, slot_used}
+use Rattle.unbounded_machine.specs.Turn.{turn_with, acted_at, block_used, slot_used}
 use Rattle.unbounded_machine.specs.History.{event, events_of}
 use Rattle.unbounded_demands.proofs.Refusals.{unbounded_queue}
 use Rattle.unbounded_demands.specs.Notions.{Allowed, machine_after, takers_of, Sign, Plain, Exchange7, Exchange4, Pops, Pushes, HandsOut, sign_of, pops_to, takes_by, item_by}
@@ -49,7 +49,7 @@ use Rattle.unbounded_demands.specs.Stories.{Story, story_of, Task, Rests, Starts
 use Rattle.unbounded_demands.specs.Stories.{task_of, closes, change_of, actor, known, queue_at, reply_of}
 use Rattle.unbounded_demands.specs.Demands.{Answered, AtBlocksEnd, Meant}
 use Rattle.unbounded_logs.specs.Logs.{said, said_at, unbounded_log, ShowsNone}
-use Rattle.unbounded_proof_demand2.proofs.Turns.{Turned, began, used, took as took-block, stood, turned}
+use Rattle.unbounded_proof_demand2.proofs.Turns.{Turned, began, used, took as took_block, stood, turned}
 use Rattle.unbounded_proof_demand2.proofs.Demand2.{table, fresh_stood, fresh_reached}
 use Rattle.unbounded_proof_plain.proofs.Steps.{stored_stood, stored_else, begun_stood, begun_else}
 use Rattle.unbounded_proof_plain.proofs.Work.{Work, FreesBy, Due}
@@ -443,8 +443,8 @@ module _ (workers : ℕ) (a : Allowed workers) (limit : ℕ) where
             stored_stood m w m.slots i j _ row ∙ ap (λ (p : Place). (act_of sizes m.ends i (block_at m.blocks i) (slot_at sizes m.slots i j) p lose).place) at
             ∙ close_yes m.ends i (block_at m.blocks i) (slot_at sizes m.slots i j) lose open_yet),
       )
-  both_kept m st en next o k (took-block w asked lose b t f) =
-      let new = told_kept workers a.worker_most m st en next o (took-block w asked lose b t f) in (
+  both_kept m st en next o k (took_block w asked lose b t f) =
+      let new = told_kept workers a.worker_most m st en next o (took_block w asked lose b t f) in (
         new,
         act_kept m st o k w b.busy next new (λ v far. stored_else m w _ _ 0 _ v far)
             (λ at open_yet. absurd (true≢false (sym t ∙ ap (λ (p : Place). (view_of sizes p).takes) at))),

@@ -1,3 +1,2 @@
 // What a log of the unbounded queue never shows, proved. No code.
 #![tactic(auto)]
-
