@@ -1,6 +1,6 @@
 -- Each slip, refuted by computing its schedule.
-use Prim.Native.Nat.{ℕ, zero, suc, ◌+◌, ◌*◌, ◌<◌, ◌≤◌}
-use mathlib.Core.Path.{◌≡◌, refl, sym, ap, ◌∙◌, subst}
+use Prim.Native.Nat.{ℕ, ◌+◌, ◌*◌}
+use mathlib.Core.Path.{◌≡◌, refl, sym, ap, ◌∙◌}
 use mathlib.Core.Bool.{Bool, true, false, cond, true≢false}
 use mathlib.Core.List.{List, [], ◌∷◌, ◌++◌}
 use native.Mathlib.Omega.{arith}
@@ -11,8 +11,7 @@ use Rattle.queue_entries.specs.declared.Entry.TheVariants.{Unreadable}
 use Rattle.queue_entries.specs.Schedules.{run_by, search_by, schedule_by, history_by}
 use Rattle.queue_entries.specs.Entries.{stray_of, order_of, entry_of, entry_but}
 use Rattle.queue_entries.specs.Limits.{all, in_limits}
-use Rattle.unbounded_words.specs.declared.Index.{Index}
-use Rattle.unbounded_words.specs.declared.Pointer.TheVariants.{None, To}
+use Rattle.unbounded_words.specs.declared.Pointer.TheVariants.{To}
 use Rattle.unbounded_words.specs.Words.{index, past_slots, last_slot, marked_of, unmarked_of, with_mark, later, same, same_position, same_block, minus, settled, behind, count_of}
 use Rattle.unbounded_places.specs.declared.Answer.{Answer}
 use Rattle.unbounded_places.specs.declared.Answer.TheVariants.{Closed, Popped, Empty}
@@ -39,7 +38,7 @@ use Rattle.unbounded_demands.specs.Demands.{AnswersTrue}
 use Rattle.unbounded_demands.specs.Runs.{short}
 use Rattle.unbounded_proof_demand2.proofs.Logged.{items_more, takers_more}
 use Rattle.unbounded_slips.specs.Slips.{slipped, closed_unseen, empty_unseen, hands_out_again, reads_early}
-use Rattle.unbounded_slips.specs.Refuted.{reached, past, does, Refuted, push_loses, pop_looks, pop_of_nothing, pop_reads}
+use Rattle.unbounded_slips.specs.Refuted.{reached, past, does, Refuted, push_loses, pop_looks, pop_of_nothing}
 
 two : Allowed 2
 two = record { worker_some = omega arith; worker_most = omega arith }

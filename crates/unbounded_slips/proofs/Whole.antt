@@ -1,10 +1,9 @@
 -- Each slip at full size, refuted by computing its schedule, with `Drop`'s walk left shut.
-use Prim.Native.Nat.{ℕ, suc, ◌+◌}
+use Prim.Native.Nat.{ℕ, suc}
 use mathlib.Core.Path.{◌≡◌, refl, sym, ap, ◌∙◌, subst}
-use mathlib.Core.Bool.{Bool, true, false, cond, not, true≢false}
+use mathlib.Core.Bool.{Bool, true, false, not, true≢false}
 use mathlib.Core.List.{List, [], ◌∷◌, ◌++◌}
 use native.Mathlib.Omega.{arith}
-use lib.Dec.{eqb}
 use lib.ListN.{get_or, replicate}
 use Rattle.queue_entries.specs.Schedules.{run_by, search_by, schedule_by, history_by}
 use Rattle.queue_entries.specs.Entries.{stray_of, order_of, entry_of, entry_but}
@@ -26,13 +25,10 @@ use Rattle.unbounded_machine.specs.Run.{ran}
 use Rattle.unbounded_demands.specs.Notions.{Allowed, acts, items_of, takers_of, takings_of, freeings_of, waiting, Fifo, push12, read11}
 use Rattle.unbounded_demands.specs.Notions as notions
 use Rattle.unbounded_demands.specs.Demands.{ClaimRule, OnceOut, OneHand, ReadsWritten, NoneFree, AnswersTrue, FreedOnce, TakenChained, ContentsWait}
-use Rattle.queue_entries.proofs.Pick as pick
 use Rattle.queue_entries.specs.declared.Entry.TheVariants.{Unreadable}
-use Rattle.unbounded_machine.specs.declared.Did.{Did}
 use Rattle.unbounded_machine.specs.declared.Ran.{Ran}
 use Rattle.unbounded_machine.specs.declared.Event.{Event}
 use Rattle.unbounded_machine.specs.Broken.{broken_of}
-use Rattle.unbounded_machine.specs.Turn.{Table}
 use Rattle.unbounded_machine.specs.Machine.{slot_at}
 use Rattle.unbounded_machine.specs.Run.{run_with}
 use Rattle.unbounded_machine.specs.History.{event, history_with}
@@ -41,7 +37,7 @@ use Rattle.unbounded_acts.specs.Acts.{new_block}
 use Rattle.unbounded_places.specs.declared.Slot.{Slot}
 use Rattle.unbounded_places.specs.declared.Block.{Block}
 use Rattle.unbounded_places.specs.declared.Answer.TheVariants.{Closed, Popped, Empty}
-use Rattle.unbounded_places.specs.declared.Place.TheVariants.{Full1, U4, V1, V2, V3, V12}
+use Rattle.unbounded_places.specs.declared.Place.TheVariants.{U4, V1, V2, V3, V12}
 use Rattle.unbounded_proof_demand2.proofs.Demand2.{whole_schedules}
 use Rattle.unbounded_proof_attained.proofs.First.{start, three, run_first, past_first}
 use Rattle.unbounded_slips.specs.Slips.{reads_early, skips_reader, empty_unseen, closed_unseen, keeps_block, aside_kept, untied, unwritten, act_with}

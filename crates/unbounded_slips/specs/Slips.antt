@@ -1,12 +1,11 @@
 -- Slips in the table, each with one row changed, on blocks of two slots; and definitions that are wrong beside the table.
-use Rattle.std.specs.Prelude.{ℕ, ◌+◌, Bool, cond, List, ◌≡◌, eqb}
+use Rattle.std.specs.Prelude.{ℕ, ◌+◌, cond, ◌≡◌, eqb}
 use Rattle.unbounded_words.specs.declared.Pointer.TheVariants.{None, To}
 use Rattle.unbounded_words.specs.Words.{Sizes, sizes, later, same, same_position, none_of}
 use Rattle.unbounded_places.specs.declared.Answer.TheVariants.{Pushed, Closed, Popped, Empty, Len, Yes, No}
 use Rattle.unbounded_places.specs.declared.Place.TheVariants.{Idle, U1, U2, U3, U4, U5, U6, U7, U8, U9, U10, U11, U12, U13, U14, U15, V1, V2, V3, V4, V5, V6, V7, V8, V9, V10, V11, V12, V13, V14, V15, Len1, Len2, Len3, Empty1, Empty2, Full1, Close1, IsClosed1}
 use Rattle.unbounded_acts.specs.declared.Acted.{Acted}
 use Rattle.unbounded_acts.specs.Acts.{leave, tail_to, back_to_words, READ, state_to, value_to, with, new_block, first_or, answered, claimed, take_or, read_out_of, destroy_from, act_of}
-use Rattle.unbounded_machine.specs.declared.Machine.{Machine}
 use Rattle.unbounded_machine.specs.Turn.{Table, turn_with}
 use Rattle.unbounded_machine.specs.Run.{ran, run_with}
 use Rattle.unbounded_machine.specs.History.{history_with}
