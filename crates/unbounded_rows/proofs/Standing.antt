@@ -1,11 +1,11 @@
 -- Words and machines are one to one; shapes.
 use Prim.Native.Nat.{ℕ, ◌+◌, ◌*◌, ◌/◌, ◌%◌, ◌<◌, ◌≤◌}
 use mathlib.Core.Path.{◌≡◌, refl, sym, ap, ◌∙◌, subst}
-use mathlib.Core.Bool.{Bool, true, false, cond}
+use mathlib.Core.Bool.{Bool, true, false}
 use mathlib.Core.List.{List, [], ◌∷◌}
 use native.Mathlib.Omega.{arith}
 use native.Mathlib.Decide.{ℕ_discrete, dec_lt}
-use lib.Dec.{eqb, ltb}
+use lib.Dec.{eqb}
 use lib.ListN.{length, get_or, set}
 use borrow.Author.Tests.{eq-eqb, ne_eqb, eqb-true, lt-ltb, ltb-true}
 use Rattle.queue_entries.specs.Limits.{workers_most, all}
@@ -25,7 +25,7 @@ use Rattle.unbounded_codes.specs.declared.Coded.{Coded}
 use Rattle.unbounded_codes.specs.Codes.{five, code_of, pointer_in, place_in, stands_for, Said, SaidOf}
 use Rattle.unbounded_codes.proofs.Codes.{pointer_back, word_back, read_back}
 use Rattle.unbounded_codes.proofs.Standing.{written_stands, written_back}
-use Rattle.unbounded_rows.specs.Rows.{Words, words, layout, row, head_from, bit, slot_of_word, slot_place, header_word, slot_word, pooled, pool_of, word_of}
+use Rattle.unbounded_rows.specs.Rows.{Words, words, layout, head_from, bit, slot_of_word, slot_place, header_word, slot_word, pooled, pool_of, word_of}
 use Rattle.unbounded_rows.specs.Rows.{record_word, records_of, words_of, word_at, ends_in, block_in, slot_in, record_in, blocks_in, slots_in, records_in, machine_in}
 use Rattle.unbounded_rows.specs.Rows.{shaped, laid_out_rows, bit_at, bits, placed_at, placed, stand, Sayable, with_blocks, with_slots, five_at, with_record}
 use Rattle.unbounded_rows.proofs.Points.{long_from, get_row, is_row, still_in, Taken, one_taken, all_taken}

@@ -1,5 +1,5 @@
 -- The unbounded queue's machine as words in the host's memory, and back.
-use Rattle.std.specs.Prelude.{ℕ, zero, suc, ◌+◌, ◌-◌, ◌*◌, ◌/◌, ◌%◌, Bool, true, false, cond, List, [], ◌∷◌, ◌≡◌, eqb, ltb, length, get_or, set}
+use Rattle.std.specs.Prelude.{ℕ, zero, suc, ◌+◌, ◌-◌, ◌*◌, ◌/◌, ◌%◌, Bool, false, cond, List, [], ◌∷◌, ◌≡◌, eqb, ltb, length, get_or, set}
 use Rattle.queue_entries.specs.Limits.{workers_most, all}
 use Rattle.unbounded_words.specs.Words.{sizes, index, number_of}
 use Rattle.unbounded_places.specs.declared.Slot.{Slot}
