@@ -8,7 +8,6 @@ use lib.Dec.{eqb}
 use lib.ListN.{length}
 use borrow.Author.Tests.{eq-eqb, ne_eqb}
 use Rattle.queue_entries.specs.declared.Told.{Told}
-use Rattle.queue_entries.specs.declared.Told.TheVariants.{Number, Refused}
 use Rattle.queue_entries.specs.Told.{told}
 use Rattle.queue_entries.proofs.Pick.{along, both_left}
 use Rattle.unbounded_words.specs.Words.{sizes}
@@ -22,7 +21,7 @@ use Rattle.unbounded_machine.specs.Broken.{broken_in, broken_of}
 use Rattle.unbounded_machine.specs.Contents.{count_in, contents_refusal, written}
 use Rattle.unbounded_machine.specs.Run.{run_of}
 use Rattle.unbounded.specs.Unbounded.{make_of, step_of}
-use Rattle.unbounded_rows.specs.Rows.{Words, words, head_of, pool_of, records_of, word_at, ends_in, blocks_in, records_in, machine_in, shaped, stand}
+use Rattle.unbounded_rows.specs.Rows.{words, head_of, pool_of, records_of, word_at, ends_in, blocks_in, records_in, machine_in, shaped, stand}
 use Rattle.unbounded_rows.proofs.Standing.{standing, shape_of}
 use Rattle.unbounded_host.specs.declared.Reply.{Reply}
 use Rattle.unbounded_host.specs.Host.{reply, broken_refusal, broken_words, after, after_of, make_words, step_words_of, ended, ended_of, run_words, reply_of, listed, contents_in, contents_words}
