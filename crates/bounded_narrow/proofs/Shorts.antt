@@ -21,7 +21,7 @@ use Rattle.bounded_words.specs.declared.Stamp.{Stamp}
 use Rattle.bounded_words.specs.declared.Fixed.{Fixed}
 use Rattle.bounded_words.specs.declared.Width.TheVariants.{Sixteen}
 use Rattle.bounded_words.specs.Limits.{slots_most, editions_most, narrow}
-use Rattle.bounded_words.specs.Words.{stamp, index_of, marked_of, unmarked_of, plus, minus, with_mark, next_of, same, one_past, lap_behind, lap_behind_one_past}
+use Rattle.bounded_words.specs.Words.{index_of, marked_of, unmarked_of, plus, minus, with_mark, next_of, same, one_past, lap_behind, lap_behind_one_past}
 use Rattle.bounded_places.specs.declared.Slot.{Slot}
 use Rattle.bounded_places.specs.declared.Ends.{Ends}
 use Rattle.bounded_places.specs.declared.Kind.TheVariants.{Push}
