@@ -4,6 +4,8 @@
 // b"--bits=64,16|" one of these words; b"--queue=!|" is an option of another program alone. A value stands in the next argument, or behind an = in the same one. Behind -- all are names.
 #![tactic(auto)]
 
+use text_system::System;
+use text_system::streams::Stream;
 
 // How many options a table may have, and how many names are kept.
 pub const MOST: usize = 20;
@@ -361,9 +363,15 @@ fn with_word(table: &[u8], most: usize, before: Arguments, i: usize, word: &[u8]
     no_option(before, most, i, word)
 }
 
-fn with_argument(table: &[u8], most: usize, before: Arguments, i: usize) -> Arguments {
-    let mut word = io::buffer();
-    let n = os::arg(i, &mut word);
+fn with_argument(
+    system: &System,
+    table: &[u8],
+    most: usize,
+    before: Arguments,
+    i: usize,
+) -> Arguments {
+    let mut word = [0u8; 4096];
+    let n = text_system::arguments::read(system, i, &mut word);
     with_word(table, most, before, i, &word[..n])
 }
 
@@ -376,12 +384,12 @@ fn whole(a: Arguments) -> Arguments {
 }
 
 // The arguments, of which so many may be names.
-pub fn read(table: &[u8], most: usize) -> Arguments {
+pub fn read(system: &System, table: &[u8], most: usize) -> Arguments {
     let mut a = none();
-    let n = os::arg_count();
+    let n = text_system::arguments::count(system);
     let mut i = 1;
     while i < n {
-        a = with_argument(table, most, a, i);
+        a = with_argument(system, table, most, a, i);
         i += 1;
     }
     whole(a)
@@ -441,9 +449,9 @@ pub fn needs_beside(a: Arguments, n: usize, other: usize, third: usize) -> Argum
 
 // ---- what is wrong, in one line
 
-fn argument(out: &mut [u8], at: usize, i: usize) -> usize {
-    let mut word = io::buffer();
-    let n = os::arg(i, &mut word);
+fn argument(system: &System, out: &mut [u8], at: usize, i: usize) -> usize {
+    let mut word = [0u8; 4096];
+    let n = text_system::arguments::read(system, i, &mut word);
     text_names::shown(out, at, &word[..n])
 }
 
@@ -456,9 +464,9 @@ fn value_in_word(word: &[u8], is_behind: bool) -> &[u8] {
 }
 
 // The value that an argument gives: what stands behind its =, or all of it where the option was given by the argument before.
-fn value_at(out: &mut [u8], at: usize, option_at: usize, i: usize) -> usize {
-    let mut word = io::buffer();
-    let n = os::arg(i, &mut word);
+fn value_at(system: &System, out: &mut [u8], at: usize, option_at: usize, i: usize) -> usize {
+    let mut word = [0u8; 4096];
+    let n = text_system::arguments::read(system, i, &mut word);
     text_names::shown(out, at, value_in_word(&word[..n], option_at == i))
 }
 
@@ -522,28 +530,29 @@ fn place_in(list: [usize; MOST], n: usize) -> usize {
 }
 
 // An option as it was given, with its value.
-fn as_given(out: &mut [u8], at: usize, a: Arguments, n: usize) -> usize {
+fn as_given(system: &System, out: &mut [u8], at: usize, a: Arguments, n: usize) -> usize {
     let at_each = a.at;
     let to_each = a.to;
     let from = place_in(at_each, n);
     let to = place_in(to_each, n);
-    let p = argument(out, at, from);
+    let p = argument(system, out, at, from);
     if from == to {
         return p;
     }
     let q = text_output::byte(out, p, b' ');
-    argument(out, q, to)
+    argument(system, out, q, to)
 }
 
 // What it is about: the argument, or the option by its name.
-fn subject(out: &mut [u8], at: usize, table: &[u8], w: Wrong) -> usize {
+fn subject(system: &System, out: &mut [u8], at: usize, table: &[u8], w: Wrong) -> usize {
     if w.kind <= ONE_MORE {
-        return argument(out, at, w.at);
+        return argument(system, out, at, w.at);
     }
     name(out, at, table, w.option)
 }
 
 fn object(
+    system: &System,
     out: &mut [u8],
     at: usize,
     table: &[u8],
@@ -554,17 +563,17 @@ fn object(
     let kind = w.kind;
     let at_each = a.at;
     match kind {
-        NO_VALUE => argument(out, at, w.at),
+        NO_VALUE => argument(system, out, at, w.at),
         LACKING => choices(out, at, table, w.option),
         NOT_IT => {
             let p = choices(out, at, table, w.option);
             let q = text_output::text(out, p, b", not ");
-            value_at(out, q, place_in(at_each, w.option), w.at)
+            value_at(system, out, q, place_in(at_each, w.option), w.at)
         }
-        CLASH => as_given(out, at, a, w.other),
+        CLASH => as_given(system, out, at, a, w.other),
         NEEDS => name(out, at, table, w.other),
         BESIDE => {
-            let p = as_given(out, at, a, w.other);
+            let p = as_given(system, out, at, a, w.other);
             let q = text_output::text(out, p, b" needs ");
             name(out, q, table, w.third)
         }
@@ -573,20 +582,20 @@ fn object(
     }
 }
 
-pub fn out(fd: i32, text: &[u8], n: usize) -> bool {
-    io::write_all(fd, part(text, 0, n))
+pub fn out(system: &System, to: Stream, text: &[u8], n: usize) -> bool {
+    text_system::streams::put_to(system, to, part(text, 0, n))
 }
 
 // Room for an option and its value as they were given.
 const LINE: usize = 2 * text_names::ROOM + 512;
 
 // PROGRAM: what is wrong, on standard error; of an option of another program this.
-pub fn complain(program: &[u8], table: &[u8], a: Arguments, foreign: &[u8]) {
+pub fn complain(system: &System, program: &[u8], table: &[u8], a: Arguments, foreign: &[u8]) {
     let mut text = [0u8; LINE];
     let w = a.wrong;
     let p = text_output::text(&mut text, 0, program);
     let q = text_output::text(&mut text, p, b": ");
-    let r = subject(&mut text, q, table, w);
+    let r = subject(system, &mut text, q, table, w);
     let s = text_output::nth(
         &mut text,
         r,
@@ -594,13 +603,13 @@ pub fn complain(program: &[u8], table: &[u8], a: Arguments, foreign: &[u8]) {
         w.kind as usize,
         &[],
     );
-    let t = object(&mut text, s, table, a, w, foreign);
+    let t = object(system, &mut text, s, table, a, w, foreign);
     let u = text_output::text(&mut text, t, b" (see --help)\n");
-    out(libc::STDERR_FILENO, &text, u);
+    out(system, Stream::Error, &text, u);
 }
 
 // The version of the programs, as hosts/rust/Cargo.toml has it; answers whether all of it was written.
-pub fn version(program: &[u8]) -> bool {
+pub fn version(system: &System, program: &[u8]) -> bool {
     let mut text = [0u8; 128];
     let p = text_output::text(&mut text, 0, program);
     let q = text_output::text(
@@ -608,5 +617,5 @@ pub fn version(program: &[u8]) -> bool {
         p,
         b" 0.1.0 of Fernmoldew, the port of concurrent-queue 2.5.0\n",
     );
-    out(libc::STDOUT_FILENO, &text, q)
+    out(system, Stream::Output, &text, q)
 }
