@@ -12,7 +12,6 @@ use Rattle.queue_plain.specs.Story.{Does, items_of}
 use Rattle.single_words.specs.declared.State.{State}
 use Rattle.single_words.specs.Words.{locked_in, pushed_in}
 use Rattle.single_places.specs.declared.Single.{Single}
-use Rattle.single_places.specs.declared.Answer.TheVariants.{Len}
 use Rattle.single_places.specs.declared.Place.{Place}
 use Rattle.single_places.specs.declared.Place.TheVariants.{Idle, A1, A2, A3, B1, B2, B3, B4, B5, C1, C2, C3, Len1, Empty1, Full1, Close1, IsClosed1}
 use Rattle.single_places.specs.Places.{view_of}

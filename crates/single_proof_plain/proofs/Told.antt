@@ -31,7 +31,7 @@ use Rattle.single_machine.specs.declared.Event.{Event}
 use Rattle.single_machine.specs.Turn.{begun, acted}
 use Rattle.single_machine.specs.History.{event}
 use Rattle.single_demands.specs.Notions.{Access, none, writes, swaps, reads, access_of, item_of, is_read, waits_after, waiting, is_close, closed_by}
-use Rattle.single_demands.specs.Stories.{Element, Story, known, change_of, actor, put_by, taken_by, given_back, room_taken, asked_at, moment_of}
+use Rattle.single_demands.specs.Stories.{Element, Story, known, change_of, actor, room_taken, asked_at, moment_of}
 use Rattle.single_demands.specs.Demands.{Answered, Meant, Changes}
 use Rattle.single_proof_demand2.proofs.Log.{waiting_more, closed_more}
 use Rattle.single_proof_demand2.proofs.Words.{word, pushed_of}
