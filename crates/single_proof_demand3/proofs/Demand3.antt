@@ -2,10 +2,9 @@
 use Prim.Native.Nat.{ℕ, ◌+◌, ◌*◌, ◌<◌, ◌≤◌}
 use mathlib.Core.Path.{◌≡◌, refl, sym, ap, ◌∙◌, subst}
 use mathlib.Core.Bool.{Bool, true, false, true≢false}
-use mathlib.Core.List.{List, [], ◌∷◌, ◌++◌}
+use mathlib.Core.List.{List, []}
 use native.Mathlib.Omega.{arith}
 use Rattle.queue_entries.specs.Limits.{meter_most}
-use Rattle.queue_schedules.specs.Alone.{acts}
 use Rattle.queue_schedules.proofs.Alone.{act_entry, Stepped, Ends, idle_stays, passed_as_run}
 use Rattle.single_places.specs.declared.Answer.{Answer}
 use Rattle.single_places.specs.declared.Place.{Place}
@@ -14,14 +13,13 @@ use Rattle.single_places.specs.Places.{view_of}
 use Rattle.single_machine.specs.declared.Machine.{Machine}
 use Rattle.single_machine.specs.declared.Did.{Did}
 use Rattle.single_machine.specs.declared.Event.{Event}
-use Rattle.single_machine.specs.Machine.{place_of, accepted}
-use Rattle.single_machine.specs.Turn.{turn_of, acted}
-use Rattle.single_machine.specs.Run.{run_from}
+use Rattle.single_machine.specs.Machine.{accepted}
+use Rattle.single_machine.specs.Turn.{acted}
 use Rattle.single_machine.specs.History.{event, events_of}
 use Rattle.single_machine.proofs.Turns.{single_queue}
 use Rattle.single_demands.specs.Notions.{source, machine_after, acts_of, Acts, OtherHand, HandsOut, Came, Truth, most_of}
 use Rattle.single_demands.specs.Foretold.{foretold, foretold_of}
-use Rattle.single_demands.specs.Demands.{Demand3, ScheduledAlone, EndsAlone, AloneEnds, InTheWay, GoesOut}
+use Rattle.single_demands.specs.Demands.{Demand3, ScheduledAlone, EndsAlone, InTheWay}
 use Rattle.single_demands.proofs.Attained.{at_most}
 use Rattle.single_proof_demand2.proofs.Turns.{stood}
 use Rattle.single_proof_demand2.proofs.Reached.{Reached, acted_reached}

@@ -11,7 +11,7 @@ use borrow.Author.Tests.{eq-eqb, ne_eqb, eqb-true, eqb-false}
 use Rattle.queue_entries.specs.declared.Entry.{Entry}
 use Rattle.queue_entries.specs.Entries.{entry_of}
 use Rattle.queue_schedules.specs.Alone.{act_by}
-use Rattle.queue_schedules.proofs.Alone.{part, Was, others, its_own, its_last, Gone, goes as goes-alone}
+use Rattle.queue_schedules.proofs.Alone.{part, Was, others, its_own, its_last, goes as goes-alone}
 use Rattle.single_places.specs.declared.Single.{Single}
 use Rattle.single_places.specs.declared.Answer.{Answer}
 use Rattle.single_places.specs.declared.Answer.TheVariants.{Pushed, Displaced, Popped}
@@ -21,11 +21,10 @@ use Rattle.single_places.specs.Places.{view_of, begin_of}
 use Rattle.single_acts.specs.Acts.{goes, act_of}
 use Rattle.single_machine.specs.declared.Machine.{Machine}
 use Rattle.single_machine.specs.declared.Event.{Event}
-use Rattle.single_machine.specs.Turn.{turn_of, turn_of_by, begun, acted}
-use Rattle.single_machine.specs.History.{events_of}
+use Rattle.single_machine.specs.Turn.{turn_of, turn_of_by, acted}
 use Rattle.single_machine.proofs.Turns.{single_queue}
 use Rattle.single_demands.specs.Notions.{source, InHand, most_of, LetsGo}
-use Rattle.single_proof_demand2.proofs.Effects.{hand_of_worker, holding, hand_is, holding_busy}
+use Rattle.single_proof_demand2.proofs.Effects.{hand_is, holding_busy}
 use Rattle.single_proof_demand2.proofs.Turns.{Turned, began, did, turned, stood}
 use Rattle.single_proof_demand2.proofs.Reached.{Reached, entered, in_row, begun_else, acted_stood, acted_else}
 

@@ -1,9 +1,8 @@
 -- A call that alone is scheduled, with the slot in no other hand, ends.
 use Prim.Native.Nat.{ℕ, suc, ◌+◌, ◌*◌, ◌<◌, ◌≤◌}
 use mathlib.Core.Path.{◌≡◌, refl, sym, ap, ◌∙◌, subst}
-use mathlib.Core.Logic.{◌≢◌}
-use mathlib.Core.Bool.{Bool, true, false, cond, true≢false}
-use mathlib.Core.List.{List, [], ◌∷◌, ◌++◌}
+use mathlib.Core.Bool.{Bool, true, false, true≢false}
+use mathlib.Core.List.{List}
 use native.Mathlib.Omega.{arith}
 use native.Mathlib.Decide.{ℕ_discrete, dec_lt}
 use lib.Dec.{ltb}
@@ -12,17 +11,12 @@ use borrow.Author.Tests.{lt-ltb, ltb-true}
 use Rattle.queue_entries.specs.Limits.{workers_most, meter_most}
 use Rattle.queue_entries.specs.declared.Call.{Call}
 use Rattle.queue_entries.specs.declared.Call.TheVariants as call
-use Rattle.queue_entries.specs.declared.Order.TheVariants.{Act}
 use Rattle.queue_entries.specs.declared.Entry.{Entry}
-use Rattle.queue_entries.specs.declared.Entry.TheVariants.{Asks}
 use Rattle.queue_entries.specs.Entries.{entry_of}
-use Rattle.queue_schedules.specs.Alone.{acts}
-use Rattle.queue_schedules.proofs.Alone.{act_entry, Stepped, Ends, ends_by, idle_stays}
-use Rattle.single_words.specs.declared.State.{State}
+use Rattle.queue_schedules.proofs.Alone.{act_entry, Stepped, Ends, ends_by}
 use Rattle.single_words.specs.Words.{pushed_in, closed_in}
 use Rattle.single_places.specs.declared.Single.{Single}
 use Rattle.single_places.specs.declared.Answer.{Answer}
-use Rattle.single_places.specs.declared.Answer.TheVariants.{Pushed, Full, Closed, Displaced, Popped, Empty, PopClosed, Len, Yes, No}
 use Rattle.single_places.specs.declared.Place.{Place}
 use Rattle.single_places.specs.declared.Place.TheVariants.{Idle, A1, A2, A3, B1, B2, B3, B4, B5, C1, C2, C3, Len1, Empty1, Full1, Close1, IsClosed1}
 use Rattle.single_places.specs.declared.Worker.{Worker}
@@ -34,17 +28,17 @@ use Rattle.single_machine.specs.declared.Event.{Event}
 use Rattle.single_machine.specs.Machine.{idler, accepted}
 use Rattle.single_machine.specs.Broken.{record_fits}
 use Rattle.single_machine.specs.Turn.{turn, turn_of, turn_of_by, acted}
-use Rattle.single_machine.specs.History.{event, events_of}
+use Rattle.single_machine.specs.History.{events_of}
 use Rattle.single_machine.proofs.Turns.{single_queue}
-use Rattle.single_demands.specs.Notions.{source, Acts, InHand, OtherHand, HandsOut, Came, waiting, closed_by, queue_answer, Truth, most_of}
+use Rattle.single_demands.specs.Notions.{InHand, OtherHand, waiting, closed_by, queue_answer, most_of}
 use Rattle.single_demands.specs.Foretold.{foretold, foretold_of}
-use Rattle.single_proof_demand2.proofs.Words.{word, pushed_of, closed_of}
-use Rattle.single_proof_demand2.proofs.Effects.{Hand, free, hand_of_worker, fills, holding, hand_is}
+use Rattle.single_proof_demand2.proofs.Words.{pushed_of, closed_of}
+use Rattle.single_proof_demand2.proofs.Effects.{free, hand_of_worker, fills, holding, hand_is}
 use Rattle.single_proof_demand2.proofs.Grip.{Grip, loose, held, Rests}
 use Rattle.single_proof_demand2.proofs.Turns.{Turned, turned, stood}
 use Rattle.single_proof_demand2.proofs.Reached.{Reached, hands, in_row, acted_stood, acted_else, acted_single, acted_meter, one_entry, begin_free}
 use Rattle.single_proof_demand2.proofs.Hands.{hand_holds}
-use Rattle.single_proof_demand2.proofs.Answers.{did_act, answers_true}
+use Rattle.single_proof_demand2.proofs.Answers.{did_act}
 use Rattle.single_proof_demand3.specs.Rank.{rank_of}
 use Rattle.single_proof_demand3.proofs.Falls.{rank_most, rank_some, Alone, act_alone}
 

@@ -2,4 +2,3 @@
 // end; proofs/Falls.antt, alone it falls with every act and the answer foretold stays; Solo.antt, so the call ends; Hand.antt, whoever has the slot in
 // hand lets go; Demand3.antt, and that is the demand. Theorems alone.
 #![tactic(auto)]
-
