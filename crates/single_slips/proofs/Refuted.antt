@@ -1,9 +1,9 @@
 -- Each slip, refuted by computing its schedule.
 use Prim.Native.Nat.{ℕ, ◌≤◌}
 use native.Mathlib.Omega.{arith}
-use mathlib.Core.Bool.{Bool, true, false, true≢false}
+use mathlib.Core.Bool.{Bool, false, true≢false}
 use mathlib.Core.List.{List, [], ◌∷◌, ◌++◌}
-use mathlib.Core.Path.{◌≡◌, refl, sym, ap, ◌∙◌, subst}
+use mathlib.Core.Path.{◌≡◌, refl, sym, ap, subst}
 use borrow.Author.Tests.{eqb-true}
 use lib.Dec.{eqb}
 use lib.ListN.{get_or}
@@ -24,7 +24,7 @@ use Rattle.single_acts.specs.Acts.{goes, state_to, value_to, exchanged, unlocked
 use Rattle.single_machine.specs.declared.Machine.{Machine}
 use Rattle.single_machine.specs.declared.Ran.{Ran}
 use Rattle.single_machine.specs.declared.Event.{Event}
-use Rattle.single_machine.specs.Machine.{idlers, fresh_of, place_of, refused, accepted}
+use Rattle.single_machine.specs.Machine.{idlers, fresh_of, refused, accepted}
 use Rattle.single_machine.specs.Broken.{record_fits, idle_from, broken_of}
 use Rattle.single_machine.specs.Contents.{contents_of, contents_refusal, written}
 use Rattle.single_machine.specs.Turn.{begun, stored, acted_by, turn_of_by}
@@ -35,7 +35,7 @@ use Rattle.single_demands.specs.Notions.{Allowed, machine_after, acts_of, InHand
 use Rattle.queue_schedules.proofs.Splits.{no_cons}
 use Rattle.single_slips.specs.Slips.{slipped, close_adds, unwritten, reads_after_unlock, displaces_its_own, always_full, empty_unclosed, pop_waits, push_waits}
 use Rattle.single_slips.specs.Slips.{len_unlocked, empty_is_zero, force_keeps_its_word, pop_keeps_its_word, stays_locked, never_lets_go}
-use Rattle.single_slips.specs.Refuted.{Trial, reached, past, does, Refuted, one_push, push_pop, push_peek, two_pops, force_displaces, pop_reads_late}
+use Rattle.single_slips.specs.Refuted.{Trial, reached, past, does, Refuted, one_push}
 use Rattle.single_slips.specs.Refuted.{pop_of_nothing, force_of_nothing, pop_after_close, pop_beside_pop, push_beside_pop, push_begun, len_beside_push}
 use Rattle.single_slips.specs.Refuted.{empty_after_close, push_on_full, force_on_full, pop_of_closed, pop_after_push, pop_in_hand}
 use Rattle.single_slips.proofs.Meanings.{plain_push_drops, plain_force_drops, plain_another_in, plain_another_out, plain_own_out, plain_peeks}

@@ -1,11 +1,11 @@
 -- Ways to refute a statement by what a schedule computes to.
-use Prim.Native.Nat.{ℕ, zero, suc, ◌+◌, ◌*◌, ◌≤◌, ◌<◌}
+use Prim.Native.Nat.{ℕ, zero, suc, ◌+◌, ◌*◌, ◌≤◌}
 use mathlib.Core.Bool.{Bool, true, false, cond, not, true≢false}
 use mathlib.Core.List.{List, [], ◌∷◌, ◌++◌}
 use mathlib.Core.Path.{◌≡◌, refl, sym, ap, subst, ◌∙◌}
 use mathlib.Core.Logic.{◌≢◌}
 use native.Mathlib.Omega.{arith}
-use native.Mathlib.Decide.{ℕ_discrete, dec_lt}
+use native.Mathlib.Decide.{ℕ_discrete}
 use lib.Dec.{eqb}
 use lib.ListN.{get_or, replicate}
 use borrow.Author.Tests.{eq-eqb}
@@ -29,9 +29,9 @@ use Rattle.single_demands.specs.Notions.{is_read, Holds, holds_c3, holds_b5, Lat
 use Rattle.single_demands.specs.Notions.{displaces, leaves, rests, passed, LetsGo}
 use Rattle.single_demands.specs.Foretold.{foretold}
 use Rattle.single_demands.specs.Demands.{EndsAlone}
-use Rattle.single_proof_demand2.proofs.Effects.{Hand, free, putting, put, swapping, swapped, taking, took, hand_of_worker, holding, hand_is, holding_busy}
+use Rattle.single_proof_demand2.proofs.Effects.{Hand, free, putting, put, swapping, swapped, taking, took, hand_of_worker, hand_is, holding_busy}
 use Rattle.queue_schedules.proofs.Splits.{no_cons}
-use Rattle.single_proof_demand2.proofs.Log.{waiting_more, every_in}
+use Rattle.single_proof_demand2.proofs.Log.{waiting_more}
 
 abbrev pub busy_at : Machine → ℕ → Bool
 busy_at m w = (view_of (place_of m.workers w)).busy
