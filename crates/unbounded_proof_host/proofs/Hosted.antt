@@ -1,12 +1,11 @@
 -- The statements over words, from those over the machine.
-use Prim.Native.Nat.{ℕ, ◌+◌, ◌*◌, ◌%◌, ◌<◌}
+use Prim.Native.Nat.{ℕ, ◌+◌, ◌*◌}
 use mathlib.Core.Path.{◌≡◌, refl, sym, ap, ◌∙◌, subst}
 use mathlib.Core.Bool.{Bool, true, false, cond, true≢false}
 use mathlib.Core.List.{List, [], ◌∷◌}
 use native.Mathlib.Omega.{arith}
-use native.Mathlib.Decide.{dec_lt}
-use lib.Dec.{eqb, ltb}
-use lib.ListN.{length, get_or, take, length-replicate, get_or-eq_default}
+use lib.Dec.{eqb}
+use lib.ListN.{take}
 use borrow.Author.Tests.{eqb-true, eqb-false}
 use Rattle.queue_entries.specs.Limits.{workers_most, in_limits}
 use Rattle.queue_entries.proofs.Limits.{limit_some, limit_most}
@@ -18,25 +17,25 @@ use Rattle.unbounded_acts.specs.Acts.{new_block}
 use Rattle.unbounded_machine.specs.declared.Machine.{Machine}
 use Rattle.unbounded_machine.specs.declared.Did.{Did}
 use Rattle.unbounded_machine.specs.declared.Ran.{Ran}
-use Rattle.unbounded_machine.specs.Machine.{slot, block_at, idler, idlers, free_block, free_blocks, empty_slots, place_of, fresh_of, blank, refused, accepted}
+use Rattle.unbounded_machine.specs.Machine.{slot, idler, fresh_of, blank, refused, accepted}
 use Rattle.unbounded_machine.specs.Broken.{broken_of}
 use Rattle.unbounded_machine.specs.Turn.{turn_of}
 use Rattle.unbounded_machine.specs.Run.{ran, run_from, run_of}
 use Rattle.unbounded.specs.Unbounded.{make_of, step_of}
-use Rattle.unbounded_codes.specs.Codes.{Said, SaidOf, place_in}
+use Rattle.unbounded_codes.specs.Codes.{Said, SaidOf}
 use Rattle.unbounded_codes.proofs.Codes.{pointer_said}
-use Rattle.unbounded_rows.specs.Rows.{Words, words_of, row, word_at, ends_in, block_in, slot_in, record_in, blocks_in, slots_in, records_in, machine_in, shaped, stand, Sayable}
-use Rattle.unbounded_rows.proofs.Points.{long_from, get_row}
+use Rattle.unbounded_rows.specs.Rows.{Words, words_of, word_at, ends_in, block_in, slot_in, record_in, blocks_in, slots_in, records_in, machine_in, shaped, stand, Sayable}
+use Rattle.unbounded_rows.proofs.Points.{long_from}
 use Rattle.unbounded_rows.proofs.Standing.{same_words, written_stand, same_machine}
 use Rattle.unbounded_host.specs.Host.{reply, broken_words, After, after, after_of, make_words, step_words_of, Ended, ended, ended_of, run_words, contents_words}
 use Rattle.unbounded_demands.specs.Notions.{Allowed, machine_after, acts_of}
 use Rattle.unbounded_demands.specs.Stories.{story_of}
 use Rattle.unbounded_demands.specs.Demands.{PlainThroughout, CloseHolds, Demand2}
 use Rattle.unbounded_demands.proofs.Refusals.{refused_unchanged, list_first}
-use Rattle.unbounded_proof_demand2.proofs.Demand2.{demand2, fresh_stood}
+use Rattle.unbounded_proof_demand2.proofs.Demand2.{demand2}
 use Rattle.unbounded_proof_plain.proofs.Plain.{answers_plain}
 use Rattle.unbounded_proof_plain.proofs.Closing.{closes_and_claims}
-use Rattle.unbounded_proof_host.specs.Hosted.{source, face, OneToOne, Malformed, RefusedWords, by_single_entries, RunAsSteps, left_by, taken_by, Under, HostedThroughout}
+use Rattle.unbounded_proof_host.specs.Hosted.{source, face, OneToOne, Malformed, RefusedWords, RunAsSteps, left_by, taken_by, Under, HostedThroughout}
 use Rattle.unbounded_proof_host.proofs.Said.{turned_said, fresh_said, each_said, place_said}
 
 pub one_to_one : OneToOne stand
@@ -266,14 +265,14 @@ module _ (w : Words) (workers : ℕ) (made : (make_words w workers).answer ≡ 0
   w₀ : Words
   w₀ = (make_words w workers).words
 
-  words-are₀ : (make_words w workers).words ≡ words_of (fresh_of sizes workers)
-  words-are₀ = fresh.words_are ∙ ap words_of machine_is
+  words_are₀ : (make_words w workers).words ≡ words_of (fresh_of sizes workers)
+  words_are₀ = fresh.words_are ∙ ap words_of machine_is
 
   read₀ : machine_in (make_words w workers).words ≡ fresh_of sizes workers
-  read₀ = ap machine_in words-are₀ ∙ same_machine (fresh_of sizes workers) (fresh_said workers)
+  read₀ = ap machine_in words_are₀ ∙ same_machine (fresh_of sizes workers) (fresh_said workers)
 
   pub stand₀ : stand (make_words w workers).words ≡ true
-  stand₀ = ap stand words-are₀ ∙ written_stand (fresh_of sizes workers) (fresh_said workers)
+  stand₀ = ap stand words_are₀ ∙ written_stand (fresh_of sizes workers) (fresh_said workers)
 
   pub allowed : Allowed workers
   allowed = record { worker_some = limit_some workers workers_most true (sym few) refl; worker_most = limit_most workers workers_most true (sym few) refl }
@@ -282,15 +281,15 @@ module _ (w : Words) (workers : ℕ) (made : (make_words w workers).answer ≡ 0
   under entries =
       let s = taken_by face (make_words w workers).words entries in
       let leads = led entries (make_words w workers).words 0 stand₀ in
-      let machine-there : machine_after source workers s ≡ machine_in (left_by face (make_words w workers).words entries) = ap
+      let machine_there : machine_after source workers s ≡ machine_in (left_by face (make_words w workers).words entries) = ap
       (λ (m : Machine). (run_from sizes m 0 s).machine) (sym read₀) ∙ leads.machine in
       record {
         accepted = ap (λ (m : Machine). (run_from sizes m 0 s).refusal) (sym read₀) ∙ leads.accepted;
-        machine = machine-there;
-        plain = subst (λ (m : Machine). PlainThroughout source m (acts_of source workers s) (story_of source workers s)) machine-there (answers_plain workers allowed s);
-        closes = subst (λ (m : Machine). CloseHolds m (acts_of source workers s)) machine-there (closes_and_claims workers allowed s).0;
+        machine = machine_there;
+        plain = subst (λ (m : Machine). PlainThroughout source m (acts_of source workers s) (story_of source workers s)) machine_there (answers_plain workers allowed s);
+        closes = subst (λ (m : Machine). CloseHolds m (acts_of source workers s)) machine_there (closes_and_claims workers allowed s).0;
         own_claim = (closes_and_claims workers allowed s).1;
-        demand2 = subst (λ (m : Machine). Demand2 source workers m (acts_of source workers s)) machine-there (demand2 workers allowed s);
+        demand2 = subst (λ (m : Machine). Demand2 source workers m (acts_of source workers s)) machine_there (demand2 workers allowed s);
       }
 
 pub hosted_throughout : HostedThroughout face

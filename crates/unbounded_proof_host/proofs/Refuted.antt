@@ -7,13 +7,12 @@ use native.Mathlib.Omega.{arith}
 use lib.Dec.{eqb}
 use lib.ListN.{length, get_or, take, replicate, length-replicate}
 use borrow.Author.Tests.{eq-eqb}
-use Rattle.queue_entries.specs.Limits.{workers_most, in_limits}
+use Rattle.queue_entries.specs.Limits.{in_limits}
 use Rattle.queue_entries.specs.declared.Entry.TheVariants.{Unreadable}
 use Rattle.queue_entries.specs.Entries.{stray_of, order_of, entry_of, entry_but}
-use Rattle.queue_entries.specs.Schedules.{run_by, search_by, schedule_by}
+use Rattle.queue_entries.specs.Schedules.{run_by}
 use Rattle.unbounded_words.specs.declared.Pointer.TheVariants.{None}
 use Rattle.unbounded_words.specs.Words.{sizes}
-use Rattle.unbounded_places.specs.declared.Place.{Place}
 use Rattle.unbounded_places.specs.declared.Place.TheVariants.{U1}
 use Rattle.unbounded_places.specs.Places.{view_of}
 use Rattle.unbounded_acts.specs.Acts.{act_of}
@@ -33,7 +32,7 @@ use Rattle.unbounded_host.specs.Host.{broken_words, After, after, after_of, made
 use Rattle.unbounded_demands.specs.Notions.{Allowed, machine_after}
 use Rattle.unbounded_demands.proofs.Refusals.{list_first}
 use Rattle.unbounded_proof_demand2.proofs.Demand2.{demand2}
-use Rattle.unbounded_proof_host.specs.Hosted.{source, face, Hosting, Malformed, RefusedWords, RunAsSteps, HostedThroughout, HostedMixed, running, left_by, taken_by, left_by_all, entries_by}
+use Rattle.unbounded_proof_host.specs.Hosted.{source, Malformed, RefusedWords, RunAsSteps, HostedThroughout, HostedMixed, running, left_by, taken_by, left_by_all, entries_by}
 use Rattle.unbounded_proof_host.specs.Slips.{hosting_with, not_run, not_stepped, Faithful, Stands, Refuted}
 use Rattle.unbounded_proof_host.proofs.Said.{turned_said, fresh_said}
 use Rattle.unbounded_proof_host.proofs.Hosted.{one_to_one, malformed, refused_words, run_as_steps, hosted_throughout, step_is}

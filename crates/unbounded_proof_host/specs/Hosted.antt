@@ -9,7 +9,6 @@ use Rattle.unbounded_machine.specs.declared.Machine.{Machine}
 use Rattle.unbounded_machine.specs.Machine.{fresh_of}
 use Rattle.unbounded_machine.specs.Turn.{entry_here}
 use Rattle.unbounded_rows.specs.Rows.{Words, words_of, machine_in, stand, Sayable}
-use Rattle.unbounded_host.specs.declared.Reply.{Reply}
 use Rattle.unbounded_host.specs.Host.{reply, broken_words, After, after, make_words, step_words_of, Ended, ended, run_words, Listed, listed, contents_words}
 use Rattle.unbounded_demands.specs.Notions.{Definition, definition, machine_after, acts_of}
 use Rattle.unbounded_demands.specs.Stories.{story_of}
