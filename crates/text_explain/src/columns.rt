@@ -1,4 +1,6 @@
 // The columns of a line: the entry's number, its worker, the place, what happened, and why a worker tries again. A line has room for 100 bytes; more is left out.
+use text_system::System;
+
 pub const WIDE: usize = 100;
 
 // Where the cause of a retry ends, if there is room before it.
@@ -94,15 +96,23 @@ fn colour(out: &mut [u8], at: usize, of: u8) -> usize {
 }
 
 // The line goes to the text.
-pub fn put(out: &mut [u8], at: usize, line: &[u8], n: usize, colours: bool, of: u8) -> usize {
+pub fn put(
+    system: &System,
+    out: &mut [u8],
+    at: usize,
+    line: &[u8],
+    n: usize,
+    colours: bool,
+    of: u8,
+) -> usize {
     if colours && of != PLAIN {
         let p = colour(out, at, of);
         let q = text_of(out, p, line, n);
         let r = colour(out, q, PLAIN);
         let s = text_output::byte(out, r, b'\n');
-        return text_output::settle(out, s);
+        return text_output::settle(system, out, s);
     }
     let p = text_of(out, at, line, n);
     let q = text_output::byte(out, p, b'\n');
-    text_output::settle(out, q)
+    text_output::settle(system, out, q)
 }

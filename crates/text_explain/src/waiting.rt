@@ -1,5 +1,6 @@
 // What waits at the end of a run, front first, on lines of at most 100 columns.
 use crate::columns;
+use text_system::System;
 
 fn get(list: &[u64], i: usize) -> u64 {
     if i < list.len() {
@@ -33,33 +34,33 @@ struct Listed {
 }
 
 // The next one of n.
-fn item_of(out: &mut [u8], t: Listed, i: usize, n: u64, list: &[u64]) -> Listed {
+fn item_of(system: &System, out: &mut [u8], t: Listed, i: usize, n: u64, list: &[u64]) -> Listed {
     if n <= i as u64 {
         return t;
     }
     let next = item(out, t.at, t.from, get(list, i));
     Listed {
-        at: text_output::settle(out, next.at),
+        at: text_output::settle(system, out, next.at),
         from: next.from,
     }
 }
 
-fn items(out: &mut [u8], at: usize, list: &[u64], n: u64) -> usize {
+fn items(system: &System, out: &mut [u8], at: usize, list: &[u64], n: u64) -> usize {
     let mut t = Listed { at: at, from: 6 };
     let mut i = 0;
     while i < list.len() {
-        t = item_of(out, t, i, n, list);
+        t = item_of(system, out, t, i, n, list);
         i += 1;
     }
     t.at
 }
 
 // The first n of a list.
-pub fn told(out: &mut [u8], at: usize, list: &[u64], n: u64) -> usize {
+pub fn told(system: &System, out: &mut [u8], at: usize, list: &[u64], n: u64) -> usize {
     if n == 0 {
         return text_output::text(out, at, b"waits: nothing\n");
     }
     let p = text_output::text(out, at, b"waits:");
-    let q = items(out, p, list, n);
+    let q = items(system, out, p, list, n);
     text_output::byte(out, q, b'\n')
 }

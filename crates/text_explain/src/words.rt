@@ -1,5 +1,6 @@
 // Words that lines of all queues share: what an entry begins, why it is refused.
 use crate::columns;
+use text_system::System;
 
 // The call that an entry begins, by its two numbers.
 pub fn begin(line: &mut [u8], at: usize, first: u64, second: u64) -> usize {
@@ -35,6 +36,7 @@ fn refused_line(line: &mut [u8], place: u64, refusal: u64, w: u64) -> usize {
 
 // The line of an entry of worker w that was refused, or of a schedule of which nothing is run.
 pub fn refused(
+    system: &System,
     out: &mut [u8],
     at: usize,
     colours: bool,
@@ -44,11 +46,12 @@ pub fn refused(
 ) -> usize {
     let mut line = [0u8; columns::WIDE];
     let n = refused_line(&mut line, place, refusal, w);
-    columns::put(out, at, &line, n, colours, columns::REFUSED)
+    columns::put(system, out, at, &line, n, colours, columns::REFUSED)
 }
 
 // The line of a making, by a table of its refusals and the numbers that it was asked with; 0 is none.
 pub fn made(
+    system: &System,
     out: &mut [u8],
     at: usize,
     colours: bool,
@@ -63,7 +66,7 @@ pub fn made(
     } else {
         columns::REFUSED
     };
-    columns::put(out, at, &line, n, colours, of)
+    columns::put(system, out, at, &line, n, colours, of)
 }
 
 // Of an item that is followed, where no line was of its life.
