@@ -59,7 +59,7 @@ use Rattle.bounded_moments.specs.declared.Moment.{Moment}
 use Rattle.bounded_moments.specs.declared.Named.{Named as NamedMoment}
 use Rattle.bounded_moments.specs.Moments as moments
 use Rattle.bounded_sixteen_bits.specs.declared.Machine as widths
-use Rattle.bounded_sixteen_bits.specs.declared.Ran as widths-ran
+use Rattle.bounded_sixteen_bits.specs.declared.Ran as widths_ran
 use Rattle.bounded_sixteen_bits.specs.SixteenBits.{widened, narrowed, Short}
 use Rattle.bounded_narrow.specs.Narrow as narrow
 use Rattle.bounded_stock.specs.Stock.{tallied_of}
@@ -881,7 +881,7 @@ WindowLengths = map (λ (c : ℕ). window_length Sixteen (fixed_of c 1)) (256 �
 
 -- The face of sixteen bits keeps the one machine's numbers: none is lost, and from a fresh machine its schedules go where the definition goes. Of any way to narrow and to run, so that slips can
 -- be said of them; met by the face's.
-pub record SameNumbersBy (keep : Machine → widths.Machine) (run : widths.Machine → List ℕ → widths-ran.Ran) : Type 0 where
+pub record SameNumbersBy (keep : Machine → widths.Machine) (run : widths.Machine → List ℕ → widths_ran.Ran) : Type 0 where
   pub back : (m : widths.Machine) → keep (widened m) ≡ m
   pub again : (m : Machine) → widened (keep m) ≡ m
   pub reaches : (capacity workers edition : ℕ) → Allowed capacity workers edition → (s : List ℕ) → length s % 2 ≡ 0 → Readable entry_of s

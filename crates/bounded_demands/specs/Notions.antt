@@ -49,8 +49,8 @@ use Rattle.bounded_machine.specs.Run.{ran, run_with, run_at, run_from, run_of}
 use Rattle.bounded_machine.specs.History.{history_with, moved_of, reads_at, untallied, tally_of, stock_of}
 use Rattle.bounded.specs.Bounded as bounded
 use Rattle.bounded_sixteen_bits.specs.declared.Machine as widths
-use Rattle.bounded_sixteen_bits.specs.declared.Did as widths-did
-use Rattle.bounded_sixteen_bits.specs.declared.Ran as widths-ran
+use Rattle.bounded_sixteen_bits.specs.declared.Did as widths_did
+use Rattle.bounded_sixteen_bits.specs.declared.Ran as widths_ran
 use Rattle.bounded_sixteen_bits.specs.SixteenBits.{widened, narrowed, narrowed_ran}
 use Rattle.bounded_narrow.specs.Narrow as narrow
 use Rattle.bounded_causes.specs.declared.Deed.{Deed}
@@ -101,7 +101,7 @@ sixty_four =
     }
 
 -- Crate bounded_narrow's, of sixteen.
-abbrev pub sixteen : Face widths.Machine widths-did.Did widths-ran.Ran
+abbrev pub sixteen : Face widths.Machine widths_did.Did widths_ran.Ran
 sixteen =
     record {
       refusal = λ d. d.refusal;

@@ -228,8 +228,8 @@ module _ (bits : Width) (c n workers : ℕ) (base : Base bits c n workers) (team
       bare none =
           let st = stepped bits c n workers base ring m pic w l lose busy young in
           let f = fixed c (mark_of c) m.ring.edition in
-          let told-so : moved_of does.place ≡ moved_by (told st.effect) = (shows c does.place).1 ∙ ap moved_by st.tells in
-          let still : (after c w at st.effect ring).tail ≡ ring.tail = tail_stays c ring w at st.effect (ap claims_tail (sym told-so) ∙ none) in
+          let told_so : moved_of does.place ≡ moved_by (told st.effect) = (shows c does.place).1 ∙ ap moved_by st.tells in
+          let still : (after c w at st.effect ring).tail ≡ ring.tail = tail_stays c ring w at st.effect (ap claims_tail (sym told_so) ∙ none) in
           ap (λ (f : Fixed). unmarked_of f does.ends.tail) pic.rule
           ∙ ap (λ (u : Ends). unmarked_of f u.tail) st.ends
           ∙ unmarked_tail bits c (mark_of c) n base.ground m.ring.edition (after c w at st.effect ring).tail st.shut

@@ -52,8 +52,8 @@ listed_more l count f x h =
     each k b (yes e) = rw (upd_at f count k x e, e, ← h.long) (get_or-append_seam l x [] 0)
     each k b (no n) =
         let m : k < count = omega arith in
-        let in-l : k < length l = omega (arith, h.long) in
-        get_or-append l (x ∷ []) 0 k in-l ∙ h.at k m ∙ sym (upd_else f count k x n)
+        let in_l : k < length l = omega (arith, h.long) in
+        get_or-append l (x ∷ []) 0 k in_l ∙ h.at k m ∙ sym (upd_else f count k x n)
 
 -- the latest claim, of a list and of the function
 pub latest_in : (l : List ℕ) (count : ℕ) (f : ℕ → ℕ) (w k : ℕ) → Listed l count f → Latest f count w k → LatestIn l w k

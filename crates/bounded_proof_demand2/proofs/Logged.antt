@@ -170,14 +170,14 @@ given c s w i v small inv (Fills k x) f e = absurd (let q : ◌≡◌ {A = ℕ} 
 given c s w i v small inv (Swaps k x) f e = absurd (let q : ◌≡◌ {A = ℕ} 0 1 = cc in omega arith)
 given c s w i v small inv (Frees k y) f e = absurd (let q : ◌≡◌ {A = ℕ} 0 1 = cc in omega arith)
 given c s w i v small inv (Gives k y x) f e =
-    let same-value : v ≡ x = cc in
+    let same_value : v ≡ x = cc in
     record {
       claim = k;
       stage = f.0.0;
       hand = f.0.1;
       takes = f.1;
       latest = f.5;
-      is = same-value ∙ f.3;
+      is = same_value ∙ f.3;
       made = f.4;
       here = (ok_at c s w i small inv (Hand f.0.0 k w) f.0.1).0;
       left = rw (upd_same s.cell i y) f.2;

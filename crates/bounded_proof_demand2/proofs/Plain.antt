@@ -110,7 +110,7 @@ module _ (records c workers edition : ℕ) (a : AllowedWith records c workers ed
         stamps =
             λ i below.
             let x = k.stamps i below in
-            let few-x : x.0 ≤ meter_most + slots_most = omega (arith, x.4, few, cap_few) in
-            (x.0, x.1, x.2 ∙ ap (λ (z : ℕ). z + cond x.1 1 0) (plain_is x.0 few-x), x.3, x.4);
+            let few_x : x.0 ≤ meter_most + slots_most = omega (arith, x.4, few, cap_few) in
+            (x.0, x.1, x.2 ∙ ap (λ (z : ℕ). z + cond x.1 1 0) (plain_is x.0 few_x), x.3, x.4);
         room = room_in ((tally h).tail.0 + m.ring.capacity) (omega (arith, few, cap_few));
       }

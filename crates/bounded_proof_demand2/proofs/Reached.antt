@@ -360,9 +360,9 @@ module _ (bits : Width) (c n workers : ℕ) (base : Base bits c n workers) where
           × (u.head ≡ r.ring.head + length (head_by (moved_of (result bits c n workers base r.ring m pic w l lose busy).place) 0))
       grown =
           let st = stepped bits c n workers base r.ring m pic w l lose busy young in
-          let moved-is : moved_of (result bits c n workers base r.ring m pic w l lose busy).place ≡ moved_by (told st.effect) =
+          let moved_is : moved_of (result bits c n workers base r.ring m pic w l lose busy).place ≡ moved_by (told st.effect) =
           (shows c (result bits c n workers base r.ring m pic w l lose busy).place).1 ∙ ap moved_by st.tells in
-          rw moved-is (claims_after c r.ring w (spot bits c n workers base r.ring m pic w l lose busy) st.effect)
+          rw moved_is (claims_after c r.ring w (spot bits c n workers base r.ring m pic w l lose busy) st.effect)
 
       grown_new : (u.tail ≡ r.ring.tail + length (tail_by (moved_of new.after) 0)) × (u.head ≡ r.ring.head + length (head_by (moved_of new.after) 0))
       grown_new = rw went grown

@@ -81,7 +81,7 @@ pub record Loads (more : ℕ) (bits : Width) (f : Fixed) (e : Ends) (s : Slot) (
 pub loads_of : (bits : Width) (f : Fixed) (e : Ends) (s : Slot) (p : Place) → Finds bits f e s p → Loads 0 bits f e s p
 loads_of bits f e s p d =
     record {
-      tail = λ k t x q in-date. subst (Finds bits f e s) q d;
+      tail = λ k t x q in_date. subst (Finds bits f e s) q d;
       head = λ h q. subst (Finds bits f e s) q d;
     }
 
@@ -131,7 +131,7 @@ module _ (more : ℕ) (bits : Width) (f : Fixed) (e : Ends) (s : Slot) where
   -- the word of tail, just loaded or found
   finds : (k : Kind) (x n : ℕ) → (marked_of f e.tail ≡ false → rank_beside more bits f e (P2 k e.tail x) < n) → 0 < n → rank_beside more bits f e (after_tail f k e.tail x) < n
   unfolding after_tail
-  finds k x n in-date pos = either (λ (p : Place). rank_beside more bits f e p < n) (marked_of f e.tail) (Idle (Closed x)) (P2 k e.tail x) (λ h. pos) in-date
+  finds k x n in_date pos = either (λ (p : Place). rank_beside more bits f e p < n) (marked_of f e.tail) (Idle (Closed x)) (P2 k e.tail x) (λ h. pos) in_date
 
   falls_p2 : (k : Kind) (t : Stamp) (x : ℕ) → ((0 < more → same (unmarked_of f e.tail) t ≡ true) → FindsTail bits f e s t)
       → Less (rank_beside more bits f e (P2 k t x)) (act_p2 bits f e s k t x)

@@ -286,9 +286,9 @@ module _ (bits : Width) (c mark n ed : ℕ) (g : Ground bits c mark n) (s : Shar
   module _ (w i : ℕ) (age : Age) (b : Bool) (small : i < c) where
     tail_beside : (k : Kind) (t : Stamp) (x : ℕ) → i ≡ spot_of f (view_of (P2 k t x)).held → Stands c mark n s w age (look c (P2 k t x)) → Recent c mark n s age (look c (P2 k t x))
         → same (unmarked_of f (tail_word c mark n s.tail b)) t ≡ true → (s.tail % c ≡ i → Loose (s.cell i)) → FindsTail bits f (ends_of_ring c mark n s b) (slot_of_ring c mark n (s.cell i) (s.val i)) t
-    tail_beside k t x at o y in-date free =
+    tail_beside k t x at o y in_date free =
         let here : o.0 % c ≡ i = sym (word_slot bits c mark n g t o.0 o.1) ∙ sym at in
-        let e : s.tail ≡ o.0 = eqb-true _ _ (sym (tail_is b o.0 o.2 (omega (arith, o.3, y refl))) ∙ (rw o.1 at in-date)) in
+        let e : s.tail ≡ o.0 = eqb-true _ _ (sym (tail_is b o.0 o.2 (omega (arith, o.3, y refl))) ∙ (rw o.1 at in_date)) in
         rw o.1 (finds_tail i o.0 (s.val i) b here o.2 (omega (arith, o.3, y refl)) (s.cell i) (inv.cells i small) (free (ap (λ (z : ℕ). z % c) e ∙ here)))
 
     head_beside : (h : Stamp) → i ≡ spot_of f (view_of (O2 h)).held → Stands c mark n s w age (look c (O2 h)) → Recent c mark n s age (look c (O2 h))
@@ -303,9 +303,9 @@ module _ (bits : Width) (c mark n ed : ℕ) (g : Ground bits c mark n) (s : Shar
     loads_beside p at o y tails heads =
         record {
           tail =
-              λ k t x q in-date.
+              λ k t x q in_date.
               tail_beside k t x (subst (λ (z : Place). i ≡ spot_of f (view_of z).held) q at) (subst (λ (z : Place). Stands c mark n s w age (look c z)) q o)
-              (subst (λ (z : Place). Recent c mark n s age (look c z)) q y) (in-date (omega arith)) (tails k t x q);
+              (subst (λ (z : Place). Recent c mark n s age (look c z)) q y) (in_date (omega arith)) (tails k t x q);
           head =
               λ h q.
               head_beside h (subst (λ (z : Place). i ≡ spot_of f (view_of z).held) q at) (subst (λ (z : Place). Stands c mark n s w age (look c z)) q o)

@@ -123,7 +123,7 @@ module _ (bits : Width) (c n workers : ℕ) (base : Base bits c n workers) (m : 
   held (Rattle.bounded_proof_invariant.proofs.Ring.Hand _ _ _) e l more o = elim l [ ]
 
   front_is : Loose (s.cell (s.head % c)) → 0 < length (waiting h) → value_at m m.ring.head ≡ get_or (waiting h) 0 0
-  front_is l some-wait =
+  front_is l some_wait =
       let pic = r.pictured in
       let more : s.head < s.tail = omega (arith, long) in
       let at : index_of (fixed_on m.ring) m.ring.head ≡ s.head % c =

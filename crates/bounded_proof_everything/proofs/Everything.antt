@@ -14,11 +14,11 @@ use Rattle.bounded_proof_logs_slips.specs.Shown.{RowsShown, RefutedLogs}
 use Rattle.bounded_proof_logs_slips.proofs.Shown.{rows_shown, refuted_logs}
 use Rattle.bounded_proof_host.specs.Hosted.{face}
 use Rattle.bounded_proof_host.specs.Slips as hosts
-use Rattle.bounded_proof_host.proofs.Refuted as hosts-proved
+use Rattle.bounded_proof_host.proofs.Refuted as hosts_proved
 use Rattle.bounded_proof_promises.specs.Own.{OnlyOneOwn}
 use Rattle.bounded_proof_promises.proofs.OnlyOne.{only_one_own}
 use Rattle.bounded_slips.specs.Slips as tables
-use Rattle.bounded_slips.specs.Refuted as tables-refuted
+use Rattle.bounded_slips.specs.Refuted as tables_refuted
 use Rattle.bounded_slips.specs.RefutedPlain.{RefutedPlain, RefutedOneStep}
 use Rattle.bounded_slips.specs.RefutedCounts.{RefutedCounts}
 use Rattle.bounded_slips.specs.Clauses.{TheClauses, RefutedClauses}
@@ -29,13 +29,13 @@ use Rattle.bounded_slips.proofs.OneByOne.{refuted_one_step}
 use Rattle.bounded_slips.proofs.RefutedCounts.{refuted_counts}
 use Rattle.bounded_slips.proofs.Clauses.{the_clauses, refuted_clauses}
 use Rattle.bounded_proof_causes_slips.specs.Refuted as causes
-use Rattle.bounded_proof_causes_slips.proofs.Refuted as causes-proved
+use Rattle.bounded_proof_causes_slips.proofs.Refuted as causes_proved
 use Rattle.bounded_proof_lent_slips.specs.Refuted as lending
-use Rattle.bounded_proof_lent_slips.proofs.Refuted as lending-proved
+use Rattle.bounded_proof_lent_slips.proofs.Refuted as lending_proved
 use Rattle.bounded_proof_faces_slips.specs.Refuted as faces
-use Rattle.bounded_proof_faces_slips.proofs.Refuted as faces-proved
+use Rattle.bounded_proof_faces_slips.proofs.Refuted as faces_proved
 use Rattle.bounded_proof_walks_slips.specs.Refuted as walks
-use Rattle.bounded_proof_walks_slips.proofs.Refuted as walks-proved
+use Rattle.bounded_proof_walks_slips.proofs.Refuted as walks_proved
 
 -- One step a call under every schedule; and the moments that the program names.
 pub one_step_lem : OneStepUnderEverySchedule document01 × OneStepUnderEverySchedule (with_records records_most SixtyFour) × OneStepUnderEveryInWindow (of_width Sixteen) × LooksNotOneStep document01
@@ -46,7 +46,7 @@ moments = moments_named
 
 -- Calls in any mixture: held, lent, and words in a host's memory (`HostedMixed` is among what stands of these, with the rest that is said of them).
 pub mixtures : Mixed sixty_four document01 × MixedInWindow sixteen (of_width Sixteen) × LentMixed item11 × hosts.Stands
-mixtures = (in_any_mixture.0, in_any_mixture.1, lent_in_any_mixture, hosts-proved.stands)
+mixtures = (in_any_mixture.0, in_any_mixture.1, lent_in_any_mixture, hosts_proved.stands)
 
 -- What a log never shows.
 pub logs : ShowsNone (with_records records_most SixtyFour) × MixedShowsNone sixty_four document01 × MixedShowsNoneInWindow sixteen (of_width Sixteen) × LentShowsNone item11 × HostedShowsNone face
@@ -58,7 +58,7 @@ promises = only_one_own
 
 -- The slips: of each wrong table, face, list or lending the statement that is false of it; and with none planted all stands.
 pub slips :
-    tables.Stands × tables-refuted.Refuted × RefutedPlain × RefutedOneStep × RefutedCounts × TheClauses × RefutedClauses × causes.Refuted × lending.Refuted × faces.Refuted × walks.Refuted
+    tables.Stands × tables_refuted.Refuted × RefutedPlain × RefutedOneStep × RefutedCounts × TheClauses × RefutedClauses × causes.Refuted × lending.Refuted × faces.Refuted × walks.Refuted
     × hosts.Refuted × RowsShown × RefutedLogs
 slips = (
   stands,
@@ -68,11 +68,11 @@ slips = (
   refuted_counts,
   the_clauses,
   refuted_clauses,
-  causes-proved.refuted,
-  lending-proved.refuted,
-  faces-proved.refuted,
-  walks-proved.refuted,
-  hosts-proved.refuted,
+  causes_proved.refuted,
+  lending_proved.refuted,
+  faces_proved.refuted,
+  walks_proved.refuted,
+  hosts_proved.refuted,
   rows_shown,
   refuted_logs,
 )

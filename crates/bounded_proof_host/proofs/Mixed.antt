@@ -69,10 +69,10 @@ hosted_mixed w capacity edition made doings =
     let alike = same doings w₀ (stands₀ w capacity edition made) (sound₀ w capacity edition made) in
     let machine_is : held_in (left_lent item11 x doings) ≡ held_words (left_by face w₀ doings) =
     sym (alike.machine ∙ ap (λ (z : Lent). held_in (left_lent item11 z doings)) (in-is₀ w capacity edition made) ∙ left_any doings 0 x.answer x.ring x.records) in
-    let taken-are : all_taken_lent item11 x doings ≡ all_taken_words face w₀ doings =
+    let taken_are : all_taken_lent item11 x doings ≡ all_taken_words face w₀ doings =
     sym (alike.taken ∙ ap (λ (z : Lent). all_taken_lent item11 z doings) (in-is₀ w capacity edition made) ∙ taken_any doings 0 x.answer x.ring x.records) in
     let so = lent_mixed ys capacity edition (fresh w capacity edition made).accepted_too doings in (
       subst (λ (m : Machine). AsOneSchedule (with_records (length ys) SixtyFour) capacity (length ys) edition m (all_taken_words face w₀ doings)) machine_is
-          (subst (λ (e : List ℕ). AsOneSchedule (with_records (length ys) SixtyFour) capacity (length ys) edition (held_in (left_lent item11 x doings)) e) taken-are so.0),
-      subst (λ (e : List ℕ). Throughout (with_records (length ys) SixtyFour) capacity (length ys) edition e) taken-are so.1,
+          (subst (λ (e : List ℕ). AsOneSchedule (with_records (length ys) SixtyFour) capacity (length ys) edition (held_in (left_lent item11 x doings)) e) taken_are so.0),
+      subst (λ (e : List ℕ). Throughout (with_records (length ys) SixtyFour) capacity (length ys) edition e) taken_are so.1,
     )

@@ -143,7 +143,7 @@ module _ (c : ℕ) (s : Shared) (w i : ℕ) (small : i < c) (inv : Inv c s) wher
 
   tail_change : (y : Cell) (x : ℕ) → s.tail % c ≡ i → number (s.cell i) ≤ number y → ((j : ℕ) → j ≢ w → Mine j (s.cell i) → ⊥) → (s.cell i ≡ Hold s.head → ⊥)
       → Change c s (tail_to w i y x s) w i
-  tail_change y x at up own not-hold =
+  tail_change y x at up own not_hold =
       record {
         head_up = omega arith;
         tail_up = omega arith;
@@ -160,7 +160,7 @@ module _ (c : ℕ) (s : Shared) (w i : ℕ) (small : i < c) (inv : Inv c s) wher
         number_up = rw (upd_same s.cell i y) up;
         owner = own;
         await = λ p. omega arith;
-        hold = λ p. absurd (not-hold p);
+        hold = λ p. absurd (not_hold p);
       }
 
   head_change : (y : Cell) → s.cell i ≡ Hold s.head → s.head ≤ number y → Change c s (head_to w i y s) w i
@@ -188,20 +188,20 @@ module _ (c : ℕ) (s : Shared) (w i : ℕ) (small : i < c) (inv : Inv c s) wher
   slot_change : (st : Stage) (k : ℕ) (y : Cell) (val : ℕ → ℕ) (written : ℕ → Bool) → s.cell i ≡ Hand st k w → k ≤ number y
       → ((m : ℕ) → m ≢ i → val m ≡ s.val m) → ((n : ℕ) → s.written n ≡ true → written n ≡ true)
       → Change c s (slot_to i y val written s) w i
-  slot_change st k y val written e up else-val up-written =
+  slot_change st k y val written e up else_val up_written =
       record {
         head_up = omega arith;
         tail_up = omega arith;
         head_at = λ n f l. l;
         tail_at = λ n f l. l;
         cell_else = λ m f. upd_else s.cell i m y f;
-        val_else = else-val;
+        val_else = else_val;
         item_old = λ n l. refl;
         taker_old = λ n l. refl;
         taker_new = λ n l k. absurd (omega arith);
         tailer_old = λ n l. refl;
         tailer_new = λ n l k. absurd (omega arith);
-        written_up = up-written;
+        written_up = up_written;
         number_up = rw (upd_same s.cell i y) (omega (arith, ap number e));
         owner = λ j f m. f (sym (subst (Mine j) e m));
         await = λ p. absurd (hand_loose st k w (Await s.tail) tt (sym e ∙ p));

@@ -292,9 +292,9 @@ module _ (ys : List Worker) (capacity edition : ℕ) (few : length ys ≤ worker
   unfolding fresh_with idlers
   fresh_held =
       let F = fresh_with n capacity n edition in
-      let all-of-them : n + (workers_most - n) ≡ workers_most = omega (arith, few) in
+      let all_of_them : n + (workers_most - n) ≡ workers_most = omega (arith, few) in
       ap (λ (c : ℕ). machine_of (fixed_on F.ring) (ends_on F.ring) F.ring.slots (replicate n idler ++ replicate (workers_most - c) idler) c 0) (length-replicate n idler)
-      ∙ ap (λ (ws : List Worker). machine_of (fixed_on F.ring) (ends_on F.ring) F.ring.slots ws n 0) (joined n (workers_most - n) ∙ ap (λ (k : ℕ). replicate k idler) all-of-them)
+      ∙ ap (λ (ws : List Worker). machine_of (fixed_on F.ring) (ends_on F.ring) F.ring.slots ws n 0) (joined n (workers_most - n) ∙ ap (λ (k : ℕ). replicate k idler) all_of_them)
 
   made_held : (make_lent ys capacity edition).answer ≡ 0 → holds_did (make_lent ys capacity edition) ≡ make_of capacity n edition
   unfolding refused accepted

@@ -126,15 +126,15 @@ module _ (such : Call → Bool) (ed : ℕ) where
 
   calls_on : (s : Story) (k : Known) → Calls k → OnlySuch such s → Calls (known_from actor (change_of ed) k s)
   unfolding known_from Calls
-  calls_on [] k known-calls only = known-calls
-  calls_on (Begun v b ∷ s) k known-calls only = calls_on s (known_with actor (change_of ed) k (Begun v b)) next only.1
+  calls_on [] k known_calls only = known_calls
+  calls_on (Begun v b ∷ s) k known_calls only = calls_on s (known_with actor (change_of ed) k (Begun v b)) next only.1
     where
       next : Calls (known_with actor (change_of ed) k (Begun v b))
-      next w c = either (λ (d : Doing). d.calls ≡ c ∷ [] → such c ≡ true) (eqb w v) _ (k.each w) (λ z h. let same_call : b ≡ c = cc in ap such (sym same_call) ∙ only.0) (λ z h. known-calls w c h)
-  calls_on (Does e ∷ s) k known-calls only = calls_on s (known_with actor (change_of ed) k (Does e)) next only
+      next w c = either (λ (d : Doing). d.calls ≡ c ∷ [] → such c ≡ true) (eqb w v) _ (k.each w) (λ z h. let same_call : b ≡ c = cc in ap such (sym same_call) ∙ only.0) (λ z h. known_calls w c h)
+  calls_on (Does e ∷ s) k known_calls only = calls_on s (known_with actor (change_of ed) k (Does e)) next only
     where
       next : Calls (known_with actor (change_of ed) k (Does e))
-      next w c = either (λ (d : Doing). d.calls ≡ c ∷ [] → such c ≡ true) (eqb w e.worker) _ (k.each w) (λ z h. known-calls w c h) (λ z h. known-calls w c h)
+      next w c = either (λ (d : Doing). d.calls ≡ c ∷ [] → such c ≡ true) (eqb w e.worker) _ (k.each w) (λ z h. known_calls w c h) (λ z h. known_calls w c h)
 
   call_such : (capacity n : ℕ) (s : Story) → OnlySuch such s → (w : ℕ) (c : Call) → ((known capacity ed (take n s)).each w).calls ≡ c ∷ [] → such c ≡ true
   unfolding Calls
@@ -173,33 +173,33 @@ module _ (ed : ℕ) (s : Story) (o : OneByOne 1 ed s) (unpopped : OnlySuch never
     one : length (o.queues at).items ≡ 1
     capacity : (o.queues at).capacity ≡ 1
 
-  module _ (k : ℕ) (answer : Answer) (cl : Call) (acts-push : is_act (drop 5 s) ≡ true) (acts-look : is_act (drop k s) ≡ true)
-      (says-push : (act_of (drop 5 s)).after ≡ Idle Pushed) (says-look : (act_of (drop k s)).after ≡ Idle answer) (short : length (take 5 s) ≡ 5)
-      (push-call : ((known 1 ed (take 5 s)).each (act_of (drop 5 s)).worker).calls ≡ call.Push 1 ∷ []) (look-call : ((known 1 ed (take k s)).each (act_of (drop k s)).worker).calls ≡ cl ∷ [])
+  module _ (k : ℕ) (answer : Answer) (cl : Call) (acts_push : is_act (drop 5 s) ≡ true) (acts_look : is_act (drop k s) ≡ true)
+      (says_push : (act_of (drop 5 s)).after ≡ Idle Pushed) (says_look : (act_of (drop k s)).after ≡ Idle answer) (short : length (take 5 s) ≡ 5)
+      (push_call : ((known 1 ed (take 5 s)).each (act_of (drop 5 s)).worker).calls ≡ call.Push 1 ∷ []) (look_call : ((known 1 ed (take k s)).each (act_of (drop k s)).worker).calls ≡ cl ∷ [])
       (late : 5 < ((known 1 ed (take k s)).each (act_of (drop k s)).worker).begun) where
     one_waits : Looks cl answer
     one_waits =
-        let r = o.answered (take 5 s) (drop 1 (drop 5 s)) (act_of (drop 5 s)) Pushed (act_at_lem s 5 acts-push) says-push in
-        let z = o.answered (take k s) (drop 1 (drop k s)) (act_of (drop k s)) answer (act_at_lem s k acts-look) says-look in
-        let r-in = (o.own r.0 r.1 r.2).0 in
-        let z-in = (o.own z.0 z.1 z.2).0 in
-        let f = subst (λ (l : List Step). Follows (o.queues r.0) l (o.queues (suc r.0))) r.2 (o.follows r.0 r-in) in
-        let g = subst (λ (l : List Step). Follows (o.queues z.0) l (o.queues (suc z.0))) z.2 (o.follows z.0 z-in) in
-        let pushes : r.1.call ≡ call.Push 1 = let y : r.1.call ∷ [] ≡ call.Push 1 ∷ [] = sym r.6 ∙ push-call in cc in
-        let looks-so : z.1.call ≡ cl = let y : z.1.call ∷ [] ≡ cl ∷ [] = sym z.6 ∙ look-call in cc in
+        let r = o.answered (take 5 s) (drop 1 (drop 5 s)) (act_of (drop 5 s)) Pushed (act_at_lem s 5 acts_push) says_push in
+        let z = o.answered (take k s) (drop 1 (drop k s)) (act_of (drop k s)) answer (act_at_lem s k acts_look) says_look in
+        let r_in = (o.own r.0 r.1 r.2).0 in
+        let z_in = (o.own z.0 z.1 z.2).0 in
+        let f = subst (λ (l : List Step). Follows (o.queues r.0) l (o.queues (suc r.0))) r.2 (o.follows r.0 r_in) in
+        let g = subst (λ (l : List Step). Follows (o.queues z.0) l (o.queues (suc z.0))) z.2 (o.follows z.0 z_in) in
+        let pushes : r.1.call ≡ call.Push 1 = let y : r.1.call ∷ [] ≡ call.Push 1 ∷ [] = sym r.6 ∙ push_call in cc in
+        let looks_so : z.1.call ≡ cl = let y : z.1.call ∷ [] ≡ cl ∷ [] = sym z.6 ∙ look_call in cc in
         let pushed : r.1.reply ≡ plain.Pushed = let y : r.1.reply ∷ [] ≡ plain.Pushed ∷ [] = r.7 in cc in
         let some : 0 < length (o.queues (suc r.0)).items =
         subst (λ (q : Queue). 0 < length q.items) (sym (f.1 ∙ ap (left_by (o.queues r.0)) pushes))
         (pushed_in (o.queues r.0) 1 (sym pushed ∙ f.0 ∙ ap (answer_of (o.queues r.0)) pushes)) in
         let gap : (d : ℕ) × (suc r.0 + d ≡ z.0) = between (suc r.0) z.0 (omega (arith, r.4, short, z.3, late)) in
         let kept : length (o.queues (suc r.0)).items ≤ length (o.queues z.0).items =
-        subst (λ (j : ℕ). length (o.queues (suc r.0)).items ≤ length (o.queues j).items) gap.1 (since_then (suc r.0) gap.0 (omega (arith, gap.1, z-in))) in
-        let most = few z.0 (omega (arith, z-in)) in
+        subst (λ (j : ℕ). length (o.queues (suc r.0)).items ≤ length (o.queues j).items) gap.1 (since_then (suc r.0) gap.0 (omega (arith, gap.1, z_in))) in
+        let most = few z.0 (omega (arith, z_in)) in
         record {
           at = z.0;
           reply = z.1.reply;
           says = z.7;
-          plainly = g.0 ∙ ap (answer_of (o.queues z.0)) looks-so;
+          plainly = g.0 ∙ ap (answer_of (o.queues z.0)) looks_so;
           one = omega (arith, some, kept, most.1);
           capacity = most.0;
         }
@@ -216,14 +216,14 @@ module _ (ed : ℕ) (s : Story) (o : OneByOne 1 ed s) (unpopped : OnlySuch never
 
   not_empty : Looks call.IsEmpty Yes → ⊥
   not_empty v =
-      let yes-said : plain.Yes ≡ yes_if (eqb (length (o.queues v.at).items) 0) = (let y : plain.Yes ∷ [] ≡ v.reply ∷ [] = sym v.says in let x : plain.Yes ≡ v.reply = cc in x) ∙ v.plainly in
-      let no-said : plain.Yes ≡ plain.No = yes-said ∙ ap (λ (n : ℕ). yes_if (eqb n 0)) v.one in
+      let yes_said : plain.Yes ≡ yes_if (eqb (length (o.queues v.at).items) 0) = (let y : plain.Yes ∷ [] ≡ v.reply ∷ [] = sym v.says in let x : plain.Yes ≡ v.reply = cc in x) ∙ v.plainly in
+      let no_said : plain.Yes ≡ plain.No = yes_said ∙ ap (λ (n : ℕ). yes_if (eqb n 0)) v.one in
       let z : ◌≡◌ {A = ℕ} 0 1 = cc in omega arith
 
   not_room : Looks call.IsFull No → ⊥
   not_room v =
-      let no-said : plain.No ≡ yes_if (full_of (o.queues v.at)) = (let y : plain.No ∷ [] ≡ v.reply ∷ [] = sym v.says in let x : plain.No ≡ v.reply = cc in x) ∙ v.plainly in
-      let yes-said : plain.No ≡ plain.Yes = no-said ∙ ap (λ (n : ℕ). yes_if (eqb n (o.queues v.at).capacity)) v.one ∙ ap (λ (n : ℕ). yes_if (eqb 1 n)) v.capacity in
+      let no_said : plain.No ≡ yes_if (full_of (o.queues v.at)) = (let y : plain.No ∷ [] ≡ v.reply ∷ [] = sym v.says in let x : plain.No ≡ v.reply = cc in x) ∙ v.plainly in
+      let yes_said : plain.No ≡ plain.Yes = no_said ∙ ap (λ (n : ℕ). yes_if (eqb n (o.queues v.at).capacity)) v.one ∙ ap (λ (n : ℕ). yes_if (eqb 1 n)) v.capacity in
       let z : ◌≡◌ {A = ℕ} 0 1 = cc in omega arith
 
 -- ---- the three schedules, of any edition: nobody comes to F7's act

@@ -104,10 +104,10 @@ module _ (c ed : ℕ) where
         let was : o.steps i ≡ x ∷ [] = sym (old_step i (λ k. omega arith)) ∙ a in
         rw (z, whole) (new y is i x was same)
     once_more i j x y lt a b same (no z) =
-        let was-j : o.steps j ≡ y ∷ [] = sym (old_step j z) ∙ b in
-        let low = o.inside j y was-j in
-        let was-i : o.steps i ≡ x ∷ [] = sym (old_step i (λ k. omega (arith, low))) ∙ a in
-        rw (kept j (omega (arith, low))) (o.once i j x y lt was-i was-j same)
+        let was_j : o.steps j ≡ y ∷ [] = sym (old_step j z) ∙ b in
+        let low = o.inside j y was_j in
+        let was_i : o.steps i ≡ x ∷ [] = sym (old_step i (λ k. omega (arith, low))) ∙ a in
+        rw (kept j (omega (arith, low))) (o.once i j x y lt was_i was_j same)
 
     pub extended : Line (st ++ e ∷ [])
     extended =

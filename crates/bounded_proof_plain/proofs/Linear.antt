@@ -39,7 +39,7 @@ use Rattle.bounded_proof_demand2.proofs.Reached.{recent_in}
 use Rattle.bounded_proof_plain.proofs.Shelf.{each_begun, each_unbegun, queue_begun, moment_begun, moment_past}
 use Rattle.bounded_proof_plain.proofs.Told.{Told, told_act, told_begun, act_behind, begun_behind, same_event}
 use Rattle.bounded_proof_plain.proofs.Line.{Line, none_one, extended, extended_steps, extended_kept, extended_queue, extended_last}
-use Rattle.bounded_proof_plain.proofs.Lined.{Each, Asks, Held, StepOf, Answer-step, Lined, Pending, out_of}
+use Rattle.bounded_proof_plain.proofs.Lined.{Each, Asks, Held, StepOf, AnswerStep, Lined, Pending, out_of}
 use Rattle.bounded_proof_plain.proofs.OneStep.{line_act}
 
 -- ---- a call begun
@@ -235,7 +235,7 @@ module _ (c ed : ℕ) (m now : Machine) (st : Story) (s : Shared) (ages : ℕ �
           inr (z.0, z.1, z.2, stays z.0 far ∙ z.3, z.4)
 
       answer : (earlier later : Story) (act : Event) (a : Answer) → act.after ≡ Idle a
-          → Last st (Begun w cl) earlier (Does act) later ⊎ Earlier st (Begun w cl) earlier (Does act) later → Answer-step c ed st' line earlier act a
+          → Last st (Begun w cl) earlier (Does act) later ⊎ Earlier st (Begun w cl) earlier (Does act) later → AnswerStep c ed st' line earlier act a
       answer earlier later act a so (inl p) = absurd (let y = p.one in let q : ◌≡◌ {A = ℕ} 0 1 = cc in omega arith)
       answer earlier later act a so (inr p) =
           let r = o.answered earlier p.left act a p.was so in
@@ -282,10 +282,10 @@ module _ (bits : Width) (c n workers : ℕ) (base : Base bits c n workers) (ed :
   unfolding begun
   elsewhere m w cl j far = ap (λ (z : Worker). z.place) (get_or-set_other m.workers w j (beginner (begin_of cl)) idler far)
 
-  pub both_kept : (m : Machine) (st : Story) (en : Entry) (after-it : Machine) (acts : List Event) → Both m st → InWidestWindow bits m (acts_in st)
-      → OnlySuch (one_step ed) (begun_in en ++ map Does acts) → Turned bits m en after-it acts
-      → Both after-it (st ++ (begun_in en ++ map Does acts))
-  both_kept m st en after-it acts b window only (began w cl l idle) =
+  pub both_kept : (m : Machine) (st : Story) (en : Entry) (after_it : Machine) (acts : List Event) → Both m st → InWidestWindow bits m (acts_in st)
+      → OnlySuch (one_step ed) (begun_in en ++ map Does acts) → Turned bits m en after_it acts
+      → Both after_it (st ++ (begun_in en ++ map Does acts))
+  both_kept m st en after_it acts b window only (began w cl l idle) =
       record {
         told = told_begun bits c n workers base ed m st b.told w l cl idle;
         lined =
@@ -293,7 +293,7 @@ module _ (bits : Width) (c n workers : ℕ) (base : Base bits c n workers) (ed :
             (lined_begun c ed m (begun m w (begin_of cl)) st b.told.reached.ring b.told.reached.pictured.ages b.lined w cl only.0 idle
             (placed m st b.told w cl l) (elsewhere m w cl));
       }
-  both_kept m st en after-it acts b window only (did w lose l busy early) =
+  both_kept m st en after_it acts b window only (did w lose l busy early) =
       let o = b.told in
       let young = recent_in bits c n workers base m o.h o.reached (subst (InWidestWindow bits m) o.acts window) w in
       subst (λ (e : Event). Both (acted bits m w (stood m w) lose) (st ++ Does e ∷ [])) (sym (same_event bits c n workers base ed m st o w l lose busy young early))

@@ -83,7 +83,7 @@ module _ (c ed : ℕ) where
     pub call : (Each st w).calls ≡ step.call ∷ []
     pub reply : step.reply ≡ r
 
-  pub record Answer-step (st : Story) (line : Line c ed st) (earlier : Story) (act : Event) (a : Answer) : Type 0 where
+  pub record AnswerStep (st : Story) (line : Line c ed st) (earlier : Story) (act : Event) (a : Answer) : Type 0 where
     pub at : ℕ
     pub step : Step
     pub is : line.steps at ≡ step ∷ []
@@ -98,7 +98,7 @@ module _ (c ed : ℕ) where
     pub pend : List ℕ
     pub last : (line.queues (length st)).items ≡ (known c ed st).queue.items ++ pend
     pub pending : Pending m pend
-    pub answered : (earlier later : Story) (act : Event) (a : Answer) → st ≡ earlier ++ Does act ∷ later → act.after ≡ Idle a → Answer-step st line earlier act a
+    pub answered : (earlier later : Story) (act : Event) (a : Answer) → st ≡ earlier ++ Does act ∷ later → act.after ≡ Idle a → AnswerStep st line earlier act a
     pub ok : (w : ℕ) (cl : Call) → (Each st w).calls ≡ cl ∷ [] → one_step ed cl ≡ true
     pub open1 : eqb ed 2 ≡ false → (known c ed st).queue.closed ≡ false
     pub ats : (w : ℕ) → (k : ℕ) × (moment_of c ed w st ≡ At k)
@@ -135,8 +135,8 @@ module _ (c ed : ℕ) where
     same_moment : (j k : ℕ) → j ≢ e.worker → moment_of c ed j st' ≡ At k → moment_of c ed j st ≡ At k
     same_moment j k far h =
         let was = o.ats j in
-        let now-is : moment_of c ed j st' ≡ At was.0 = moment_else c ed st e j far ∙ ap (heard (change_of ed e) ((known c ed st).count + 1)) was.1 in
-        was.1 ∙ sym now-is ∙ h
+        let now_is : moment_of c ed j st' ≡ At was.0 = moment_else c ed st e j far ∙ ap (heard (change_of ed e) ((known c ed st).count + 1)) was.1 in
+        was.1 ∙ sym now_is ∙ h
 
     pub ats_else : (j : ℕ) → j ≢ e.worker → (k : ℕ) × (moment_of c ed j st' ≡ At k)
     ats_else j far = ((o.ats j).0, moment_else c ed st e j far ∙ ap (heard (change_of ed e) ((known c ed st).count + 1)) (o.ats j).1)
@@ -171,12 +171,12 @@ module _ (c ed : ℕ) where
           then_begun = ap (λ (z : Story). (Each z j).begun) early ∙ h.then_begun ∙ sym begun;
           old = omega (arith, h.old, up);
           calm = λ full tails heads.
-              let even-t : u.tail ≡ s.tail = omega (arith, h.old, up) in
-              let even-h : u.head ≡ s.head = omega (arith, h.old, up) in
-              let was = h.calm full (sym even-t ∙ tails) (sym even-h ∙ heads) in
-              let l = last_same even-t even-h in (
-                λ i low high. items_at i low high even-t even-h was l (ℕ_discrete i (length st')),
-                λ i x low is v r. was.1 i x low (calm_news even-t even-h i x is v r) v r,
+              let even_t : u.tail ≡ s.tail = omega (arith, h.old, up) in
+              let even_h : u.head ≡ s.head = omega (arith, h.old, up) in
+              let was = h.calm full (sym even_t ∙ tails) (sym even_h ∙ heads) in
+              let l = last_same even_t even_h in (
+                λ i low high. items_at i low high even_t even_h was l (ℕ_discrete i (length st')),
+                λ i x low is v r. was.1 i x low (calm_news even_t even_h i x is v r) v r,
               );
         }
       where
@@ -213,7 +213,7 @@ module _ (c ed : ℕ) where
           reply = p.reply;
         }
 
-    pub answer_kept : (earlier : Story) (act : Event) (a : Answer) → Answer-step st o.line earlier act a → Answer-step st' line earlier act a
+    pub answer_kept : (earlier : Story) (act : Event) (a : Answer) → AnswerStep st o.line earlier act a → AnswerStep st' line earlier act a
     answer_kept earlier act a p =
         record {
           at = p.at;
@@ -239,12 +239,12 @@ module _ (c ed : ℕ) where
     module _ (pend : List ℕ) (last : (line.queues (length st')).items ≡ (known c ed st').queue.items ++ pend) (pending : Pending now pend)
         (open1 : eqb ed 2 ≡ false → (known c ed st').queue.closed ≡ false)
         (calls : (Each st' e.worker).calls ≡ (Each st e.worker).calls)
-        (said : (a : Answer) → e.after ≡ Idle a → Answer-step st' line st e a)
+        (said : (a : Answer) → e.after ≡ Idle a → AnswerStep st' line st e a)
         (own_at : (k : ℕ) × (moment_of c ed e.worker st' ≡ At k))
-        (own-unstepped : (view_of (stood now e.worker)).busy ≡ true → (Each st' e.worker).puts ≡ [] → (Each st' e.worker).takes ≡ [] → (i : ℕ) (x : Step)
+        (own_unstepped : (view_of (stood now e.worker)).busy ≡ true → (Each st' e.worker).puts ≡ [] → (Each st' e.worker).takes ≡ [] → (i : ℕ) (x : Step)
         → line.steps i ≡ x ∷ [] → x.worker ≡ e.worker → i < (Each st' e.worker).begun)
-        (own-entered : (v : ℕ) → (view_of (stood now e.worker)).busy ≡ true → (Each st' e.worker).puts ≡ v ∷ [] → (Each st' e.worker).takes ≡ [] → StepOf st' line e.worker plain.Pushed)
-        (own-taken : (v : ℕ) (cl : Call) → (view_of (stood now e.worker)).busy ≡ true → (Each st' e.worker).takes ≡ v ∷ [] → (Each st' e.worker).calls ≡ cl
+        (own_entered : (v : ℕ) → (view_of (stood now e.worker)).busy ≡ true → (Each st' e.worker).puts ≡ v ∷ [] → (Each st' e.worker).takes ≡ [] → StepOf st' line e.worker plain.Pushed)
+        (own_taken : (v : ℕ) (cl : Call) → (view_of (stood now e.worker)).busy ≡ true → (Each st' e.worker).takes ≡ v ∷ [] → (Each st' e.worker).calls ≡ cl
         ∷ [] → StepOf st' line e.worker (out_of cl v))
         (own_held : (k : ℕ) → Asks now st' e.worker k → Held st' line u (after e.worker) e.worker k)
         (own_apart : (j k : ℕ) → j ≢ e.worker → Asks now st' e.worker k → Asks m st j k → ⊥) where
@@ -277,20 +277,20 @@ module _ (c ed : ℕ) where
             pend = pend;
             last = last;
             pending = pending;
-            answered = λ earlier later act a h said-so. answer earlier later act a said-so (split_end st (Does e) earlier (Does act) later h);
+            answered = λ earlier later act a h said_so. answer earlier later act a said_so (split_end st (Does e) earlier (Does act) later h);
             ok = split (λ (j : ℕ). (cl : Call) → (Each st' j).calls ≡ cl ∷ [] → one_step ed cl ≡ true) (λ cl h. o.ok e.worker cl (sym calls ∙ h))
                 (λ j far cl h. o.ok j cl (ap (λ (y : Doing). y.calls) (sym (same_each j far)) ∙ h));
             open1 = open1;
             ats = split (λ (j : ℕ). (k : ℕ) × (moment_of c ed j st' ≡ At k)) own_at ats_else;
             unstepped = split (λ (j : ℕ). (view_of (stood now j)).busy ≡ true → (Each st' j).puts ≡ [] → (Each st' j).takes ≡ [] → (i : ℕ) (x : Step)
-                → line.steps i ≡ x ∷ [] → x.worker ≡ j → i < (Each st' j).begun) own-unstepped unstepped_else;
+                → line.steps i ≡ x ∷ [] → x.worker ≡ j → i < (Each st' j).begun) own_unstepped unstepped_else;
             entered =
-                split (λ (j : ℕ). (v : ℕ) → (view_of (stood now j)).busy ≡ true → (Each st' j).puts ≡ v ∷ [] → (Each st' j).takes ≡ [] → StepOf st' line j plain.Pushed) own-entered
+                split (λ (j : ℕ). (v : ℕ) → (view_of (stood now j)).busy ≡ true → (Each st' j).puts ≡ v ∷ [] → (Each st' j).takes ≡ [] → StepOf st' line j plain.Pushed) own_entered
                 (λ j far v b p t. let same = same_each j far in
                 step_kept j plain.Pushed (ap (λ (y : Doing). y.calls) same) (ap (λ (y : Doing). y.begun) same)
                 (o.entered j v (busy_was j far b) (ap (λ (y : Doing). y.puts) (sym same) ∙ p) (ap (λ (y : Doing). y.takes) (sym same) ∙ t)));
             taken =
-                split (λ (j : ℕ). (v : ℕ) (cl : Call) → (view_of (stood now j)).busy ≡ true → (Each st' j).takes ≡ v ∷ [] → (Each st' j).calls ≡ cl ∷ [] → StepOf st' line j (out_of cl v)) own-taken
+                split (λ (j : ℕ). (v : ℕ) (cl : Call) → (view_of (stood now j)).busy ≡ true → (Each st' j).takes ≡ v ∷ [] → (Each st' j).calls ≡ cl ∷ [] → StepOf st' line j (out_of cl v)) own_taken
                 (λ j far v cl b t p. let same = same_each j far in
                 step_kept j (out_of cl v) (ap (λ (y : Doing). y.calls) same) (ap (λ (y : Doing). y.begun) same)
                 (o.taken j v cl (busy_was j far b) (ap (λ (y : Doing). y.takes) (sym same) ∙ t) (ap (λ (y : Doing). y.calls) (sym same) ∙ p)));
@@ -299,7 +299,7 @@ module _ (c ed : ℕ) where
           }
         where
           answer : (earlier later : Story) (act : Event) (a : Answer) → act.after ≡ Idle a
-              → Last st (Does e) earlier (Does act) later ⊎ Earlier st (Does e) earlier (Does act) later → Answer-step st' line earlier act a
+              → Last st (Does e) earlier (Does act) later ⊎ Earlier st (Does e) earlier (Does act) later → AnswerStep st' line earlier act a
           answer earlier later act a so (inr p) = answer_kept earlier act a (o.answered earlier p.left act a p.was so)
           answer earlier later act a so (inl p) =
               let one : act ≡ e = let y = p.one in cc in

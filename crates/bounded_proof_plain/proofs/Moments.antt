@@ -246,13 +246,13 @@ module _ (many c ed : ℕ) where
 -- ---- along every schedule
 
 module _ (many : ℕ) (bits : Width) (records c workers ed : ℕ) (a : AllowedWith records c workers ed) where
-  sound_kept : (m : Machine) (st : Story) (en : Entry) (after-it : Machine) (acts : List Event) → Tells bits records c workers ed a m st
-      → (length st < wide → Sound many c ed st) → Turned bits m en after-it acts
+  sound_kept : (m : Machine) (st : Story) (en : Entry) (after_it : Machine) (acts : List Event) → Tells bits records c workers ed a m st
+      → (length st < wide → Sound many c ed st) → Turned bits m en after_it acts
       → length (st ++ (begun_in en ++ map Does acts)) < wide → Sound many c ed (st ++ (begun_in en ++ map Does acts))
-  sound_kept m st en after-it acts o s (began w cl l idle) few =
+  sound_kept m st en after_it acts o s (began w cl l idle) few =
       let early : length st + 1 < wide = omega (arith, few, length-append st (Begun w cl ∷ [])) in
       sound_begun many c ed st (s (omega arith)) early w cl
-  sound_kept m st en after-it acts o s (did w lose l busy early-act) few =
+  sound_kept m st en after_it acts o s (did w lose l busy early_act) few =
       let early : length st + 1 < wide = omega (arith, few, length-append st (map Does acts)) in
       sound_act many c ed st (s (omega arith)) early _
       (subst (λ (h : List Event). untaken_of (tally h) ≡ length (known c ed st).queue.items) (sym o.acts)

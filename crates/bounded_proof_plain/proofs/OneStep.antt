@@ -58,7 +58,7 @@ use Rattle.bounded_proof_plain.proofs.Told.{Told, i, a, u, act, told_on, moves, 
 use Rattle.bounded_proof_plain.proofs.Leads.{Leads, leads}
 use Rattle.bounded_proof_plain.proofs.Line.{OfCall, Line, step_by, none_one, one_step_lem, extended, extended_steps, extended_kept, extended_new}
 use Rattle.bounded_proof_plain.proofs.Line.{extended_queue, extended_last, inserted, inserted_steps, inserted_kept, inserted_new, inserted_queue}
-use Rattle.bounded_proof_plain.proofs.Lined.{Each, Asks, Held, StepOf, Answer-step, Lined, Pending, out_of, lined_on, held_on, own_entered_kept, own_taken_kept}
+use Rattle.bounded_proof_plain.proofs.Lined.{Each, Asks, Held, StepOf, AnswerStep, Lined, Pending, out_of, lined_on, held_on, own_entered_kept, own_taken_kept}
 use Rattle.bounded_proof_plain.proofs.Replies.{both_false, at_one, no_push, some_none, none_before, busy_silent, neutral, pushed_call, displaced_call}
 use Rattle.bounded_proof_plain.proofs.Replies.{popped_call, bare, alike, bare_close, pops, pop_says, counts, no_count, left_closed, close_or, one_reply}
 use Rattle.bounded_proof_plain.proofs.Replies.{close_place, waits, looker, Alike}
@@ -131,10 +131,10 @@ module _ (bits : Width) (c n workers : ℕ) (base : Base bits c n workers) (ed :
 
   gripped : (j : ℕ) (t : Stamp) (x : ℕ) → stood m j ≡ F7 t x → Gripped j
   gripped j t x h =
-      let st-at : Stands c mark n s j (pic.ages j) (look c (F7 t x)) = subst (λ (y : Place). Stands c mark n s j (pic.ages j) (look c y)) h (pic.stands j) in
-      let k = st-at.0 in
-      let ok : CellOk c s (st-at.0 % c) (Hand Grab st-at.0 j) = subst (CellOk c s (st-at.0 % c)) st-at.2.0 (pic.inv.cells (st-at.0 % c) (mod-lt st-at.0 base.ground.laws.some)) in
-      record { k = k; cell = st-at.2.0; low = ok.1.0; tail = ok.1.1; view = st-at.2 }
+      let st_at : Stands c mark n s j (pic.ages j) (look c (F7 t x)) = subst (λ (y : Place). Stands c mark n s j (pic.ages j) (look c y)) h (pic.stands j) in
+      let k = st_at.0 in
+      let ok : CellOk c s (st_at.0 % c) (Hand Grab st_at.0 j) = subst (CellOk c s (st_at.0 % c)) st_at.2.0 (pic.inv.cells (st_at.0 % c) (mod-lt st_at.0 base.ground.laws.some)) in
+      record { k = k; cell = st_at.2.0; low = ok.1.0; tail = ok.1.1; view = st_at.2 }
 
   -- there is one at most, the ring is not full then, and nobody else moves tail
   gripped_one : (j v : ℕ) → Gripped j → Gripped v → j ≡ v
@@ -432,7 +432,7 @@ module _ (bits : Width) (c n workers : ℕ) (base : Base bits c n workers) (ed :
 
     -- what is left: the items on their way, the answer, and the steps that the worker has
     finish : (pend : List ℕ) → r.to.items ≡ (known c ed st').queue.items ++ pend → Pending now pend
-        → ((x : Answer) → q ≡ Idle x → Answer-step c ed st' then_line st e x)
+        → ((x : Answer) → q ≡ Idle x → AnswerStep c ed st' then_line st e x)
         → ((view_of q).busy ≡ true → (Each c ed st' w).puts ≡ [] → (Each c ed st' w).takes ≡ [] → (k : ℕ) (x : Step) → then_line.steps k ≡ x ∷ [] → x.worker ≡ w → k < (Each c ed st' w).begun)
         → ((v : ℕ) → (view_of q).busy ≡ true → (Each c ed st' w).puts ≡ v ∷ [] → (Each c ed st' w).takes ≡ [] → StepOf c ed st' then_line w plain.Pushed)
         → ((v : ℕ) (cl : Call) → (view_of q).busy ≡ true → (Each c ed st' w).takes ≡ v ∷ [] → (Each c ed st' w).calls ≡ cl ∷ [] → StepOf c ed st' then_line w (out_of cl v))
@@ -456,16 +456,16 @@ module _ (bits : Width) (c n workers : ℕ) (base : Base bits c n workers) (ed :
 
   -- who is on the way between the two claims of a force_push
   pending_kept : ((t : Stamp) (x : ℕ) → q ≡ F7 t x → ⊥) → ((t : Stamp) (x : ℕ) → stood m w ≡ F7 t x → ⊥) → Pending now lin.pend
-  pending_kept not-to not-from = go lin.pending
+  pending_kept not_to not_from = go lin.pending
     where
       go : Pending m lin.pend → Pending now lin.pend
       go (inl z) = inl (z.0, λ j t x h. none j t x h (ℕ_discrete j w))
         where
           none : (j : ℕ) (t : Stamp) (x : ℕ) → stood now j ≡ F7 t x → Dec (j ≡ w) → ⊥
-          none j t x h (yes y) = not-to t x (sym came ∙ ap (stood now) (sym y) ∙ h)
+          none j t x h (yes y) = not_to t x (sym came ∙ ap (stood now) (sym y) ∙ h)
           none j t x h (no y) = z.1 j t x (sym (stays j y) ∙ h)
       go (inr z) =
-          let far : z.0 ≢ w = λ y. not-from z.1 z.2 (ap (stood m) (sym y) ∙ z.3) in
+          let far : z.0 ≢ w = λ y. not_from z.1 z.2 (ap (stood m) (sym y) ∙ z.3) in
           inr (z.0, z.1, z.2, stays z.0 far ∙ z.3, z.4)
 
   f8_is : (t : Stamp) (x : ℕ) → stood m w ≡ F7 t x → (p : Place) → q ≡ p → moved_of p ≡ Neither → ⊥
@@ -499,14 +499,14 @@ module _ (bits : Width) (c n workers : ℕ) (base : Base bits c n workers) (ed :
   line_quiet : (view_of q).busy ≡ true → moved_of q ≡ Neither → Lined c ed now st' next_ring after
   unfolding quiet_run
   line_quiet b neither =
-      let no-t = ap claims_tail neither in
-      let no-h = ap claims_head neither in
+      let no_t = ap claims_tail neither in
+      let no_h = ap claims_head neither in
       finish (quiet_run (silent b) neither) lin.pend (lin.last ∙ ap (λ (k : List ℕ). k ++ lin.pend) (sym (items_same neither)))
       (pending_kept (λ t x h. true≢false (ap claims_head (sym (ap moved_of h) ∙ neither))) (λ t x h. f8_is t x h q refl neither))
       (λ x h. absurd (true≢false (sym b ∙ ap (λ (y : Place). (view_of y).busy) h)))
       (λ y puts takes k x h by. unstepped puts takes k x by (steps_then (quiet_run (silent b) neither) k x h))
-      (λ v y puts takes. kept_entered (quiet_run (silent b) neither) v (sym (own_puts no-t) ∙ puts) (sym (own_takes no-h) ∙ takes))
-      (λ v cl y takes its. kept_taken (quiet_run (silent b) neither) v cl (sym (own_takes no-h) ∙ takes) (sym own_calls ∙ its))
+      (λ v y puts takes. kept_entered (quiet_run (silent b) neither) v (sym (own_puts no_t) ∙ puts) (sym (own_takes no_h) ∙ takes))
+      (λ v cl y takes its. kept_taken (quiet_run (silent b) neither) v cl (sym (own_takes no_h) ∙ takes) (sym own_calls ∙ its))
     where
       unstepped : (Each c ed st' w).puts ≡ [] → (Each c ed st' w).takes ≡ [] → (k : ℕ) (x : Step) → x.worker ≡ w
           → ((k ≡ length st) × ([] ≡ x ∷ [])) ⊎ (lin.line.steps k ≡ x ∷ []) → k < (Each c ed st' w).begun
@@ -562,10 +562,10 @@ module _ (bits : Width) (c n workers : ℕ) (base : Base bits c n workers) (ed :
         mine = λ y h. ap (λ (z : Step). z.worker) (sym (one x.step y h)) ∙ x.by;
         its = λ y h. subst (OfCall c ed st (length st)) (one x.step y h) (whole_call x.step x.by x.its x.begun);
         first_one =
-            λ y h k z at same-worker.
-            let y-by : y.worker ≡ w = ap (λ (v : Step). v.worker) (sym (one x.step y h)) ∙ x.by in
-            let r = lin.unstepped w busy x.puts x.takes k z at (same-worker ∙ y-by) in
-            rw y-by r;
+            λ y h k z at same_worker.
+            let y_by : y.worker ≡ w = ap (λ (v : Step). v.worker) (sym (one x.step y h)) ∙ x.by in
+            let r = lin.unstepped w busy x.puts x.takes k z at (same_worker ∙ y_by) in
+            rw y_by r;
         flag = x.flag;
         room = x.room;
         undisplaced = λ z y h v r. x.undisplaced z v (ap (λ (k : Step). k.reply) (one x.step y h) ∙ r);
@@ -598,7 +598,7 @@ module _ (bits : Width) (c n workers : ℕ) (base : Base bits c n workers) (ed :
   line_p4 : (t : Stamp) (x : ℕ) → q ≡ P4 t x → Lined c ed now st' next_ring after
   line_p4 t x h =
       finish (own_run claims) [] (ap (λ (z : Queue). z.items) (own_last claims) ∙ last_items) (inl (refl, nobody))
-      (claim_busy (P4 t x) refl h (Answer-step c ed st' (then_line (own_run claims)) st e))
+      (claim_busy (P4 t x) refl h (AnswerStep c ed st' (then_line (own_run claims)) st e))
       (λ b p k r g i y. some_none _ x (due_at (P4 t x) h).1.work.puts p)
       (λ v b p k. own_step_claims)
       (λ v z b k i. some_none _ v k (due_at (P4 t x) h).1.work.takes)
@@ -693,7 +693,7 @@ module _ (bits : Width) (c n workers : ℕ) (base : Base bits c n workers) (ed :
       finish (own_run claims) lin.pend (ap (λ (z : Queue). z.items) (own_last claims) ∙ last_items)
       (pending_kept (λ t x k. let z : O4 y ≡ F7 t x = sym h ∙ k in let b : ◌≡◌ {A = ℕ} 0 1 = cc in omega arith)
       (λ t x k. let z : O4 y ≡ F8 t x = sym h ∙ from_f7 t x k in let b : ◌≡◌ {A = ℕ} 0 1 = cc in omega arith))
-      (claim_busy (O4 y) refl h (Answer-step c ed st' (then_line (own_run claims)) st e))
+      (claim_busy (O4 y) refl h (AnswerStep c ed st' (then_line (own_run claims)) st e))
       (λ b p k. some_none _ d.v d.work.takes k)
       (λ v b p k. some_none _ d.v d.work.takes k)
       (λ v z b k i. taken v z k i)
@@ -742,15 +742,15 @@ module _ (bits : Width) (c n workers : ℕ) (base : Base bits c n workers) (ed :
 
       taken : (v : ℕ) (cl : Call) → (Each c ed st' w).takes ≡ v ∷ [] → (Each c ed st' w).calls ≡ cl ∷ [] → StepOf c ed st' (then_line (own_run claims)) w (out_of cl v)
       taken v cl k i =
-          let same-v : d.v ≡ v = let z : d.v ∷ [] ≡ v ∷ [] = sym d.work.takes ∙ k in cc in
-          let same-cl : call.Pop ≡ cl = let z : call.Pop ∷ [] ≡ cl ∷ [] = sym d.work.its ∙ i in cc in
-          rw (← same-v, ← same-cl) (own_step claims)
+          let same_v : d.v ≡ v = let z : d.v ∷ [] ≡ v ∷ [] = sym d.work.takes ∙ k in cc in
+          let same_cl : call.Pop ≡ cl = let z : call.Pop ∷ [] ≡ cl ∷ [] = sym d.work.its ∙ i in cc in
+          rw (← same_v, ← same_cl) (own_step claims)
 
   -- force_push's tail claim: its step was taken when its word was given
   line_f8 : (t : Stamp) (x : ℕ) → q ≡ F8 t x → Lined c ed now st' next_ring after
   line_f8 t x h =
       finish run [] last_items (inl (refl, nobody))
-      (claim_busy (F8 t x) refl h (Answer-step c ed st' (then_line run) st e))
+      (claim_busy (F8 t x) refl h (AnswerStep c ed st' (then_line run) st e))
       (λ b p k. some_none _ d.v d.work.takes k)
       (λ v b p k. some_none _ d.v d.work.takes k)
       (λ v cl b k i. kept_taken run v cl (sym (own_takes (ap (λ (z : Place). claims_head (moved_of z)) h)) ∙ k) (sym own_calls ∙ i))
@@ -773,8 +773,8 @@ module _ (bits : Width) (c n workers : ℕ) (base : Base bits c n workers) (ed :
           go : Pending m lin.pend → lin.pend ≡ x ∷ []
           go (inl z) = absurd (z.1 w t x from)
           go (inr z) =
-              let v-is : z.0 ≡ w = gripped_one z.0 w (gripped z.0 z.1 z.2 z.3) (gripped w t x from) in
-              let place : F7 z.1 z.2 ≡ F7 t x = sym z.3 ∙ ap (stood m) v-is ∙ from in
+              let v_is : z.0 ≡ w = gripped_one z.0 w (gripped z.0 z.1 z.2 z.3) (gripped w t x from) in
+              let place : F7 z.1 z.2 ≡ F7 t x = sym z.3 ∙ ap (stood m) v_is ∙ from in
               let item : z.2 ≡ x = cc in
               z.4 ∙ ap (λ (k : ℕ). k ∷ []) item
 
@@ -839,15 +839,15 @@ module _ (bits : Width) (c n workers : ℕ) (base : Base bits c n workers) (ed :
     meant : Meant c ed st e x
     meant = (done.answers st [] e x refl h).1
 
-    abbrev Reply-of : Type 0
-    Reply-of = answer_of (queue_at c ed ans.moment st) ans.call ∷ [] ≡ reply_of x
+    abbrev ReplyOf : Type 0
+    ReplyOf = answer_of (queue_at c ed ans.moment st) ans.call ∷ [] ≡ reply_of x
 
     -- with a step that its call has taken already
     line_had : (change_of ed e).closes ≡ false → (r : Reply) → r ∷ [] ≡ reply_of x → StepOf c ed st lin.line w r → Lined c ed now st' next_ring after
     unfolding quiet_run
-    line_had shut r is-r had =
+    line_had shut r is_r had =
         finish (quiet_run shut (ap moved_of h)) lin.pend (ended_last x h) (ended_pending x h)
-        (λ y k. let same-x : x ≡ y = let z : Idle x ≡ Idle y = sym h ∙ k in cc in
+        (λ y k. let same_x : x ≡ y = let z : Idle x ≡ Idle y = sym h ∙ k in cc in
         record {
           at = had.at;
           step = had.step;
@@ -856,7 +856,7 @@ module _ (bits : Width) (c n workers : ℕ) (base : Base bits c n workers) (ed :
           inside = omega (arith, lin.line.inside had.at had.step had.is);
           by = had.by;
           call = had.call;
-          reply = ap (λ (z : Reply). z ∷ []) had.reply ∙ is-r ∙ ap reply_of same-x;
+          reply = ap (λ (z : Reply). z ∷ []) had.reply ∙ is_r ∙ ap reply_of same_x;
         })
         (λ b. idle_silent x h b) (λ v b. idle_silent x h b) (λ v cl b. idle_silent x h b)
 
@@ -864,9 +864,9 @@ module _ (bits : Width) (c n workers : ℕ) (base : Base bits c n workers) (ed :
     line_now : ans.moment ≡ length st → (r : Reply) → answer_of (known c ed st).queue ans.call ≡ r → r ∷ [] ≡ reply_of x → bare r ≡ true
         → put_by x (items_of (Each c ed st w).calls) ≡ [] → taken_by x ≡ []
         → (ans.call ≡ call.Pop → (known c ed st).queue.items ≡ [] → lin.pend ≡ []) → Lined c ed now st' next_ring after
-    line_now at r says is-r plainly no_put no_take back =
+    line_now at r says is_r plainly no_put no_take back =
         finish (own_run claims) lin.pend (ap (λ (z : Queue). z.items) (own_last claims) ∙ like.items ∙ ended_last x h) (ended_pending x h)
-        (λ y k. let same-x : x ≡ y = let z : Idle x ≡ Idle y = sym h ∙ k in cc in
+        (λ y k. let same_x : x ≡ y = let z : Idle x ≡ Idle y = sym h ∙ k in cc in
         let p = own_step claims in
         record {
           at = p.at;
@@ -876,7 +876,7 @@ module _ (bits : Width) (c n workers : ℕ) (base : Base bits c n workers) (ed :
           inside = omega (arith, (then_line (own_run claims)).inside p.at p.step p.is, longer);
           by = p.by;
           call = sym own_calls ∙ p.call;
-          reply = ap (λ (z : Reply). z ∷ []) p.reply ∙ is-r ∙ ap reply_of same-x;
+          reply = ap (λ (z : Reply). z ∷ []) p.reply ∙ is_r ∙ ap reply_of same_x;
         })
         (λ b. idle_silent x h b) (λ v b. idle_silent x h b) (λ v cl b. idle_silent x h b)
       where
@@ -913,7 +913,7 @@ module _ (bits : Width) (c n workers : ℕ) (base : Base bits c n workers) (ed :
   fixed_is = pic.rule ∙ ap (fixed c mark) o.edition
 
   -- a push or force_push with a word of tail, where the ring is full and nothing has moved since
-  record Full-given (cl : Call) : Type 0 where
+  record FullGiven (cl : Call) : Type 0 where
     kind : Kind
     item : ℕ
     is : cl ≡ pushing kind item
@@ -921,7 +921,7 @@ module _ (bits : Width) (c n workers : ℕ) (base : Base bits c n workers) (ed :
     given : GivenBy c n ed st s age w cl word
     full : s.head + c ≡ age.tail
 
-  module _ (cl : Call) (f : Full-given cl) where
+  module _ (cl : Call) (f : FullGiven cl) where
     abbrev k : ℕ
     k = f.given.set.moment
 
@@ -1059,7 +1059,7 @@ module _ (bits : Width) (c n workers : ℕ) (base : Base bits c n workers) (ed :
   line_full : (y : ℕ) → q ≡ Idle (Full y) → Lined c ed now st' next_ring after
   line_full y h =
       finish run lin.pend (ap (λ (z : Queue). z.items) (put_to cl f put undisplaced same_queues no_asks shut no_move) ∙ ended_last (Full y) h) (ended_pending (Full y) h)
-      (λ x z. let same-x : Full y ≡ x = let v : Idle (Full y) ≡ Idle x = sym h ∙ z in cc in
+      (λ x z. let same_x : Full y ≡ x = let v : Idle (Full y) ≡ Idle x = sym h ∙ z in cc in
       record {
         at = k cl f;
         step = step_by w cl (plain.Full y);
@@ -1068,7 +1068,7 @@ module _ (bits : Width) (c n workers : ℕ) (base : Base bits c n workers) (ed :
         inside = omega (arith, (held cl f).short);
         by = refl;
         call = f.given.work.its;
-        reply = ap reply_of same-x;
+        reply = ap reply_of same_x;
       })
       (λ b. idle_silent (Full y) h b) (λ v b. idle_silent (Full y) h b) (λ v z b. idle_silent (Full y) h b)
     where
@@ -1084,7 +1084,7 @@ module _ (bits : Width) (c n workers : ℕ) (base : Base bits c n workers) (ed :
       fresh_word : Young c mark n s age
       fresh_word = subst (λ (z : Place). Recent c mark n s age (look c z)) from.1 young refl
 
-      f : Full-given (call.Push y)
+      f : FullGiven (call.Push y)
       f =
           record {
             kind = Push;
@@ -1138,7 +1138,7 @@ module _ (bits : Width) (c n workers : ℕ) (base : Base bits c n workers) (ed :
   line_f7 : (t : Stamp) (x : ℕ) → q ≡ F7 t x → Lined c ed now st' next_ring after
   line_f7 t x h =
       finish run (x ∷ []) last_items (inr (w, t, x, came ∙ h, refl))
-      (claim_busy (F7 t x) refl h (Answer-step c ed st' (then_line run) st e))
+      (claim_busy (F7 t x) refl h (AnswerStep c ed st' (then_line run) st e))
       (λ b p z. some_none _ d.v d.work.takes z)
       (λ v b p z. some_none _ d.v d.work.takes z)
       (λ v z b takes its. taken v z takes its)
@@ -1158,7 +1158,7 @@ module _ (bits : Width) (c n workers : ℕ) (base : Base bits c n workers) (ed :
       at_f6 : Stands c mark n s w age (look c (F6 t x))
       at_f6 = subst (λ (z : Place). Stands c mark n s w age (look c z)) from.0 (pic.stands w)
 
-      f : Full-given (call.ForcePush x)
+      f : FullGiven (call.ForcePush x)
       f =
           record {
             kind = Force;
@@ -1241,11 +1241,11 @@ module _ (bits : Width) (c n workers : ℕ) (base : Base bits c n workers) (ed :
                   rw v (ap (λ (y : Queue). queue (drop 1 (known c ed st).queue.items ++ x ∷ []) y.closed y.capacity) was)
               each above (inr v) =
                   let was = subst (λ (y : List Step). Follows (lin.line.queues j) y (lin.line.queues (suc j))) v.1 (lin.line.follows j low) in
-                  let same-now = (calm_since (call.ForcePush x) f).0 j (omega arith) (omega arith) in
+                  let same_now = (calm_since (call.ForcePush x) f).0 j (omega arith) (omega arith) in
                   let same_next = (calm_since (call.ForcePush x) f).0 (suc j) (omega arith) (omega arith) in
                   let r = neutral (lin.line.queues j) (lin.line.queues (suc j)) (drop 1 (known c ed st).queue.items ++ x ∷ []) v.0
-                  (new_long ∙ ap length (sym same-now)) ((calm_since (call.ForcePush x) f).1 j v.0 (omega arith) v.1) was.0 was.1
-                  (same_next ∙ sym same-now) in
+                  (new_long ∙ ap length (sym same_now)) ((calm_since (call.ForcePush x) f).1 j v.0 (omega arith) v.1) was.0 was.1
+                  (same_next ∙ sym same_now) in
                   rw v.1 (r.0, r.1)
 
       put : Put (call.ForcePush x) f
@@ -1290,10 +1290,10 @@ module _ (bits : Width) (c n workers : ℕ) (base : Base bits c n workers) (ed :
       taken : (v : ℕ) (z : Call) → (Each c ed st' w).takes ≡ v ∷ [] → (Each c ed st' w).calls ≡ z ∷ [] → StepOf c ed st' (then_line run) w (out_of z v)
       taken v z takes its =
           let took : (Each c ed st' w).takes ≡ take 1 (known c ed st).queue.items = ap (λ (y : Doing). y.takes) own ∙ rw (ap moved_of h, given.work.takes) in
-          let same-v : get_or (known c ed st).queue.items 0 0 ≡ v =
+          let same_v : get_or (known c ed st).queue.items 0 0 ≡ v =
           let y : get_or (known c ed st).queue.items 0 0 ∷ [] ≡ v ∷ [] = sym (first_of (known c ed st).queue.items some) ∙ sym took ∙ takes in cc in
-          let same-cl : call.ForcePush x ≡ z = let y : call.ForcePush x ∷ [] ≡ z ∷ [] = sym d.work.its ∙ its in cc in
-          rw (← same-v, ← same-cl)
+          let same_cl : call.ForcePush x ≡ z = let y : call.ForcePush x ∷ [] ≡ z ∷ [] = sym d.work.its ∙ its in cc in
+          rw (← same_v, ← same_cl)
           (record {
             at = k (call.ForcePush x) f;
             step = step_by w (call.ForcePush x) (plain.Displaced (get_or (known c ed st).queue.items 0 0));
@@ -1309,15 +1309,15 @@ module _ (bits : Width) (c n workers : ℕ) (base : Base bits c n workers) (ed :
   -- the answer at the moment that is now
   said_now : (x : Answer) (h : q ≡ Idle x) (r : Reply) → reply_of x ≡ r ∷ [] → timed (timing_of (stood m w) (Idle x)) (known c ed st) (moment_of c ed w st) ≡ At (known c ed st).count
       → ((ans x h).moment ≡ length st) × (answer_of (known c ed st).queue (ans x h).call ≡ r)
-  said_now x h r is-r timing =
+  said_now x h r is_r timing =
       let at = (now_queue (ans x h).moment (ans x h).named (moment_at (Idle x) h ∙ timing)).0 in
       let there : queue_at c ed (ans x h).moment st ≡ (known c ed st).queue = ap (λ (y : ℕ). queue_at c ed y st) at ∙ queue_now actor (change_of ed) c st in
-      (at, one_reply _ r (ap (λ (y : Queue). answer_of y (ans x h).call ∷ []) (sym there) ∙ (ans x h).plain ∙ is-r))
+      (at, one_reply _ r (ap (λ (y : Queue). answer_of y (ans x h).call ∷ []) (sym there) ∙ (ans x h).plain ∙ is_r))
 
   -- no call but pop says so
   not_pop : (x : Answer) (h : q ≡ Idle x) (r : Reply) → answer_of (known c ed st).queue (ans x h).call ≡ r → pops r ≡ false → (ans x h).call ≡ call.Pop
       → (known c ed st).queue.items ≡ [] → lin.pend ≡ []
-  not_pop x h r says no-pop is none = absurd (pop_says (known c ed st).queue (ans x h).call (ap pops says ∙ no-pop) is)
+  not_pop x h r says no_pop is none = absurd (pop_says (known c ed st).queue (ans x h).call (ap pops says ∙ no_pop) is)
 
   -- where O6 found the ring empty, nobody is between two claims
   empty_pend : (y : Stamp) → stood m w ≡ O6 y → same (unmarked_of (fixed_on m.ring) m.ring.tail) y ≡ true → lin.pend ≡ []
@@ -1342,12 +1342,12 @@ module _ (bits : Width) (c n workers : ℕ) (base : Base bits c n workers) (ed :
           absurd (let v : ◌≡◌ {A = ℕ} 0 1 = cc in omega arith)
 
   had_out : (x : Answer) (h : q ≡ Idle x) (v : ℕ) (r : Reply) → taken_by x ≡ v ∷ [] → reply_of x ≡ r ∷ [] → bare r ≡ false → out_of (ans x h).call v ≡ r → Lined c ed now st' next_ring after
-  had_out x h v r took is-r plainly out =
+  had_out x h v r took is_r plainly out =
       let takes : (Each c ed st w).takes ≡ v ∷ [] = sym (own_takes (ap (λ (y : Place). claims_head (moved_of y)) h)) ∙ (meant x h).took ∙ took in
       let had = lin.taken w v (ans x h).call busy takes (ans x h).its in
-      let says : answer_of (queue_at c ed (ans x h).moment st) (ans x h).call ≡ r = one_reply _ r ((ans x h).plain ∙ is-r) in
+      let says : answer_of (queue_at c ed (ans x h).moment st) (ans x h).call ≡ r = one_reply _ r ((ans x h).plain ∙ is_r) in
       line_had x h (not_closing (ans x h).call (ans x h).its (bare_close (queue_at c ed (ans x h).moment st) (ans x h).call (ap bare says ∙ plainly))) (out_of (ans x h).call v)
-      (ap (λ (z : Reply). z ∷ []) out ∙ sym is-r) had
+      (ap (λ (z : Reply). z ∷ []) out ∙ sym is_r) had
 
   line_said : (x : Answer) → q ≡ Idle x → Lined c ed now st' next_ring after
   line_said Nothing h = absurd (let z : ◌≡◌ {A = ℕ} 1 0 = ap length (ans Nothing h).plain in omega arith)

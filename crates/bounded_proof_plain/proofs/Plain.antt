@@ -151,11 +151,11 @@ module _ (bits : Width) (records c workers ed : ℕ) (a : AllowedWith records c 
     in_call_order : (earlier between later : Story) (one two : Event) (x y : Answer) (i j : ℕ) → st ≡ earlier ++ Does one ∷ between ++ Does two ∷ later → one.after ≡ Idle x → two.after ≡ Idle y
         → length earlier < ((known c ed (earlier ++ Does one ∷ between)).each two.worker).begun → moment_of c ed one.worker (earlier ++ Does one ∷ []) ≡ At i
         → moment_of c ed two.worker (earlier ++ Does one ∷ between ++ Does two ∷ []) ≡ At j → i < j
-    in_call_order earlier between later one two x y i j is said-one said-two late at_i at_j =
-        let p = (o.answers earlier (between ++ Does two ∷ later) one x (is ∙ append_assoc earlier (Does one ∷ between) (Does two ∷ later)) said-one).0 in
-        let q = (o.answers (earlier ++ Does one ∷ between) later two y is said-two).0 in
-        let i-is : i ≡ p.moment = at_one i p.moment (sym at_i ∙ p.named) in
-        let j-is : j ≡ q.moment = at_one j q.moment (sym at_j ∙ q.named) in
+    in_call_order earlier between later one two x y i j is said_one said_two late at_i at_j =
+        let p = (o.answers earlier (between ++ Does two ∷ later) one x (is ∙ append_assoc earlier (Does one ∷ between) (Does two ∷ later)) said_one).0 in
+        let q = (o.answers (earlier ++ Does one ∷ between) later two y is said_two).0 in
+        let i_is : i ≡ p.moment = at_one i p.moment (sym at_i ∙ p.named) in
+        let j_is : j ≡ q.moment = at_one j q.moment (sym at_j ∙ q.named) in
         omega (arith, p.inside, q.begun)
 
     plain_of : PlainThroughout c ed m o.h st

@@ -276,16 +276,16 @@ alike ed q r more items flag (call.Push x) back ok h = go q.closed (full_of q) r
   where
     go : (b d : Bool) → q.closed ≡ b → full_of q ≡ d → Alike q r more (call.Push x)
     go true d e f =
-        let e-r : r.closed ≡ true = flag ∙ e in
-        record { says = rw (e, e-r); items = rw e-r; same_items = rw e; closed = rw (e, e-r); capacity = rw e-r }
+        let e_r : r.closed ≡ true = flag ∙ e in
+        record { says = rw (e, e_r); items = rw e_r; same_items = rw e; closed = rw (e, e_r); capacity = rw e_r }
     go false true e f = absurd (true≢false (sym (rw (e, f) at h)))
     go false false e f = absurd (true≢false (sym (rw (e, f) at h)))
 alike ed q r more items flag (call.ForcePush x) back ok h = go q.closed (full_of q) q.items refl refl refl
   where
     go : (b d : Bool) (l : List ℕ) → q.closed ≡ b → full_of q ≡ d → q.items ≡ l → Alike q r more (call.ForcePush x)
     go true d l e f i =
-        let e-r : r.closed ≡ true = flag ∙ e in
-        record { says = rw (e, e-r); items = rw e-r; same_items = rw e; closed = rw (e, e-r); capacity = rw e-r }
+        let e_r : r.closed ≡ true = flag ∙ e in
+        record { says = rw (e, e_r); items = rw e_r; same_items = rw e; closed = rw (e, e_r); capacity = rw e_r }
     go false true [] e f i = absurd (true≢false (sym (let z : bare (front_of plain.Displaced plain.Pushed q.items) ≡ true = rw (e, f) at h in
         sym (ap (λ (k : List ℕ). bare (front_of plain.Displaced plain.Pushed k)) i) ∙ z)))
     go false true (v ∷ l) e f i = absurd (true≢false (sym (let z : bare (front_of plain.Displaced plain.Pushed q.items) ≡ true = rw (e, f) at h in

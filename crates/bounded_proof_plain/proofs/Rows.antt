@@ -524,10 +524,10 @@ module _ (bits : Width) (c n ed : ℕ) (g : Ground bits c (mark_of c) n) (st : S
       let up : u.head ≡ s.head + 1 = mv.heads in
       let r = work_on (F6 t x) (F7 t x) (call.ForcePush x) [] [] o.work in
       let v = get_or (known c ed st).queue.items 0 0 in
-      let v-is : get_or (known c ed st).queue.items 0 0 ≡ s.item (s.head + 0) = shelf.at 0 some in
+      let v_is : get_or (known c ed st).queue.items 0 0 ≡ s.item (s.head + 0) = shelf.at 0 some in
       let then_is : get_or (then c n ed o.set).items 0 0 ≡ s.item (age.head + 0) = p.at 0 some_then in
       let both : s.item (s.head + 0) ≡ s.item (age.head + 0) = ap (λ (k : ℕ). s.item (k + 0)) (sym even) in
-      let zero-on : age.head + 0 ≡ age.head = omega arith in
+      let zero_on : age.head + 0 ≡ age.head = omega arith in
       let made : age.head < s.tail = omega (arith, shelf.long) in
       record {
         due =
@@ -542,8 +542,8 @@ module _ (bits : Width) (c n ed : ℕ) (g : Ground bits c (mark_of c) n) (st : S
                     others = drop 1 (then c n ed o.set).items;
                     items =
                         then_kept (F6 t x) (F7 t x) u mv refl o.set (λ (q : Queue). q.items ≡ v ∷ drop 1 (then c n ed o.set).items)
-                        (front_of (then c n ed o.set).items some_then ∙ ap (λ (y : ℕ). y ∷ drop 1 (then c n ed o.set).items) (then_is ∙ sym both ∙ sym v-is));
-                    is = v-is ∙ both ∙ ap s.item zero-on ∙ sym (item_course c s u w i mv.course age.head made);
+                        (front_of (then c n ed o.set).items some_then ∙ ap (λ (y : ℕ). y ∷ drop 1 (then c n ed o.set).items) (then_is ∙ sym both ∙ sym v_is));
+                    is = v_is ∙ both ∙ ap s.item zero_on ∙ sym (item_course c s u w i mv.course age.head made);
                     latest = rw even (latest_new c s u w i mv.course up);
                   };
               while_open = then_kept (F6 t x) (F7 t x) u mv refl o.set (λ (q : Queue). q.closed ≡ false) o.while_open;
@@ -678,7 +678,7 @@ module _ (bits : Width) (c n ed : ℕ) (g : Ground bits c (mark_of c) n) (st : S
       let made = timed_now (O3 h) (O4 h) refl in
       let r = work_on (O3 h) (O4 h) call.Pop [] [] o in
       let v = get_or (known c ed st).queue.items 0 0 in
-      let zero-on : s.head + 0 ≡ s.head = omega arith in
+      let zero_on : s.head + 0 ≡ s.head = omega arith in
       record {
         due =
             record {
@@ -692,7 +692,7 @@ module _ (bits : Width) (c n ed : ℕ) (g : Ground bits c (mark_of c) n) (st : S
                     others = drop 1 (known c ed st).queue.items;
                     items =
                         then_at (O3 h) (O4 h) u mv made o.begun (λ (q : Queue). q.items ≡ v ∷ drop 1 (known c ed st).queue.items) (front_of (known c ed st).queue.items some);
-                    is = shelf.at 0 some ∙ ap s.item zero-on ∙ sym (item_course c s u w i mv.course s.head (omega (arith, shelf.long)));
+                    is = shelf.at 0 some ∙ ap s.item zero_on ∙ sym (item_course c s u w i mv.course s.head (omega (arith, shelf.long)));
                     latest = latest_new c s u w i mv.course mv.heads;
                   };
             };

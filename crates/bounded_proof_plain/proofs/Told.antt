@@ -84,7 +84,7 @@ module _ (c n ed : ℕ) (st : Story) (e : Event) (s u : Shared) (i w : ℕ) (far
   longer = length-append st (Does e ∷ []) ∙ omega arith
 
   set_here : moment_of c ed w st' ≡ At ((known c ed st).count + 1) → ((known c ed st).each w).begun < length st → Set c n ed st' u w u.tail u.head
-  set_here named begun-before =
+  set_here named begun_before =
       record {
         moment = length st';
         named = named ∙ ap At (ap (λ (k : ℕ). k + 1) (known_count actor (change_of ed) c st) ∙ sym longer);
@@ -93,10 +93,10 @@ module _ (c n ed : ℕ) (st : Story) (e : Event) (s u : Shared) (i w : ℕ) (far
         point = rw (queue_now actor (change_of ed) c st') (point_now c u b (known c ed st').queue mv.inv shelf);
       }
 
-  then_here : (named : moment_of c ed w st' ≡ At ((known c ed st).count + 1)) (begun-before : ((known c ed st).each w).begun < length st) (P : Queue → Type 0)
-      → P (known c ed st').queue → P (then c n ed (set_here named begun-before))
+  then_here : (named : moment_of c ed w st' ≡ At ((known c ed st).count + 1)) (begun_before : ((known c ed st).each w).begun < length st) (P : Queue → Type 0)
+      → P (known c ed st').queue → P (then c n ed (set_here named begun_before))
   unfolding set_here
-  then_here named begun-before P p = rw (queue_now actor (change_of ed) c st') p
+  then_here named begun_before P p = rw (queue_now actor (change_of ed) c st') p
 
   pub some_else : Work c n ed st w call.IsEmpty [] [] → NoneYet c n ed st s age w → SeenSome c n ed st' u w ⊎ NoneYet c n ed st' u age w
   some_else work o = go (moved_of e.after) refl
@@ -387,9 +387,9 @@ module _ (bits : Width) (c n workers : ℕ) (base : Base bits c n workers) (ed :
       begun_behind Q o = begun_after bits c n workers base m _ r w l cl idle (λ (z : Shared) (b : Bool) (ages : ℕ → Age). Q z ages) o
 
   -- every accepted entry leads on
-  pub told_kept : (m : Machine) (st : Story) (en : Entry) (after-it : Machine) (acts : List Event) → Told m st → InWidestWindow bits m (acts_in st)
-      → Turned bits m en after-it acts → Told after-it (st ++ (begun_in en ++ map Does acts))
-  told_kept m st en after-it acts o window (began w cl l idle) = told_begun m st o w l cl idle
-  told_kept m st en after-it acts o window (did w lose l busy early) =
+  pub told_kept : (m : Machine) (st : Story) (en : Entry) (after_it : Machine) (acts : List Event) → Told m st → InWidestWindow bits m (acts_in st)
+      → Turned bits m en after_it acts → Told after_it (st ++ (begun_in en ++ map Does acts))
+  told_kept m st en after_it acts o window (began w cl l idle) = told_begun m st o w l cl idle
+  told_kept m st en after_it acts o window (did w lose l busy early) =
       let young = recent_in bits c n workers base m o.h o.reached (subst (InWidestWindow bits m) o.acts window) w in
       subst (λ (e : Event). Told (acted bits m w (stood m w) lose) (st ++ Does e ∷ [])) (sym (same_event m st o w l lose busy young early)) (told_act m st o w l lose busy young early)

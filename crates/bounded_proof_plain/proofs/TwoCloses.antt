@@ -118,16 +118,16 @@ says_at s k w h =
 -- Two closes of one worker, the second begun after the first has answered, one element between them: both cannot answer yes.
 module _ (ed : ℕ) (s : Story) (o : OneByOne 1 ed s) (k w : ℕ) (few : k + 3 < length s)
     (first : yes_here w (drop k s) ≡ true) (second : yes_here w (drop (k + 3) s) ≡ true)
-    (long : length (take k s) ≡ k) (long-too : length (take (k + 3) s) ≡ k + 3)
-    (close : ((known 1 ed (take k s)).each w).calls ≡ call.Close ∷ []) (close-too : ((known 1 ed (take (k + 3) s)).each w).calls ≡ call.Close ∷ [])
-    (begun_then : ((known 1 ed (take k s)).each w).begun + 1 ≡ k) (begun-later : ((known 1 ed (take (k + 3) s)).each w).begun + 1 ≡ k + 3) where
+    (long : length (take k s) ≡ k) (long_too : length (take (k + 3) s) ≡ k + 3)
+    (close : ((known 1 ed (take k s)).each w).calls ≡ call.Close ∷ []) (close_too : ((known 1 ed (take (k + 3) s)).each w).calls ≡ call.Close ∷ [])
+    (begun_then : ((known 1 ed (take k s)).each w).begun + 1 ≡ k) (begun_later : ((known 1 ed (take (k + 3) s)).each w).begun + 1 ≡ k + 3) where
   -- the step of a close that answered yes: the queue was open, and is closed after it
   record Shuts (i : ℕ) : Type 0 where
     was : (o.queues i).closed ≡ false
     is : (o.queues (suc i)).closed ≡ true
 
   shuts : (i : ℕ) (says : Says s i w) → i < length s → length (take i s) ≡ i → ((known 1 ed (take i s)).each w).calls ≡ call.Close ∷ [] → ((known 1 ed (take i s)).each w).begun + 1 ≡ i → Shuts i
-  shuts i says low long-i calls begun-i =
+  shuts i says low long_i calls begun_i =
       let r = o.answered (take i s) says.later says.act Yes says.is says.yes in
       let late : ((known 1 ed (take i s)).each w).begun < r.0 = subst (λ (v : ℕ). ((known 1 ed (take i s)).each v).begun < r.0) says.by r.3 in
       let at : r.0 ≡ i = omega (arith, late, r.4) in
@@ -148,7 +148,7 @@ module _ (ed : ℕ) (s : Story) (o : OneByOne 1 ed s) (k w : ℕ) (few : k + 3 <
   pub not_both : ⊥
   not_both =
       let a = shuts k (says_at s k w first) (omega arith) long close begun_then in
-      let b = shuts (k + 3) (says_at s (k + 3) w second) few long-too close-too begun-later in
+      let b = shuts (k + 3) (says_at s (k + 3) w second) few long_too close_too begun_later in
       let one = closed_on (o.queues (suc k)) (o.queues (suc (suc k))) (o.steps (suc k)) (o.follows (suc k) (omega arith)) a.is in
       let two = closed_on (o.queues (suc (suc k))) (o.queues (suc (suc (suc k)))) (o.steps (suc (suc k))) (o.follows (suc (suc k)) (omega arith)) one in
       let same : suc (suc (suc k)) ≡ k + 3 = omega arith in

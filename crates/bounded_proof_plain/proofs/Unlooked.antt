@@ -225,11 +225,11 @@ module _ (bits : Width) (records c workers ed : ℕ) (a : AllowedWith records c 
   abbrev n : ℕ
   n = laps_of bits c
 
-  abbrev Base-of : Base bits c n workers
-  Base-of = base_of bits records c workers ed a
+  abbrev BaseOf : Base bits c n workers
+  BaseOf = base_of bits records c workers ed a
 
   abbrev Two : Machine → Story → Type 0
-  Two = Both bits c n workers Base-of ed
+  Two = Both bits c n workers BaseOf ed
 
   record Beside (m : Machine) (st : Story) : Type 0 where
     other : Machine
@@ -366,7 +366,7 @@ module _ (bits : Width) (records c workers ed : ℕ) (a : AllowedWith records c 
             other = there;
             both =
                 subst (Two there) (sym kept)
-                (both_kept bits c n workers Base-of ed o.other (unlooked st) (Asks w (Begin b)) there [] o.both in_window (one, tt) (began w b (omega (arith, o.count)) other_idle));
+                (both_kept bits c n workers BaseOf ed o.other (unlooked st) (Asks w (Begin b)) there [] o.both in_window (one, tt) (began w b (omega (arith, o.count)) other_idle));
             ring = (begun_ring o.other w (begin_of b)).0 ∙ o.ring ∙ sym (begun_ring m w (begin_of b)).0;
             count = (begun_ring o.other w (begin_of b)).1 ∙ o.count ∙ sym (begun_ring m w (begin_of b)).1;
             early = omega (arith, o.early, (begun_ring m w (begin_of b)).2, (begun_ring o.other w (begin_of b)).2);
@@ -392,8 +392,8 @@ module _ (bits : Width) (records c workers ed : ℕ) (a : AllowedWith records c 
           date j held (yes z) =
               absurd (true≢false (sym held ∙ ap (λ (i : ℕ). holds (holding_at (stood there i))) z ∙ ap (λ (p : Place). holds (holding_at p)) there_mine ∙ begins_without b))
           date j held (no z) =
-              let same-too : acts_in (unlooked st') ≡ acts_in (unlooked st) = ap acts_in kept ∙ acts_end (unlooked st) (Begun w b) ∙ append-nil (acts_in (unlooked st)) in
-              rw (same-too, same_acts) (o.dated j (ap (λ (p : Place). holds (holding_at p)) (sym (begun_else o.other w b j z)) ∙ held))
+              let same_too : acts_in (unlooked st') ≡ acts_in (unlooked st) = ap acts_in kept ∙ acts_end (unlooked st) (Begun w b) ∙ append-nil (acts_in (unlooked st)) in
+              rw (same_too, same_acts) (o.dated j (ap (λ (p : Place). holds (holding_at p)) (sym (begun_else o.other w b j z)) ∙ held))
 
       begins : (ed ≡ 1 → never_closes b ≡ true) → Beside next st'
       begins never = go (looks b) refl
@@ -475,7 +475,7 @@ module _ (bits : Width) (records c workers ed : ℕ) (a : AllowedWith records c 
                 both =
                     subst (Two there) (sym kept)
                     (subst (λ (y : Event). Two there (unlooked st ++ Does y ∷ [])) same_event
-                    (both_kept bits c n workers Base-of ed o.other (unlooked st) (Asks w (Act lose)) there (event_of bits o.other w lose there ∷ []) o.both in_window tt
+                    (both_kept bits c n workers BaseOf ed o.other (unlooked st) (Asks w (Act lose)) there (event_of bits o.other w lose there ∷ []) o.both in_window tt
                     (did w lose (omega (arith, o.count)) (ap (λ (p : Place). (view_of p).busy) at ∙ busy) (omega (arith, o.early)))));
                 ring =
                     acted_ring bits o.other w lose ∙ ap (λ (r : Ring). ring_on bits lose r (stood o.other w)) o.ring ∙ ap (ring_on bits lose m.ring) at

@@ -156,8 +156,8 @@ walk_counts = record {
   refused = λ m depth buffer h. told_refused (walk_refusal m depth (length buffer)) _ h;
   size_counted = λ m depth room h.
       walk_is _ m depth room (λ z l e. size_told m depth z) (λ z l e. let q : ◌≡◌ {A = ℕ} 22 0 = sym e ∙ h in absurd (omega (arith, q))) (λ z e. absurd (z (sym e ∙ h)));
-  size_refused = λ m depth room number h some not-22.
-      walk_is _ m depth room (λ z l e. absurd (some (sym h ∙ e))) (λ z l e. absurd (not-22 (sym h ∙ e)))
+  size_refused = λ m depth room number h some not_22.
+      walk_is _ m depth room (λ z l e. absurd (some (sym h ∙ e))) (λ z l e. absurd (not_22 (sym h ∙ e)))
       (λ z e. size_untold m depth z ∙ ap sized.Refused (sym e ∙ h));
   short = λ m depth room h.
       walk_is _ m depth room (λ z l e. let q : ◌≡◌ {A = ℕ} 0 22 = sym e ∙ h in absurd (omega (arith, q))) (λ z l e. (size_told m depth z, l)) (λ z e. absurd (size_not_22 m depth (sym e ∙ h)));

@@ -71,7 +71,7 @@ not_there a b ne h = go (Memᴰ.cases_cons h)
   where
     go : (a ∷ [] ≡ b ∷ []) ⊎ Memᴰ (a ∷ []) [] → ⊥
     go (inl e) = ne (ap (λ (l : List ℕ). get_or l 0 0) e)
-    go (inr k) = absurd (Memᴰ.not-nil k)
+    go (inr k) = absurd (Memᴰ.not_nil k)
 
 not_ended : (left : ℕ) (m : Machine) → all_idle m.workers ≡ false → Tried (suc left) m [] → ⊥
 not_ended left m busy (none_busy e) = true≢false (sym e ∙ busy)

@@ -28,7 +28,7 @@ use Rattle.bounded_machine.specs.declared.Event.{Event}
 use Rattle.bounded_machine.specs.Machine.{slot, idler, machine_of, place_of, accepted}
 use Rattle.bounded_machine.specs.Turn.{spot_of, beginner, record_after, begun, stored, acted, acted_by, turn_at, turn_of_by}
 use Rattle.bounded_machine.specs.History.{event, loss_at, events_of}
-use Rattle.bounded_proof_window.proofs.Paths.{Goes, goes as goes-path, ending}
+use Rattle.bounded_proof_window.proofs.Paths.{Goes, goes as goes_path, ending}
 
 -- of any machine
 begun_turn : (bits : Width) (m : Machine) (w first second : ℕ) (q : Call) → entry_of first second ≡ Asks w (Begin q) → w < m.count → (view_of (place_of m.workers w)).busy ≡ false
@@ -65,7 +65,7 @@ module _ (bits : Width) (f : Fixed) (count w : ℕ) (team : w < count) (others :
   begins e slots a q first second meter asks rest =
       subst (λ (done : List Event). Goes bits (at e slots (Idle a) meter) (first ∷ second ∷ rest) (at e slots (begin_of q) meter) rest done)
       (ap (λ (x : Entry). events_of bits (at e slots (Idle a) meter) x (at e slots (begin_of q) meter)) asks)
-      (goes-path bits _ _ first second rest (begins_turn e slots a q first second meter asks))
+      (goes_path bits _ _ first second rest (begins_turn e slots a q first second meter asks))
 
   abbrev pub moves : Ends → List Slot → Place → Place → ℕ → List Event
   moves e slots p q meter = event w p q (loss_at bits (at e slots p meter) w false) ∷ []
@@ -94,7 +94,7 @@ module _ (bits : Width) (f : Fixed) (count w : ℕ) (team : w < count) (others :
         (ap (λ (x : Entry). events_of bits (at e slots p meter) x after) (act_entry w)
         ∙ ap (λ (y : Place). event w y (place_of (set others w (beginner q)) w) (loss_at bits (at e slots p meter) w false) ∷ []) (there p)
         ∙ ap (λ (y : Place). event w p y (loss_at bits (at e slots p meter) w false) ∷ []) (there q))
-        (goes-path bits _ _ (16 * w + 8) 0 rest turns_to)
+        (goes_path bits _ _ (16 * w + 8) 0 rest turns_to)
 
   -- one that leaves the slot as it was
   pub looks_to : (e u : Ends) (slots : List Slot) (p q : Place) (meter : ℕ) → (view_of p).busy ≡ true → meter < meter_most

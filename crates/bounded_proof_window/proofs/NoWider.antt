@@ -120,11 +120,11 @@ module _ (c mark n : ℕ) (some : 0 < c) (turns : 0 < n) where
   unfolding word
   comes_again =
       let e : n * c ≡ n * c + 0 = omega arith in
-      let laps-all : n * c / c ≡ n = ap (λ (x : ℕ). x / c) e ∙ digits_div n some in
-      let index-none : n * c % c ≡ 0 = ap (λ (x : ℕ). x % c) e ∙ digits_mod n some in
+      let laps_all : n * c / c ≡ n = ap (λ (x : ℕ). x / c) e ∙ digits_div n some in
+      let index_none : n * c % c ≡ 0 = ap (λ (x : ℕ). x % c) e ∙ digits_mod n some in
       let once : n ≡ 0 + n = omega arith in
       let round : n % n ≡ 0 = ap (λ (x : ℕ). x % n) once ∙ add-mod_right 0 n ∙ mod-eq_of_lt turns in
-      rw (laps-all, index-none, round, div-eq_of_lt some, mod-eq_of_lt some, mod-eq_of_lt turns)
+      rw (laps_all, index_none, round, div-eq_of_lt some, mod-eq_of_lt some, mod-eq_of_lt turns)
 
 full_entry : entry_of 21 0 ≡ Asks 1 (Begin call.IsFull)
 unfolding stray_of order_of entry_of
@@ -245,10 +245,10 @@ module _ (c workers ed : ℕ) (a : Allowed c workers ed) (two : 1 < workers) whe
       let is : whole ≡ h ++ q.0 = ap (history_at Sixteen (fresh_of c workers ed)) e ∙ q.1 in
       let parts = claims_both h q.0 in
       let most = since_most w [] h in
-      let tails-few : length (tailers_of h) + length (tailers_of q.0) ≡ r = sym parts.0 ∙ ap (λ (l : List Event). length (tailers_of l)) (sym is) ∙ whole_claims.0 in
-      let heads-few : length (takers_of h) + length (takers_of q.0) ≡ r = sym parts.1 ∙ ap (λ (l : List Event). length (takers_of l)) (sym is) ∙ whole_claims.1 in
+      let tails_few : length (tailers_of h) + length (tailers_of q.0) ≡ r = sym parts.0 ∙ ap (λ (l : List Event). length (tailers_of l)) (sym is) ∙ whole_claims.0 in
+      let heads_few : length (takers_of h) + length (takers_of q.0) ≡ r = sym parts.1 ∙ ap (λ (l : List Event). length (takers_of l)) (sym is) ∙ whole_claims.1 in
       let long = turn_is Sixteen c mark n ed g in
-      (omega (arith, most.0, tails-few, long), omega (arith, most.1, heads-few, long))
+      (omega (arith, most.0, tails_few, long), omega (arith, most.1, heads_few, long))
 
   made_fixed : (s : List ℕ) → fixed_on (machine_after (of_width Sixteen) c workers ed s).ring ≡ f
   made_fixed s = same_fixed Sixteen (fresh_of c workers ed) s ∙ ap (λ (m : Machine). fixed_on m.ring) fresh_is

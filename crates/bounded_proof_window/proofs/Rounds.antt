@@ -169,9 +169,9 @@ module _ (bits : Width) (c mark n ed : ℕ) (g : Ground bits c mark n) (others :
             ∙ stamps.plus_lap bits c mark n g k
             ∙ ap (W c mark n) (sym e)
         go j low high (no ne) =
-            let else-where : j % c ≢ i = λ e. ne (absurd (omega (arith, near_one c k j g.laws.some (omega arith) (omega arith) (e ∙ at_slot)))) in
-            ap (λ (z : Slot). z.stamp) (get_or-set_other full i (j % c) _ (slot 0 0) else-where)
-            ∙ ap (λ (z : Slot). z.stamp) (pushing.full_else bits c mark n ed g others count some t k slots o.long here (j % c) else-where)
+            let else_where : j % c ≢ i = λ e. ne (absurd (omega (arith, near_one c k j g.laws.some (omega arith) (omega arith) (e ∙ at_slot)))) in
+            ap (λ (z : Slot). z.stamp) (get_or-set_other full i (j % c) _ (slot 0 0) else_where)
+            ∙ ap (λ (z : Slot). z.stamp) (pushing.full_else bits c mark n ed g others count some t k slots o.long here (j % c) else_where)
             ∙ o.stamps j (omega arith) (omega arith)
 
   -- So many rounds.
