@@ -1,5 +1,5 @@
 -- The statements over words, from those over the machine.
-use Prim.Native.Nat.{ℕ, ◌+◌, ◌*◌, ◌%◌}
+use Prim.Native.Nat.{ℕ, ◌+◌, ◌*◌}
 use mathlib.Core.Path.{◌≡◌, refl, sym, ap, ◌∙◌, subst}
 use mathlib.Core.Bool.{Bool, true, false, cond, true≢false}
 use mathlib.Core.List.{List, [], ◌∷◌}
@@ -15,8 +15,6 @@ use Rattle.queue_entries.specs.declared.Verdict.{Verdict}
 use Rattle.queue_entries.specs.declared.Verdict.TheVariants.{Refuse, Start, Move}
 use Rattle.queue_entries.specs.Entries.{entry_of}
 use Rattle.queue_entries.specs.Schedules.{run_by, search_by, schedule_by}
-use Rattle.queue_schedules.specs.Reading.{Readable}
-use Rattle.single_places.specs.declared.Worker.{Worker}
 use Rattle.single_machine.specs.declared.Machine.{Machine}
 use Rattle.single_machine.specs.declared.Did.{Did}
 use Rattle.single_machine.specs.declared.Ran.{Ran}
@@ -25,7 +23,7 @@ use Rattle.single_machine.specs.Broken.{broken_of}
 use Rattle.single_machine.specs.Turn.{verdict_of, begun, stored, acted_by, carried, turn, turn_of, turn_of_by}
 use Rattle.single_machine.specs.Run.{ran, run_from, run_of}
 use Rattle.single.specs.Single.{make_of, step_of}
-use Rattle.single_rows.specs.Rows.{Words, words_of, machine_in, records_in, shaped, stand}
+use Rattle.single_rows.specs.Rows.{Words, words_of, machine_in, shaped, stand}
 use Rattle.single_rows.proofs.Lists.{many}
 use Rattle.single_rows.proofs.Standing.{standing, same_words, written_stand, same_machine}
 use Rattle.single_host.specs.Host.{reply, broken_words, After, after, after_of, make_words, step_words_of, Ended, ended, ended_of, run_words, contents_words}
@@ -36,7 +34,7 @@ use Rattle.single_demands.proofs.Refusals.{refused_unchanged, list_first, stays_
 use Rattle.single_proof_demand2.proofs.Demand2.{demand2}
 use Rattle.single_proof_demand3.proofs.Demand3.{demand3}
 use Rattle.single_proof_plain.proofs.Plain.{answers_plain}
-use Rattle.single_proof_host.specs.Hosted.{face, OneToOne, Malformed, RefusedWords, by_single_entries, RunAsSteps, left_by, taken_by, Under, HostedThroughout}
+use Rattle.single_proof_host.specs.Hosted.{face, OneToOne, Malformed, RefusedWords, RunAsSteps, left_by, taken_by, Under, HostedThroughout}
 
 pub one_to_one : OneToOne stand
 one_to_one = record { written = same_words; stand_for = written_stand; machine = same_machine }

@@ -10,11 +10,10 @@ use lib.ListN.{length, take}
 use borrow.Author.Tests.{eqb-true}
 use Rattle.queue_entries.specs.Schedules.{run_by}
 use Rattle.queue_schedules.proofs.Schedules.{schedule_odd, schedule_found, schedule_none, Ways, is_broken, is_odd, is_unread, is_read, way}
-use Rattle.single_machine.specs.declared.Machine.{Machine}
 use Rattle.single_machine.specs.Broken.{broken_of}
-use Rattle.single_machine.specs.Run.{ran, run_from, run_of}
+use Rattle.single_machine.specs.Run.{ran, run_of}
 use Rattle.single_machine.proofs.Turns.{single_queue}
-use Rattle.single_rows.specs.Rows.{Words, words_of, machine_in}
+use Rattle.single_rows.specs.Rows.{Words, machine_in}
 use Rattle.single_rows.proofs.Standing.{same_words}
 use Rattle.single_host.specs.Host.{reply, After, make_words, step_words_of, Ended, ended, ended_of, run_words}
 use Rattle.single_proof_host.specs.Hosted.{face, left_by, taken_by, Under, Doing, stepping, running, done_by, left_by_all, ran_by, entries_of, entries_by, HostedMixed}

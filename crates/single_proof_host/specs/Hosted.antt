@@ -11,7 +11,6 @@ use Rattle.single_machine.specs.Machine.{fresh_of}
 use Rattle.single_machine.specs.Broken.{idle_from}
 use Rattle.single_machine.specs.Contents.{count_in}
 use Rattle.single_rows.specs.Rows.{Words, words_of, machine_in, shaped, stand}
-use Rattle.single_host.specs.declared.Reply.{Reply}
 use Rattle.single_host.specs.Host.{reply, broken_words, After, after, make_words, step_words_of, Ended, ended, run_words, Listed, listed, contents_words}
 use Rattle.single_demands.specs.Notions.{source, machine_after, acts_of}
 use Rattle.single_demands.specs.Stories.{story_of}
