@@ -1,8 +1,6 @@
 -- Answers that are enums, and their numbers and values, both ways.
 use Prim.Native.Nat.{ℕ}
 use mathlib.Core.Path.{◌≡◌, refl, ap}
-use mathlib.Core.Bool.{cond}
-use lib.Dec.{eqb}
 use borrow.Author.Tests.{ne_eqb}
 use native.Mathlib.Decide.{ℕ_discrete}
 use Rattle.queue_numbers.proofs.Answers.{both_ways, told_both_ways}

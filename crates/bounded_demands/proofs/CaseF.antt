@@ -1,7 +1,7 @@
 -- Case F in both editions, computed from the definitions.
 use mathlib.Core.Path.{refl, sym}
 use mathlib.Core.Bool.{true≢false}
-use mathlib.Core.List.{[], ◌∷◌, ◌++◌}
+use mathlib.Core.List.{[], ◌∷◌}
 use Rattle.queue_entries.specs.Schedules.{run_by, history_by}
 use Rattle.queue_entries.specs.Entries.{stray_of, order_of, entry_of}
 use Rattle.bounded_words.specs.Words.{stamp, doubled, mark_of, marked_of, unmarked_of, plus, minus, with_mark, next_of, same, one_past, lap_behind, lap_behind_one_past}
@@ -14,7 +14,7 @@ use Rattle.bounded_machine.specs.Turn.{record_after, begun, stored, acted_by, tu
 use Rattle.bounded_machine.specs.Run.{ran}
 use Rattle.bounded_machine.specs.History.{event}
 use Rattle.bounded_demands.specs.Notions.{document01, acts_of, acts}
-use Rattle.bounded_demands.specs.Eight.{case_f, closed_f, past_load}
+use Rattle.bounded_demands.specs.Eight.{past_load}
 use Rattle.bounded_demands.specs.Demands.{CaseF}
 
 pub case_f_lem : CaseF document01

@@ -1,14 +1,11 @@
 -- Each number that a function or a walk can refuse by is given, computed; and `OnlyOneMeets`.
-use Prim.Native.Nat.{ℕ}
-use mathlib.Core.Path.{◌≡◌, refl, sym, ◌∙◌}
+use mathlib.Core.Path.{refl}
 use Rattle.queue_entries.specs.Limits.{in_limits, all}
 use Rattle.queue_entries.specs.Entries.{stray_of, order_of, entry_of}
 use Rattle.queue_entries.specs.Schedules.{run_by, search_by, schedule_by}
-use Rattle.queue_entries.specs.Told.{told}
 use Rattle.bounded_words.specs.Words.{doubled, mark_of, marked_of, unmarked_of, plus, minus, with_mark, next_of, same, one_past, lap_behind, lap_behind_one_past}
 use Rattle.bounded_places.specs.Places.{inside}
 use Rattle.bounded_acts.specs.Acts.{goes, losing, exchange_of, after_tail, tail_to, head_to, stamp_to, value_to, count_of}
-use Rattle.bounded_machine.specs.declared.Machine.{Machine}
 use Rattle.bounded_machine.specs.Machine.{empty_slots, stamped, fresh_slots, idlers, fresh_with, blank, refused, accepted}
 use Rattle.bounded_machine.specs.Broken.{by_rule, ends_fit, place_fits, record_fits, records_fit, ring_fits, broken_with, all_idle}
 use Rattle.bounded_machine.specs.Contents.{count_on, contents_refusal, capacity_refusal}
@@ -19,7 +16,6 @@ use Rattle.bounded.specs.Bounded.{make_of}
 use Rattle.queue_walks.specs.Walks.{walk_by}
 use Rattle.queue_walks.specs.Listed.{bytes_of}
 use Rattle.bounded_walks.specs.Walks.{all_busy, size_refusal, walk_refusal}
-use Rattle.bounded_sixteen_bits.specs.declared.Machine as widths
 use Rattle.bounded_sixteen_bits.specs.SixteenBits.{widened, narrowed}
 use Rattle.bounded_demands.specs.Notions.{Face, sixty_four, sixteen, promises_of, acts, pushing_in, at_the_end}
 use Rattle.bounded_demands.specs.Demands.{OnlyOneMeets, EachNumber, WalkEachNumber}

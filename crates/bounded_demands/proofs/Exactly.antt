@@ -1,33 +1,31 @@
 -- Each refusal is given exactly when its ground holds and none before it.
-use Prim.Native.Nat.{ℕ, ◌+◌, ◌*◌, ◌/◌, ◌%◌, ◌<◌}
-use mathlib.Core.Path.{◌≡◌, refl, sym, ap, ◌∙◌, subst}
+use Prim.Native.Nat.{ℕ, ◌+◌, ◌*◌, ◌/◌, ◌%◌}
+use mathlib.Core.Path.{◌≡◌, refl, sym, ap, ◌∙◌}
 use mathlib.Core.Bool.{Bool, true, false, cond, not, true≢false}
 use mathlib.Core.List.{List, [], ◌∷◌}
 use native.Mathlib.Omega.{arith}
 use lib.Dec.{ltb, eqb}
 use lib.ListN.{length}
-use borrow.Author.Tests.{ltb-true, lt-ltb, eq-eqb, ne_eqb, eqb-true}
+use borrow.Author.Tests.{ltb-true, lt-ltb, eq-eqb, ne_eqb}
 use Rattle.queue_entries.specs.Limits.{workers_most, meter_most, in_limits}
 use Rattle.queue_entries.specs.Schedules.{schedule_by}
 use Rattle.queue_entries.specs.declared.Call.{Call}
 use Rattle.queue_entries.specs.declared.Order.TheVariants.{Begin, Act}
-use Rattle.queue_entries.specs.declared.Entry.{Entry}
 use Rattle.queue_entries.specs.declared.Entry.TheVariants.{Unreadable, Asks}
 use Rattle.queue_entries.specs.declared.Verdict.TheVariants.{Refuse, Start, Move}
 use Rattle.queue_entries.specs.Entries.{call_of, stray_of, order_of, entry_of}
-use Rattle.queue_numbers.specs.Numbers.{Ground, on, first_of}
+use Rattle.queue_numbers.specs.Numbers.{on, first_of}
 use Rattle.bounded_words.specs.declared.Stamp.{Stamp}
 use Rattle.bounded_words.specs.declared.Fixed.{Fixed}
 use Rattle.bounded_words.specs.declared.Width.{Width}
 use Rattle.bounded_words.specs.declared.Width.TheVariants.{SixtyFour, Sixteen}
 use Rattle.bounded_words.specs.Limits.{slots_most, editions_most}
-use Rattle.bounded_words.specs.Words.{minus, same}
+use Rattle.bounded_words.specs.Words.{same}
 use Rattle.bounded_places.specs.declared.Slot.{Slot}
 use Rattle.bounded_places.specs.declared.Ends.{Ends}
-use Rattle.bounded_places.specs.declared.Exchange.{Exchange}
-use Rattle.bounded_places.specs.declared.Exchange.TheVariants.{Won, Differed, Failed}
+use Rattle.bounded_places.specs.declared.Exchange.TheVariants.{Differed}
 use Rattle.bounded_places.specs.declared.Place.{Place}
-use Rattle.bounded_places.specs.Places.{view_of, begin_of}
+use Rattle.bounded_places.specs.Places.{view_of}
 use Rattle.bounded_acts.specs.declared.Acted.{Acted}
 use Rattle.bounded_acts.specs.Acts.{act_of, exchange_of, end_p3, end_f6, end_o3}
 use Rattle.bounded_machine.specs.declared.Machine.{Machine}
@@ -35,7 +33,7 @@ use Rattle.bounded_machine.specs.declared.Did.{Did}
 use Rattle.bounded_machine.specs.Machine.{fresh_of, blank, place_of, slot, refused, accepted, fixed_on, ends_on}
 use Rattle.bounded_machine.specs.Broken.{broken_of, all_idle}
 use Rattle.bounded_machine.specs.Contents.{count_in, contents_refusal, capacity_refusal}
-use Rattle.bounded_machine.specs.Turn.{begun, acted, acted_by, stored, spot_of, carried, turn, turn_at, turn_of_by, verdict_of}
+use Rattle.bounded_machine.specs.Turn.{acted, acted_by, stored, spot_of, carried, turn, turn_at, turn_of_by}
 use Rattle.bounded_machine.specs.Run.{ran, run_of_by}
 use Rattle.bounded_step_machine.specs.Steps.{step_of_by, begin_step_of_by, act_step_of_by}
 use Rattle.bounded.specs.Bounded as face

@@ -1,5 +1,5 @@
 -- The numbers of sixteen bits are below 65,536, and so none of them is cut.
-use Prim.Native.Nat.{ℕ, suc, ◌<◌}
+use Prim.Native.Nat.{suc, ◌<◌}
 use mathlib.Core.Path.{◌≡◌, refl, ap, ◌∙◌}
 use mathlib.Core.List.{List, [], ◌∷◌, map}
 use native.Mathlib.Nat.{mod-eq_of_lt}
@@ -8,7 +8,6 @@ use Rattle.bounded_words.specs.declared.Width.TheVariants.{Sixteen}
 use Rattle.bounded_words.specs.Limits.{narrow}
 use Rattle.bounded_words.specs.Words.{stamp}
 use Rattle.bounded_places.specs.declared.Slot.{Slot}
-use Rattle.bounded_places.specs.declared.Ends.{Ends}
 use Rattle.bounded_machine.specs.declared.Machine.{Machine}
 use Rattle.bounded_machine.specs.Machine.{machine_of, fresh_of, fixed_on}
 use Rattle.bounded_sixteen_bits.specs.SixteenBits.{widened, narrowed, ShortSlots, Short}

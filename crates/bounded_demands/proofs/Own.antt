@@ -11,7 +11,6 @@ use Rattle.queue_entries.specs.declared.Verdict.{Verdict}
 use Rattle.queue_entries.specs.declared.Verdict.TheVariants.{Refuse, Start, Move}
 use Rattle.queue_entries.specs.declared.Entry.{Entry}
 use Rattle.queue_entries.specs.declared.Entry.TheVariants.{Asks}
-use Rattle.queue_entries.specs.Entries.{entry_of}
 use Rattle.bounded_words.specs.declared.Width.{Width}
 use Rattle.bounded_places.specs.declared.Place.{Place}
 use Rattle.bounded_places.specs.declared.Worker.{Worker}
@@ -19,7 +18,7 @@ use Rattle.bounded_acts.specs.Acts.{act_of}
 use Rattle.bounded_machine.specs.declared.Machine.{Machine}
 use Rattle.bounded_machine.specs.declared.Did.{Did}
 use Rattle.bounded_machine.specs.Machine.{record_of_worker, place_of, idler, refused, accepted}
-use Rattle.bounded_machine.specs.Turn.{Table, verdict_of, beginner, record_after, begun, stored, act_at, acted_by, carried_by, turn_by, turn_of_by}
+use Rattle.bounded_machine.specs.Turn.{Table, verdict_of, record_after, begun, stored, act_at, acted_by, carried_by, turn_by, turn_of_by}
 use Rattle.bounded_demands.specs.Notions.{with_records, lent_others}
 use Rattle.bounded_demands.specs.Demands.{OwnRecordAlone}
 

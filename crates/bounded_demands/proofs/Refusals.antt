@@ -9,8 +9,6 @@ use lib.Dec.{ltb}
 use lib.ListN.{length, get_or-replicate}
 use borrow.Author.Tests.{ne_eqb, eq-eqb, lt-ltb}
 use Rattle.queue_entries.specs.Limits.{workers_most, in_limits}
-use Rattle.queue_entries.specs.declared.Entry.{Entry}
-use Rattle.queue_entries.specs.declared.Entry.TheVariants.{Unreadable, Asks}
 use Rattle.queue_entries.specs.Entries.{entry_of}
 use Rattle.queue_schedules.proofs.Schedules.{Queue, schedule_first, schedule_read, schedule_kept, schedule_unread, schedule_keeps}
 use Rattle.bounded_words.specs.declared.Width.{Width}

@@ -41,7 +41,7 @@ use Rattle.bounded_machine.specs.declared.Did.{Did}
 use Rattle.bounded_machine.specs.declared.Ran.{Ran}
 use Rattle.bounded_machine.specs.declared.Event.{Event}
 use Rattle.bounded_machine.specs.declared.Tally.{Tally}
-use Rattle.bounded_machine.specs.Machine.{slot, machine_of, fresh_of, blank, place_of, accepted, fresh_with, fixed_on, ends_on}
+use Rattle.bounded_machine.specs.Machine.{slot, machine_of, blank, place_of, accepted, fresh_with, fixed_on, ends_on}
 use Rattle.bounded_machine.specs.Broken.{all_idle, broken_of}
 use Rattle.bounded_machine.specs.Contents.{count_in, contents_refusal, written, capacity_of}
 use Rattle.bounded_machine.specs.Turn.{Table, beginner, turn_of_by, turn_of}
