@@ -176,8 +176,23 @@ module _ (st : Story) (v w : ℕ) where
   -- a pop that holds the room has taken one item out
   popped_one : (p : Place) → Popping p → Due st v w p → ((view_of p).busy ≡ true) × (weigh any ((known st).each w).takes ≡ 1)
   unfolding weigh
+  popped_one (Idle a) h o = elim h [ ]
+  popped_one (A1 x) h o = elim h [ ]
+  popped_one (A2 x) h o = elim h [ ]
+  popped_one A3 h o = elim h [ ]
+  popped_one (B1 z x) h o = elim h [ ]
+  popped_one (B2 x) h o = elim h [ ]
+  popped_one B3 h o = elim h [ ]
+  popped_one (B4 x) h o = elim h [ ]
+  popped_one (B5 old) h o = elim h [ ]
+  popped_one (C1 z) h o = elim h [ ]
   popped_one C2 popping_c2 o = (refl, ap (weigh any) o.work.takes)
   popped_one (C3 u) popping_c3 o = (refl, ap (weigh any) o.work.takes)
+  popped_one Len1 h o = elim h [ ]
+  popped_one Empty1 h o = elim h [ ]
+  popped_one Full1 h o = elim h [ ]
+  popped_one Close1 h o = elim h [ ]
+  popped_one IsClosed1 h o = elim h [ ]
 
 -- ---- an answer, of `Answered` and `Meant`
 

@@ -1,3 +1,2 @@
 // What a log of the one-slot queue never shows, proved. No code.
 #![tactic(auto)]
-
