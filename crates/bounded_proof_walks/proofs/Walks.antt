@@ -1,21 +1,20 @@
 -- Walks over the ring: the list has every sequence that goes so, in order, and each runs as a schedule.
-use Prim.Native.Nat.{ℕ, zero, suc, ◌+◌, ◌*◌, ◌/◌, ◌%◌, ◌<◌, ◌≤◌}
+use Prim.Native.Nat.{ℕ, ◌+◌, ◌*◌, ◌/◌, ◌%◌, ◌<◌, ◌≤◌}
 use mathlib.Core.Path.{◌≡◌, refl, sym, ap, ◌∙◌, subst}
-use mathlib.Core.Bool.{Bool, true, false, cond, true≢false}
-use mathlib.Core.List.{List, [], ◌∷◌, ◌++◌, Memᴰ}
-use mathlib.Core.Logic.{◌⊎◌, inl, inr}
+use mathlib.Core.Bool.{Bool, true, false}
+use mathlib.Core.List.{List, [], ◌∷◌, ◌++◌}
 use native.Mathlib.Omega.{arith}
 use lib.Dec.{eqb, ltb}
 use lib.ListN.{length, take, drop}
 use lib.Seq.{take-append_seam, drop-append_seam}
-use borrow.Author.Tests.{eq-eqb, ne_eqb, eqb-true, eqb-false, ltb-true, ltb-false, le-ltb}
+use borrow.Author.Tests.{eq-eqb, ne_eqb, eqb-true, eqb-false, ltb-true, ltb-false}
 use Rattle.queue_entries.specs.Limits.{workers_most}
 use Rattle.queue_entries.specs.Schedules.{run_by}
 use Rattle.queue_entries.specs.Told.{told}
 use Rattle.queue_entries.specs.declared.Told.TheVariants as answer
 use Rattle.queue_walks.specs.Walks.{act_byte, walk_by}
 use Rattle.queue_walks.specs.Listed.{bytes_of}
-use Rattle.queue_walks.specs.Meaning.{Goes, none_left, none_busy, goes_on}
+use Rattle.queue_walks.specs.Meaning.{none_left, none_busy, goes_on}
 use Rattle.queue_walks.proofs.Meaning.{walk_sound, walk_whole, walk_order, not_before}
 use Rattle.bounded_machine.specs.declared.Machine.{Machine}
 use Rattle.bounded_machine.specs.declared.Did.{Did}
@@ -26,7 +25,6 @@ use Rattle.bounded_machine.specs.Run.{ran, run_from}
 use Rattle.bounded_machine.proofs.Kept.{either, unbroken_of, few_workers}
 use Rattle.bounded_sequences.specs.Sequences.{walk_of}
 use Rattle.bounded_walks.specs.Walks.{all_busy, size_refusal, walk_refusal, listed, size_of}
-use Rattle.bounded_walks.specs.declared.Sized.{Sized}
 use Rattle.bounded_walks.specs.declared.Sized.TheVariants as sized
 use Rattle.bounded_walks.proofs.Facts.{turn_counts, told_fits}
 use Rattle.bounded_demands.specs.Notions.{Tried, entries_of, has}
