@@ -6,9 +6,11 @@ ghost use Rattle.tapes_fields.specs.Judged.{field_in};
 ghost use Rattle.tapes.specs.Heard.{hear_from};
 ghost use Rattle.tape_pieces.specs.Stretches.{passed};
 
+use std::fs::File;
 use tapes_fields::{Field, Head};
 use tapes_numbers::Variant;
 use text_sums::Sum;
+use text_system::System;
 
 // A window, and the words of as many entries as it can have.
 pub const WINDOW: usize = 65536;
@@ -93,26 +95,25 @@ struct Filled {
 }
 
 // Reads once.
-fn some(fd: i32, buffer: &mut [u8]) -> Filled
+fn some(system: &System, file: &File, buffer: &mut [u8]) -> Filled
     ensures { result.have ≤ length buffer.old }
 {
-    let got = libc::read(fd, buffer);
-    let n = io::count(got, buffer);
+    let got = text_system::files::read(system, file, buffer);
     Filled {
-        have: n,
-        ended: n == 0,
-        failed: got < 0,
+        have: got.n,
+        ended: got.n == 0,
+        failed: got.failed,
     }
 }
 
 // Reads until the window is full or the input ends.
-fn fill(fd: i32, window: &mut [u8], have: usize) -> Filled
+fn fill(system: &System, file: &File, window: &mut [u8], have: usize) -> Filled
     requires { have ≤ length window.old }
     ensures { result.have ≤ length window.old }
 {
     let mut n = have;
     while n < window.len() {
-        let more = some(fd, &mut window[n..]);
+        let more = some(system, file, &mut window[n..]);
         if more.have == 0 {
             return Filled {
                 have: n,
@@ -221,14 +222,14 @@ fn kept(before: Piece, window: &mut [u8], at: usize, have: usize, count: usize) 
 }
 
 // A tape whose end was met; what follows it is not in a full window.
-fn ended(fd: i32, before: Piece, at: usize, f: Filled, count: usize) -> Piece {
+fn ended(system: &System, file: &File, before: Piece, at: usize, f: Filled, count: usize) -> Piece {
     let mut p = before;
     let mut byte = [0u8; 1];
     let end = std::num::wrapping_add_usize(at, 3);
     if end != f.have {
         return refused(p, 15, end);
     }
-    let more = some(fd, &mut byte);
+    let more = some(system, file, &mut byte);
     if more.failed {
         return failed(p);
     }
@@ -241,7 +242,14 @@ fn ended(fd: i32, before: Piece, at: usize, f: Filled, count: usize) -> Piece {
 }
 
 // A field that is cut where the input goes on has more to come.
-fn after(fd: i32, p: Piece, f: Filled, window: &mut [u8], e: Stretch) -> Piece {
+fn after(
+    system: &System,
+    file: &File,
+    p: Piece,
+    f: Filled,
+    window: &mut [u8],
+    e: Stretch,
+) -> Piece {
     let next = e.next;
     match next {
         Field::Fault(number) => {
@@ -254,7 +262,7 @@ fn after(fd: i32, p: Piece, f: Filled, window: &mut [u8], e: Stretch) -> Piece {
                 kept(p, window, e.at, f.have, e.count)
             }
         }
-        Field::End => ended(fd, p, e.at, f, e.count),
+        Field::End => ended(system, file, p, e.at, f, e.count),
         Field::Entry(_, _) => failed(p),
     }
 }
@@ -266,10 +274,18 @@ fn entries_in(window: &[u8], have: usize, v: Variant, from: usize, words: &mut [
     entries(window, v, from, words)
 }
 
-fn later(fd: i32, p: Piece, f: Filled, window: &mut [u8], from: usize, words: &mut [u64]) -> Piece {
+fn later(
+    system: &System,
+    file: &File,
+    p: Piece,
+    f: Filled,
+    window: &mut [u8],
+    from: usize,
+    words: &mut [u64],
+) -> Piece {
     let v = p.variant;
     let e = entries_in(window, f.have, v, from, words);
-    after(fd, p, f, window, e)
+    after(system, file, p, f, window, e)
 }
 
 fn head_in(window: &[u8], have: usize) -> Head {
@@ -279,13 +295,21 @@ fn head_in(window: &[u8], have: usize) -> Head {
     Head::Fault(12)
 }
 
-fn first(fd: i32, before: Piece, f: Filled, window: &mut [u8], words: &mut [u64]) -> Piece {
+fn first(
+    system: &System,
+    file: &File,
+    before: Piece,
+    f: Filled,
+    window: &mut [u8],
+    words: &mut [u64],
+) -> Piece {
     let h = head_in(window, f.have);
     match h {
         Head::Fault(number) => refused(before, number, 0),
         Head::Makes(v, capacity, workers) => {
             later(
-                fd,
+                system,
+                file,
                 begun(v, capacity, workers, before.sum),
                 f,
                 window,
@@ -310,18 +334,18 @@ fn summed(before: Piece, window: &[u8], have: usize) -> Piece {
 }
 
 // The next piece: its words stand in the buffer; both buffers are as long as said above, or longer.
-pub fn next(fd: i32, p: Piece, window: &mut [u8], words: &mut [u64]) -> Piece {
+pub fn next(system: &System, file: &File, p: Piece, window: &mut [u8], words: &mut [u64]) -> Piece {
     if window.len() < p.have || words.len() < 2 {
         return failed(p);
     }
-    let f = fill(fd, window, p.have);
+    let f = fill(system, file, window, p.have);
     if f.failed {
         return failed(p);
     }
     let q = summed(p, window, f.have);
     if q.state == NEW {
-        first(fd, q, f, window, words)
+        first(system, file, q, f, window, words)
     } else {
-        later(fd, q, f, window, 0, words)
+        later(system, file, q, f, window, 0, words)
     }
 }
