@@ -1,11 +1,9 @@
 -- Only one answer meets each promise of the ring's functions, as their own contracts say it.
-use Prim.Native.Nat.{ℕ}
-use mathlib.Core.Path.{◌≡◌, refl, sym, ◌∙◌, subst}
-use base.Fml.{Lft, GName}
+use mathlib.Core.Path.{refl, sym, ◌∙◌, subst}
 use Rattle.bounded_demands.specs.Notions.{sixty_four, sixteen}
 use Rattle.bounded_demands.specs.Demands.{OnlyOneMeets}
 use Rattle.bounded_demands.proofs.EachNumber.{only_one_meets}
-use Rattle.bounded_proof_promises.specs.Own.{own_sixty_four, own_sixteen, AsWritten, OnlyOneOwn}
+use Rattle.bounded_proof_promises.specs.Own.{AsWritten, OnlyOneOwn}
 
 pub as_written : AsWritten
 as_written = record { of_sixty_four = λ κ ptr name. refl; of_sixteen = λ κ ptr name. refl }

@@ -2,7 +2,7 @@
 -- anew; here they are read out of the functions' own contracts, so that one that says less is refused here.)
 use Rattle.std.specs.Prelude.{ℕ, Bool, List, ◌≡◌}
 use base.Fml.{Lft, GName}
-use Rattle.std.specs.Borrow.{MutBor}
+use Rattle.std.specs.Borrow.{Bor, MutBor}
 use Rattle.queue_entries.specs.declared.Told.{Told}
 use Rattle.bounded_places.specs.declared.Loss.{Loss}
 use Rattle.bounded_places.specs.declared.Place.{Place}
@@ -51,13 +51,17 @@ use Rattle.bounded_causes.proofs.name_causes.Reads as causes_name_causes
 use Rattle.bounded_moments.proofs.start.Reads as moments_start
 use Rattle.bounded_moments.proofs.begun.Reads as moments_begun
 use Rattle.bounded_moments.proofs.name_moment.Reads as moments_name_moment
-use Rattle.bounded_demands.specs.Notions.{Face, sixty_four, sixteen, Promises, promises_of}
+use Rattle.bounded_demands.specs.Notions.{sixty_four, sixteen, Promises, promises_of}
 use Rattle.bounded_demands.specs.Demands.{OnlyOneMeets}
 
 -- A slice that is lent for this long, lies here and has this name: no promise speaks of these three.
 module _ (κ : Lft) (ptr : ℕ × ℕ) (name : GName) where
   abbrev pub slice : List ℕ → MutBor (List ℕ)
   slice l = record { ref_ptr = ptr; ghost_name = name; now = l }
+
+  -- one that is only read has no name
+  abbrev pub read_slice : List ℕ → Bor (List ℕ)
+  read_slice l = record { ref_ptr = ptr; now = l }
 
   abbrev pub own_sixty_four : Promises Machine Did Ran
   own_sixty_four =
@@ -66,7 +70,7 @@ module _ (κ : Lft) (ptr : ℕ × ℕ) (name : GName) where
         step = λ m first second x. step.Post tt (m, (first, (second, tt))) x (m, (first, (second, tt)));
         begin = λ m first second x. begin.Post tt (m, (first, (second, tt))) x (m, (first, (second, tt)));
         act = λ m first second x. act.Post tt (m, (first, (second, tt))) x (m, (first, (second, tt)));
-        run = λ m s x. run.Post (κ, tt) (m, (slice s, tt)) x (m, (slice s, tt));
+        run = λ m s x. run.Post (κ, tt) (m, (read_slice s, tt)) x (m, (read_slice s, tt));
         contents = λ m before x after. contents.Post (κ, tt) (m, (slice before, tt)) x (m, (slice after, tt));
         capacity = λ m x. capacity.Post tt (m, tt) x (m, tt);
         broken = λ m x. broken.Post tt (m, tt) x (m, tt);
@@ -79,7 +83,7 @@ module _ (κ : Lft) (ptr : ℕ × ℕ) (name : GName) where
         step = λ m first second x. narrow_step.Post tt (m, (first, (second, tt))) x (m, (first, (second, tt)));
         begin = λ m first second x. narrow_begin.Post tt (m, (first, (second, tt))) x (m, (first, (second, tt)));
         act = λ m first second x. narrow_act.Post tt (m, (first, (second, tt))) x (m, (first, (second, tt)));
-        run = λ m s x. narrow_run.Post (κ, tt) (m, (slice s, tt)) x (m, (slice s, tt));
+        run = λ m s x. narrow_run.Post (κ, tt) (m, (read_slice s, tt)) x (m, (read_slice s, tt));
         contents = λ m before x after. narrow_contents.Post (κ, tt) (m, (slice before, tt)) x (m, (slice after, tt));
         capacity = λ m x. narrow_capacity.Post tt (m, tt) x (m, tt);
         broken = λ m x. narrow_broken.Post tt (m, tt) x (m, tt);
