@@ -1,6 +1,6 @@
 -- Records and slots that are read out of words and stored there; words, and what they stand for, are one to one.
 use Prim.Native.Nat.{ℕ, zero, suc, ◌+◌, ◌*◌, ◌/◌, ◌%◌, ◌<◌}
-use mathlib.Core.Path.{◌≡◌, refl, sym, ap, ◌∙◌, subst}
+use mathlib.Core.Path.{◌≡◌, refl, sym, ap, ◌∙◌}
 use mathlib.Core.Bool.{Bool, true, false, cond, true≢false}
 use mathlib.Core.List.{List, [], ◌∷◌}
 use native.Mathlib.Omega.{arith}
@@ -10,15 +10,13 @@ use Rattle.bounded_places.specs.declared.Ends.{Ends}
 use Rattle.bounded_places.specs.declared.Slot.{Slot}
 use Rattle.bounded_places.specs.declared.Place.{Place}
 use Rattle.bounded_places.specs.declared.Worker.{Worker}
-use Rattle.bounded_words.specs.declared.Fixed.{Fixed}
 use Rattle.bounded_words.specs.Words.{stamp}
 use Rattle.bounded_machine.specs.Machine.{slot, idler}
 use Rattle.bounded_codes.specs.declared.Coded.{Coded}
-use Rattle.bounded_codes.specs.Codes.{triple, code_of, place_in, stands_for}
+use Rattle.bounded_codes.specs.Codes.{triple, code_of, stands_for}
 use Rattle.bounded_codes.proofs.Codes.{read_back}
 use Rattle.bounded_codes.proofs.Standing.{written_stands, written_back}
 use Rattle.queue_entries.proofs.Pick.{both_left, both_right}
-use Rattle.bounded_orders.specs.declared.Metered.{Metered}
 use Rattle.bounded_rows.specs.Rows.{words, layout, head_of, slots_of, records_of, fixed_in, ends_in, metered_in, placed, with_head, record_from, record_at, five}
 use Rattle.bounded_rows.specs.Rows.{with_record, slot_at, with_slot, slots_in, records_in}
 

@@ -1,8 +1,8 @@
 -- Words that stand for a ring and records: what is known of them, and that they are one to one.
 use Rattle.bounded_machine.specs.Machine.{fixed_on, ends_on, ring_of_parts}
-use Prim.Native.Nat.{ℕ, ◌*◌, ◌/◌, ◌%◌, ◌<◌}
+use Prim.Native.Nat.{ℕ, ◌*◌, ◌%◌, ◌<◌}
 use mathlib.Core.Path.{◌≡◌, refl, sym, ap, ◌∙◌}
-use mathlib.Core.Bool.{Bool, true, false, cond}
+use mathlib.Core.Bool.{true}
 use mathlib.Core.List.{List}
 use native.Mathlib.Omega.{arith}
 use lib.Dec.{eqb}
@@ -15,8 +15,8 @@ use Rattle.bounded_places.specs.declared.Slot.{Slot}
 use Rattle.bounded_places.specs.declared.Worker.{Worker}
 use Rattle.bounded_orders.specs.declared.Metered.{Metered}
 use Rattle.bounded_lent.specs.Lent.{Lent, lent}
-use Rattle.bounded_rows.specs.Rows.{Words, words, layout, head_of, slots_of, records_of, words_of, fixed_in, ends_in, slots_in, records_in, metered_in, shaped}
-use Rattle.bounded_rows.specs.Rows.{placed, stand, with_head, with_record, with_slot, After, after, after_of}
+use Rattle.bounded_rows.specs.Rows.{Words, words, layout, head_of, words_of, fixed_in, ends_in, records_in, metered_in, shaped}
+use Rattle.bounded_rows.specs.Rows.{placed, stand, with_head, with_record, with_slot, after, after_of}
 use Rattle.bounded_rows.proofs.Lists.{whole_records, whole_slots, whole_head, records_back, records_placed, records_long, slots_back, slots_long}
 use Rattle.bounded_rows.proofs.Lists.{still_placed, same_layout, long_head, long_slot, long_record}
 

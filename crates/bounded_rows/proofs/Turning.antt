@@ -16,14 +16,13 @@ use Rattle.queue_entries.specs.Entries.{entry_of}
 use Rattle.queue_entries.proofs.Pick.{on, below, above}
 use Rattle.bounded_words.specs.declared.Width.{Width}
 use Rattle.bounded_words.specs.Limits.{slots_most}
-use Rattle.bounded_places.specs.declared.Slot.{Slot}
 use Rattle.bounded_places.specs.declared.Worker.{Worker}
 use Rattle.bounded_places.specs.Places.{view_of, begin_of}
 use Rattle.bounded_acts.specs.declared.Acted.{Acted}
 use Rattle.bounded_acts.specs.Acts.{act_of}
 use Rattle.bounded_machine.specs.declared.Machine.{Machine}
 use Rattle.bounded_machine.specs.declared.Did.{Did}
-use Rattle.bounded_machine.specs.Machine.{slot, machine_of, record_of_worker, place_of, refused, accepted}
+use Rattle.bounded_machine.specs.Machine.{slot, machine_of, place_of, refused, accepted}
 use Rattle.bounded_machine.specs.Turn.{verdict_of, spot_of, beginner, record_after, begun, stored, acted_by, carried, turn, turn_at, turn_of_by}
 use Rattle.bounded_machine.proofs.Kept.{UnbrokenWith}
 use Rattle.bounded_machine.proofs.Turns.{turn_of_unbroken, move_busy, move_in_time}

@@ -1,16 +1,15 @@
 -- Words that are stored one after the other.
 use Prim.Native.Nat.{ℕ, ◌+◌, ◌*◌, ◌<◌}
-use mathlib.Core.Path.{◌≡◌, refl, sym, ap, ◌∙◌, subst}
+use mathlib.Core.Path.{◌≡◌, sym, ap, subst}
 use mathlib.Core.Bool.{Bool}
 use mathlib.Core.List.{List}
 use native.Mathlib.Omega.{arith}
 use lib.ListN.{length, get_or, set, length-set}
-use Rattle.bounded_places.specs.declared.Slot.{Slot}
 use Rattle.bounded_places.specs.declared.Place.{Place}
 use Rattle.bounded_places.specs.declared.Worker.{Worker}
 use Rattle.bounded_codes.specs.declared.Coded.{Coded}
 use Rattle.bounded_codes.specs.Codes.{code_of, place_in, stands_for}
-use Rattle.bounded_rows.specs.Rows.{record_at, placed_at, five, with_record, slot_at, with_slot}
+use Rattle.bounded_rows.specs.Rows.{record_at, placed_at, five, with_record}
 
 pub still_in : (l : List ℕ) (j i a : ℕ) → j < length l → j < length (set l i a)
 still_in l j i a = subst (λ (n : ℕ). j < n) (sym (length-set l i a))
