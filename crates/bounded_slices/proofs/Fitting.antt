@@ -1,6 +1,6 @@
 -- Records that are gone through in words; shapes; broken.
 use Prim.Native.Nat.{ℕ, zero, suc, ◌+◌, ◌*◌, ◌-◌, ◌/◌, ◌%◌, ◌<◌, ◌≤◌}
-use mathlib.Core.Path.{◌≡◌, refl, sym, ap, ◌∙◌, subst}
+use mathlib.Core.Path.{◌≡◌, refl, sym, ap, ◌∙◌}
 use mathlib.Core.Bool.{Bool, true, false, cond, not}
 use mathlib.Core.List.{List, [], ◌∷◌}
 use native.Mathlib.Omega.{arith}
@@ -21,7 +21,7 @@ use Rattle.bounded_machine.specs.Broken.{place_fits, record_fits}
 use Rattle.bounded_codes.specs.Codes.{place_in, stands_for, within}
 use Rattle.bounded_codes.proofs.Ranges.{busy_is}
 use Rattle.bounded_orders.specs.Orders.{ring_fits_lent}
-use Rattle.bounded_lent.specs.Lent.{each_fits, broken_lent}
+use Rattle.bounded_lent.specs.Lent.{each_fits}
 use Rattle.bounded_lent.proofs.Turning.{ring_broken, records_broken, ring_fair}
 use Rattle.bounded_rows.specs.Rows.{words, layout, fixed_in, ends_in, record_at, placed_at, records_in, metered_in, shaped, placed, stand}
 use Rattle.bounded_rows.proofs.Lists.{many, room, get, beyond}

@@ -9,8 +9,7 @@ use lib.Dec.{ltb, leb, eqb}
 use borrow.Author.Tests.{eq-eqb, ne_eqb, lt-ltb, le-ltb, le-leb, lt-leb, ltb-true, leb-true, eqb-true}
 use Rattle.queue_entries.proofs.Pick.{both_left, both_right}
 use Rattle.bounded_words.specs.declared.Fixed.{Fixed}
-use Rattle.bounded_words.specs.Words.{Fair, stamp, marked_of}
-use Rattle.bounded_places.specs.declared.Held.{Held}
+use Rattle.bounded_words.specs.Words.{stamp, marked_of}
 use Rattle.bounded_places.specs.declared.Held.TheVariants as held
 use Rattle.bounded_places.specs.Places.{view_of, inside, fits_of}
 use Rattle.bounded_codes.specs.Codes.{place_in, stands_for, within, may_be}
