@@ -1,16 +1,14 @@
 -- What the functions of the host's face answer, from what they find.
-use Prim.Native.Nat.{ℕ, zero, suc, ◌+◌, ◌*◌, ◌/◌, ◌%◌, ◌<◌}
+use Prim.Native.Nat.{ℕ, zero, suc, ◌*◌, ◌/◌, ◌%◌, ◌<◌}
 use mathlib.Core.Path.{◌≡◌, refl, sym, ap, ◌∙◌, subst}
-use mathlib.Core.Bool.{Bool, true, false, cond, true≢false}
+use mathlib.Core.Bool.{Bool, true, false, cond}
 use mathlib.Core.List.{List, ◌∷◌}
 use native.Mathlib.Omega.{arith}
 use lib.Dec.{eqb}
 use lib.ListN.{length, get_or, replicate}
 use borrow.Author.Tests.{eq-eqb, ne_eqb, eqb-true}
 use Rattle.queue_entries.specs.declared.Told.{Told}
-use Rattle.queue_entries.specs.declared.Told.TheVariants.{Number, Refused}
 use Rattle.queue_entries.specs.Told.{told}
-use Rattle.queue_entries.specs.Schedules.{schedule_by}
 use Rattle.bounded_words.specs.declared.Fixed.{Fixed}
 use Rattle.bounded_words.specs.Limits.{slots_most}
 use Rattle.bounded_words.specs.Words.{Fair}
@@ -18,17 +16,16 @@ use Rattle.bounded_places.specs.declared.Ends.{Ends}
 use Rattle.bounded_places.specs.declared.Slot.{Slot}
 use Rattle.bounded_places.specs.declared.Worker.{Worker}
 use Rattle.bounded_machine.specs.Machine.{idler, idlers, fresh_with, fresh_of, blank, accepted, ring_of_parts}
-use Rattle.bounded_machine.specs.Run.{ran}
 use Rattle.bounded_orders.specs.declared.Metered.{Metered}
 use Rattle.bounded_orders.specs.declared.Made.{Made}
-use Rattle.bounded_orders.specs.Orders.{make_refusal, metered_of, made_from, made_of, capacity_told, Filled, filled, contents_on}
-use Rattle.bounded_lent.specs.Lent.{each_fits, broken_lent, Lent, lent, lent_of, run_lent, make_lent, contents_lent}
+use Rattle.bounded_orders.specs.Orders.{make_refusal, metered_of, made_from, made_of, capacity_told, filled, contents_on}
+use Rattle.bounded_lent.specs.Lent.{each_fits, broken_lent, lent, lent_of, run_lent, make_lent, contents_lent}
 use Rattle.bounded_lent.proofs.Turning.{unbroken_lent, fair_lent}
 use Rattle.bounded_lent.proofs.Listing as lent-listing
 use Rattle.bounded_codes.specs.Codes.{triple}
-use Rattle.bounded_rows.specs.Rows.{Words, words, head_of, slots_of, records_of, words_of, fixed_in, ends_in, slots_in, records_in, metered_in, shaped, placed, stand, After, after, after_of}
+use Rattle.bounded_rows.specs.Rows.{Words, words, head_of, slots_of, records_of, words_of, fixed_in, ends_in, slots_in, records_in, metered_in, shaped, placed, stand, after}
 use Rattle.bounded_rows.proofs.Lists.{many}
-use Rattle.bounded_rows.proofs.Standing.{Standing, standing, same_words, as_words, shaped_all}
+use Rattle.bounded_rows.proofs.Standing.{standing, same_words, shaped_all}
 use Rattle.bounded_slices.specs.Slices.{broken_words}
 use Rattle.bounded_slices.proofs.Judged as judged
 use Rattle.bounded_host.specs.declared.Reply.{Reply}

@@ -1,6 +1,6 @@
 -- A schedule over words, turn by turn.
 use Prim.Native.Nat.{ℕ, ◌+◌, ◌*◌, ◌/◌, ◌<◌, ◌≤◌}
-use mathlib.Core.Path.{◌≡◌, refl, sym, ap, ◌∙◌, subst}
+use mathlib.Core.Path.{◌≡◌, refl, sym, ap, ◌∙◌}
 use mathlib.Core.Bool.{Bool, true, false, cond}
 use mathlib.Core.List.{List}
 use native.Mathlib.Omega.{arith}
@@ -12,12 +12,11 @@ use Rattle.bounded_machine.specs.Run.{ran}
 use Rattle.bounded_orders.specs.declared.Metered.{Metered}
 use Rattle.bounded_orders.specs.declared.Report.{Report}
 use Rattle.bounded_orders.specs.Orders.{unless_refused, report, judged_of}
-use Rattle.bounded_lent.specs.Lent.{broken_lent, Lent, lent, turn_lent, Gone, gone, run_lent}
+use Rattle.bounded_lent.specs.Lent.{broken_lent, Lent, lent, turn_lent, gone, run_lent}
 use Rattle.bounded_lent.proofs.Running as lent-running
 use Rattle.bounded_rows.specs.Rows.{Words, words, slots_of, words_of, records_in, metered_in, stand, After, after, after_of}
 use Rattle.bounded_rows.proofs.Lists.{many, slots_long}
 use Rattle.bounded_rows.proofs.Standing.{standing, same_words, same_ring, same_records, written_stand}
-use Rattle.bounded_host.specs.declared.Reply.{Reply}
 use Rattle.bounded_host.specs.Host.{reply, ended, ended_of, run_words}
 
 -- 6 of the whole
