@@ -7,7 +7,7 @@ use Rattle.bounded_places.specs.declared.Worker.{Worker}
 use Rattle.bounded_orders.specs.declared.Metered.{Metered}
 use Rattle.bounded_lent.specs.Lent.{turn_lent, step_lent}
 use Rattle.bounded_lent.proofs.Turning.{step_refused, step_turned}
-use Rattle.bounded_rows.specs.Rows.{Words, words, records_in, metered_in, stand, after, after_of}
+use Rattle.bounded_rows.specs.Rows.{Words, words, records_in, metered_in, after, after_of}
 use Rattle.bounded_rows.proofs.Standing.{standing, as_words}
 use Rattle.bounded_slices.specs.Slices.{broken_words}
 use Rattle.bounded_slices.proofs.Judged as judged
