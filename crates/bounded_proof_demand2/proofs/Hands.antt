@@ -16,7 +16,7 @@ use Rattle.bounded_machine.specs.declared.Event.{Event}
 use Rattle.bounded_machine.specs.Machine.{slot, fixed_on}
 use Rattle.bounded_demands.specs.Notions.{InHand, hand_p4, hand_p5, hand_f7, hand_f8, hand_f9, hand_o4, hand_o5, Reads, read_o4, read_f8, value_at, takers_of, LatestIn, ItemIn, WrittenIn}
 use Rattle.bounded_proof_invariant.proofs.Ring.{Stage, Fill, Filled, Take, Grab, Swap, Swapped, Cell, Hand, Mine, mine_one, Shared, Latest, Valued, Inv, CellOk}
-use Rattle.bounded_proof_each_act.proofs.Stamps.{Ground, fixed, word_slot, lap_slot}
+use Rattle.bounded_proof_each_act.proofs.Stamps.{Ground, word_slot, lap_slot}
 use Rattle.bounded_proof_each_act.proofs.Sight.{Age, look, Stands}
 use Rattle.bounded_proof_demand2.proofs.Turns.{stood}
 use Rattle.bounded_proof_demand2.proofs.Lists.{latest_in}

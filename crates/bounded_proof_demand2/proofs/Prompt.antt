@@ -5,7 +5,6 @@ use native.Mathlib.Omega.{arith}
 use Rattle.bounded_words.specs.declared.Fixed.{Fixed}
 use Rattle.bounded_words.specs.declared.Width.{Width}
 use Rattle.bounded_machine.specs.declared.Event.{Event}
-use Rattle.bounded_machine.specs.Machine.{fresh_with}
 use Rattle.bounded_demands.specs.Notions.{with_records, acts_of, since}
 use Rattle.bounded_demands.specs.Demands.{PromptKeeps}
 use Rattle.bounded_proof_demand2.proofs.Counts.{tally_tail, tally_head}

@@ -47,7 +47,7 @@ use Rattle.bounded_proof_each_act.proofs.Stamps.{fixed, tail_word, index_tail, m
 use Rattle.bounded_proof_each_act.proofs.Sight.{Age, look, told, ends_of_ring, Young, Recent}
 use Rattle.bounded_proof_demand2.proofs.Turns.{Turned, began, did, turned, stood, event_of}
 use Rattle.bounded_proof_demand2.proofs.Pictured.{Base, Pictured, begun_pictured, begun_shut, begun_ages, acted_pictured, acted_shut, acted_ages}
-use Rattle.bounded_proof_demand2.proofs.Pictured.{new_age, stepped, effect, spot, spot_small, next, result, acted_stood, alone, holding}
+use Rattle.bounded_proof_demand2.proofs.Pictured.{new_age, stepped, spot, spot_small, next, result, acted_stood, alone, holding}
 use Rattle.bounded_proof_demand2.proofs.Logged.{Logged, logged_after, moved_by, shows}
 use Rattle.bounded_proof_demand2.proofs.Window.{Dated, since_end, claims_after, dated_more, dated_own, window_young, recent_of}
 use Rattle.bounded_proof_demand2.proofs.Runs.{any_place}

@@ -7,17 +7,16 @@ use native.Mathlib.Omega.{arith}
 use lib.ListN.{length}
 use Rattle.bounded_words.specs.declared.Width.{Width}
 use Rattle.bounded_words.specs.Limits.{wide}
-use Rattle.bounded_places.specs.declared.Moved.{Moved}
 use Rattle.bounded_machine.specs.declared.Event.{Event}
 use Rattle.bounded_machine.specs.declared.Tally.{Tally}
 use Rattle.bounded_machine.specs.History.{moved_of, reads_at, counted, read_on, stock_of, untallied, tally_of}
 use Rattle.bounded_stock.specs.Stock.{tallied_of}
 use Rattle.bounded_stock.proofs.Tallies.{tally_counts}
-use Rattle.bounded_demands.specs.Notions.{with_records, AllowedWith, acts_of, tally, tallied_from, tallied_by, reads_in}
+use Rattle.bounded_demands.specs.Notions.{with_records, acts_of, tally, tallied_from, tallied_by, reads_in}
 use Rattle.bounded_demands.specs.Demands.{TallyAsSaid, TalliedUnderEverySchedule}
 use Rattle.bounded_proof_demand2.proofs.Counts.{by_act, tally_tail, tally_head}
 use Rattle.bounded_proof_demand2.proofs.Window.{one_claim}
-use Rattle.bounded_proof_demand2.proofs.Always.{Metered, metered_in}
+use Rattle.bounded_proof_demand2.proofs.Always.{metered_in}
 
 one_read : (b : Bool) → cond b 1 0 ≤ 1
 one_read true = omega arith
