@@ -1,7 +1,7 @@
 -- With no slip the walk is item 10's; each slip, refuted by computing.
 use Prim.Native.Nat.{ℕ, zero, suc, ◌+◌, ◌%◌, ◌<◌}
 use mathlib.Core.Path.{◌≡◌, refl, sym, ap, ◌∙◌, subst}
-use mathlib.Core.Bool.{Bool, true, false, cond, not, true≢false}
+use mathlib.Core.Bool.{false, cond, true≢false}
 use mathlib.Core.List.Memᴰ
 use mathlib.Core.List.{List, [], ◌∷◌, ◌++◌, Memᴰ}
 use mathlib.Core.Logic.{◌⊎◌, inl, inr}
@@ -71,7 +71,7 @@ not_there a b ne h = go (Memᴰ.cases_cons h)
   where
     go : (a ∷ [] ≡ b ∷ []) ⊎ Memᴰ (a ∷ []) [] → ⊥
     go (inl e) = ne (ap (λ (l : List ℕ). get_or l 0 0) e)
-    go (inr k) = absurd (Memᴰ.not_nil k)
+    go (inr k) = absurd (Memᴰ.not-nil k)
 
 not_ended : (left : ℕ) (m : Machine) → all_idle m.workers ≡ false → Tried (suc left) m [] → ⊥
 not_ended left m busy (none_busy e) = true≢false (sym e ∙ busy)
