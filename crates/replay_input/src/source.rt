@@ -1,8 +1,11 @@
 // The bytes of a schedule, which is a text or a tape. They are read twice, first to see whether every number is one and how many there are,
 // so that what can't be read is known before anything runs, in a fixed amount of memory. What can't be read twice is kept in a
 // file that has no name. The second reading is held to the first by the sum of the bytes.
+use std::fs::File;
 use text_numbers::Scan;
 use text_sums::Sum;
+use text_system::System;
+use text_system::files::Flow;
 use text_words::line::Words;
 use text_words::reading::Piece;
 
@@ -35,9 +38,10 @@ pub struct Reading {
     pub due: Sum,
 }
 
-pub fn to_offset(n: u64) -> i64 {
+// A file reaches no further.
+pub fn to_offset(n: u64) -> u64 {
     if n < 9223372036854775807 {
-        n as i64
+        n
     } else {
         9223372036854775807
     }
@@ -120,12 +124,17 @@ fn put(list: &mut [u64], i: usize, number: u64) {
 }
 
 // The first entries, after room for two numbers.
-fn first_entries(fd: i32, bytes: &mut [u8], list: &mut [u64]) -> tape_pieces::Piece {
-    libc::lseek(fd, 0, libc::SEEK_SET);
+fn first_entries(
+    system: &System,
+    file: &File,
+    bytes: &mut [u8],
+    list: &mut [u64],
+) -> tape_pieces::Piece {
+    text_system::files::rewind(system, file);
     if list.len() < 2 {
         return tape_pieces::start();
     }
-    tape_pieces::next(fd, tape_pieces::start(), bytes, &mut list[2..])
+    tape_pieces::next(system, file, tape_pieces::start(), bytes, &mut list[2..])
 }
 
 // The number that is left, or the capacity.
@@ -144,18 +153,32 @@ fn put_head(list: &mut [u64], left: usize, capacity: u64, workers: u64) {
     put(list, 1, workers);
 }
 
-fn tape_begun(fd: i32, r: Reading, bytes: &mut [u8], list: &mut [u64], left: usize) -> Reading {
-    let p = first_entries(fd, bytes, list);
+fn tape_begun(
+    system: &System,
+    file: &File,
+    r: Reading,
+    bytes: &mut [u8],
+    list: &mut [u64],
+    left: usize,
+) -> Reading {
+    let p = first_entries(system, file, bytes, list);
     put_head(list, left, p.capacity, p.workers);
     with_piece(r, p, std::num::wrapping_add_usize(p.count, 2))
 }
 
-fn tape_turn(fd: i32, r: Reading, bytes: &mut [u8], list: &mut [u64], left: usize) -> Reading {
+fn tape_turn(
+    system: &System,
+    file: &File,
+    r: Reading,
+    bytes: &mut [u8],
+    list: &mut [u64],
+    left: usize,
+) -> Reading {
     let before = r.tape;
     if before.state == tape_pieces::NEW {
-        return tape_begun(fd, r, bytes, list, left);
+        return tape_begun(system, file, r, bytes, list, left);
     }
-    let p = tape_pieces::next(fd, before, bytes, list);
+    let p = tape_pieces::next(system, file, before, bytes, list);
     with_piece(r, p, p.count)
 }
 
@@ -188,7 +211,8 @@ pub fn owing_none(r: Reading) -> Reading {
 }
 
 fn text_turn(
-    fd: i32,
+    system: &System,
+    file: &File,
     many: bool,
     r: Reading,
     bytes: &mut [u8],
@@ -198,20 +222,20 @@ fn text_turn(
     if 0 < owing(r) {
         return text_read(r, many, b"", list, left);
     }
-    let got = libc::pread(fd, bytes, to_offset(r.offset));
-    if got < 0 {
+    let got = text_system::files::read_at(system, file, bytes, to_offset(r.offset));
+    if got.failed {
         return stopped(r, 0, FAILED);
     }
-    if got == 0 {
+    if got.n == 0 {
         return ended(r, many, list, left);
     }
-    let n = io::count(got, bytes);
-    text_read(r, many, &bytes[..n], list, left)
+    text_read(r, many, &bytes[..got.n], list, left)
 }
 
 // Reads once. The list keeps its first `left` numbers.
 pub fn turn(
-    fd: i32,
+    system: &System,
+    file: &File,
     many: bool,
     r: Reading,
     bytes: &mut [u8],
@@ -219,9 +243,9 @@ pub fn turn(
     left: usize,
 ) -> Reading {
     if r.is_tape {
-        return tape_turn(fd, r, bytes, list, left);
+        return tape_turn(system, file, r, bytes, list, left);
     }
-    text_turn(fd, many, r, bytes, list, left)
+    text_turn(system, file, many, r, bytes, list, left)
 }
 
 // The number that has no pair yet goes to the list's start, and is the one that the next piece leaves there.
@@ -246,9 +270,16 @@ pub fn begun(is_tape: bool, offset: u64, line: u64, before: usize, sum: Sum, due
 }
 
 // The next piece, after the number that the last one left over.
-pub fn next(fd: i32, many: bool, r: Reading, bytes: &mut [u8], list: &mut [u64]) -> Reading {
+pub fn next(
+    system: &System,
+    file: &File,
+    many: bool,
+    r: Reading,
+    bytes: &mut [u8],
+    list: &mut [u64],
+) -> Reading {
     let left = carry(list, r.count);
-    turn(fd, many, r, bytes, list, left)
+    turn(system, file, many, r, bytes, list, left)
 }
 
 // After a piece that this event ended, and which was run to its end or refused.
@@ -259,7 +290,7 @@ pub fn goes_on(event: u64, refusal: u64) -> bool {
     false
 }
 
-// Beside LOST, the places of a text that is not written to its end: bytes were read again and are not what they were; they could not be read again, and errno says why.
+// Beside LOST, the places of a text that is not written to its end: bytes were read again and are not what they were; they could not be read again, and the system says why.
 pub const CHANGED: usize = text_output::LOST - 1;
 
 pub const UNREAD: usize = text_output::LOST - 2;
@@ -303,14 +334,21 @@ fn of_due(n: usize, many: bool, sum: Sum, due: Sum) -> usize {
     n
 }
 
-fn rest_turn(fd: i32, many: bool, r: Rest, due: Sum, bytes: &mut [u8]) -> Rest {
+fn rest_turn(
+    system: &System,
+    file: &File,
+    many: bool,
+    r: Rest,
+    due: Sum,
+    bytes: &mut [u8],
+) -> Rest {
     let mut after = r;
-    let got = libc::pread(fd, bytes, to_offset(r.offset));
-    if got < 0 {
+    let got = text_system::files::read_at(system, file, bytes, to_offset(r.offset));
+    if got.failed {
         after.event = FAILED;
         return after;
     }
-    let n = of_due(io::count(got, bytes), many, r.sum, due);
+    let n = of_due(got.n, many, r.sum, due);
     if n == 0 {
         after.event = END;
         return after;
@@ -322,23 +360,30 @@ fn rest_turn(fd: i32, many: bool, r: Rest, due: Sum, bytes: &mut [u8]) -> Rest {
 }
 
 // To the end, of a reading that stands anywhere.
-fn rest_of(fd: i32, many: bool, r: Reading, bytes: &mut [u8]) -> Rest {
+fn rest_of(system: &System, file: &File, many: bool, r: Reading, bytes: &mut [u8]) -> Rest {
     let mut rest = rest_from(r);
     let mut turns = u64::MAX;
     while turns > 0 && rest.event == text_numbers::NOTHING {
         turns -= 1;
-        rest = rest_turn(fd, many, rest, r.due, bytes);
+        rest = rest_turn(system, file, many, rest, r.due, bytes);
     }
     rest
 }
 
 // Where text goes on, at this place or nowhere, after a reading that is not the first. What it has left, where the run was refused or nothing was run, is read for its
 // sum: so what is told is of the bytes that the first reading judged.
-pub fn checked(fd: i32, many: bool, r: Reading, bytes: &mut [u8], at: usize) -> usize {
+pub fn checked(
+    system: &System,
+    file: &File,
+    many: bool,
+    r: Reading,
+    bytes: &mut [u8],
+    at: usize,
+) -> usize {
     if is_lost(at) {
         return at;
     }
-    let rest = rest_of(fd, many, r, bytes);
+    let rest = rest_of(system, file, many, r, bytes);
     if rest.event == FAILED {
         return UNREAD;
     }
@@ -356,58 +401,86 @@ const WHOLE: u8 = 1;
 
 const BROKEN: u8 = 2;
 
-fn copy_some(program: &[u8], from: i32, to: i32, name: &[u8], to_name: &[u8]) -> u8 {
-    let mut bytes = io::large_buffer();
-    let got = libc::read(from, &mut bytes);
-    if got < 0 {
-        crate::say::fail(program, name);
+fn copy_some(
+    system: &System,
+    program: &[u8],
+    from: &Flow,
+    to: &Flow,
+    name: &[u8],
+    to_name: &[u8],
+) -> u8 {
+    let mut bytes = [0u8; 65536];
+    let got = text_system::files::read_from(system, from, &mut bytes);
+    if got.failed {
+        crate::say::fail(system, program, name);
         return BROKEN;
     }
-    if got == 0 {
+    if got.n == 0 {
         return WHOLE;
     }
-    let n = io::count(got, &bytes);
-    if io::write_all(to, &bytes[..n]) {
+    if text_system::files::put_to(system, to, &bytes[..got.n]) {
         return MORE;
     }
-    crate::say::unwritten(program, to_name);
+    crate::say::unwritten(system, program, to_name);
     BROKEN
 }
 
 // The rest of a file to another; says what failed, and answers whether nothing did.
-pub fn copy_all(program: &[u8], from: i32, to: i32, name: &[u8], to_name: &[u8]) -> bool {
+pub fn copy_all(
+    system: &System,
+    program: &[u8],
+    from: &Flow,
+    to: &Flow,
+    name: &[u8],
+    to_name: &[u8],
+) -> bool {
     let mut state = MORE;
     let mut turns = u64::MAX;
     while turns > 0 && state == MORE {
-        state = copy_some(program, from, to, name, to_name);
+        state = copy_some(system, program, from, to, name, to_name);
         turns -= 1;
     }
     state == WHOLE
 }
 
-// A nameless file with the rest of the input, or a negative number.
-fn copy_of(program: &[u8], fd: i32, name: &[u8]) -> i32 {
-    let to = crate::spare::nameless(program);
-    if to < 0 {
-        return -1;
+fn copied(system: &System, program: &[u8], from: &Flow, name: &[u8], to: File) -> Option<File> {
+    let flow = Flow::Of(to);
+    if copy_all(system, program, from, &flow, name, b"keeping the input") {
+        return text_system::files::file_of(flow);
     }
-    if copy_all(program, fd, to, name, b"keeping the input") {
-        return to;
-    }
-    libc::close(to);
-    -1
+    None
 }
 
-// A descriptor that can be read twice, or a negative number: of a file that stands at its start, the same.
-pub fn kept(program: &[u8], fd: i32, name: &[u8]) -> i32 {
-    if libc::lseek(fd, 0, libc::SEEK_CUR) == 0 {
-        return fd;
+// A nameless file with the rest of the input, if it could be kept.
+fn copy_of(system: &System, program: &[u8], from: &Flow, name: &[u8]) -> Option<File> {
+    match crate::spare::nameless(system, program) {
+        Some(to) => copied(system, program, from, name, to),
+        None => None,
     }
-    copy_of(program, fd, name)
 }
 
-pub fn release(kept: i32, fd: i32) {
-    if kept != fd {
-        libc::close(kept);
+fn kept_input(system: &System, program: &[u8], name: &[u8]) -> Option<File> {
+    match text_system::descriptors::whole_input(system) {
+        Some(file) => Some(file),
+        None => copy_of(system, program, &Flow::Standard, name),
     }
+}
+
+fn kept_file(system: &System, program: &[u8], file: File, name: &[u8]) -> Option<File> {
+    if text_system::files::is_at_start(system, &file) {
+        return Some(file);
+    }
+    copy_of(system, program, &Flow::Of(file), name)
+}
+
+// A file that can be read twice, if there is one: of what stands at its start, the same.
+pub fn kept(system: &System, program: &[u8], from: Flow, name: &[u8]) -> Option<File> {
+    match from {
+        Flow::Standard => kept_input(system, program, name),
+        Flow::Of(file) => kept_file(system, program, file, name),
+    }
+}
+
+pub fn release(kept: File) {
+    std::mem::drop(kept);
 }

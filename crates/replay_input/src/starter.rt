@@ -1,49 +1,67 @@
 // What the starter hears, if it asks, on a descriptor that it opens: the path of each file that it is to remove where a signal ends the program,
-// each ended by a 0; then the status, a digit, since a program has none of its own.
+// each ended by a 0; then the status, a digit. The program itself ends with 0.
+use std::fs::File;
+use text_system::System;
 
 // The descriptor where none is named.
 pub const FILENO: u64 = 3;
 
 // Who asks: the process that started this one, and on which descriptor; 0: nobody.
-#[derive(Clone, Copy)]
+#[derive(Drop)]
 pub struct Starter {
-    pub process: i32,
-    pub descriptor: i32,
+    pub process: u32,
+    pub descriptor: u64,
+    // it is opened before any file of the program's could have its number
+    hears: Option<File>,
 }
 
-fn as_descriptor(number: u64) -> i32 {
-    if number < 1048576 { number as i32 } else { 0 }
+fn as_descriptor(number: u64) -> u64 {
+    if number < 1048576 { number } else { 0 }
+}
+
+fn heard_on(system: &System, descriptor: u64) -> Option<File> {
+    if descriptor == 0 {
+        return None;
+    }
+    text_system::descriptors::to_write(system, descriptor)
 }
 
 // Asked on this descriptor, or by nobody: 0.
-pub fn asking(descriptor: u64) -> Starter {
+pub fn asking(system: &System, descriptor: u64) -> Starter {
+    let number = as_descriptor(descriptor);
     Starter {
-        process: libc::getppid(),
-        descriptor: as_descriptor(descriptor),
+        process: text_system::process::parent(system),
+        descriptor: number,
+        hears: heard_on(system, number),
     }
 }
 
 // Whether a starter that asked has ended meanwhile.
-pub fn is_gone(starter: Starter) -> bool {
+pub fn is_gone(system: &System, starter: &Starter) -> bool {
     if starter.descriptor == 0 {
         return false;
     }
-    libc::getppid() != starter.process
+    text_system::process::parent(system) != starter.process
 }
 
-pub fn hears_file(starter: Starter, path: &[u8]) {
-    if starter.descriptor != 0 {
-        io::write_all(starter.descriptor, path);
-        io::write_all(starter.descriptor, &[0u8]);
+fn hears(system: &System, starter: &Starter, bytes: &[u8]) {
+    match &starter.hears {
+        Some(file) => {
+            text_system::files::put(system, file, bytes);
+        }
+        None => {}
     }
+}
+
+pub fn hears_file(system: &System, starter: &Starter, path: &[u8]) {
+    hears(system, starter, path);
+    hears(system, starter, &[0u8]);
 }
 
 // 0: done. 1: refused. 2: the input or the arguments cannot be read, or something cannot be written.
-pub fn hears_status(starter: Starter, status: u8) {
-    if starter.descriptor != 0 {
-        let digit = [b'0' + status % 3];
-        io::write_all(starter.descriptor, &digit);
-    }
+pub fn hears_status(system: &System, starter: &Starter, status: u8) {
+    let digit = [b'0' + status % 3];
+    hears(system, starter, &digit);
 }
 
 // The number of a descriptor in an argument, read as the numbers of a schedule are; 0: it is none.
