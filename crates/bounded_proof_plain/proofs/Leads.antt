@@ -1,7 +1,7 @@
 -- From which place an act leads to a place that one step goes by, and what it found there.
 use mathlib.Core.Path.{◌≡◌, refl}
 use mathlib.Core.Logic.{◌⊎◌, inl, inr}
-use mathlib.Core.Bool.{Bool, true, false, true≢false}
+use mathlib.Core.Bool.{Bool, true, true≢false}
 use mathlib.Core.Path.{sym}
 use Prim.Native.Nat.{ℕ}
 use Rattle.bounded_words.specs.declared.Stamp.{Stamp}

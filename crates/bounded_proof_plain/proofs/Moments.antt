@@ -3,7 +3,7 @@ use mathlib.Core.Path.{◌≡◌, refl, sym, ap, ◌∙◌, subst}
 use mathlib.Core.Logic.{◌≢◌, ◌⊎◌, inl, inr}
 use mathlib.Core.Bool.{Bool, true, false, cond}
 use mathlib.Core.List.{List, [], ◌∷◌, ◌++◌, map}
-use Prim.Native.Nat.{ℕ, zero, suc, ◌+◌, ◌≤◌, ◌<◌}
+use Prim.Native.Nat.{ℕ, ◌+◌, ◌≤◌, ◌<◌}
 use native.Mathlib.Omega.{arith}
 use native.Mathlib.Nat.{mod-eq_of_lt}
 use native.Mathlib.Decide.{ℕ_discrete}
@@ -15,13 +15,11 @@ use Rattle.queue_entries.specs.Entries.{entry_of}
 use Rattle.queue_entries.specs.declared.Call.{Call}
 use Rattle.queue_entries.specs.declared.Entry.{Entry}
 use Rattle.queue_rows.proofs.Alike.{all_alike}
-use Rattle.queue_plain.specs.Plain.{full_of}
 use Rattle.queue_plain.specs.Story.{Begun, Does, Known, begun_in, elements_by, acts_in}
 use Rattle.queue_plain.proofs.Stories.{acts_end, known_count}
 use Rattle.bounded_words.specs.declared.Width.{Width}
 use Rattle.bounded_words.specs.declared.Width.TheVariants.{SixtyFour}
 use Rattle.bounded_words.specs.Limits.{wide}
-use Rattle.bounded_places.specs.declared.Place.{Place}
 use Rattle.bounded_places.specs.declared.Moved.{Moved}
 use Rattle.bounded_places.specs.declared.Moved.TheVariants.{Neither, Tail, Head}
 use Rattle.bounded_machine.specs.declared.Machine.{Machine}
@@ -40,7 +38,7 @@ use Rattle.bounded_moments.specs.declared.Timing.{Timing}
 use Rattle.bounded_moments.specs.declared.Timing.TheVariants.{Now, Stays, IfSome, IfRoom}
 use Rattle.bounded_moments.specs.Moments.{timing_of, timed_of, heard_of, of_worker, moment_in, heard_by_all, begun_of, own_of, named_of}
 use Rattle.bounded_demands.specs.Notions.{with_records, AllowedWith, KeepsWidestWindow, tally}
-use Rattle.bounded_demands.specs.Stories.{Element, Story, story_of, known, change_of, actor, Moment, At, AfterNextTail, AfterNextHead, timed, heard, moment_of}
+use Rattle.bounded_demands.specs.Stories.{Element, Story, story_of, known, change_of, actor, Moment, At, timed, heard, moment_of}
 use Rattle.bounded_demands.specs.Stories.{moment_from, moments_with, moments_from, moments_kept_of, moment_named_of, in_story}
 use Rattle.bounded_demands.specs.Demands.{NamesMomentsOf, MomentsKept, MomentsKeptInWindow, MomentsKeptOf}
 use Rattle.bounded_proof_demand2.proofs.Turns.{Turned, began, did, turned}

@@ -52,7 +52,7 @@ use Rattle.bounded_proof_each_act.proofs.Stamps.{fixed}
 use Rattle.bounded_proof_demand2.proofs.Turns.{stood}
 use Rattle.bounded_proof_demand2.proofs.Pictured.{Base, Pictured, new_age}
 use Rattle.bounded_proof_plain.proofs.Shelf.{Moves, each_own, queue_act, moment_own, head_course}
-use Rattle.bounded_proof_plain.proofs.Work.{task, pushing, then, GivenBy, EnteredBy, SwapsBy, TakesBy, Due}
+use Rattle.bounded_proof_plain.proofs.Work.{task, pushing, GivenBy, EnteredBy, SwapsBy, TakesBy, Due}
 use Rattle.bounded_proof_plain.proofs.Rows.{pushed_item, first_of, front_of, room_for, full_to, displaced_to, popped_to, lap_tests, head_tests, tail_tests}
 use Rattle.bounded_proof_plain.proofs.Told.{Told, i, a, u, act, told_on, moves, outcome, went, stood_else, told_act}
 use Rattle.bounded_proof_plain.proofs.Leads.{Leads, leads}

@@ -1,9 +1,9 @@
 -- Laws of the plain queue's replies, and of places, that the run of one step a call rests on.
 use mathlib.Core.Path.{◌≡◌, refl, sym, ap, ◌∙◌, subst}
-use mathlib.Core.Logic.{◌≢◌, ◌⊎◌, inl, inr}
+use mathlib.Core.Logic.{◌⊎◌, inl, inr}
 use mathlib.Core.Bool.{Bool, true, false, cond, true≢false}
 use mathlib.Core.List.{List, [], ◌∷◌, ◌++◌, append-nil}
-use Prim.Native.Nat.{ℕ, suc, ◌+◌}
+use Prim.Native.Nat.{ℕ, suc}
 use native.Mathlib.Omega.{arith}
 use lib.Dec.{eqb}
 use lib.ListN.{length, drop, length-append}
@@ -16,7 +16,6 @@ use Rattle.queue_plain.specs.Story.{item_of, items_of}
 use Rattle.bounded_words.specs.declared.Stamp.{Stamp}
 use Rattle.bounded_words.specs.Words.{same}
 use Rattle.bounded_places.specs.declared.Kind.{Kind}
-use Rattle.bounded_places.specs.declared.Kind.TheVariants.{Push}
 use Rattle.bounded_places.specs.declared.Answer.{Answer}
 use Rattle.bounded_places.specs.declared.Answer.TheVariants.{Nothing, Pushed, Full, Closed, Displaced, Popped, Empty, PopClosed, Len, Yes, No}
 use Rattle.bounded_places.specs.declared.Place.{Place}
@@ -29,7 +28,7 @@ use Rattle.bounded_moments.specs.Moments.{timing_said, timing_of}
 use Rattle.bounded_demands.specs.Stories.{one_step, At}
 use Rattle.bounded_proof_plain.proofs.Work.{pushing}
 use Rattle.bounded_proof_plain.proofs.Rows.{pushed_item}
-use Rattle.bounded_proof_plain.proofs.Told.{i, a, u, act}
+use Rattle.bounded_proof_plain.proofs.Told.{i, a, u}
 use Rattle.bounded_proof_plain.proofs.Lined.{out_of}
 
 -- ---- small laws

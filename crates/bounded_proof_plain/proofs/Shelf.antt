@@ -11,7 +11,7 @@ use lib.ListN.{length, get_or, drop, length-append, get_or-append}
 use lib.Seq.{get_or-append_seam}
 use borrow.Author.Tests.{eq-eqb, ne_eqb}
 use Rattle.queue_entries.specs.declared.Call.{Call}
-use Rattle.queue_plain.specs.Plain.{Queue, queue, full_of}
+use Rattle.queue_plain.specs.Plain.{Queue, full_of}
 use Rattle.queue_plain.specs.Story.{Begun, Does, Change, Known, beginning, doing_with, changed_by, items_of, fresh, known_with, known_from}
 use Rattle.queue_plain.proofs.Stories.{known_count}
 use Rattle.queue_plain.proofs.Stories as laws

@@ -3,7 +3,7 @@ use mathlib.Core.Path.{◌≡◌, refl, sym, ap, ◌∙◌, subst}
 use mathlib.Core.Logic.{◌≢◌, ◌⊎◌, inl, inr}
 use mathlib.Core.Bool.{Bool, true, false, cond}
 use mathlib.Core.List.{List, [], ◌∷◌, ◌++◌, map}
-use Prim.Native.Nat.{ℕ, ◌+◌, ◌-◌, ◌<◌}
+use Prim.Native.Nat.{ℕ, ◌+◌, ◌<◌}
 use native.Mathlib.Omega.{arith}
 use native.Mathlib.Decide.{ℕ_discrete}
 use lib.ListN.{length, get_or, set, length-append}
@@ -48,7 +48,7 @@ use Rattle.bounded_proof_each_act.proofs.Sight.{Age, look, Tale, Quiet, Heading,
 use Rattle.bounded_proof_demand2.proofs.Turns.{Turned, began, did, stood, event_of}
 use Rattle.bounded_proof_demand2.proofs.Lists.{Last, Earlier, split_end}
 use Rattle.bounded_proof_demand2.proofs.Logged.{items_by, moved_by, shows}
-use Rattle.bounded_proof_demand2.proofs.Pictured.{Base, Pictured, acted_pictured, stepped, coursed, effect, spot, next, result, acted_stood, new_age}
+use Rattle.bounded_proof_demand2.proofs.Pictured.{Base, Pictured, acted_pictured, stepped, coursed, spot, next, result, acted_stood, new_age}
 use Rattle.bounded_proof_demand2.proofs.Reached.{Reached, grown, entered, begun_after, did_after, recent_in}
 use Rattle.bounded_proof_plain.proofs.Shelf.{each_else, queue_act, moment_else, each_unbegun, queue_begun, moment_begun, Shelved, Moves, items_on, point_now}
 use Rattle.bounded_proof_plain.proofs.Work.{Starts, task, Work, Set, then, SeenSome, NoneYet, SeenRoom, FullYet, Due, due_else}

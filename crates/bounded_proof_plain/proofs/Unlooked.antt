@@ -20,7 +20,6 @@ use Rattle.queue_entries.specs.declared.Entry.TheVariants.{Asks}
 use Rattle.queue_plain.specs.Story.{Begun, Does, begun_in, elements_by, acts_in}
 use Rattle.queue_plain.proofs.Stories.{acts_end, acts_story}
 use Rattle.queue_schedules.proofs.Histories.{entries_lead_while}
-use Rattle.bounded_words.specs.declared.Stamp.{Stamp}
 use Rattle.bounded_words.specs.declared.Fixed.{Fixed}
 use Rattle.bounded_words.specs.declared.Width.{Width}
 use Rattle.bounded_words.specs.declared.Width.TheVariants.{SixtyFour}
@@ -40,8 +39,8 @@ use Rattle.bounded_machine.specs.declared.Ring.{Ring}
 use Rattle.bounded_machine.specs.declared.Machine.{Machine}
 use Rattle.bounded_machine.specs.declared.Did.{Did}
 use Rattle.bounded_machine.specs.declared.Event.{Event}
-use Rattle.bounded_machine.specs.Machine.{slot, idler, ring_of_parts, record_of_worker, fresh_with, fixed_on, ends_on}
-use Rattle.bounded_machine.specs.Turn.{spot_of, beginner, record_after, begun, stored, act_at, acted_by, acted, turn_at, turn_of_by}
+use Rattle.bounded_machine.specs.Machine.{slot, idler, ring_of_parts, fresh_with, fixed_on, ends_on}
+use Rattle.bounded_machine.specs.Turn.{spot_of, beginner, record_after, begun, stored, acted_by, acted, turn_at, turn_of_by}
 use Rattle.bounded_machine.specs.Run.{run_at}
 use Rattle.bounded_machine.specs.History.{event, events_of, moved_of, loss_at}
 use Rattle.bounded_machine.proofs.Kept.{either, few_workers}
