@@ -3,6 +3,7 @@
 // power 64. The cases are the rows of the file `stdin`; the file `stdout` is written from the documents.
 #![tactic(auto)]
 
-fn main() {
-    bounded_text_answers::play_input();
+fn main(rt: HostRuntime) {
+    let system = text_system::of(rt);
+    bounded_text_answers::play_input(&system);
 }

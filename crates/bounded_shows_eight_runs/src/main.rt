@@ -14,6 +14,7 @@ use bounded_text_faces::STEP;
 use bounded_text_words::WORDS;
 use bounded_words::Claim;
 use text_cases::nth;
+use text_system::System;
 
 // A machine under way, with what is counted from its history and the acts of the last call.
 #[derive(Clone, Copy)]
@@ -89,34 +90,34 @@ fn call(s: Scene, worker: u64, code: u64, item: u64, acts: u64) -> Scene {
 }
 
 // LABEL: ACTS acts, refusal R, h=H t=T m=M wN=PLACE
-fn say(label: &[u8], s: Scene, worker: u64) {
+fn say(system: &System, label: &[u8], s: Scene, worker: u64) {
     let mut out = [0u8; 512];
     let p = text_output::text(&mut out, 0, label);
     let q = text_output::form(&mut out, p, b": # acts, refusal #, ", &[s.acts, s.refusal]);
     let m = s.words;
     let r = bounded_text_words::text::standing(&mut out, q, worker, m);
-    text_output::end(&mut out, r);
+    text_output::end(system, &mut out, r);
 }
 
-fn say_claims(t: Tally) {
+fn say_claims(system: &System, t: Tally) {
     let tail = t.tail;
     let head = t.head;
     let claims = [tail.0, head.0, bounded_stock::stock(t)];
-    text_output::say(b"tail claims=# head claims=# stock=#\n", &claims);
+    text_output::say(system, b"tail claims=# head claims=# stock=#\n", &claims);
 }
 
-fn called(s: Scene, n: &[u64], label: &[u8], all: bool) -> Scene {
+fn called(system: &System, s: Scene, n: &[u64], label: &[u8], all: bool) -> Scene {
     let after = call(s, nth(n, 0), nth(n, 1), nth(n, 2), nth(n, 3));
-    say(label, after, nth(n, 0));
+    say(system, label, after, nth(n, 0));
     if all {
         let m = after.words;
-        bounded_text_answers::entry::slots(m);
-        say_claims(after.tally);
+        bounded_text_answers::entry::slots(system, m);
+        say_claims(system, after.tally);
     }
     after
 }
 
-fn constants(capacity: u64) {
+fn constants(system: &System, capacity: u64) {
     let made = bounded_text_faces::make(capacity, 1, 1);
     let m = made.words;
     let numbers = [
@@ -124,11 +125,11 @@ fn constants(capacity: u64) {
         m[bounded_text_words::MARK],
         m[bounded_text_words::LAP],
     ];
-    text_output::say(b"A capacity #: mark and lap # #\n", &numbers);
+    text_output::say(system, b"A capacity #: mark and lap # #\n", &numbers);
 }
 
 // By the document's own words, as one schedule; with lost=D,S, of worker 0 (document 02, item 8).
-fn whole(schedule: &[u64]) {
+fn whole(system: &System, schedule: &[u64]) {
     let mut out = [0u8; 512];
     let made = bounded_text_faces::make(2, 1, 1);
     let fresh = made.words;
@@ -141,12 +142,12 @@ fn whole(schedule: &[u64]) {
         bounded_text_words::record(m, 0, 4),
     ];
     let r = text_output::form(&mut out, q, b" lost=#,#", &lost);
-    text_output::end(&mut out, r);
-    bounded_text_answers::entry::slots(m);
+    text_output::end(system, &mut out, r);
+    bounded_text_answers::entry::slots(system, m);
 }
 
 // H CAPACITY WORKERS: REFUSAL, and the numbers of workers and slots that came of it.
-fn making(capacity: u64, workers: u64) {
+fn making(system: &System, capacity: u64, workers: u64) {
     let made = bounded_text_faces::make(capacity, workers, 1);
     let m = made.words;
     let numbers = [
@@ -156,50 +157,50 @@ fn making(capacity: u64, workers: u64) {
         m[bounded_text_words::CAPACITY],
         m[bounded_text_words::COUNT],
     ];
-    text_output::say(b"H make # #: # capacity=# workers=#\n", &numbers);
+    text_output::say(system, b"H make # #: # capacity=# workers=#\n", &numbers);
 }
 
 // The rows that need no scene.
-fn tell(letter: u8, n: &[u64]) {
+fn tell(system: &System, letter: u8, n: &[u64]) {
     match letter {
-        b'A' => constants(nth(n, 0)),
-        b'B' => whole(n),
-        b'H' => making(nth(n, 0), nth(n, 1)),
+        b'A' => constants(system, nth(n, 0)),
+        b'B' => whole(system, n),
+        b'H' => making(system, nth(n, 0), nth(n, 1)),
         _ => {}
     }
 }
 
-fn after(s: Scene, letter: u8, n: &[u64], label: &[u8]) -> Scene {
+fn after(system: &System, s: Scene, letter: u8, n: &[u64], label: &[u8]) -> Scene {
     match letter {
         b'o' => opened(nth(n, 0), nth(n, 1), nth(n, 2)),
-        b'c' => called(s, n, label, true),
-        b'd' => called(s, n, label, false),
+        b'c' => called(system, s, n, label, true),
+        b'd' => called(system, s, n, label, false),
         _ => s,
     }
 }
 
-fn turn(s: Scene, cases: &[u8], at: usize) -> Scene {
+fn turn(system: &System, s: Scene, cases: &[u8], at: usize) -> Scene {
     let mut list = [0u64; text_cases::NUMBERS];
     let count = text_cases::numbers(cases, at, &mut list);
     let letter = text_cases::letter(cases, at);
     let n = text_cases::first(&list, count);
-    tell(letter, n);
-    after(s, letter, n, text_cases::label(cases, at))
+    tell(system, letter, n);
+    after(system, s, letter, n, text_cases::label(cases, at))
 }
 
-fn play(begin: Scene, cases: &[u8]) {
+fn play(system: &System, begin: Scene, cases: &[u8]) {
     let mut s = begin;
     let mut at = 0;
     let mut turns = cases.len();
     while turns > 0 && at < cases.len() {
-        s = turn(s, cases, at);
+        s = turn(system, s, cases, at);
         at = text_cases::next(cases, at);
         turns -= 1;
     }
 }
 
-fn run_f(edition: u64) {
-    play(
+fn run_f(system: &System, edition: u64) {
+    play(system, 
         opened(1, 2, edition),
         b"c 0 0 7 5 |F push 7\n\
         c 0 1 8 2 |F force_push 8, P1 and P2\n\
@@ -209,9 +210,10 @@ fn run_f(edition: u64) {
     );
 }
 
-fn main() {
+fn main(rt: HostRuntime) {
+    let system = text_system::of(rt);
     let none = opened(0, 0, 0);
-    play(
+    play(&system, 
         none,
         b"A 1 |\n\
         A 2 |\n\
@@ -234,10 +236,10 @@ fn main() {
         c 0 2 0 5 |E pop\n\
         c 0 2 0 3 |E pop\n",
     );
-    run_f(1);
-    text_output::say(b"F in edition 2:\n", &[]);
-    run_f(2);
-    play(
+    run_f(&system, 1);
+    text_output::say(&system, b"F in edition 2:\n", &[]);
+    run_f(&system, 2);
+    play(&system, 
         opened(1, 2, 1),
         b"c 0 0 7 5 |G push 7\n\
         c 0 1 8 3 |G force_push 8, before F7\n\
@@ -247,7 +249,7 @@ fn main() {
         d 1 8 0 1 |G pop\n\
         d 1 8 0 1 |G pop\n",
     );
-    play(
+    play(&system, 
         none,
         b"H 0 1 |\n\
         H 1025 1 |\n\

@@ -5,6 +5,7 @@ use bounded_lent_by_value::Stepped;
 use bounded_orders::Metered;
 use bounded_places::{Answer, Kind, Place, Worker};
 use bounded_words::Stamp;
+use text_system::System;
 
 fn words_of(r: Worker) -> [u64; 5] {
     let p = r.place;
@@ -47,7 +48,7 @@ fn first_changed(
     i
 }
 
-fn say_ring(l: Metered) {
+fn say_ring(system: &System, l: Metered) {
     let ring = l.ring;
     let head = ring.head;
     let tail = ring.tail;
@@ -55,11 +56,11 @@ fn say_ring(l: Metered) {
     let slot = slots[0];
     let stamp = slot.stamp;
     let numbers = [head.0, tail.0, l.meter, stamp.0, slot.value];
-    text_output::say(b" h=# t=# m=# slot 0=(#,#)\n", &numbers);
+    text_output::say(system, b" h=# t=# m=# slot 0=(#,#)\n", &numbers);
 }
 
 // The line of one step: how many records are lent, the entry, the refusal, the first record that changed, the ring and its first slot.
-fn shown(
+fn shown(system: &System, 
     l: Metered,
     records: [Worker; bounded_orders::RECORDS],
     count: usize,
@@ -70,8 +71,8 @@ fn shown(
     let after = s.records;
     let changed = first_changed(records, after);
     let numbers = [count as u64, first, second, s.refusal, changed as u64];
-    text_output::say(b"lent # entry # #: # changed #", &numbers);
-    say_ring(s.ring);
+    text_output::say(system, b"lent # entry # #: # changed #", &numbers);
+    say_ring(system, s.ring);
     s
 }
 
@@ -90,56 +91,56 @@ fn with(
 }
 
 // Records 0 to 3, of which 1 is on its way; then fewer, more and none.
-fn others(s: Stepped) {
+fn others(system: &System, s: Stepped) {
     let ring = s.ring;
     let records = s.records;
-    shown(ring, records, 1, 24, 0);
-    shown(ring, records, 1, 0, 7);
-    shown(ring, records, 64, 1010, 0);
-    shown(ring, records, 65, 1024, 0);
-    shown(ring, records, 0, 0, 7);
+    shown(system, ring, records, 1, 24, 0);
+    shown(system, ring, records, 1, 0, 7);
+    shown(system, ring, records, 64, 1010, 0);
+    shown(system, ring, records, 65, 1024, 0);
+    shown(system, ring, records, 0, 0, 7);
 }
 
 // Record 3 is another's: busy with a word whose index is not below capacity, with a marked one, and with one that fits; idle with a count above the meter, and with one that is not.
-fn strange(s: Stepped) {
+fn strange(system: &System, s: Stepped) {
     let ring = s.ring;
     let records = s.records;
-    shown(
+    shown(system, 
         ring,
         with(records, Place::P2(Kind::Push, Stamp(2), 9), 0),
         4,
         24,
         0,
     );
-    shown(
+    shown(system, 
         ring,
         with(records, Place::P2(Kind::Push, Stamp(2), 9), 0),
         3,
         24,
         0,
     );
-    shown(
+    shown(system, 
         ring,
         with(records, Place::P2(Kind::Push, Stamp(4), 9), 0),
         4,
         24,
         0,
     );
-    shown(
+    shown(system, 
         ring,
         with(records, Place::P2(Kind::Push, Stamp(1), 9), 0),
         4,
         24,
         0,
     );
-    shown(
+    shown(system, 
         ring,
         with(records, Place::Idle(Answer::Nothing), 2),
         4,
         24,
         0,
     );
-    shown(
+    shown(system, 
         ring,
         with(records, Place::Idle(Answer::Nothing), 1),
         4,
@@ -148,26 +149,27 @@ fn strange(s: Stepped) {
     );
 }
 
-fn acted(s: Stepped) -> Stepped {
+fn acted(system: &System, s: Stepped) -> Stepped {
     let records = s.records;
-    shown(s.ring, records, 4, 24, 0)
+    shown(system, s.ring, records, 4, 24, 0)
 }
 
 // Record 1 goes on to the end of its push.
-fn pushed(s: Stepped) {
-    let found = acted(s);
-    let claimed = acted(found);
-    let written = acted(claimed);
-    acted(written);
+fn pushed(system: &System, s: Stepped) {
+    let found = acted(system, s);
+    let claimed = acted(system, found);
+    let written = acted(system, claimed);
+    acted(system, written);
 }
 
-fn main() {
+fn main(rt: HostRuntime) {
+    let system = text_system::of(rt);
     let made = bounded_orders::make(4, 2, 1);
     let idle = bounded_orders::idle();
     let records = [idle; bounded_orders::RECORDS];
-    let begun = shown(made.ring, records, 4, 16, 5);
-    let loaded = acted(begun);
-    others(loaded);
-    strange(loaded);
-    pushed(loaded);
+    let begun = shown(&system, made.ring, records, 4, 16, 5);
+    let loaded = acted(&system, begun);
+    others(&system, loaded);
+    strange(&system, loaded);
+    pushed(&system, loaded);
 }

@@ -4,6 +4,7 @@
 
 use bounded_text_faces::{Left, STEP};
 use bounded_text_words::WORDS;
+use text_system::System;
 
 // By the code of its place: 0 to 10 are those of idle workers.
 fn busy(m: [u64; WORDS]) -> bool {
@@ -31,31 +32,31 @@ fn needed(m: [u64; WORDS]) -> u64 {
 }
 
 // CALL at PLACE: ACTS
-fn tell(call: &[u8], m: [u64; WORDS]) {
+fn tell(system: &System, call: &[u8], m: [u64; WORDS]) {
     let mut out = [0u8; 512];
     let n = needed(m);
     let p = text_output::text(&mut out, 0, call);
     let q = bounded_text_words::text::place(&mut out, p, 0, m);
     let r = text_output::form(&mut out, q, b": #", &[n]);
-    text_output::end(&mut out, r);
+    text_output::end(system, &mut out, r);
 }
 
-fn say(call: &[u8], capacity: u64, schedule: &[u64]) {
+fn say(system: &System, call: &[u8], capacity: u64, schedule: &[u64]) {
     let made = bounded_text_faces::make(capacity, 2, 1);
     let fresh = made.words;
     let left = bounded_text_faces::run(fresh, schedule);
     let m = left.words;
-    tell(call, m);
+    tell(system, call, m);
 }
 
 // A word of tail that another push has put out of date.
-fn pushes() {
-    say(
+fn pushes(system: &System) {
+    say(system, 
         b"push at ",
         2,
         &[0, 0, 8, 0, 16, 7, 24, 0, 24, 0, 24, 0, 24, 0, 24, 0],
     );
-    say(
+    say(system, 
         b"force_push at ",
         1,
         &[1, 0, 8, 0, 16, 7, 24, 0, 24, 0, 24, 0, 24, 0, 24, 0],
@@ -63,36 +64,36 @@ fn pushes() {
 }
 
 // Out of date at the last load before an answer.
-fn pops() {
-    say(
+fn pops(system: &System) {
+    say(system, 
         b"pop at ",
         2,
         &[2, 0, 8, 0, 8, 0, 16, 7, 24, 0, 24, 0, 24, 0, 24, 0, 24, 0],
     );
-    say(
+    say(system, 
         b"len at ",
         2,
         &[3, 0, 8, 0, 16, 7, 24, 0, 24, 0, 24, 0, 24, 0, 24, 0],
     );
 }
 
-fn lookers() {
-    say(b"is_empty at ", 2, &[4, 0]);
-    say(b"is_full at ", 2, &[5, 0]);
-    say(b"close at ", 2, &[6, 0]);
-    say(b"is_closed at ", 2, &[7, 0]);
+fn lookers(system: &System) {
+    say(system, b"is_empty at ", 2, &[4, 0]);
+    say(system, b"is_full at ", 2, &[5, 0]);
+    say(system, b"close at ", 2, &[6, 0]);
+    say(system, b"is_closed at ", 2, &[7, 0]);
 }
 
-fn hands() {
-    say(b"in hand at ", 2, &[0, 0, 8, 0, 8, 0, 8, 0]);
-    say(
+fn hands(system: &System) {
+    say(system, b"in hand at ", 2, &[0, 0, 8, 0, 8, 0, 8, 0]);
+    say(system, 
         b"in hand at ",
         1,
         &[
             16, 7, 24, 0, 24, 0, 24, 0, 24, 0, 24, 0, 1, 0, 8, 0, 8, 0, 8, 0,
         ],
     );
-    say(
+    say(system, 
         b"in hand at ",
         2,
         &[
@@ -101,9 +102,10 @@ fn hands() {
     );
 }
 
-fn main() {
-    pushes();
-    pops();
-    lookers();
-    hands();
+fn main(rt: HostRuntime) {
+    let system = text_system::of(rt);
+    pushes(&system);
+    pops(&system);
+    lookers(&system);
+    hands(&system);
 }

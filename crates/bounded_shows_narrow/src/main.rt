@@ -3,6 +3,7 @@
 
 use bounded_sixteen_bits::{Did, Machine, Ran};
 use queue_entries::Told;
+use text_system::System;
 
 // A push of 5 and its five acts, a pop and its five.
 const ROUND: [u64; 24] = [
@@ -10,27 +11,27 @@ const ROUND: [u64; 24] = [
 ];
 
 // ": REFUSAL at PLACE h=H t=T m=M"
-fn tell(refusal: u64, place: u64, m: Machine) {
+fn tell(system: &System, refusal: u64, place: u64, m: Machine) {
     let ring = m.ring;
     let head = ring.head;
     let tail = ring.tail;
     let h = head.0 as u64;
     let t = tail.0 as u64;
-    text_output::say(b": # at # h=# t=# m=#\n", &[refusal, place, h, t, m.meter]);
+    text_output::say(system, b": # at # h=# t=# m=#\n", &[refusal, place, h, t, m.meter]);
 }
 
-fn tell_did(did: Did) {
-    tell(did.refusal, 0, did.machine);
+fn tell_did(system: &System, did: Did) {
+    tell(system, did.refusal, 0, did.machine);
 }
 
-fn tell_ran(r: Ran) {
-    tell(r.refusal, r.place, r.machine);
+fn tell_ran(system: &System, r: Ran) {
+    tell(system, r.refusal, r.place, r.machine);
 }
 
-fn tell_told(told: Told) {
+fn tell_told(system: &System, told: Told) {
     match told {
-        Told::Refused(n) => text_output::say(b": refused #\n", &[n]),
-        Told::Number(n) => text_output::say(b": #\n", &[n]),
+        Told::Refused(n) => text_output::say(system, b": refused #\n", &[n]),
+        Told::Number(n) => text_output::say(system, b": #\n", &[n]),
     }
 }
 
@@ -71,72 +72,73 @@ fn rounds(capacity: u64, edition: u64, n: u64) -> Machine {
 }
 
 // The words of the ends after so many rounds, and after one more.
-fn come_round(capacity: u64, edition: u64, n: u64) {
+fn come_round(system: &System, capacity: u64, edition: u64, n: u64) {
     let m = rounds(capacity, edition, n);
-    text_output::say(b"capacity # edition # rounds #", &[capacity, edition, n]);
-    tell_ran(bounded_narrow::run(m, &ROUND[..0]));
-    text_output::say(b"one more", &[]);
-    tell_ran(bounded_narrow::run(m, &ROUND));
+    text_output::say(system, b"capacity # edition # rounds #", &[capacity, edition, n]);
+    tell_ran(system, bounded_narrow::run(m, &ROUND[..0]));
+    text_output::say(system, b"one more", &[]);
+    tell_ran(system, bounded_narrow::run(m, &ROUND));
 }
 
-fn making(capacity: u64, workers: u64, edition: u64) {
-    text_output::say(b"make # # #", &[capacity, workers, edition]);
-    tell_did(bounded_narrow::make(capacity, workers, edition));
+fn making(system: &System, capacity: u64, workers: u64, edition: u64) {
+    text_output::say(system, b"make # # #", &[capacity, workers, edition]);
+    tell_did(system, bounded_narrow::make(capacity, workers, edition));
 }
 
-fn makings() {
-    making(1, 1, 1);
-    making(1024, 16, 2);
-    making(1025, 0, 3);
-    making(1, 17, 3);
-    making(1, 1, 3);
+fn makings(system: &System) {
+    making(system, 1, 1, 1);
+    making(system, 1024, 16, 2);
+    making(system, 1025, 0, 3);
+    making(system, 1, 17, 3);
+    making(system, 1, 1, 3);
 }
 
-fn looks(m: Machine) {
+fn looks(system: &System, m: Machine) {
     let mut items = [0u64; 2];
-    text_output::say(b"capacity", &[]);
-    tell_told(bounded_narrow::capacity(m));
-    text_output::say(b"contents", &[]);
-    tell_told(bounded_narrow::contents(m, &mut items));
-    text_output::say(b"items: # #\n", &items);
-    text_output::say(b"contents in no buffer", &[]);
-    tell_told(bounded_narrow::contents(m, &mut items[..0]));
+    text_output::say(system, b"capacity", &[]);
+    tell_told(system, bounded_narrow::capacity(m));
+    text_output::say(system, b"contents", &[]);
+    tell_told(system, bounded_narrow::contents(m, &mut items));
+    text_output::say(system, b"items: # #\n", &items);
+    text_output::say(system, b"contents in no buffer", &[]);
+    tell_told(system, bounded_narrow::contents(m, &mut items[..0]));
 }
 
-fn entries(m: Machine) {
-    text_output::say(b"begin 6 0", &[]);
-    tell_did(bounded_narrow::begin(m, 6, 0));
-    text_output::say(b"begin 8 0", &[]);
-    tell_did(bounded_narrow::begin(m, 8, 0));
-    text_output::say(b"act 8 0", &[]);
-    tell_did(bounded_narrow::act(m, 8, 0));
-    text_output::say(b"step 16 0", &[]);
-    tell_did(bounded_narrow::step(m, 16, 0));
+fn entries(system: &System, m: Machine) {
+    text_output::say(system, b"begin 6 0", &[]);
+    tell_did(system, bounded_narrow::begin(m, 6, 0));
+    text_output::say(system, b"begin 8 0", &[]);
+    tell_did(system, bounded_narrow::begin(m, 8, 0));
+    text_output::say(system, b"act 8 0", &[]);
+    tell_did(system, bounded_narrow::act(m, 8, 0));
+    text_output::say(system, b"step 16 0", &[]);
+    tell_did(system, bounded_narrow::step(m, 16, 0));
 }
 
-fn schedules(m: Machine) {
-    text_output::say(b"run 6 0 8 0", &[]);
-    tell_ran(bounded_narrow::run(m, &[6, 0, 8, 0]));
-    text_output::say(b"run 6", &[]);
-    tell_ran(bounded_narrow::run(m, &[6]));
+fn schedules(system: &System, m: Machine) {
+    text_output::say(system, b"run 6 0 8 0", &[]);
+    tell_ran(system, bounded_narrow::run(m, &[6, 0, 8, 0]));
+    text_output::say(system, b"run 6", &[]);
+    tell_ran(system, bounded_narrow::run(m, &[6]));
 }
 
 // One item in, and the tail's word begun anew while the head's has not.
-fn where_they_begin_anew() {
+fn where_they_begin_anew(system: &System) {
     let m = rounds(1, 1, 16383);
     let pushed = bounded_narrow::run(m, &ROUND[..12]);
-    text_output::say(b"pushed", &[]);
-    tell_ran(pushed);
+    text_output::say(system, b"pushed", &[]);
+    tell_ran(system, pushed);
     let full = pushed.machine;
-    looks(full);
-    entries(full);
-    schedules(full);
+    looks(system, full);
+    entries(system, full);
+    schedules(system, full);
 }
 
-fn main() {
-    makings();
-    come_round(1, 1, 16383);
-    come_round(1, 2, 49152);
-    come_round(2, 1, 16383);
-    where_they_begin_anew();
+fn main(rt: HostRuntime) {
+    let system = text_system::of(rt);
+    makings(&system);
+    come_round(&system, 1, 1, 16383);
+    come_round(&system, 1, 2, 49152);
+    come_round(&system, 2, 1, 16383);
+    where_they_begin_anew(&system);
 }

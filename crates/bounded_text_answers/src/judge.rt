@@ -2,6 +2,7 @@
 use bounded_text_faces::{ACT, BEGIN, Left, STEP};
 use bounded_text_words::WORDS;
 use queue_entries::Told;
+use text_system::System;
 
 // Worker 0 begins a push, acts, acts with a weak exchange that fails, and takes two of these steps.
 fn tried(k: usize, m: [u64; WORDS]) -> Left {
@@ -61,14 +62,14 @@ pub fn say_told(out: &mut [u8], at: usize, t: Told) -> usize {
 }
 
 // The rest, on a buffer of one word, which 77 marks.
-fn looks(out: &mut [u8], at: usize, m: [u64; WORDS]) {
+fn looks(system: &System, out: &mut [u8], at: usize, m: [u64; WORDS]) {
     let mut buffer = [77u64];
     let t = bounded_text_faces::contents(m, &mut buffer);
     let p = text_output::text(out, at, b" contents ");
     let q = say_told(out, p, t);
     let r = text_output::form(out, q, b"/# capacity ", &buffer);
     let s = say_told(out, r, bounded_text_faces::capacity(m));
-    text_output::end(out, s);
+    text_output::end(system, out, s);
 }
 
 fn say_sound(out: &mut [u8], at: usize, broken: bool) -> usize {
@@ -78,24 +79,24 @@ fn say_sound(out: &mut [u8], at: usize, broken: bool) -> usize {
     text_output::text(out, at, b": sound,")
 }
 
-fn line(out: &mut [u8], at: usize, m: [u64; WORDS]) {
+fn line(system: &System, out: &mut [u8], at: usize, m: [u64; WORDS]) {
     let p = say_sound(out, at, bounded_text_faces::broken(m));
     let q = entries(out, p, m);
     let r = say_ran(out, q, 2, m);
     let s = say_ran(out, r, 1, m);
     let t = say_ran(out, s, 0, m);
-    looks(out, t, m);
+    looks(system, out, t, m);
 }
 
-pub fn machine(label: &[u8], m: [u64; WORDS]) {
+pub fn machine(system: &System, label: &[u8], m: [u64; WORDS]) {
     let mut out = [0u8; 1024];
     let p = text_output::text(&mut out, 0, label);
-    line(&mut out, p, m);
+    line(system, &mut out, p, m);
 }
 
 // By the text of the place at which worker 0 stands.
-pub fn place(m: [u64; WORDS]) {
+pub fn place(system: &System, m: [u64; WORDS]) {
     let mut out = [0u8; 1024];
     let p = bounded_text_words::text::place(&mut out, 0, 0, m);
-    line(&mut out, p, m);
+    line(system, &mut out, p, m);
 }

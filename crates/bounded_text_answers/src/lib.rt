@@ -27,6 +27,7 @@ pub mod making;
 
 use bounded_text_words::WORDS;
 use text_cases::nth;
+use text_system::System;
 
 // The machine in hand, row after row.
 #[derive(Clone, Copy)]
@@ -95,48 +96,48 @@ pub fn after(letter: u8, m: [u64; WORDS], n: &[u64]) -> [u64; WORDS] {
     }
 }
 
-fn tell_more(letter: u8, m: [u64; WORDS], n: &[u64], label: &[u8]) {
+fn tell_more(system: &System, letter: u8, m: [u64; WORDS], n: &[u64], label: &[u8]) {
     match letter {
-        b'j' => judge::machine(label, set(m, n)),
-        b'p' => judge::place(stood(m, 0, nth(n, 0), nth(n, 1), nth(n, 2))),
-        b'c' => contents::told(label, m, nth(n, 0)),
-        b'M' => making::make(nth(n, 0), nth(n, 1), nth(n, 2)),
-        b'o' => making::workers(m),
+        b'j' => judge::machine(system, label, set(m, n)),
+        b'p' => judge::place(system, stood(m, 0, nth(n, 0), nth(n, 1), nth(n, 2))),
+        b'c' => contents::told(system, label, m, nth(n, 0)),
+        b'M' => making::make(system, nth(n, 0), nth(n, 1), nth(n, 2)),
+        b'o' => making::workers(system, m),
         _ => {}
     }
 }
 
 // What a row writes.
-fn tell(letter: u8, m: [u64; WORDS], n: &[u64], label: &[u8]) {
+fn tell(system: &System, letter: u8, m: [u64; WORDS], n: &[u64], label: &[u8]) {
     match letter {
-        b'b' => entry::one(label, bounded_text_faces::BEGIN, m, nth(n, 0), nth(n, 1)),
-        b'a' => entry::one(label, bounded_text_faces::ACT, m, nth(n, 0), nth(n, 1)),
-        b's' => entry::one(label, bounded_text_faces::STEP, m, nth(n, 0), nth(n, 1)),
-        b'r' => entry::run(label, m, n, false),
-        b'R' | b'S' => entry::run(label, m, n, true),
-        _ => tell_more(letter, m, n, label),
+        b'b' => entry::one(system, label, bounded_text_faces::BEGIN, m, nth(n, 0), nth(n, 1)),
+        b'a' => entry::one(system, label, bounded_text_faces::ACT, m, nth(n, 0), nth(n, 1)),
+        b's' => entry::one(system, label, bounded_text_faces::STEP, m, nth(n, 0), nth(n, 1)),
+        b'r' => entry::run(system, label, m, n, false),
+        b'R' | b'S' => entry::run(system, label, m, n, true),
+        _ => tell_more(system, letter, m, n, label),
     }
 }
 
-fn turn(h: Hand, cases: &[u8], at: usize) -> Hand {
+fn turn(system: &System, h: Hand, cases: &[u8], at: usize) -> Hand {
     let m = h.words;
     let mut list = [0u64; text_cases::NUMBERS];
     let count = text_cases::numbers(cases, at, &mut list);
     let letter = text_cases::letter(cases, at);
     let n = text_cases::first(&list, count);
-    tell(letter, m, n, text_cases::label(cases, at));
+    tell(system, letter, m, n, text_cases::label(cases, at));
     Hand {
         words: after(letter, m, n),
     }
 }
 
 // Row after row; answers the machine that is then in hand.
-pub fn play(begin: [u64; WORDS], cases: &[u8]) -> [u64; WORDS] {
+pub fn play(system: &System, begin: [u64; WORDS], cases: &[u8]) -> [u64; WORDS] {
     let mut h = Hand { words: begin };
     let mut at = 0;
     let mut turns = cases.len();
     while turns > 0 && at < cases.len() {
-        h = turn(h, cases, at);
+        h = turn(system, h, cases, at);
         at = text_cases::next(cases, at);
         turns -= 1;
     }
@@ -145,9 +146,9 @@ pub fn play(begin: [u64; WORDS], cases: &[u8]) -> [u64; WORDS] {
 }
 
 // The rows on standard input, from a machine of zeros on.
-pub fn play_input() {
-    let mut text = io::large_buffer();
-    let n = io::read_full(libc::STDIN_FILENO, &mut text);
+pub fn play_input(system: &System) {
+    let mut text = [0u8; 65536];
+    let n = text_system::streams::read_full(system, &mut text);
     let none = [0; WORDS];
-    play(none, &text[..n]);
+    play(system, none, &text[..n]);
 }

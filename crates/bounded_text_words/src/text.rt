@@ -1,6 +1,7 @@
 // What a machine holds, as text in a buffer that the caller lends, as `text_output` has it.
 use crate::WORDS;
 use queue_entries::Told;
+use text_system::System;
 
 // Where a worker stands.
 pub fn place(out: &mut [u8], at: usize, w: u64, m: [u64; WORDS]) -> usize {
@@ -42,15 +43,15 @@ pub fn entry(
 }
 
 // slots (stamp,value) ...
-pub fn slots(out: &mut [u8], at: usize, m: [u64; WORDS]) -> usize {
+pub fn slots(system: &System, out: &mut [u8], at: usize, m: [u64; WORDS]) -> usize {
     let capacity = m[crate::CAPACITY];
-    bounded_text_codes::slots(out, at, &m[crate::SLOTS..crate::RECORDS], capacity)
+    bounded_text_codes::slots(system, out, at, &m[crate::SLOTS..crate::RECORDS], capacity)
 }
 
 // NAME x y ..., or: NAME refused N
-pub fn told(out: &mut [u8], at: usize, name: &[u8], list: &[u64], t: Told) -> usize {
+pub fn told(system: &System, out: &mut [u8], at: usize, name: &[u8], list: &[u64], t: Told) -> usize {
     match t {
-        Told::Number(n) => bounded_text_codes::told(out, at, name, list, 0, n),
-        Told::Refused(refusal) => bounded_text_codes::told(out, at, name, list, refusal, 0),
+        Told::Number(n) => bounded_text_codes::told(system, out, at, name, list, 0, n),
+        Told::Refused(refusal) => bounded_text_codes::told(system, out, at, name, list, refusal, 0),
     }
 }

@@ -2,6 +2,8 @@
 use replay_input::source::Reading;
 use replay_options::Options;
 use replay_survey::{Played, Whole};
+use std::fs::File;
+use text_system::System;
 
 fn asked(o: Options) -> replay_single::play::Asked {
     replay_single::play::Asked {
@@ -11,31 +13,31 @@ fn asked(o: Options) -> replay_single::play::Asked {
     }
 }
 
-fn asked_of_single(o: Options) -> replay_single_explain::Asked {
+fn asked_of_single(system: &System, o: Options) -> replay_single_explain::Asked {
     replay_single_explain::Asked {
         many: o.many,
-        colours: text_explain::terminal::has_colours(),
+        colours: text_explain::terminal::has_colours(system),
         follows: o.follow,
         item: o.item,
     }
 }
 
-fn asked_of_unbounded(o: Options) -> replay_unbounded_explain::Asked {
+fn asked_of_unbounded(system: &System, o: Options) -> replay_unbounded_explain::Asked {
     replay_unbounded_explain::Asked {
         many: o.many,
-        colours: text_explain::terminal::has_colours(),
+        colours: text_explain::terminal::has_colours(system),
         follows: o.follow,
         item: o.item,
     }
 }
 
-fn asked_in_words(o: Options) -> replay_bounded_explain_lines::lines::Asked {
+fn asked_in_words(system: &System, o: Options) -> replay_bounded_explain_lines::lines::Asked {
     replay_bounded_explain_lines::lines::Asked {
         edition: o.edition,
         narrow: o.narrow,
         lent: o.lent,
         many: o.many,
-        colours: text_explain::terminal::has_colours(),
+        colours: text_explain::terminal::has_colours(system),
         follows: o.follow,
         item: o.item,
     }
@@ -63,9 +65,9 @@ pub fn barred(o: Options) -> u64 {
 }
 
 // In plain words.
-fn explained(
+fn explained(system: &System, 
     o: Options,
-    fd: i32,
+    file: &File,
     begun: Reading,
     whole: Whole,
     out: &mut [u8],
@@ -74,18 +76,18 @@ fn explained(
     let queue = o.queue;
     match queue {
         replay_options::SINGLE => {
-            replay_single_explain::play(asked_of_single(o), fd, begun, whole, out, at)
+            replay_single_explain::play(system, asked_of_single(system, o), file, begun, whole, out, at)
         }
         replay_options::UNBOUNDED => {
-            replay_unbounded_explain::play(asked_of_unbounded(o), fd, begun, whole, out, at)
+            replay_unbounded_explain::play(system, asked_of_unbounded(system, o), file, begun, whole, out, at)
         }
-        _ => replay_bounded_explain::play::play(asked_in_words(o), fd, begun, whole, out, at),
+        _ => replay_bounded_explain::play::play(system, asked_in_words(system, o), file, begun, whole, out, at),
     }
 }
 
-pub fn play(
+pub fn play(system: &System, 
     o: Options,
-    fd: i32,
+    file: &File,
     begun: Reading,
     whole: Whole,
     out: &mut [u8],
@@ -94,16 +96,16 @@ pub fn play(
     let queue = o.queue;
     if o.words {
         return replay_survey::told(
-            replay_words::tell(fd, o.many, begun, before(o), out, at),
+            replay_words::tell(system, file, o.many, begun, before(o), out, at),
             false,
         );
     }
     if o.explain {
-        return explained(o, fd, begun, whole, out, at);
+        return explained(system, o, file, begun, whole, out, at);
     }
     match queue {
-        replay_options::SINGLE => replay_single::play::play(asked(o), fd, begun, whole, out, at),
-        replay_options::UNBOUNDED => replay_unbounded::play::play(o, fd, begun, whole, out, at),
-        _ => replay_bounded::play::play(o, fd, begun, whole, out, at),
+        replay_options::SINGLE => replay_single::play::play(system, asked(o), file, begun, whole, out, at),
+        replay_options::UNBOUNDED => replay_unbounded::play::play(system, o, file, begun, whole, out, at),
+        _ => replay_bounded::play::play(system, o, file, begun, whole, out, at),
     }
 }

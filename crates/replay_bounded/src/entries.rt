@@ -10,6 +10,7 @@ use replay_bounded_lines::moments::Answers;
 use replay_bounded_lines::summary::Summary;
 use replay_options::Options;
 use replay_survey::pieces::Run;
+use text_system::System;
 
 // How far the run is, and what is counted along it.
 #[derive(Clone, Copy)]
@@ -80,7 +81,7 @@ fn entered(
     }
 }
 
-fn line_unless(
+fn line_unless(system: &System, 
     o: Options,
     out: &mut [u8],
     at: usize,
@@ -92,11 +93,11 @@ fn line_unless(
     if o.quiet {
         return at;
     }
-    replay_bounded_lines::line(o, out, at, e, summary, because, answers)
+    replay_bounded_lines::line(system, o, out, at, e, summary, because, answers)
 }
 
 // To the list's end or to the first refusal, on words that stand for a ring and records that are not broken.
-fn steps(
+fn steps(system: &System, 
     g: Going,
     o: Options,
     head: &mut [u64],
@@ -144,7 +145,7 @@ fn steps(
         if o.moments {
             answers = replay_bounded_lines::moments::after(answers, e, o.narrow);
         }
-        at = line_unless(o, out, at, e, summary, because, answers);
+        at = line_unless(system, o, out, at, e, summary, because, answers);
         place = replay_survey::pieces::next_place(place, refusal);
     }
     Going {
@@ -169,7 +170,7 @@ fn is_at_once(o: Options, records: &[u64]) -> bool {
 }
 
 // The entries of one piece. Ring and records are judged once a piece: no entry breaks what is not broken.
-pub fn run(
+pub fn run(system: &System, 
     g: Going,
     o: Options,
     head: &mut [u64],
@@ -186,5 +187,5 @@ pub fn run(
         left.run = replay_bounded_machine::at_once(g.run, width(o), head, slots, records, list);
         return left;
     }
-    steps(g, o, head, slots, records, list, out)
+    steps(system, g, o, head, slots, records, list, out)
 }

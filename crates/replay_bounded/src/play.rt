@@ -6,6 +6,8 @@ use replay_input::source::Reading;
 use replay_options::Options;
 use replay_survey::pieces::Run;
 use replay_survey::{Played, Whole};
+use std::fs::File;
+use text_system::System;
 
 // Room for one record more than are lent, with which making is refused.
 const RECORDS: usize = bounded_orders::RECORDS + 1;
@@ -39,9 +41,9 @@ fn started(broken: bool, whole: Whole, capacity: u64, at: usize) -> Going {
     }
 }
 
-fn all(
+fn all(system: &System, 
     o: Options,
-    fd: i32,
+    file: &File,
     begun: Reading,
     made: Going,
     head: &mut [u64],
@@ -54,10 +56,10 @@ fn all(
     let mut g = made;
     let mut p = replay_survey::pieces::start(begun);
     let mut turns = u64::MAX;
-    while turns > 0 && replay_survey::pieces::goes_on(p, g.run) {
+    while turns > 0 && replay_survey::pieces::goes_on(system, p, g.run) {
         turns -= 1;
-        p = replay_survey::pieces::next(fd, o.many, p, g.run, bytes, list);
-        g = crate::entries::run(
+        p = replay_survey::pieces::next(system, file, o.many, p, g.run, bytes, list);
+        g = crate::entries::run(system, 
             g,
             o,
             head,
@@ -67,7 +69,7 @@ fn all(
             out,
         );
     }
-    let run = replay_survey::pieces::ended(fd, o.many, p, g.run, bytes);
+    let run = replay_survey::pieces::ended(system, file, o.many, p, g.run, bytes);
     g.run = run;
     g
 }
@@ -81,20 +83,20 @@ fn tell_whole(r: Run, quiet: bool, head: &[u64], out: &mut [u8]) -> usize {
     r.at
 }
 
-fn tell_slots(out: &mut [u8], at: usize, head: &[u64], slots: &[u64]) -> usize {
+fn tell_slots(system: &System, out: &mut [u8], at: usize, head: &[u64], slots: &[u64]) -> usize {
     let ring = crate::entries::ring_in(head);
-    bounded_text_codes::slots(out, at, slots, ring[2])
+    bounded_text_codes::slots(system, out, at, slots, ring[2])
 }
 
 // contents x y ..., through a buffer that any list fits
-fn contents(out: &mut [u8], at: usize, head: &[u64], slots: &[u64], records: &[u64]) -> usize {
+fn contents(system: &System, out: &mut [u8], at: usize, head: &[u64], slots: &[u64], records: &[u64]) -> usize {
     let mut items = [0u64; bounded_words::SLOTS];
     let t = bounded_host::fern_ring_contents(head, slots, records, &mut items);
-    bounded_text_codes::told(out, at, b"contents", &items, t.refusal, t.number)
+    bounded_text_codes::told(system, out, at, b"contents", &items, t.refusal, t.number)
 }
 
 // What stands at the end.
-fn finish(
+fn finish(system: &System, 
     g: Going,
     o: Options,
     head: &[u64],
@@ -106,16 +108,16 @@ fn finish(
     let summary = g.summary;
     let because = g.because;
     let p = tell_whole(run, o.quiet, head, out);
-    let q = tell_slots(out, p, head, slots);
-    let t = contents(out, q, head, slots, records);
+    let q = tell_slots(system, out, p, head, slots);
+    let t = contents(system, out, q, head, slots, records);
     let u = replay_bounded_lines::tell_counts(o, out, t, summary, because);
     let answers = replay_survey::answers::in_records(records);
-    replay_survey::pieces::played(run, replay_survey::pieces::end(out, u, o.many), answers)
+    replay_survey::pieces::played(run, replay_survey::pieces::end(system, out, u, o.many), answers)
 }
 
-fn play_on(
+fn play_on(system: &System, 
     o: Options,
-    fd: i32,
+    file: &File,
     begun: Reading,
     whole: Whole,
     records: &mut [u64],
@@ -136,16 +138,16 @@ fn play_on(
     let p = text_output::form(out, at, b"made #\n", &[refusal]);
     let broken = bounded_slices::broken(&head, &slots, records);
     let made = started(broken, whole, head[2], p);
-    let g = all(
-        o, fd, begun, made, &mut head, &mut slots, records, &mut bytes, &mut list, out,
+    let g = all(system, 
+        o, file, begun, made, &mut head, &mut slots, records, &mut bytes, &mut list, out,
     );
-    finish(g, o, &head, &slots, records, out)
+    finish(system, g, o, &head, &slots, records, out)
 }
 
 // A schedule, read piece by piece and run to its end or to its first refusal.
-pub fn play(
+pub fn play(system: &System, 
     o: Options,
-    fd: i32,
+    file: &File,
     begun: Reading,
     whole: Whole,
     out: &mut [u8],
@@ -153,5 +155,5 @@ pub fn play(
 ) -> Played {
     let mut records = [0u64; ROOM];
     let used = records_of(o.lent, whole.workers) * bounded_slices::RECORD;
-    play_on(o, fd, begun, whole, &mut records[..used], out, at)
+    play_on(system, o, file, begun, whole, &mut records[..used], out, at)
 }

@@ -1,6 +1,7 @@
 // What stands at the end of a run of the ring: who is busy, what waits, what was lost.
 use replay_bounded_explain_lines::notes::Counts;
 use replay_bounded_explain_lines::words::{RECORD, get, record_of};
+use text_system::System;
 
 fn hand_of(line: &mut [u8], at: usize, head: &[u64], code: u64, word: u64) -> usize {
     let mark = get(head, 0);
@@ -16,7 +17,7 @@ fn hand_of(line: &mut [u8], at: usize, head: &[u64], code: u64, word: u64) -> us
 }
 
 // busy: wN at PLACE
-fn busy_line(out: &mut [u8], at: usize, head: &[u64], w: u64, r: [u64; 5]) -> usize {
+fn busy_line(system: &System, out: &mut [u8], at: usize, head: &[u64], w: u64, r: [u64; 5]) -> usize {
     if r[0] < 11 {
         return at;
     }
@@ -24,21 +25,21 @@ fn busy_line(out: &mut [u8], at: usize, head: &[u64], w: u64, r: [u64; 5]) -> us
     let q = bounded_text_explain::acts::place(out, p, r[0]);
     let s = hand_of(out, q, head, r[0], r[1]);
     let t = text_output::byte(out, s, b'\n');
-    text_output::settle(out, t)
+    text_output::settle(system, out, t)
 }
 
-fn busy(out: &mut [u8], at: usize, head: &[u64], records: &[u64]) -> usize {
+fn busy(system: &System, out: &mut [u8], at: usize, head: &[u64], records: &[u64]) -> usize {
     let mut p = at;
     let n = (records.len() / RECORD) as u64;
     let mut w = 0;
     while w < n {
-        p = busy_line(out, p, head, w, record_of(records, w));
+        p = busy_line(system, out, p, head, w, record_of(records, w));
         w += 1;
     }
     p
 }
 
-fn waits(
+fn waits(system: &System, 
     out: &mut [u8],
     at: usize,
     head: &[u64],
@@ -57,7 +58,7 @@ fn waits(
             &[n],
         );
     }
-    text_explain::waiting::told(out, at, &list, told.number)
+    text_explain::waiting::told(system, out, at, &list, told.number)
 }
 
 fn lost(out: &mut [u8], at: usize, c: Counts) -> usize {
@@ -70,7 +71,7 @@ fn lost(out: &mut [u8], at: usize, c: Counts) -> usize {
 }
 
 // From this place of the text on.
-pub fn tell(
+pub fn tell(system: &System, 
     out: &mut [u8],
     at: usize,
     head: &[u64],
@@ -78,8 +79,8 @@ pub fn tell(
     records: &[u64],
     c: Counts,
 ) -> usize {
-    let p = busy(out, at, head, records);
+    let p = busy(system, out, at, head, records);
     let q = text_explain::words::nobody_if(out, p, p == at);
-    let s = waits(out, q, head, slots, records, c);
+    let s = waits(system, out, q, head, slots, records, c);
     lost(out, s, c)
 }

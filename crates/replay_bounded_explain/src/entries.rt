@@ -6,6 +6,7 @@ use replay_bounded_explain_lines::notes::{Causes, Counts};
 use replay_bounded_explain_lines::words::{after, get, record_of, ring_of};
 use replay_bounded_explain_lines::{lines, notes};
 use replay_survey::pieces::Run;
+use text_system::System;
 
 // How far the run is, and what is counted along it.
 #[derive(Clone, Copy)]
@@ -22,7 +23,7 @@ fn width(narrow: bool) -> Width {
     }
 }
 
-fn told_if(
+fn told_if(system: &System, 
     it: bool,
     o: Asked,
     out: &mut [u8],
@@ -32,7 +33,7 @@ fn told_if(
     causes: Causes,
 ) -> usize {
     if it {
-        return lines::told(o, out, at, e, c, causes);
+        return lines::told(system, o, out, at, e, c, causes);
     }
     at
 }
@@ -54,7 +55,7 @@ fn run_on(place: u64, at: usize) -> Run {
 }
 
 // An entry that was accepted.
-fn accepted(
+fn accepted(system: &System, 
     at: usize,
     c: Counts,
     o: Asked,
@@ -66,26 +67,26 @@ fn accepted(
     let shown = is_shown(o, seen, e);
     if e.first % 16 < 8 {
         return Going {
-            run: run_on(e.place, told_if(shown, o, out, at, e, c, notes::none())),
+            run: run_on(e.place, told_if(system, shown, o, out, at, e, c, notes::none())),
             counts: c,
         };
     }
     let causes = notes::noted(seen, records, c, e);
-    let p = told_if(shown, o, out, at, e, c, causes);
-    let q = notes::tell_window(seen, e, out, p);
+    let p = told_if(system, shown, o, out, at, e, c, causes);
+    let q = notes::tell_window(system, seen, e, out, p);
     Going {
         run: run_on(e.place, q),
         counts: notes::counted(c, e),
     }
 }
 
-fn refused(r: Run, c: Counts, o: Asked, refusal: u64, w: u64, out: &mut [u8]) -> Going {
+fn refused(system: &System, r: Run, c: Counts, o: Asked, refusal: u64, w: u64, out: &mut [u8]) -> Going {
     Going {
         run: Run {
             place: r.place,
             refusal: refusal,
             whole: false,
-            at: text_explain::words::refused(out, r.at, o.colours, r.place, refusal, w),
+            at: text_explain::words::refused(system, out, r.at, o.colours, r.place, refusal, w),
         },
         counts: c,
     }
@@ -106,7 +107,7 @@ fn turn(
     bounded_rows::turn(bits, head, slots, records, first, second)
 }
 
-fn step(
+fn step(system: &System, 
     g: Going,
     o: Asked,
     head: &mut [u64],
@@ -123,7 +124,7 @@ fn step(
     let before = record_of(records, first / 16);
     let refusal = turn(width(o.narrow), head, slots, records, first, second);
     if refusal != 0 {
-        return refused(run, counts, o, refusal, first / 16, out);
+        return refused(system, run, counts, o, refusal, first / 16, out);
     }
     let e = Entered {
         place: run.place,
@@ -135,7 +136,7 @@ fn step(
         before: before,
         after: record_of(records, first / 16),
     };
-    accepted(run.at, counts, o, seen, records, e, out)
+    accepted(system, run.at, counts, o, seen, records, e, out)
 }
 
 fn is_refused(g: Going) -> bool {
@@ -144,7 +145,7 @@ fn is_refused(g: Going) -> bool {
 }
 
 // The k-th pair of the list, unless one before it was refused.
-fn step_at(
+fn step_at(system: &System, 
     g: Going,
     o: Asked,
     head: &mut [u64],
@@ -161,11 +162,11 @@ fn step_at(
     let at = after(k, k);
     let first = get(list, at);
     let second = get(list, after(at, 1));
-    step(g, o, head, slots, records, seen, first, second, out)
+    step(system, g, o, head, slots, records, seen, first, second, out)
 }
 
 // To the list's end or to the first refusal.
-pub fn run(
+pub fn run(system: &System, 
     g: Going,
     o: Asked,
     head: &mut [u64],
@@ -181,7 +182,7 @@ pub fn run(
     while k < n {
         let i = k;
         k += 1;
-        going = step_at(going, o, head, slots, records, seen, list, i, out);
+        going = step_at(system, going, o, head, slots, records, seen, list, i, out);
     }
     going
 }

@@ -6,6 +6,8 @@ use replay_bounded_explain_lines::lines::Asked;
 use replay_bounded_explain_lines::{lines, notes};
 use replay_input::source::Reading;
 use replay_survey::{Played, Whole, pieces};
+use std::fs::File;
+use text_system::System;
 
 // Room for one record more than are lent, with which making is refused.
 const RECORDS: usize = bounded_orders::RECORDS + 1;
@@ -35,9 +37,9 @@ fn started(refusal: u64, whole: Whole, at: usize) -> Going {
     }
 }
 
-fn all(
+fn all(system: &System, 
     o: Asked,
-    fd: i32,
+    file: &File,
     begun: Reading,
     made: Going,
     head: &mut [u64],
@@ -51,10 +53,10 @@ fn all(
     let mut g = made;
     let mut p = pieces::start(begun);
     let mut turns = u64::MAX;
-    while turns > 0 && pieces::goes_on(p, g.run) {
+    while turns > 0 && pieces::goes_on(system, p, g.run) {
         turns -= 1;
-        p = pieces::next(fd, o.many, p, g.run, bytes, list);
-        g = crate::entries::run(
+        p = pieces::next(system, file, o.many, p, g.run, bytes, list);
+        g = crate::entries::run(system, 
             g,
             o,
             head,
@@ -65,13 +67,13 @@ fn all(
             out,
         );
     }
-    let run = replay_survey::pieces::ended(fd, o.many, p, g.run, bytes);
+    let run = replay_survey::pieces::ended(system, file, o.many, p, g.run, bytes);
     g.run = run;
     g
 }
 
 // What stands at the end; of a schedule of which nothing was run why.
-fn tell_end(
+fn tell_end(system: &System, 
     g: Going,
     o: Asked,
     made: bool,
@@ -86,13 +88,13 @@ fn tell_end(
         return run.at;
     }
     if run.whole {
-        return text_explain::words::refused(out, run.at, o.colours, run.place, run.refusal, 0);
+        return text_explain::words::refused(system, out, run.at, o.colours, run.place, run.refusal, 0);
     }
     let p = text_explain::words::unmet_if(out, run.at, o.follows && !met, o.item);
-    crate::ends::tell(out, p, head, slots, records, g.counts)
+    crate::ends::tell(system, out, p, head, slots, records, g.counts)
 }
 
-fn finish(
+fn finish(system: &System, 
     g: Going,
     o: Asked,
     made: bool,
@@ -103,15 +105,15 @@ fn finish(
     out: &mut [u8],
 ) -> Played {
     let run = g.run;
-    let p = tell_end(g, o, made, met, head, slots, records, out);
+    let p = tell_end(system, g, o, made, met, head, slots, records, out);
     let answers = replay_survey::answers::in_records(records);
-    replay_survey::pieces::played(run, pieces::end(out, p, o.many), answers)
+    replay_survey::pieces::played(run, pieces::end(system, out, p, o.many), answers)
 }
 
 // On a ring that was made, or refused by this number.
-fn run_made(
+fn run_made(system: &System, 
     o: Asked,
-    fd: i32,
+    file: &File,
     begun: Reading,
     whole: Whole,
     refusal: u64,
@@ -125,16 +127,16 @@ fn run_made(
     let mut bytes = [0u8; replay_input::source::BYTES];
     let mut list = [1u64; replay_input::source::NUMBERS];
     let made = started(refusal, whole, at);
-    let g = all(
-        o, fd, begun, made, head, slots, records, &mut seen, &mut bytes, &mut list, out,
+    let g = all(system, 
+        o, file, begun, made, head, slots, records, &mut seen, &mut bytes, &mut list, out,
     );
     let met = notes::is_met(&seen);
-    finish(g, o, refusal == 0, met, head, slots, records, out)
+    finish(system, g, o, refusal == 0, met, head, slots, records, out)
 }
 
-fn play_on(
+fn play_on(system: &System, 
     o: Asked,
-    fd: i32,
+    file: &File,
     begun: Reading,
     whole: Whole,
     records: &mut [u64],
@@ -150,15 +152,15 @@ fn play_on(
         whole.capacity,
         o.edition,
     );
-    let p = lines::told_making(o, out, at, refusal, whole.capacity, whole.workers);
-    run_made(
-        o, fd, begun, whole, refusal, &mut head, &mut slots, records, out, p,
+    let p = lines::told_making(system, o, out, at, refusal, whole.capacity, whole.workers);
+    run_made(system, 
+        o, file, begun, whole, refusal, &mut head, &mut slots, records, out, p,
     )
 }
 
 // A schedule, read piece by piece and run to its end or to its first refusal.
-pub fn play(o: Asked, fd: i32, begun: Reading, whole: Whole, out: &mut [u8], at: usize) -> Played {
+pub fn play(system: &System, o: Asked, file: &File, begun: Reading, whole: Whole, out: &mut [u8], at: usize) -> Played {
     let mut records = [0u64; ROOM];
     let used = records_of(o.lent, whole.workers) * bounded_slices::RECORD;
-    play_on(o, fd, begun, whole, &mut records[..used], out, at)
+    play_on(system, o, file, begun, whole, &mut records[..used], out, at)
 }

@@ -3,6 +3,7 @@ use crate::notes;
 use crate::notes::{Causes, Counts};
 use bounded_text_explain::acts::{Claims, Entered};
 use text_explain::columns;
+use text_system::System;
 
 // What is asked.
 #[derive(Clone, Copy)]
@@ -120,13 +121,13 @@ fn colour_of(e: Entered, causes: Causes) -> u8 {
     columns::PLAIN
 }
 
-pub fn told(o: Asked, out: &mut [u8], at: usize, e: Entered, c: Counts, causes: Causes) -> usize {
+pub fn told(system: &System, o: Asked, out: &mut [u8], at: usize, e: Entered, c: Counts, causes: Causes) -> usize {
     let mut line = [0u8; columns::WIDE];
     let n = entry_line(&mut line, o, e, c, causes);
-    columns::put(out, at, &line, n, o.colours, colour_of(e, causes))
+    columns::put(system, out, at, &line, n, o.colours, colour_of(e, causes))
 }
 
-pub fn told_making(
+pub fn told_making(system: &System, 
     o: Asked,
     out: &mut [u8],
     at: usize,
@@ -139,5 +140,5 @@ pub fn told_making(
         2 refused 2: the number of workers, #b, is not 1 to 16 (lent: to 64)|\
         18 refused 18: there is no edition #c|";
     let numbers = [capacity, workers, o.edition];
-    text_explain::words::made(out, at, o.colours, table, refusal, &numbers)
+    text_explain::words::made(system, out, at, o.colours, table, refusal, &numbers)
 }

@@ -2,6 +2,7 @@
 // last looked, whether another had a slot in hand then; which workers and slots have the item that is followed.
 use crate::words::{RECORD, get};
 use bounded_text_explain::acts::Entered;
+use text_system::System;
 
 #[derive(Clone, Copy)]
 pub struct Counts {
@@ -236,12 +237,12 @@ pub fn noted(notes: &mut [u64], records: &[u64], c: Counts, e: Entered) -> Cause
 }
 
 // Behind the line of an entry that was accepted: whether it left the window of sixteen bits.
-pub fn tell_window(notes: &mut [u64], e: Entered, out: &mut [u8], at: usize) -> usize {
+pub fn tell_window(system: &System, notes: &mut [u64], e: Entered, out: &mut [u8], at: usize) -> usize {
     let ring = e.ring;
     let before = e.before;
     let after = e.after;
     replay_bounded_window::after(notes, e.narrow, ring, e.first, 0, before, after);
-    replay_bounded_window::tell(out, at, notes, e.place)
+    replay_bounded_window::tell(system, out, at, notes, e.place)
 }
 
 fn up_if(n: u64, it: bool) -> u64 {

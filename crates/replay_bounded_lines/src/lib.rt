@@ -5,6 +5,7 @@ use crate::because::Because;
 use crate::moments::Answers;
 use crate::summary::Summary;
 use replay_options::Options;
+use text_system::System;
 
 pub mod because;
 pub mod moments;
@@ -79,16 +80,16 @@ fn moment_if(asked: bool, out: &mut [u8], at: usize, a: Answers) -> usize {
 }
 
 // left the window at entry N, behind the line of that entry
-fn window_if(asked: bool, out: &mut [u8], at: usize, a: Answers, place: u64) -> usize {
+fn window_if(system: &System, asked: bool, out: &mut [u8], at: usize, a: Answers, place: u64) -> usize {
     let window = a.window;
     if asked {
-        return replay_bounded_window::tell(out, at, &window, place);
+        return replay_bounded_window::tell(system, out, at, &window, place);
     }
     at
 }
 
 // PLACE R h=H t=T m=M wN=S, and what is asked beside it
-fn own_line(
+fn own_line(system: &System, 
     o: Options,
     out: &mut [u8],
     at: usize,
@@ -109,11 +110,11 @@ fn own_line(
     let t = stock_if(o.stock, out, s, summary);
     let u = moment_if(o.moments, out, t, answers);
     let v = text_output::byte(out, u, b'\n');
-    text_output::settle(out, v)
+    text_output::settle(system, out, v)
 }
 
 // The line of an entry, and the one behind it, if there is one.
-pub fn line(
+pub fn line(system: &System, 
     o: Options,
     out: &mut [u8],
     at: usize,
@@ -122,8 +123,8 @@ pub fn line(
     because: Because,
     answers: Answers,
 ) -> usize {
-    let p = own_line(o, out, at, e, summary, because, answers);
-    window_if(o.moments, out, p, answers, e.place)
+    let p = own_line(system, o, out, at, e, summary, because, answers);
+    window_if(system, o.moments, out, p, answers, e.place)
 }
 
 // PLACE R h=H t=T m=M, of the whole

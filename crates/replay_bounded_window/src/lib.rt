@@ -3,6 +3,7 @@
 
 use bounded_machine::Tally;
 use bounded_words::Claim;
+use text_system::System;
 
 // The words that a run keeps, the first of a slice that the caller lends, each 0 before the first entry: the claims so far; whether the window was left, and that by the
 // latest entry. Then of each worker whether it holds a word of an end, 1 or 0, and the claims at tail and at head when it got it. Words and no fields, since the check of a
@@ -172,10 +173,10 @@ pub fn after(
 }
 
 // The line behind that of the entry at this place, if that left the window.
-pub fn tell(out: &mut [u8], at: usize, words: &[u64], place: u64) -> usize {
+pub fn tell(system: &System, out: &mut [u8], at: usize, words: &[u64], place: u64) -> usize {
     if get(words, LEAVES) == 1 {
         let p = text_output::form(out, at, b"left the window at entry #\n", &[place]);
-        return text_output::settle(out, p);
+        return text_output::settle(system, out, p);
     }
     at
 }

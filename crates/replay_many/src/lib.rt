@@ -2,7 +2,9 @@
 #![tactic(auto)]
 
 use replay_survey::Survey;
+use std::fs::File;
 use text_sums::Sum;
+use text_system::System;
 
 // The program's status.
 pub const DONE: u8 = 0;
@@ -13,8 +15,8 @@ pub const REFUSED: u8 = 1;
 pub const UNREADABLE: u8 = 2;
 
 // This one, unless not all was written, which is said.
-pub fn status_of(program: &[u8], status: u8, whole: bool) -> u8 {
-    if replay_input::say::is_written(program, whole) {
+pub fn status_of(system: &System, program: &[u8], status: u8, whole: bool) -> u8 {
+    if replay_input::say::is_written(system, program, whole) {
         status
     } else {
         UNREADABLE
@@ -81,16 +83,16 @@ pub fn worse(status: u8, refused: bool) -> u8 {
 }
 
 // A mark at the very end begins no further schedule.
-pub fn unless_at_end(program: &[u8], name: &[u8], fd: i32, n: Next) -> Next {
+pub fn unless_at_end(system: &System, program: &[u8], name: &[u8], file: &File, n: Next) -> Next {
     let mut byte = [0u8; 1];
     let mut m = n;
     if n.more {
-        let got = libc::pread(fd, &mut byte, replay_input::source::to_offset(n.offset));
-        if got < 0 {
-            replay_input::say::fail(program, name);
+        let got = text_system::files::read_at(system, file, &mut byte, replay_input::source::to_offset(n.offset));
+        if got.failed {
+            replay_input::say::fail(system, program, name);
             return stop(UNREADABLE);
         }
-        if got == 0 {
+        if got.n == 0 {
             m.more = false;
         }
     }
@@ -106,16 +108,16 @@ fn is_as_looked(n: Next, looked: Next) -> bool {
 }
 
 // As `written`, of schedules that were looked through before.
-pub fn written_as_looked(program: &[u8], name: &[u8], n: Next, looked: Next, out: &[u8]) -> u8 {
+pub fn written_as_looked(system: &System, program: &[u8], name: &[u8], n: Next, looked: Next, out: &[u8]) -> u8 {
     if is_as_looked(n, looked) {
-        return written(program, n, out);
+        return written(system, program, n, out);
     }
-    replay_input::say::changed(program, name);
+    replay_input::say::changed(system, program, name);
     UNREADABLE
 }
 
 // The rest of the text; answers the status.
-pub fn written(program: &[u8], n: Next, out: &[u8]) -> u8 {
-    let at = text_output::flush(out, n.at);
-    status_of(program, n.status, at != text_output::LOST)
+pub fn written(system: &System, program: &[u8], n: Next, out: &[u8]) -> u8 {
+    let at = text_output::flush(system, out, n.at);
+    status_of(system, program, n.status, at != text_output::LOST)
 }

@@ -2,6 +2,7 @@
 #![tactic(auto)]
 
 use text_options::{Arguments, MOST};
+use text_system::System;
 
 // The queues that replay knows, as --queue has them.
 pub const BOUNDED: u64 = 0;
@@ -161,22 +162,22 @@ fn options_of(a: Arguments) -> Options {
 }
 
 // Says what is wrong, unless help or the version is asked for.
-pub fn read() -> Options {
+pub fn read(system: &System) -> Options {
     let table =
         b"--queue=bounded,single,unbounded|--edition=#|--bits=64,16|--follow=#|--lent|--quiet|--causes|--moments|--losses|--stock|--summary|--many|\
         --words-of|--explain|--tape|--help|--tell-status|-h|--version|--tell-status-on=#|";
-    let a = judged(text_options::read(table, 1));
+    let a = judged(text_options::read(system, table, 1));
     let o = options_of(a);
     if o.wrong && !o.help && !o.version {
-        text_options::complain(b"replay", table, a, b"");
+        text_options::complain(system, b"replay", table, a, b"");
     }
     o
 }
 
 // Answers whether all of it was written.
-pub fn help() -> bool {
-    io::write_all(
-        libc::STDOUT_FILENO,
+pub fn help(system: &System) -> bool {
+    text_system::streams::put(
+        system,
         b"replay [--queue NAME] [--edition N] [--bits N] [--lent] [--quiet] [--causes] [--moments] [--losses]\n\
         \x20      [--stock] [--summary] [--many] [--tape] [FILE]\n\
         replay --words-of [--queue NAME] [--many] [--tape] [FILE]\n\

@@ -4,6 +4,9 @@
 
 use replay_input::source::Reading;
 use replay_survey::Whole;
+use std::fs::File;
+use text_system::System;
+use text_system::streams::Stream;
 
 const WORKERS: u64 = 64;
 
@@ -180,23 +183,23 @@ fn with_reading(l: Look, r: Reading, list: &[u64], target: u64, notes: &mut [u64
 }
 
 // One reading more.
-fn turn(
+fn turn(system: &System, 
     l: Look,
-    fd: i32,
+    file: &File,
     many: bool,
     target: u64,
     bytes: &mut [u8],
     list: &mut [u64],
     notes: &mut [u64],
 ) -> Look {
-    let r = replay_input::source::next(fd, many, l.reading, bytes, list);
+    let r = replay_input::source::next(system, file, many, l.reading, bytes, list);
     with_reading(l, r, list, target, notes)
 }
 
 // By pieces as long as the bytes, to the one that has the pair with this number or to the end.
-fn reach(
+fn reach(system: &System, 
     from: Look,
-    fd: i32,
+    file: &File,
     many: bool,
     target: u64,
     bytes: &mut [u8],
@@ -207,15 +210,15 @@ fn reach(
     let mut turns = u64::MAX;
     while turns > 0 && goes_on(l) {
         turns -= 1;
-        l = turn(l, fd, many, target, bytes, list, notes);
+        l = turn(system, l, file, many, target, bytes, list, notes);
     }
     l
 }
 
 // Byte by byte, from where no pair and no row was begun; a queue without a capacity has a 1 before its first number.
-fn reach_line(
+fn reach_line(system: &System, 
     l: Look,
-    fd: i32,
+    file: &File,
     many: bool,
     target: u64,
     list: &mut [u64],
@@ -224,12 +227,12 @@ fn reach_line(
     let mut byte = [0u8; 1];
     put(list, 0, 1);
     let from = start(l.again, l.again_pairs);
-    reach(from, fd, many, target, &mut byte, list, notes)
+    reach(system, from, file, many, target, &mut byte, list, notes)
 }
 
 // The pair with this number, and the line where it was written.
-fn looked(
-    fd: i32,
+fn looked(system: &System, 
+    file: &File,
     many: bool,
     begun: Reading,
     target: u64,
@@ -237,11 +240,11 @@ fn looked(
     list: &mut [u64],
     notes: &mut [u64],
 ) -> Look {
-    let l = reach(start(begun, 0), fd, many, target, bytes, list, notes);
+    let l = reach(system, start(begun, 0), file, many, target, bytes, list, notes);
     if begun.is_tape {
         l
     } else {
-        reach_line(l, fd, many, target, list, notes)
+        reach_line(system, l, file, many, target, list, notes)
     }
 }
 
@@ -363,19 +366,19 @@ fn refused(out: &mut [u8], at: usize, refusal: u64, w: u64) -> usize {
 }
 
 // A line of standard error.
-fn out(text: &mut [u8], at: usize) {
+fn out(system: &System, text: &mut [u8], at: usize) {
     let n = text_output::byte(text, at, b'\n');
-    text_options::out(libc::STDERR_FILENO, text, n);
+    text_options::out(system, Stream::Error, text, n);
 }
 
 // Of the whole: there is no machine, or no pair for a number.
-fn tell_whole(name: &[u8], refusal: u64, whole: Whole, before: usize, edition: u64) {
+fn tell_whole(system: &System, name: &[u8], refusal: u64, whole: Whole, before: usize, edition: u64) {
     let mut text = [0u8; replay_input::say::LINE];
     let p = place(&mut text, name, true, 0);
     let q = refused(&mut text, p, refusal, 0);
     let numbers = [whole.capacity, whole.workers, edition];
     if refusal != 6 {
-        return out(&mut text, q);
+        return out(system, &mut text, q);
     }
     if before == 0 {
         let r = text_output::form(
@@ -384,10 +387,10 @@ fn tell_whole(name: &[u8], refusal: u64, whole: Whole, before: usize, edition: u
             b": capacity #, workers #, edition #",
             &numbers,
         );
-        return out(&mut text, r);
+        return out(system, &mut text, r);
     }
     let r = text_output::form(&mut text, q, b": workers #", &[whole.workers]);
-    out(&mut text, r)
+    out(system, &mut text, r)
 }
 
 // NAME:LINE: what was written there:
@@ -405,7 +408,7 @@ fn entry_if(text: &mut [u8], name: &[u8], l: Look, target: u64) -> usize {
     place(text, name, true, 0)
 }
 
-fn tell_entry(
+fn tell_entry(system: &System, 
     name: &[u8],
     l: Look,
     target: u64,
@@ -419,13 +422,13 @@ fn tell_entry(
     let p = entry(&mut text, name, l, target);
     let q = refused(&mut text, p, refusal, w);
     let r = besides(&mut text, q, refusal, w, notes, workers, answers);
-    out(&mut text, r)
+    out(system, &mut text, r)
 }
 
 // The file's line, what was written there and why it is refused. A file that has changed meanwhile may have no such entry: then nothing is said.
-pub fn tell(
+pub fn tell(system: &System, 
     name: &[u8],
-    fd: i32,
+    file: &File,
     many: bool,
     begun: Reading,
     whole: Whole,
@@ -436,29 +439,29 @@ pub fn tell(
     answers: &[u64],
 ) {
     if refusal == 6 || refusal == 11 {
-        return tell_whole(name, refusal, whole, before, edition);
+        return tell_whole(system, name, refusal, whole, before, edition);
     }
     let mut bytes = [0u8; replay_input::source::BYTES];
     let mut list = [1u64; replay_input::source::NUMBERS];
     let mut notes = [0u64; NOTES];
     let target = more(place, 1);
-    let l = looked(fd, many, begun, target, &mut bytes, &mut list, &mut notes);
+    let l = looked(system, file, many, begun, target, &mut bytes, &mut list, &mut notes);
     if l.found {
-        tell_entry(name, l, target, refusal, &notes, whole.workers, answers);
+        tell_entry(system, name, l, target, refusal, &notes, whole.workers, answers);
     }
 }
 
 // Of an entry that is refused for what this text says, the same line up to there. Where a file that has changed has no such entry, it has its name alone.
-pub fn tell_of(name: &[u8], fd: i32, begun: Reading, entry_place: u64, why: &[u8]) {
+pub fn tell_of(system: &System, name: &[u8], file: &File, begun: Reading, entry_place: u64, why: &[u8]) {
     let mut text = [0u8; replay_input::say::LINE];
     let mut bytes = [0u8; replay_input::source::BYTES];
     let mut list = [1u64; replay_input::source::NUMBERS];
     let mut notes = [0u64; NOTES];
     let target = more(entry_place, 1);
-    let l = looked(fd, false, begun, target, &mut bytes, &mut list, &mut notes);
+    let l = looked(system, file, false, begun, target, &mut bytes, &mut list, &mut notes);
     let p = entry_if(&mut text, name, l, target);
     let q = text_output::text(&mut text, p, why);
-    out(&mut text, q)
+    out(system, &mut text, q)
 }
 
 // Whether this number refuses an entry, and no whole.

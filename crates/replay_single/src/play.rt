@@ -6,6 +6,8 @@ use replay_survey::pieces::Run;
 use replay_survey::{Played, Whole};
 use single_machine::Machine;
 use single_places::Place;
+use std::fs::File;
+use text_system::System;
 
 // The machine, how far its run is, and what is counted along it.
 #[derive(Clone, Copy)]
@@ -50,7 +52,7 @@ fn counted(asked: bool, s: Summary, refusal: u64, first: u64, after: Place) -> S
 }
 
 // PLACE R s=STATE m=M wN=S
-fn line_unless(
+fn line_unless(system: &System, 
     quiet: bool,
     out: &mut [u8],
     at: usize,
@@ -65,11 +67,11 @@ fn line_unless(
     }
     let p = single_text::text::entry(out, at, place, refusal, w, numbers, s);
     let q = text_output::byte(out, p, b'\n');
-    text_output::settle(out, q)
+    text_output::settle(system, out, q)
 }
 
 // Entry by entry, with what is asked after each.
-fn steps(g: Going, o: Asked, list: &[u64], out: &mut [u8]) -> Going {
+fn steps(system: &System, g: Going, o: Asked, list: &[u64], out: &mut [u8]) -> Going {
     let r = g.run;
     let mut m = g.machine;
     let mut s = g.summary;
@@ -89,7 +91,7 @@ fn steps(g: Going, o: Asked, list: &[u64], out: &mut [u8]) -> Going {
         refusal = ran.refusal;
         let after = single_text::place_of(m, w);
         s = counted(o.summary, s, refusal, first, after);
-        at = line_unless(
+        at = line_unless(system, 
             o.quiet,
             out,
             at,
@@ -126,11 +128,11 @@ fn at_once(g: Going, list: &[u64]) -> Going {
     }
 }
 
-fn run_piece(g: Going, o: Asked, list: &[u64], out: &mut [u8]) -> Going {
+fn run_piece(system: &System, g: Going, o: Asked, list: &[u64], out: &mut [u8]) -> Going {
     if o.quiet && !o.summary {
         return at_once(g, list);
     }
-    steps(g, o, list, out)
+    steps(system, g, o, list, out)
 }
 
 // The report of the whole, where there was none for each entry.
@@ -157,7 +159,7 @@ fn tell_summary(s: Summary, asked: bool, out: &mut [u8], at: usize) -> usize {
 }
 
 // What stands at the end.
-fn finish(g: Going, o: Asked, out: &mut [u8]) -> Played {
+fn finish(system: &System, g: Going, o: Asked, out: &mut [u8]) -> Played {
     let run = g.run;
     let m = g.machine;
     let s = g.summary;
@@ -166,12 +168,12 @@ fn finish(g: Going, o: Asked, out: &mut [u8]) -> Played {
     let t = contents(out, q, m);
     let u = tell_summary(s, o.summary, out, t);
     let answers = single_text::answers(m);
-    replay_survey::pieces::played(run, replay_survey::pieces::end(out, u, o.many), answers)
+    replay_survey::pieces::played(run, replay_survey::pieces::end(system, out, u, o.many), answers)
 }
 
-fn all(
+fn all(system: &System, 
     o: Asked,
-    fd: i32,
+    file: &File,
     begun: Reading,
     made: Going,
     bytes: &mut [u8],
@@ -181,20 +183,20 @@ fn all(
     let mut g = made;
     let mut p = replay_survey::pieces::start(begun);
     let mut turns = u64::MAX;
-    while turns > 0 && replay_survey::pieces::goes_on(p, g.run) {
+    while turns > 0 && replay_survey::pieces::goes_on(system, p, g.run) {
         turns -= 1;
-        p = replay_survey::pieces::next(fd, o.many, p, g.run, bytes, list);
-        g = run_piece(g, o, replay_survey::pieces::entries(p, list), out);
+        p = replay_survey::pieces::next(system, file, o.many, p, g.run, bytes, list);
+        g = run_piece(system, g, o, replay_survey::pieces::entries(p, list), out);
     }
-    let run = replay_survey::pieces::ended(fd, o.many, p, g.run, bytes);
+    let run = replay_survey::pieces::ended(system, file, o.many, p, g.run, bytes);
     g.run = run;
     g
 }
 
 // A schedule, read piece by piece and run to its end or to its first refusal.
-pub fn play(o: Asked, fd: i32, begun: Reading, whole: Whole, out: &mut [u8], at: usize) -> Played {
+pub fn play(system: &System, o: Asked, file: &File, begun: Reading, whole: Whole, out: &mut [u8], at: usize) -> Played {
     let mut bytes = [0u8; replay_input::source::BYTES];
     let mut list = [1u64; replay_input::source::NUMBERS];
     let made = make(whole, out, at);
-    finish(all(o, fd, begun, made, &mut bytes, &mut list, out), o, out)
+    finish(system, all(system, o, file, begun, made, &mut bytes, &mut list, out), o, out)
 }

@@ -4,6 +4,7 @@ use replay_survey::pieces::Run;
 use single_machine::Machine;
 use single_text_explain::acts;
 use single_text_explain::notes::Notes;
+use text_system::System;
 
 fn hand_of(out: &mut [u8], at: usize, case: usize) -> usize {
     match case {
@@ -15,36 +16,36 @@ fn hand_of(out: &mut [u8], at: usize, case: usize) -> usize {
 }
 
 // busy: wN at PLACE
-fn busy_line(out: &mut [u8], at: usize, w: u64, case: usize) -> usize {
+fn busy_line(system: &System, out: &mut [u8], at: usize, w: u64, case: usize) -> usize {
     if case == acts::IDLE {
         return at;
     }
     let p = text_output::form(out, at, b"busy: w# at ", &[w]);
     let q = acts::name(out, p, case);
     let r = hand_of(out, q, case);
-    text_output::settle(out, r)
+    text_output::settle(system, out, r)
 }
 
-fn busy_of(out: &mut [u8], at: usize, m: Machine, w: u64) -> usize {
+fn busy_of(system: &System, out: &mut [u8], at: usize, m: Machine, w: u64) -> usize {
     let s = crate::seen(m, w);
     let c = s.stood;
-    busy_line(out, at, w, c.case)
+    busy_line(system, out, at, w, c.case)
 }
 
-fn busy(out: &mut [u8], at: usize, m: Machine) -> usize {
+fn busy(system: &System, out: &mut [u8], at: usize, m: Machine) -> usize {
     let mut p = at;
     let mut w = 0;
     while w < 16 {
-        p = busy_of(out, p, m, w);
+        p = busy_of(system, out, p, m, w);
         w += 1;
     }
     p
 }
 
 // What contents tell through a buffer of one item.
-fn waits(out: &mut [u8], at: usize, item: &[u64], t: Told, n: Notes) -> usize {
+fn waits(system: &System, out: &mut [u8], at: usize, item: &[u64], t: Told, n: Notes) -> usize {
     match t {
-        Told::Number(k) => text_explain::waiting::told(out, at, item, k),
+        Told::Number(k) => text_explain::waiting::told(system, out, at, item, k),
         Told::Refused(_) => {
             let ahead = std::num::wrapping_sub_u64(n.puts, n.takes);
             text_output::form(
@@ -57,12 +58,12 @@ fn waits(out: &mut [u8], at: usize, item: &[u64], t: Told, n: Notes) -> usize {
     }
 }
 
-fn standing(out: &mut [u8], at: usize, m: Machine, n: Notes) -> usize {
+fn standing(system: &System, out: &mut [u8], at: usize, m: Machine, n: Notes) -> usize {
     let mut item = [0u64; 1];
     let t = single::contents(m, &mut item);
-    let p = busy(out, at, m);
+    let p = busy(system, out, at, m);
     let q = text_explain::words::nobody_if(out, p, p == at);
-    let r = waits(out, q, &item, t, n);
+    let r = waits(system, out, q, &item, t, n);
     text_output::form(
         out,
         r,
@@ -72,17 +73,17 @@ fn standing(out: &mut [u8], at: usize, m: Machine, n: Notes) -> usize {
 }
 
 // Of a run that is over. Of one that was refused as a whole only that is told, and of a refused making nothing more.
-pub fn tell(out: &mut [u8], o: crate::Asked, r: Run, m: Machine, n: Notes) -> usize {
+pub fn tell(system: &System, out: &mut [u8], o: crate::Asked, r: Run, m: Machine, n: Notes) -> usize {
     if r.whole {
-        return refused(out, o.colours, r);
+        return refused(system, out, o.colours, r);
     }
     let p = text_explain::words::unmet_if(out, r.at, o.follows && !n.met, o.item);
-    standing(out, p, m, n)
+    standing(system, out, p, m, n)
 }
 
-fn refused(out: &mut [u8], colours: bool, r: Run) -> usize {
+fn refused(system: &System, out: &mut [u8], colours: bool, r: Run) -> usize {
     if r.refusal == 6 {
         return r.at;
     }
-    text_explain::words::refused(out, r.at, colours, r.place, r.refusal, 0)
+    text_explain::words::refused(system, out, r.at, colours, r.place, r.refusal, 0)
 }

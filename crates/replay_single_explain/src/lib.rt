@@ -9,6 +9,8 @@ use replay_survey::{Played, Whole};
 use single_machine::Machine;
 use single_text_explain::notes::Notes;
 use single_text_explain::{Entered, Seen};
+use std::fs::File;
+use text_system::System;
 
 // What is asked: whether more schedules follow, colours, and of all lines only those of one item's life.
 #[derive(Clone, Copy)]
@@ -43,12 +45,12 @@ fn is_shown(o: Asked, e: Entered, n: Notes) -> bool {
 }
 
 // The line of an entry, if it has one.
-fn line(o: Asked, out: &mut [u8], at: usize, refusal: u64, e: Entered, n: Notes) -> usize {
+fn line(system: &System, o: Asked, out: &mut [u8], at: usize, refusal: u64, e: Entered, n: Notes) -> usize {
     if refusal != 0 {
-        return text_explain::words::refused(out, at, o.colours, e.place, refusal, e.first / 16);
+        return text_explain::words::refused(system, out, at, o.colours, e.place, refusal, e.first / 16);
     }
     if is_shown(o, e, n) {
-        return single_text_explain::lines::told(out, at, o.colours, e, n);
+        return single_text_explain::lines::told(system, out, at, o.colours, e, n);
     }
     at
 }
@@ -60,7 +62,7 @@ fn noted(o: Asked, refusal: u64, e: Entered, n: Notes) -> Notes {
     single_text_explain::notes::noted(n, e, o.item)
 }
 
-fn step(g: Going, o: Asked, first: u64, second: u64, out: &mut [u8]) -> Going {
+fn step(system: &System, g: Going, o: Asked, first: u64, second: u64, out: &mut [u8]) -> Going {
     let r = g.run;
     let n = g.notes;
     let w = first / 16;
@@ -76,14 +78,14 @@ fn step(g: Going, o: Asked, first: u64, second: u64, out: &mut [u8]) -> Going {
             place: replay_survey::pieces::next_place(r.place, refusal),
             refusal: refusal,
             whole: r.whole,
-            at: line(o, out, r.at, refusal, e, n),
+            at: line(system, o, out, r.at, refusal, e, n),
         },
         notes: noted(o, refusal, e, n),
     }
 }
 
 // Entry by entry, to the first that is refused.
-fn steps(begun: Going, o: Asked, list: &[u64], out: &mut [u8]) -> Going {
+fn steps(system: &System, begun: Going, o: Asked, list: &[u64], out: &mut [u8]) -> Going {
     let mut g = begun;
     let mut refusal = 0;
     let n = list.len() / 2;
@@ -92,16 +94,16 @@ fn steps(begun: Going, o: Asked, list: &[u64], out: &mut [u8]) -> Going {
         let first = list[2 * i];
         let second = list[2 * i + 1];
         i += 1;
-        g = step(g, o, first, second, out);
+        g = step(system, g, o, first, second, out);
         let r = g.run;
         refusal = r.refusal;
     }
     g
 }
 
-fn make(o: Asked, whole: Whole, out: &mut [u8], at: usize) -> Going {
+fn make(system: &System, o: Asked, whole: Whole, out: &mut [u8], at: usize) -> Going {
     let did = single::make(whole.workers);
-    let end = single_text_explain::lines::made(out, at, o.colours, did.refusal, whole.workers);
+    let end = single_text_explain::lines::made(system, out, at, o.colours, did.refusal, whole.workers);
     let m = did.machine;
     Going {
         machine: m,
@@ -110,17 +112,17 @@ fn make(o: Asked, whole: Whole, out: &mut [u8], at: usize) -> Going {
     }
 }
 
-fn finish(g: Going, o: Asked, out: &mut [u8]) -> Played {
+fn finish(system: &System, g: Going, o: Asked, out: &mut [u8]) -> Played {
     let r = g.run;
     let m = g.machine;
-    let at = ends::tell(out, o, r, m, g.notes);
+    let at = ends::tell(system, out, o, r, m, g.notes);
     let answers = single_text::answers(m);
-    replay_survey::pieces::played(r, replay_survey::pieces::end(out, at, o.many), answers)
+    replay_survey::pieces::played(r, replay_survey::pieces::end(system, out, at, o.many), answers)
 }
 
-fn all(
+fn all(system: &System, 
     o: Asked,
-    fd: i32,
+    file: &File,
     begun: Reading,
     made: Going,
     bytes: &mut [u8],
@@ -130,21 +132,21 @@ fn all(
     let mut g = made;
     let mut p = replay_survey::pieces::start(begun);
     let mut turns = u64::MAX;
-    while turns > 0 && replay_survey::pieces::goes_on(p, g.run) {
+    while turns > 0 && replay_survey::pieces::goes_on(system, p, g.run) {
         turns -= 1;
-        p = replay_survey::pieces::next(fd, o.many, p, g.run, bytes, list);
-        g = steps(g, o, replay_survey::pieces::entries(p, list), out);
+        p = replay_survey::pieces::next(system, file, o.many, p, g.run, bytes, list);
+        g = steps(system, g, o, replay_survey::pieces::entries(p, list), out);
     }
-    let run = replay_survey::pieces::ended(fd, o.many, p, g.run, bytes);
+    let run = replay_survey::pieces::ended(system, file, o.many, p, g.run, bytes);
     g.run = run;
     g
 }
 
 // A schedule, read piece by piece, run and told to its end or to its first refusal.
-pub fn play(o: Asked, fd: i32, begun: Reading, whole: Whole, out: &mut [u8], at: usize) -> Played {
+pub fn play(system: &System, o: Asked, file: &File, begun: Reading, whole: Whole, out: &mut [u8], at: usize) -> Played {
     let mut bytes = [0u8; replay_input::source::BYTES];
     let mut list = [1u64; replay_input::source::NUMBERS];
-    let made = make(o, whole, out, at);
-    let g = all(o, fd, begun, made, &mut bytes, &mut list, out);
-    finish(g, o, out)
+    let made = make(system, o, whole, out, at);
+    let g = all(system, o, file, begun, made, &mut bytes, &mut list, out);
+    finish(system, g, o, out)
 }

@@ -6,7 +6,9 @@ pub mod pieces;
 
 use queue_entries::Finding;
 use replay_input::source::Reading;
+use std::fs::File;
 use text_sums::Sum;
+use text_system::System;
 
 #[derive(Clone, Copy)]
 pub struct Survey {
@@ -117,8 +119,8 @@ fn with_pairs(s: Survey, list: &[u64], n: usize) -> Survey {
     searched(s, pairs)
 }
 
-fn turn(fd: i32, many: bool, s: Survey, bytes: &mut [u8], list: &mut [u64]) -> Survey {
-    let r = replay_input::source::turn(fd, many, s.reading, bytes, list, s.left);
+fn turn(system: &System, file: &File, many: bool, s: Survey, bytes: &mut [u8], list: &mut [u64]) -> Survey {
+    let r = replay_input::source::turn(system, file, many, s.reading, bytes, list, s.left);
     let mut after = with_pairs(s, list, r.count);
     after.pairs = more(after.pairs, replay_input::source::owing(r));
     after.reading = replay_input::source::owing_none(r);
@@ -126,12 +128,12 @@ fn turn(fd: i32, many: bool, s: Survey, bytes: &mut [u8], list: &mut [u64]) -> S
     after
 }
 
-fn survey_in(fd: i32, many: bool, begin: Survey, bytes: &mut [u8], list: &mut [u64]) -> Survey {
+fn survey_in(system: &System, file: &File, many: bool, begin: Survey, bytes: &mut [u8], list: &mut [u64]) -> Survey {
     let mut s = begin;
     let mut event = text_numbers::NOTHING;
     let mut turns = u64::MAX;
     while turns > 0 && event == text_numbers::NOTHING {
-        s = turn(fd, many, s, bytes, list);
+        s = turn(system, file, many, s, bytes, list);
         let r = s.reading;
         event = r.event;
         turns -= 1;
@@ -140,8 +142,8 @@ fn survey_in(fd: i32, many: bool, begin: Survey, bytes: &mut [u8], list: &mut [u
 }
 
 // Of the schedule that begins at this offset and line, before which the bytes have this sum; so many numbers, each 1, are put before it: none or one.
-pub fn surveyed(
-    fd: i32,
+pub fn surveyed(system: &System, 
+    file: &File,
     many: bool,
     before: usize,
     barred: u64,
@@ -162,7 +164,7 @@ pub fn surveyed(
         capacity: 0,
         workers: 0,
     };
-    survey_in(fd, many, begin, &mut bytes, &mut list)
+    survey_in(system, file, many, begin, &mut bytes, &mut list)
 }
 
 fn numbers(s: Survey) -> u64 {
@@ -170,10 +172,10 @@ fn numbers(s: Survey) -> u64 {
 }
 
 // Says what is wrong, and answers whether nothing is.
-pub fn is_sound(s: Survey, fd: i32, many: bool, name: &[u8]) -> bool {
+pub fn is_sound(system: &System, s: Survey, file: &File, many: bool, name: &[u8]) -> bool {
     let hints =
         b"|; several schedules are read with --many|; a tape is read with --tape|; a schedule without one is of another --queue|";
-    replay_input::say::is_sound(b"replay", name, fd, many, s.reading, numbers(s), hints)
+    replay_input::say::is_sound(system, b"replay", name, file, many, s.reading, numbers(s), hints)
 }
 
 fn of_whole(s: Survey, refusal: u64, place: u64) -> Whole {

@@ -1,6 +1,8 @@
 // A schedule that is read to be run, piece by piece, and how far the run is.
 use crate::{Played, Whole};
 use replay_input::source::Reading;
+use std::fs::File;
+use text_system::System;
 
 // Where the reading stands, and the entries of the piece that was read last.
 #[derive(Clone, Copy)]
@@ -36,8 +38,8 @@ fn piece(r: Reading, begun: bool, from: usize, to: usize, place: u64) -> Pieces 
 }
 
 // The next piece, of a run that is so far; a number that has no pair yet is left for the one after.
-pub fn next(fd: i32, many: bool, p: Pieces, r: Run, bytes: &mut [u8], list: &mut [u64]) -> Pieces {
-    let reading = replay_input::source::next(fd, many, p.reading, bytes, list);
+pub fn next(system: &System, file: &File, many: bool, p: Pieces, r: Run, bytes: &mut [u8], list: &mut [u64]) -> Pieces {
+    let reading = replay_input::source::next(system, file, many, p.reading, bytes, list);
     let even = reading.count - reading.count % 2;
     if p.begun || even < 2 {
         return piece(reading, p.begun, 0, even, r.place);
@@ -98,16 +100,16 @@ pub fn ran(r: Run, accepted: u64, refusal: u64) -> Run {
 }
 
 // Tells a terminal how far the run is, and answers whether another piece is to be read: none after a refusal, nor once the text is lost.
-pub fn goes_on(p: Pieces, r: Run) -> bool {
+pub fn goes_on(system: &System, p: Pieces, r: Run) -> bool {
     let reading = p.reading;
-    replay_input::say::progress(p.place, r.place, r.at);
+    replay_input::say::progress(system, p.place, r.place, r.at);
     replay_input::source::tells_on(reading.event, r.refusal, r.at)
 }
 
 // After the last piece: the run as it is, whose text goes on nowhere if the bytes were not those that were surveyed.
-pub fn ended(fd: i32, many: bool, p: Pieces, r: Run, bytes: &mut [u8]) -> Run {
+pub fn ended(system: &System, file: &File, many: bool, p: Pieces, r: Run, bytes: &mut [u8]) -> Run {
     let mut after = r;
-    after.at = replay_input::source::checked(fd, many, p.reading, bytes, r.at);
+    after.at = replay_input::source::checked(system, file, many, p.reading, bytes, r.at);
     after
 }
 
@@ -135,10 +137,10 @@ pub fn played(r: Run, at: usize, answers: [u64; crate::answers::WORDS]) -> Playe
 }
 
 // What follows the output of one of many.
-pub fn end(out: &mut [u8], at: usize, many: bool) -> usize {
+pub fn end(system: &System, out: &mut [u8], at: usize, many: bool) -> usize {
     if many {
         let p = text_output::text(out, at, b"%\n");
-        return text_output::settle(out, p);
+        return text_output::settle(system, out, p);
     }
-    text_output::settle(out, at)
+    text_output::settle(system, out, at)
 }

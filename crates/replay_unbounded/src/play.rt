@@ -3,6 +3,8 @@ use replay_input::source::Reading;
 use replay_options::Options;
 use replay_survey::pieces::Run;
 use replay_survey::{Played, Whole};
+use std::fs::File;
+use text_system::System;
 use unbounded_machine::Machine;
 
 // The machine, and how far its run is.
@@ -23,15 +25,15 @@ fn make(whole: Whole, out: &mut [u8], at: usize) -> Going {
 }
 
 // PLACE R h=H hb=B t=T tb=B m=M wN=S
-fn line(out: &mut [u8], at: usize, place: u64, refusal: u64, w: u64, m: Machine) -> usize {
+fn line(system: &System, out: &mut [u8], at: usize, place: u64, refusal: u64, w: u64, m: Machine) -> usize {
     let p = unbounded_text::machine::place_of(m, w);
     let s = unbounded_text::machine::standing_of(m);
     let q = unbounded_text::machine::entry(out, at, place, refusal, w, s, p);
-    text_output::settle(out, q)
+    text_output::settle(system, out, q)
 }
 
 // Entry by entry, with a line for each.
-fn steps(g: Going, list: &[u64], out: &mut [u8]) -> Going {
+fn steps(system: &System, g: Going, list: &[u64], out: &mut [u8]) -> Going {
     let r = g.run;
     let mut m = g.machine;
     let mut place = r.place;
@@ -48,7 +50,7 @@ fn steps(g: Going, list: &[u64], out: &mut [u8]) -> Going {
         let ran = unbounded::run(m, &pair);
         m = ran.machine;
         refusal = ran.refusal;
-        at = line(out, at, place, refusal, w, m);
+        at = line(system, out, at, place, refusal, w, m);
         place = replay_survey::pieces::next_place(place, refusal);
     }
     Going {
@@ -73,11 +75,11 @@ fn at_once(g: Going, list: &[u64]) -> Going {
     }
 }
 
-fn run_piece(g: Going, quiet: bool, list: &[u64], out: &mut [u8]) -> Going {
+fn run_piece(system: &System, g: Going, quiet: bool, list: &[u64], out: &mut [u8]) -> Going {
     if quiet {
         return at_once(g, list);
     }
-    steps(g, list, out)
+    steps(system, g, list, out)
 }
 
 // The report of the whole, where there was none for each entry.
@@ -90,26 +92,26 @@ fn tell_whole(r: Run, quiet: bool, m: Machine, out: &mut [u8]) -> usize {
 }
 
 // contents x y ..., through a buffer that any list fits
-fn contents(out: &mut [u8], at: usize, m: Machine) -> usize {
+fn contents(system: &System, out: &mut [u8], at: usize, m: Machine) -> usize {
     let mut items = [0u64; unbounded_words::POOL];
     let t = unbounded::contents(m, &mut items);
-    unbounded_text::machine::contents(out, at, &items, t)
+    unbounded_text::machine::contents(system, out, at, &items, t)
 }
 
 // What stands at the end.
-fn finish(g: Going, o: Options, out: &mut [u8]) -> Played {
+fn finish(system: &System, g: Going, o: Options, out: &mut [u8]) -> Played {
     let run = g.run;
     let m = g.machine;
     let p = tell_whole(run, o.quiet, m, out);
-    let q = unbounded_text::machine::blocks(out, p, m);
-    let t = contents(out, q, m);
+    let q = unbounded_text::machine::blocks(system, out, p, m);
+    let t = contents(system, out, q, m);
     let answers = unbounded_text::machine::answers(m);
-    replay_survey::pieces::played(run, replay_survey::pieces::end(out, t, o.many), answers)
+    replay_survey::pieces::played(run, replay_survey::pieces::end(system, out, t, o.many), answers)
 }
 
-fn all(
+fn all(system: &System, 
     o: Options,
-    fd: i32,
+    file: &File,
     begun: Reading,
     made: Going,
     bytes: &mut [u8],
@@ -119,20 +121,20 @@ fn all(
     let mut g = made;
     let mut p = replay_survey::pieces::start(begun);
     let mut turns = u64::MAX;
-    while turns > 0 && replay_survey::pieces::goes_on(p, g.run) {
+    while turns > 0 && replay_survey::pieces::goes_on(system, p, g.run) {
         turns -= 1;
-        p = replay_survey::pieces::next(fd, o.many, p, g.run, bytes, list);
-        g = run_piece(g, o.quiet, replay_survey::pieces::entries(p, list), out);
+        p = replay_survey::pieces::next(system, file, o.many, p, g.run, bytes, list);
+        g = run_piece(system, g, o.quiet, replay_survey::pieces::entries(p, list), out);
     }
-    let run = replay_survey::pieces::ended(fd, o.many, p, g.run, bytes);
+    let run = replay_survey::pieces::ended(system, file, o.many, p, g.run, bytes);
     g.run = run;
     g
 }
 
 // A schedule, read piece by piece and run to its end or to its first refusal.
-pub fn play(
+pub fn play(system: &System, 
     o: Options,
-    fd: i32,
+    file: &File,
     begun: Reading,
     whole: Whole,
     out: &mut [u8],
@@ -141,5 +143,5 @@ pub fn play(
     let mut bytes = [0u8; replay_input::source::BYTES];
     let mut list = [1u64; replay_input::source::NUMBERS];
     let made = make(whole, out, at);
-    finish(all(o, fd, begun, made, &mut bytes, &mut list, out), o, out)
+    finish(system, all(system, o, file, begun, made, &mut bytes, &mut list, out), o, out)
 }

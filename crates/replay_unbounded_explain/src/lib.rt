@@ -6,6 +6,8 @@ pub mod ends;
 use replay_input::source::Reading;
 use replay_survey::pieces::Run;
 use replay_survey::{Played, Whole};
+use std::fs::File;
+use text_system::System;
 use unbounded_machine::Machine;
 use unbounded_text_explain::notes::Notes;
 use unbounded_text_explain::{Entered, Seen, notes};
@@ -40,7 +42,7 @@ pub fn seen(m: Machine, w: u64) -> Seen {
 }
 
 // The line of an entry, if it has one: it is of the life of the item that is followed or not.
-fn line(
+fn line(system: &System, 
     o: Asked,
     out: &mut [u8],
     at: usize,
@@ -50,10 +52,10 @@ fn line(
     is_of: bool,
 ) -> usize {
     if refusal != 0 {
-        return text_explain::words::refused(out, at, o.colours, e.place, refusal, e.first / 16);
+        return text_explain::words::refused(system, out, at, o.colours, e.place, refusal, e.first / 16);
     }
     if is_of || !o.follows {
-        return unbounded_text_explain::lines::told(out, at, o.colours, o.follows, e, n);
+        return unbounded_text_explain::lines::told(system, out, at, o.colours, o.follows, e, n);
     }
     at
 }
@@ -66,7 +68,7 @@ fn noted(refusal: u64, e: Entered, n: Notes, is_of: bool) -> Notes {
 }
 
 // The slots of the pool that have the item that is followed are noted apart.
-fn step(g: Going, o: Asked, first: u64, second: u64, slots: &mut [u64], out: &mut [u8]) -> Going {
+fn step(system: &System, g: Going, o: Asked, first: u64, second: u64, slots: &mut [u64], out: &mut [u8]) -> Going {
     let r = g.run;
     let n = g.notes;
     let w = first / 16;
@@ -84,14 +86,14 @@ fn step(g: Going, o: Asked, first: u64, second: u64, slots: &mut [u64], out: &mu
             place: replay_survey::pieces::next_place(r.place, refusal),
             refusal: refusal,
             whole: r.whole,
-            at: line(o, out, r.at, refusal, e, n, is_of),
+            at: line(system, o, out, r.at, refusal, e, n, is_of),
         },
         notes: noted(refusal, e, n, is_of),
     }
 }
 
 // Entry by entry, to the first that is refused.
-fn steps(begun: Going, o: Asked, list: &[u64], slots: &mut [u64], out: &mut [u8]) -> Going {
+fn steps(system: &System, begun: Going, o: Asked, list: &[u64], slots: &mut [u64], out: &mut [u8]) -> Going {
     let mut g = begun;
     let mut refusal = 0;
     let n = list.len() / 2;
@@ -100,16 +102,16 @@ fn steps(begun: Going, o: Asked, list: &[u64], slots: &mut [u64], out: &mut [u8]
         let first = list[2 * i];
         let second = list[2 * i + 1];
         i += 1;
-        g = step(g, o, first, second, slots, out);
+        g = step(system, g, o, first, second, slots, out);
         let r = g.run;
         refusal = r.refusal;
     }
     g
 }
 
-fn make(o: Asked, whole: Whole, out: &mut [u8], at: usize) -> Going {
+fn make(system: &System, o: Asked, whole: Whole, out: &mut [u8], at: usize) -> Going {
     let did = unbounded::make(whole.workers);
-    let end = unbounded_text_explain::lines::made(out, at, o.colours, did.refusal, whole.workers);
+    let end = unbounded_text_explain::lines::made(system, out, at, o.colours, did.refusal, whole.workers);
     let m = did.machine;
     Going {
         machine: m,
@@ -118,17 +120,17 @@ fn make(o: Asked, whole: Whole, out: &mut [u8], at: usize) -> Going {
     }
 }
 
-fn finish(g: Going, o: Asked, out: &mut [u8]) -> Played {
+fn finish(system: &System, g: Going, o: Asked, out: &mut [u8]) -> Played {
     let r = g.run;
     let m = g.machine;
-    let at = ends::tell(out, o, r, m, g.notes);
+    let at = ends::tell(system, out, o, r, m, g.notes);
     let answers = unbounded_text::machine::answers(m);
-    replay_survey::pieces::played(r, replay_survey::pieces::end(out, at, o.many), answers)
+    replay_survey::pieces::played(r, replay_survey::pieces::end(system, out, at, o.many), answers)
 }
 
-fn all(
+fn all(system: &System, 
     o: Asked,
-    fd: i32,
+    file: &File,
     begun: Reading,
     made: Going,
     bytes: &mut [u8],
@@ -139,22 +141,22 @@ fn all(
     let mut g = made;
     let mut p = replay_survey::pieces::start(begun);
     let mut turns = u64::MAX;
-    while turns > 0 && replay_survey::pieces::goes_on(p, g.run) {
+    while turns > 0 && replay_survey::pieces::goes_on(system, p, g.run) {
         turns -= 1;
-        p = replay_survey::pieces::next(fd, o.many, p, g.run, bytes, list);
-        g = steps(g, o, replay_survey::pieces::entries(p, list), slots, out);
+        p = replay_survey::pieces::next(system, file, o.many, p, g.run, bytes, list);
+        g = steps(system, g, o, replay_survey::pieces::entries(p, list), slots, out);
     }
-    let run = replay_survey::pieces::ended(fd, o.many, p, g.run, bytes);
+    let run = replay_survey::pieces::ended(system, file, o.many, p, g.run, bytes);
     g.run = run;
     g
 }
 
 // A schedule, read piece by piece, run and told to its end or to its first refusal.
-pub fn play(o: Asked, fd: i32, begun: Reading, whole: Whole, out: &mut [u8], at: usize) -> Played {
+pub fn play(system: &System, o: Asked, file: &File, begun: Reading, whole: Whole, out: &mut [u8], at: usize) -> Played {
     let mut bytes = [0u8; replay_input::source::BYTES];
     let mut list = [1u64; replay_input::source::NUMBERS];
     let mut slots = [0u64; unbounded_words::POOL];
-    let made = make(o, whole, out, at);
-    let g = all(o, fd, begun, made, &mut bytes, &mut list, &mut slots, out);
-    finish(g, o, out)
+    let made = make(system, o, whole, out, at);
+    let g = all(system, o, file, begun, made, &mut bytes, &mut list, &mut slots, out);
+    finish(system, g, o, out)
 }

@@ -2,6 +2,8 @@
 #![tactic(auto)]
 
 use replay_input::source::Reading;
+use std::fs::File;
+use text_system::System;
 use text_words::writing::Row;
 
 // How far it is: where the text to be written goes on, the acts that are not written yet, and whether capacity and workers are.
@@ -30,12 +32,12 @@ fn with_head(t: Told, before: usize, capacity: u64, workers: u64, out: &mut [u8]
     }
 }
 
-fn with_pair(t: Told, before: usize, first: u64, second: u64, out: &mut [u8]) -> Told {
+fn with_pair(system: &System, t: Told, before: usize, first: u64, second: u64, out: &mut [u8]) -> Told {
     if t.begun {
         let w = text_words::writing::entry(out, t.at, t.row, first, second);
         let row = w.row;
         return Told {
-            at: text_output::settle(out, w.at),
+            at: text_output::settle(system, out, w.at),
             row: row,
             begun: true,
         };
@@ -43,21 +45,21 @@ fn with_pair(t: Told, before: usize, first: u64, second: u64, out: &mut [u8]) ->
     with_head(t, before, first, second, out)
 }
 
-fn with_pairs(t: Told, before: usize, list: &[u64], out: &mut [u8]) -> Told {
+fn with_pairs(system: &System, t: Told, before: usize, list: &[u64], out: &mut [u8]) -> Told {
     let mut told = t;
     let n = list.len() / 2;
     let mut i = 0;
     while i < n {
-        told = with_pair(told, before, list[2 * i], list[2 * i + 1], out);
+        told = with_pair(system, told, before, list[2 * i], list[2 * i + 1], out);
         i += 1;
     }
     told
 }
 
 // The pairs among the first n numbers of the list.
-fn with_some(t: Told, before: usize, list: &[u64], n: usize, out: &mut [u8]) -> Told {
+fn with_some(system: &System, t: Told, before: usize, list: &[u64], n: usize, out: &mut [u8]) -> Told {
     if n <= list.len() {
-        return with_pairs(t, before, &list[..n], out);
+        return with_pairs(system, t, before, &list[..n], out);
     }
     t
 }
@@ -102,16 +104,16 @@ fn goes_on(g: Going) -> bool {
 }
 
 // The numbers of a piece, of which nothing more is owed then.
-fn with_piece(t: Told, before: usize, r: Reading, list: &[u64], out: &mut [u8]) -> Going {
-    let some = with_some(t, before, list, r.count, out);
+fn with_piece(system: &System, t: Told, before: usize, r: Reading, list: &[u64], out: &mut [u8]) -> Going {
+    let some = with_some(system, t, before, list, r.count, out);
     Going {
         told: with_owed(some, r, out),
         reading: replay_input::source::owing_none(r),
     }
 }
 
-fn turn(
-    fd: i32,
+fn turn(system: &System, 
+    file: &File,
     many: bool,
     before: usize,
     g: Going,
@@ -119,12 +121,12 @@ fn turn(
     list: &mut [u64],
     out: &mut [u8],
 ) -> Going {
-    let r = replay_input::source::next(fd, many, g.reading, bytes, list);
-    with_piece(g.told, before, r, list, out)
+    let r = replay_input::source::next(system, file, many, g.reading, bytes, list);
+    with_piece(system, g.told, before, r, list, out)
 }
 
-fn all(
-    fd: i32,
+fn all(system: &System, 
+    file: &File,
     many: bool,
     before: usize,
     begun: Reading,
@@ -137,10 +139,10 @@ fn all(
     let mut turns = u64::MAX;
     while turns > 0 && goes_on(g) {
         turns -= 1;
-        g = turn(fd, many, before, g, bytes, list, out);
+        g = turn(system, file, many, before, g, bytes, list, out);
     }
     let mut told = g.told;
-    told.at = replay_input::source::checked(fd, many, g.reading, bytes, told.at);
+    told.at = replay_input::source::checked(system, file, many, g.reading, bytes, told.at);
     told
 }
 
@@ -152,8 +154,8 @@ fn with_mark(out: &mut [u8], at: usize, many: bool) -> usize {
 }
 
 // Of a schedule that can be read; so many numbers, none or one, stand before it that are not told. Answers where the text goes on.
-pub fn lines(
-    fd: i32,
+pub fn lines(system: &System, 
+    file: &File,
     many: bool,
     begun: Reading,
     before: usize,
@@ -162,20 +164,20 @@ pub fn lines(
 ) -> usize {
     let mut bytes = [0u8; replay_input::source::BYTES];
     let mut list = [1u64; replay_input::source::NUMBERS];
-    let told = all(fd, many, before, begun, &mut bytes, &mut list, out, at);
+    let told = all(system, file, many, before, begun, &mut bytes, &mut list, out, at);
     text_words::writing::end(out, told.at, told.row)
 }
 
 // The same, and what follows one of many.
-pub fn tell(
-    fd: i32,
+pub fn tell(system: &System, 
+    file: &File,
     many: bool,
     begun: Reading,
     before: usize,
     out: &mut [u8],
     at: usize,
 ) -> usize {
-    let p = lines(fd, many, begun, before, out, at);
+    let p = lines(system, file, many, begun, before, out, at);
     let q = with_mark(out, p, many);
-    text_output::settle(out, q)
+    text_output::settle(system, out, q)
 }

@@ -3,6 +3,7 @@
 // documents and the source. A refused call is held to leaving the machine as it was.
 #![tactic(auto)]
 
-fn main() {
-    single_text_answers::play_input();
+fn main(rt: HostRuntime) {
+    let system = text_system::of(rt);
+    single_text_answers::play_input(&system);
 }

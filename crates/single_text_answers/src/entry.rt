@@ -2,6 +2,7 @@
 use crate::build::NUMBERS;
 use single_machine::{Did, Machine};
 use single_places::Place;
+use text_system::System;
 
 pub const BEGIN: u64 = 0;
 
@@ -54,29 +55,29 @@ fn told(out: &mut [u8], at: usize, which: u64, m: Machine, first: u64, second: u
 }
 
 // After a label.
-pub fn one(label: &[u8], which: u64, n: [u64; NUMBERS], first: u64, second: u64) {
+pub fn one(system: &System, label: &[u8], which: u64, n: [u64; NUMBERS], first: u64, second: u64) {
     let mut out = [0u8; 512];
     let p = text_output::text(&mut out, 0, label);
     let q = told(&mut out, p, which, crate::build::machine(n), first, second);
-    text_output::end(&mut out, q);
+    text_output::end(system, &mut out, q);
 }
 
 // LABEL: PLACE REFUSAL, and what stands there for worker 0
-pub fn run(label: &[u8], n: [u64; NUMBERS], schedule: &[u64]) {
+pub fn run(system: &System, label: &[u8], n: [u64; NUMBERS], schedule: &[u64]) {
     let mut out = [0u8; 512];
     let r = single::run(crate::build::machine(n), schedule);
     let p = text_output::text(&mut out, 0, label);
     let q = text_output::form(&mut out, p, b": # # ", &[r.place, r.refusal]);
     let s = standing(&mut out, q, 0, r.machine);
-    text_output::end(&mut out, s);
+    text_output::end(system, &mut out, s);
 }
 
 // Every code with the item 0, then with 1.
-pub fn codes(which: u64, n: [u64; NUMBERS]) {
+pub fn codes(system: &System, which: u64, n: [u64; NUMBERS]) {
     let mut code = 0;
     while code < 16 {
-        one(b"", which, n, code, 0);
-        one(b"", which, n, code, 1);
+        one(system, b"", which, n, code, 0);
+        one(system, b"", which, n, code, 1);
         code += 1;
     }
 }
@@ -91,10 +92,10 @@ fn acted(out: &mut [u8], at: usize, m: Machine) -> usize {
 }
 
 // PLACE on S: and what came of an act there
-pub fn held(n: [u64; NUMBERS]) {
+pub fn held(system: &System, n: [u64; NUMBERS]) {
     let mut out = [0u8; 512];
     let p = single_text::text::place(&mut out, 0, crate::build::place_in(n[5], n[6], n[7]));
     let q = text_output::form(&mut out, p, b" on #: ", &n);
     let r = acted(&mut out, q, crate::build::machine(n));
-    text_output::end(&mut out, r);
+    text_output::end(system, &mut out, r);
 }

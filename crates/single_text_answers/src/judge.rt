@@ -2,6 +2,7 @@
 use crate::build::NUMBERS;
 use queue_entries::Told;
 use single_machine::{Did, Machine};
+use text_system::System;
 
 // Worker 0 begins a push, acts, acts with code 9, and takes two of these steps.
 fn tried(k: usize, m: Machine) -> Did {
@@ -89,9 +90,9 @@ fn line(out: &mut [u8], at: usize, m: Machine) -> usize {
     looks(out, r, m)
 }
 
-pub fn machine(label: &[u8], n: [u64; NUMBERS]) {
+pub fn machine(system: &System, label: &[u8], n: [u64; NUMBERS]) {
     let mut out = [0u8; 1024];
     let p = text_output::text(&mut out, 0, label);
     let q = line(&mut out, p, crate::build::machine(n));
-    text_output::end(&mut out, q);
+    text_output::end(system, &mut out, q);
 }

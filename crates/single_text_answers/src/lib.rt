@@ -20,6 +20,7 @@ mod making;
 
 use build::NUMBERS;
 use text_cases::nth;
+use text_system::System;
 
 // The numbers in hand, row after row.
 #[derive(Clone, Copy)]
@@ -48,48 +49,48 @@ fn after(letter: u8, h: [u64; NUMBERS], n: &[u64]) -> [u64; NUMBERS] {
 }
 
 // What a row writes.
-fn tell(letter: u8, h: [u64; NUMBERS], n: &[u64], label: &[u8]) {
+fn tell(system: &System, letter: u8, h: [u64; NUMBERS], n: &[u64], label: &[u8]) {
     match letter {
-        b'e' => entry::codes(nth(n, 0), h),
-        b'b' => entry::one(label, entry::BEGIN, h, nth(n, 0), nth(n, 1)),
-        b'a' => entry::one(label, entry::ACT, h, nth(n, 0), nth(n, 1)),
-        b's' => entry::one(label, entry::STEP, h, nth(n, 0), nth(n, 1)),
-        b'r' => entry::run(label, h, n),
-        b'm' => making::make(nth(n, 0)),
-        b'c' => making::contents(label, h, nth(n, 0)),
-        b'j' => judge::machine(label, h),
-        b'h' => entry::held(build::with_place(h, 0, nth(n, 0), nth(n, 1), nth(n, 2))),
+        b'e' => entry::codes(system, nth(n, 0), h),
+        b'b' => entry::one(system, label, entry::BEGIN, h, nth(n, 0), nth(n, 1)),
+        b'a' => entry::one(system, label, entry::ACT, h, nth(n, 0), nth(n, 1)),
+        b's' => entry::one(system, label, entry::STEP, h, nth(n, 0), nth(n, 1)),
+        b'r' => entry::run(system, label, h, n),
+        b'm' => making::make(system, nth(n, 0)),
+        b'c' => making::contents(system, label, h, nth(n, 0)),
+        b'j' => judge::machine(system, label, h),
+        b'h' => entry::held(system, build::with_place(h, 0, nth(n, 0), nth(n, 1), nth(n, 2))),
         _ => {}
     }
 }
 
-fn turn(h: Hand, cases: &[u8], at: usize) -> Hand {
+fn turn(system: &System, h: Hand, cases: &[u8], at: usize) -> Hand {
     let numbers = h.numbers;
     let mut list = [0u64; text_cases::NUMBERS];
     let count = text_cases::numbers(cases, at, &mut list);
     let letter = text_cases::letter(cases, at);
     let n = text_cases::first(&list, count);
-    tell(letter, numbers, n, text_cases::label(cases, at));
+    tell(system, letter, numbers, n, text_cases::label(cases, at));
     Hand {
         numbers: after(letter, numbers, n),
     }
 }
 
 // Row after row, from these numbers on.
-fn play(begin: [u64; NUMBERS], cases: &[u8]) {
+fn play(system: &System, begin: [u64; NUMBERS], cases: &[u8]) {
     let mut h = Hand { numbers: begin };
     let mut at = 0;
     let mut turns = cases.len();
     while turns > 0 && at < cases.len() {
-        h = turn(h, cases, at);
+        h = turn(system, h, cases, at);
         at = text_cases::next(cases, at);
         turns -= 1;
     }
 }
 
 // The rows on standard input.
-pub fn play_input() {
-    let mut text = io::large_buffer();
-    let n = io::read_full(libc::STDIN_FILENO, &mut text);
-    play(build::base(), &text[..n]);
+pub fn play_input(system: &System) {
+    let mut text = [0u8; 65536];
+    let n = text_system::streams::read_full(system, &mut text);
+    play(system, build::base(), &text[..n]);
 }

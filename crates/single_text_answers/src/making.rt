@@ -2,6 +2,7 @@
 use crate::build::NUMBERS;
 use queue_entries::Told;
 use single_machine::Machine;
+use text_system::System;
 
 // w0=PLACE w15=PLACE
 fn first_and_last(out: &mut [u8], at: usize, m: Machine) -> usize {
@@ -17,12 +18,12 @@ fn made(out: &mut [u8], at: usize, m: Machine) -> usize {
 }
 
 // made W: REFUSAL s=STATE m=M value V workers W w0=PLACE w15=PLACE
-pub fn make(workers: u64) {
+pub fn make(system: &System, workers: u64) {
     let mut out = [0u8; 512];
     let d = single::make(workers);
     let p = text_output::form(&mut out, 0, b"made #: # ", &[workers, d.refusal]);
     let q = made(&mut out, p, d.machine);
-    text_output::end(&mut out, q);
+    text_output::end(system, &mut out, q);
 }
 
 fn told(out: &mut [u8], at: usize, t: Told) -> usize {
@@ -33,23 +34,23 @@ fn told(out: &mut [u8], at: usize, t: Told) -> usize {
 }
 
 // LABEL: TOLD, and what stands where 77 and 78 stood
-fn line(label: &[u8], t: Told, marks: &[u64]) {
+fn line(system: &System, label: &[u8], t: Told, marks: &[u64]) {
     let mut out = [0u8; 512];
     let p = text_output::text(&mut out, 0, label);
     let q = text_output::text(&mut out, p, b": ");
     let r = told(&mut out, q, t);
     let s = text_output::form(&mut out, r, b", # #", marks);
-    text_output::end(&mut out, s);
+    text_output::end(system, &mut out, s);
 }
 
-fn lent(label: &[u8], m: Machine, buffer: &mut [u64], n: usize) {
+fn lent(system: &System, label: &[u8], m: Machine, buffer: &mut [u64], n: usize) {
     if n <= buffer.len() {
         let t = single::contents(m, &mut buffer[..n]);
-        line(label, t, buffer);
+        line(system, label, t, buffer);
     }
 }
 
-pub fn contents(label: &[u8], h: [u64; NUMBERS], n: u64) {
+pub fn contents(system: &System, label: &[u8], h: [u64; NUMBERS], n: u64) {
     let mut buffer = [77u64, 78];
-    lent(label, crate::build::machine(h), &mut buffer, n as usize);
+    lent(system, label, crate::build::machine(h), &mut buffer, n as usize);
 }

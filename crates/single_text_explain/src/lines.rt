@@ -2,6 +2,7 @@
 use crate::notes::Notes;
 use crate::{Entered, acts, notes};
 use text_explain::columns;
+use text_system::System;
 
 fn causes(out: &mut [u8], e: Entered) -> usize {
     let p = text_output::byte(out, 0, b'(');
@@ -49,15 +50,15 @@ fn colour_of(e: Entered) -> u8 {
 }
 
 // Of an entry that was accepted, by what was noted before it.
-pub fn told(out: &mut [u8], at: usize, colours: bool, e: Entered, n: Notes) -> usize {
+pub fn told(system: &System, out: &mut [u8], at: usize, colours: bool, e: Entered, n: Notes) -> usize {
     let mut line = [0u8; columns::WIDE];
     let k = entry_line(&mut line, e, n);
-    columns::put(out, at, &line, k, colours, colour_of(e))
+    columns::put(system, out, at, &line, k, colours, colour_of(e))
 }
 
 // Of the making with so many workers.
-pub fn made(out: &mut [u8], at: usize, colours: bool, refusal: u64, workers: u64) -> usize {
+pub fn made(system: &System, out: &mut [u8], at: usize, colours: bool, refusal: u64, workers: u64) -> usize {
     let table = b"0 made: a one-slot queue, #a workers|\
         2 refused 2: the number of workers, #a, is not 1 to 16|";
-    text_explain::words::made(out, at, colours, table, refusal, &[workers])
+    text_explain::words::made(system, out, at, colours, table, refusal, &[workers])
 }

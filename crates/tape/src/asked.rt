@@ -1,5 +1,6 @@
 // The arguments of tape.
 use text_options::Arguments;
+use text_system::System;
 
 pub const NOTHING: u64 = 0;
 
@@ -40,19 +41,19 @@ pub struct Asked {
 }
 
 fn act_of(word: &[u8]) -> u64 {
-    if check::same(word, b"write") {
+    if word == b"write" {
         return WRITE;
     }
-    if check::same(word, b"read") {
+    if word == b"read" {
         return READ;
     }
     NOTHING
 }
 
 // The first name says what is to be done.
-fn act_at(i: usize) -> u64 {
-    let mut word = io::buffer();
-    let n = os::arg(i, &mut word);
+fn act_at(system: &System, i: usize) -> u64 {
+    let mut word = [0u8; 4096];
+    let n = text_system::arguments::read(system, i, &mut word);
     act_of(&word[..n])
 }
 
@@ -86,55 +87,55 @@ fn asked_of(a: Arguments, act: u64, wrong: bool) -> Asked {
     }
 }
 
-fn say(text: &[u8]) {
-    io::write_all(libc::STDERR_FILENO, text);
+fn say(system: &System, text: &[u8]) {
+    text_system::streams::put_error(system, text);
 }
 
 // What is said where the options and the number of names are right; an option of the other act is not.
-fn of_act(a: Arguments, act: u64) -> bool {
+fn of_act(system: &System, a: Arguments, act: u64) -> bool {
     if act == READ && text_options::is_given(a, LITTLE) {
-        say(b"tape: --little goes with write alone (see --help)\n");
+        say(system, b"tape: --little goes with write alone (see --help)\n");
         return true;
     }
     if act == WRITE && text_options::is_given(a, WORDS) {
-        say(b"tape: --words goes with read alone (see --help)\n");
+        say(system, b"tape: --words goes with read alone (see --help)\n");
         return true;
     }
     false
 }
 
 // Says what is wrong, and answers whether something is.
-fn is_wrong(a: Arguments, table: &[u8], act: u64) -> bool {
+fn is_wrong(system: &System, a: Arguments, table: &[u8], act: u64) -> bool {
     let w = a.wrong;
     if w.kind != 0 {
-        text_options::complain(b"tape", table, a, b"");
+        text_options::complain(system, b"tape", table, a, b"");
         return true;
     }
     if are_named(act, a.count) {
-        return of_act(a, act);
+        return of_act(system, a, act);
     }
-    say(
+    say(system, 
         b"tape: usage: tape write [--little] SCHEDULE TAPE, or tape read [--words] TAPE (see --help)\n",
     );
     true
 }
 
-pub fn read() -> Asked {
+pub fn read(system: &System) -> Asked {
     let table = b"--little|--words|--help|-h|--version|--tell-status|--tell-status-on=#|";
-    let a = text_options::read(table, 3);
+    let a = text_options::read(system, table, 3);
     let names = a.names;
-    let act = act_at(names[0]);
+    let act = act_at(system, names[0]);
     let o = asked_of(a, act, false);
     if o.help || o.version {
         return o;
     }
-    asked_of(a, act, is_wrong(a, table, act))
+    asked_of(a, act, is_wrong(system, a, table, act))
 }
 
 // Answers whether all of it was written.
-pub fn help() -> bool {
-    io::write_all(
-        libc::STDOUT_FILENO,
+pub fn help(system: &System) -> bool {
+    text_system::streams::put(
+        system,
         b"tape write [--little] SCHEDULE TAPE\n\
         tape read [--words] TAPE\n\
         \n\

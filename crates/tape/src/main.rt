@@ -6,6 +6,8 @@ mod asked;
 use asked::Asked;
 use replay_input::starter::Starter;
 use tapes_numbers::Variant;
+use text_system::System;
+use text_system::files::Flow;
 
 fn variant_of(a: Asked) -> Variant {
     if a.little {
@@ -15,59 +17,59 @@ fn variant_of(a: Asked) -> Variant {
     }
 }
 
-fn write(starter: Starter, a: Asked, fd: i32, name: &[u8]) -> u8 {
-    let mut tape = io::buffer();
-    let n = os::arg(a.to, &mut tape);
-    tape_writes::run(starter, fd, name, variant_of(a), &tape[..n])
+fn write(system: &System, starter: &Starter, a: Asked, from: Flow, name: &[u8]) -> u8 {
+    let mut tape = [0u8; 4096];
+    let n = text_system::arguments::read(system, a.to, &mut tape);
+    tape_writes::run(system, starter, from, name, variant_of(a), &tape[..n])
 }
 
-fn run_from(starter: Starter, a: Asked, fd: i32, name: &[u8]) -> u8 {
+fn run_from(system: &System, starter: &Starter, a: Asked, from: Flow, name: &[u8]) -> u8 {
     if a.act == asked::WRITE {
-        write(starter, a, fd, name)
+        write(system, starter, a, from, name)
     } else {
-        tape_reads::run(fd, name, a.words)
+        tape_reads::run(system, from, name, a.words)
     }
 }
 
-fn run_file(starter: Starter, a: Asked, name: &[u8]) -> u8 {
+fn run_file(system: &System, starter: &Starter, a: Asked, name: &[u8]) -> u8 {
     if tape_files::files::is_standard(name) {
-        return run_from(starter, a, libc::STDIN_FILENO, b"standard input");
+        return run_from(system, starter, a, Flow::Standard, b"standard input");
     }
-    let fd = os::open_read(name);
-    if fd < 0 {
-        replay_input::say::fail(b"tape", name);
-        return 2;
+    match text_system::files::open(system, name) {
+        Some(file) => run_from(system, starter, a, Flow::Of(file), name),
+        None => {
+            replay_input::say::fail(system, b"tape", name);
+            2
+        }
     }
-    let status = run_from(starter, a, fd, name);
-    libc::close(fd);
-    status
 }
 
-fn told(whole: bool) -> u8 {
-    if replay_input::say::is_written(b"tape", whole) {
+fn told(system: &System, whole: bool) -> u8 {
+    if replay_input::say::is_written(system, b"tape", whole) {
         return 0;
     }
     2
 }
 
 // 0: done. 1: the tape or the schedule is refused. 2: anything else.
-fn status_of(starter: Starter, a: Asked) -> u8 {
+fn status_of(system: &System, starter: &Starter, a: Asked) -> u8 {
     if a.help {
-        return told(asked::help());
+        return told(system, asked::help(system));
     }
     if a.version {
-        return told(text_options::version(b"tape"));
+        return told(system, text_options::version(system, b"tape"));
     }
     if a.wrong {
         return 2;
     }
-    let mut name = io::buffer();
-    let n = os::arg(a.from, &mut name);
-    run_file(starter, a, &name[..n])
+    let mut name = [0u8; 4096];
+    let n = text_system::arguments::read(system, a.from, &mut name);
+    run_file(system, starter, a, &name[..n])
 }
 
-fn main() {
-    let a = asked::read();
-    let starter = replay_input::starter::asking(a.tells_on);
-    replay_input::starter::hears_status(starter, status_of(starter, a));
+fn main(rt: HostRuntime) {
+    let system = text_system::of(rt);
+    let a = asked::read(&system);
+    let starter = replay_input::starter::asking(&system, a.tells_on);
+    replay_input::starter::hears_status(&system, &starter, status_of(&system, &starter, a));
 }

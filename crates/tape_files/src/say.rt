@@ -1,25 +1,33 @@
 // What is refused, a line on standard error.
 
-fn error(text: &[u8], n: usize) {
+use text_system::System;
+
+fn error(system: &System, text: &[u8], n: usize) {
     if n <= text.len() {
-        io::write_all(libc::STDERR_FILENO, &text[..n]);
+        text_system::streams::put_error(system, &text[..n]);
     }
 }
 
-fn said(text: &[u8]) {
-    io::write_all(libc::STDERR_FILENO, text);
+fn said(system: &System, text: &[u8]) {
+    text_system::streams::put_error(system, text);
 }
 
-pub fn special(name: &[u8]) {
+pub fn special(system: &System, name: &[u8]) {
     replay_input::say::of_name(
+        system,
         b"tape",
         name,
         b": a link or a device; - writes to standard output\n",
     );
 }
 
-pub fn abandoned(name: &[u8]) {
-    replay_input::say::of_name(b"tape", name, b": as it was, since the starter was ended\n");
+pub fn abandoned(system: &System, name: &[u8]) {
+    replay_input::say::of_name(
+        system,
+        b"tape",
+        name,
+        b": as it was, since the starter was ended\n",
+    );
 }
 
 // refused N at WHERE PLACE: and what it means.
@@ -37,11 +45,11 @@ fn put_refused(text: &mut [u8], number: u64, form: &[u8], place: u64) -> usize {
     )
 }
 
-fn refused(number: u64, form: &[u8], place: u64) {
+fn refused(system: &System, number: u64, form: &[u8], place: u64) {
     let mut text = [0u8; 512];
     let p = put_refused(&mut text, number, form, place);
     let q = text_output::byte(&mut text, p, b'\n');
-    error(&text, q);
+    error(system, &text, q);
 }
 
 // The place of a refusal's meaning in the list, which begins with 11; 9 stands last.
@@ -58,8 +66,8 @@ fn meaning(number: u64) -> usize {
     (number - 11) as usize
 }
 
-pub fn refused_tape(number: u64, byte: u64) {
-    refused(number, b"refused # at byte #: ", byte);
+pub fn refused_tape(system: &System, number: u64, byte: u64) {
+    refused(system, number, b"refused # at byte #: ", byte);
 }
 
 // Of an entry, put into this text; answers how long it is.
@@ -68,21 +76,25 @@ pub fn put_entry(text: &mut [u8], number: u64, entry: u64) -> usize {
 }
 
 // An odd number of numbers: a whole schedule of the ring has an even one, of any other queue an odd one.
-pub fn refused_odd() {
+pub fn refused_odd(system: &System) {
     said(
+        system,
         b"refused 11 at entry 0: an odd number of words; a schedule of another queue has no capacity: put a 1 before it\n",
     );
 }
 
 // Of the whole schedule: entry 0.
-pub fn refused_schedule(number: u64, entry: u64, capacity: u64, workers: u64) {
+pub fn refused_schedule(system: &System, number: u64, entry: u64, capacity: u64, workers: u64) {
     if number == 17 {
         if 65535 < capacity {
-            return said(b"refused 17 at entry 0: a capacity above 65,535\n");
+            return said(system, b"refused 17 at entry 0: a capacity above 65,535\n");
         }
         if 65535 < workers {
-            return said(b"refused 17 at entry 0: a worker count above 65,535\n");
+            return said(
+                system,
+                b"refused 17 at entry 0: a worker count above 65,535\n",
+            );
         }
     }
-    refused(number, b"refused # at entry #: ", entry);
+    refused(system, number, b"refused # at entry #: ", entry);
 }

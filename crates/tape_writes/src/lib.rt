@@ -3,8 +3,11 @@
 
 use replay_input::source::Reading;
 use replay_input::starter::Starter;
+use std::fs::File;
 use tapes::Writing;
 use tapes_numbers::Variant;
+use text_system::System;
+use text_system::files::Flow;
 
 // A piece of text and room for its numbers, so few that their tape, 12 bytes to two of them at the most, has room in a large buffer.
 const BYTES: usize = 16384;
@@ -60,7 +63,7 @@ fn refused(before: Work, number: u64, place: u64) -> Work {
 }
 
 // What a tape has between two of its bytes goes to the file.
-fn put_part(w: Work, to: i32, tape: &[u8], from: usize, end: usize) -> Work {
+fn put_part(system: &System, w: Work, to: &File, tape: &[u8], from: usize, end: usize) -> Work {
     if w.stuck || w.number != 0 {
         return w;
     }
@@ -70,14 +73,14 @@ fn put_part(w: Work, to: i32, tape: &[u8], from: usize, end: usize) -> Work {
     if end < from {
         return stuck(w);
     }
-    if tape_files::files::put(to, &tape[from..end]) {
+    if tape_files::files::put(system, to, &tape[from..end]) {
         return w;
     }
     stuck(w)
 }
 
 // The tape of these entries alone; what of it the whole tape has is that without its first 7 bytes and its last 3.
-fn put_entries(w: Work, v: Variant, to: i32, words: &[u64], tape: &mut [u8]) -> Work {
+fn put_entries(system: &System, w: Work, v: Variant, to: &File, words: &[u64], tape: &mut [u8]) -> Work {
     let r = tapes::write(v, 0, 0, words, tape);
     match r {
         Writing::Refused(number, place) => refused(
@@ -89,23 +92,23 @@ fn put_entries(w: Work, v: Variant, to: i32, words: &[u64], tape: &mut [u8]) -> 
             if n < 10 {
                 return stuck(w);
             }
-            put_part(w, to, tape, 7, n - 3)
+            put_part(system, w, to, tape, 7, n - 3)
         }
     }
 }
 
 // Some bytes of a tape that has no entries: its first 7, or its last 3.
-fn put_frame(w: Work, v: Variant, to: i32, tape: &mut [u8], from: usize, end: usize) -> Work {
+fn put_frame(system: &System, w: Work, v: Variant, to: &File, tape: &mut [u8], from: usize, end: usize) -> Work {
     let none = [0u64; 0];
     let r = tapes::write(v, w.capacity, w.workers, &none, tape);
     match r {
         Writing::Refused(number, _) => refused(w, number, 0),
-        Writing::Tape(_) => put_part(w, to, tape, from, end),
+        Writing::Tape(_) => put_part(system, w, to, tape, from, end),
     }
 }
 
 // The first field, where it is not written yet and its numbers are there.
-fn begin(before: Work, v: Variant, to: i32, list: &[u64], tape: &mut [u8]) -> Work {
+fn begin(system: &System, before: Work, v: Variant, to: &File, list: &[u64], tape: &mut [u8]) -> Work {
     let mut w = before;
     if list.len() < 2 {
         return w;
@@ -113,7 +116,7 @@ fn begin(before: Work, v: Variant, to: i32, list: &[u64], tape: &mut [u8]) -> Wo
     w.begun = true;
     w.capacity = list[0];
     w.workers = list[1];
-    put_frame(w, v, to, tape, 0, 7)
+    put_frame(system, w, v, to, tape, 0, 7)
 }
 
 fn counted(before: Work, entries: usize) -> Work {
@@ -123,27 +126,27 @@ fn counted(before: Work, entries: usize) -> Work {
 }
 
 // The entries among these numbers, from this one on.
-fn with_entries(w: Work, v: Variant, to: i32, list: &[u64], from: usize, tape: &mut [u8]) -> Work {
+fn with_entries(system: &System, w: Work, v: Variant, to: &File, list: &[u64], from: usize, tape: &mut [u8]) -> Work {
     if list.len() < from {
         return w;
     }
     let n = (list.len() - from) / 2;
     let end = from + 2 * n;
-    let after = put_entries(w, v, to, &list[from..end], tape);
+    let after = put_entries(system, w, v, to, &list[from..end], tape);
     counted(after, n)
 }
 
-fn with_numbers(w: Work, v: Variant, to: i32, list: &[u64], tape: &mut [u8]) -> Work {
+fn with_numbers(system: &System, w: Work, v: Variant, to: &File, list: &[u64], tape: &mut [u8]) -> Work {
     if w.begun {
-        return with_entries(w, v, to, list, 0, tape);
+        return with_entries(system, w, v, to, list, 0, tape);
     }
-    let b = begin(w, v, to, list, tape);
-    with_entries(b, v, to, list, 2, tape)
+    let b = begin(system, w, v, to, list, tape);
+    with_entries(system, b, v, to, list, 2, tape)
 }
 
-fn with_some(w: Work, v: Variant, to: i32, list: &[u64], n: usize, tape: &mut [u8]) -> Work {
+fn with_some(system: &System, w: Work, v: Variant, to: &File, list: &[u64], n: usize, tape: &mut [u8]) -> Work {
     if n <= list.len() {
-        return with_numbers(w, v, to, &list[..n], tape);
+        return with_numbers(system, w, v, to, &list[..n], tape);
     }
     stuck(w)
 }
@@ -156,24 +159,24 @@ fn read_on(before: Work, reading: Reading, left: usize) -> Work {
 }
 
 // The numbers of a reading.
-fn taken_in(w: Work, r: Reading, v: Variant, to: i32, list: &mut [u64], tape: &mut [u8]) -> Work {
-    let after = with_some(w, v, to, list, r.count, tape);
+fn taken_in(system: &System, w: Work, r: Reading, v: Variant, to: &File, list: &mut [u64], tape: &mut [u8]) -> Work {
+    let after = with_some(system, w, v, to, list, r.count, tape);
     let left = replay_input::source::carry(list, r.count);
     read_on(after, r, left)
 }
 
-fn turn(
-    from: i32,
+fn turn(system: &System, 
+    from: &File,
     w: Work,
     v: Variant,
-    to: i32,
+    to: &File,
     bytes: &mut [u8],
     list: &mut [u64],
     tape: &mut [u8],
 ) -> Work {
     let before = w.reading;
-    let r = replay_input::source::turn(from, false, before, bytes, list, w.left);
-    taken_in(w, r, v, to, list, tape)
+    let r = replay_input::source::turn(system, from, false, before, bytes, list, w.left);
+    taken_in(system, w, r, v, to, list, tape)
 }
 
 fn goes_on(w: Work) -> bool {
@@ -185,10 +188,10 @@ fn goes_on(w: Work) -> bool {
     }
 }
 
-fn all(
-    from: i32,
+fn all(system: &System, 
+    from: &File,
     v: Variant,
-    to: i32,
+    to: &File,
     bytes: &mut [u8],
     list: &mut [u64],
     tape: &mut [u8],
@@ -197,16 +200,16 @@ fn all(
     let mut turns = u64::MAX;
     while turns > 0 && goes_on(w) {
         turns -= 1;
-        w = turn(from, w, v, to, bytes, list, tape);
+        w = turn(system, from, w, v, to, bytes, list, tape);
     }
-    put_frame(w, v, to, tape, 7, 10)
+    put_frame(system, w, v, to, tape, 7, 10)
 }
 
-fn worked(from: i32, v: Variant, to: i32) -> Work {
+fn worked(system: &System, from: &File, v: Variant, to: &File) -> Work {
     let mut bytes = [0u8; BYTES];
     let mut list = [0u64; NUMBERS];
-    let mut tape = io::large_buffer();
-    all(from, v, to, &mut bytes, &mut list, &mut tape)
+    let mut tape = [0u8; 65536];
+    all(system, from, v, to, &mut bytes, &mut list, &mut tape)
 }
 
 // Whether there are no numbers, or one, or as many as a schedule needs.
@@ -215,10 +218,10 @@ fn numbers_of(w: Work) -> u64 {
 }
 
 // Says what is wrong with the text, or what is refused.
-fn is_sound(w: Work, from: i32, name: &[u8]) -> bool {
+fn is_sound(system: &System, w: Work, from: &File, name: &[u8]) -> bool {
     let hints =
         b"|; a tape has one schedule|; this is a tape, and tape read prints it|; a tape has one, which other queues do not use: capacity 1|";
-    replay_input::say::is_sound(b"tape", name, from, false, w.reading, numbers_of(w), hints)
+    replay_input::say::is_sound(system, b"tape", name, from, false, w.reading, numbers_of(w), hints)
 }
 
 // Whether what is refused is an entry, and not how the machine is made.
@@ -233,52 +236,53 @@ fn first(text: &[u8], n: usize) -> &[u8] {
     text
 }
 
-fn tell_entry(w: Work, from: i32, name: &[u8], why: &[u8]) {
+fn tell_entry(system: &System, w: Work, from: &File, name: &[u8], why: &[u8]) {
     let due = replay_input::source::sum_of(w.reading);
     let begun = replay_input::source::begun(false, 0, 1, 0, text_sums::start(), due);
-    replay_refusals::tell_of(name, from, begun, w.place, why)
+    replay_refusals::tell_of(system, name, from, begun, w.place, why)
 }
 
 // An entry with its line in the file.
-fn tell_refused(w: Work, from: i32, name: &[u8]) {
+fn tell_refused(system: &System, w: Work, from: &File, name: &[u8]) {
     if is_of_entry(w) {
         let mut text = [0u8; 512];
         let n = tape_files::say::put_entry(&mut text, w.number, w.place);
-        return tell_entry(w, from, name, first(&text, n));
+        return tell_entry(system, w, from, name, first(&text, n));
     }
-    tape_files::say::refused_schedule(w.number, w.place, w.capacity, w.workers)
+    tape_files::say::refused_schedule(system, w.number, w.place, w.capacity, w.workers)
 }
 
-fn status_of(w: Work, from: i32, name: &[u8]) -> u8 {
+fn status_of(system: &System, w: Work, from: &File, name: &[u8]) -> u8 {
     if w.stuck {
         return 2;
     }
-    if is_sound(w, from, name) {} else {
+    if is_sound(system, w, from, name) {} else {
         return 2;
     }
     if w.left == 1 {
-        tape_files::say::refused_odd();
+        tape_files::say::refused_odd(system);
         return 1;
     }
     if w.number != 0 {
-        tell_refused(w, from, name);
+        tell_refused(system, w, from, name);
         return 1;
     }
     0
 }
 
-fn write_to(starter: Starter, from: i32, name: &[u8], v: Variant, tape: &[u8], path: &[u8]) -> u8 {
-    let to = tape_files::files::sink(starter, tape, path);
-    if to < 0 {
-        return 2;
+fn write_to(system: &System, starter: &Starter, from: &File, name: &[u8], v: Variant, tape: &[u8], path: &[u8]) -> u8 {
+    match tape_files::files::sink(system, starter, tape, path) {
+        Some(to) => {
+            let w = worked(system, from, v, &to);
+            tape_files::files::finish(system, starter, status_of(system, w, from, name), tape, path, to)
+        }
+        None => 2,
     }
-    let w = worked(from, v, to);
-    tape_files::files::finish(starter, status_of(w, from, name), tape, path, to)
 }
 
-fn write_from(
-    starter: Starter,
-    from: i32,
+fn write_from(system: &System, 
+    starter: &Starter,
+    from: &File,
     name: &[u8],
     v: Variant,
     tape: &[u8],
@@ -286,20 +290,23 @@ fn write_from(
     n: usize,
 ) -> u8 {
     if n <= path.len() {
-        return write_to(starter, from, name, v, tape, &path[..n]);
+        return write_to(system, starter, from, name, v, tape, &path[..n]);
     }
     2
 }
 
-// A schedule's text and the name of its tape; answers the status.
-pub fn run(starter: Starter, from: i32, name: &[u8], v: Variant, tape: &[u8]) -> u8 {
-    let kept = replay_input::source::kept(b"tape", from, name);
-    if kept < 0 {
-        return 2;
-    }
+fn run_kept(system: &System, starter: &Starter, kept: File, name: &[u8], v: Variant, tape: &[u8]) -> u8 {
     let mut path = [0u8; 4608];
-    let n = tape_files::files::beside(tape, &mut path);
-    let status = write_from(starter, kept, name, v, tape, &path, n);
-    replay_input::source::release(kept, from);
+    let n = tape_files::files::beside(system, tape, &mut path);
+    let status = write_from(system, starter, &kept, name, v, tape, &path, n);
+    replay_input::source::release(kept);
     status
+}
+
+// A schedule's text and the name of its tape; answers the status.
+pub fn run(system: &System, starter: &Starter, from: Flow, name: &[u8], v: Variant, tape: &[u8]) -> u8 {
+    match replay_input::source::kept(system, b"tape", from, name) {
+        Some(kept) => run_kept(system, starter, kept, name, v, tape),
+        None => 2,
+    }
 }

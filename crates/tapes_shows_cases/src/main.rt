@@ -13,6 +13,7 @@ ghost use Rattle.std.specs.Prelude.{◌≤◌, length};
 use tapes::{Reading, Writing};
 use tapes_numbers::Variant;
 use text_numbers::Scan;
+use text_system::System;
 
 const MOST: usize = 256;
 
@@ -201,28 +202,28 @@ fn one(list: &[u64], out: &mut [u8], at: usize) -> Went
 }
 
 // Writes the text where there is much of it.
-fn eased(out: &[u8], at: usize) -> usize {
+fn eased(system: &System, out: &[u8], at: usize) -> usize {
     if 32768 < at {
-        text_output::flush(out, at)
+        text_output::flush(system, out, at)
     } else {
         at
     }
 }
 
 // Every whole case of these numbers, and how many numbers they are.
-fn all(list: &[u64], out: &mut [u8]) -> usize {
+fn all(system: &System, list: &[u64], out: &mut [u8]) -> usize {
     let mut from = 0;
     let mut at = 0;
     while from < list.len() {
         let w = one(&list[from..], out, at);
-        at = eased(out, w.at);
+        at = eased(system, out, w.at);
         if w.used == 0 {
-            text_output::flush(out, at);
+            text_output::flush(system, out, at);
             return from;
         }
         from += w.used;
     }
-    text_output::flush(out, at);
+    text_output::flush(system, out, at);
     from
 }
 
@@ -240,9 +241,9 @@ fn carry(list: &mut [u64], from: usize, n: usize) -> usize
     k
 }
 
-fn settle(list: &mut [u64], n: usize, out: &mut [u8]) -> usize {
+fn settle(system: &System, list: &mut [u64], n: usize, out: &mut [u8]) -> usize {
     if n <= list.len() {
-        let from = all(&list[..n], out);
+        let from = all(system, &list[..n], out);
         return carry(list, from, n);
     }
     0
@@ -256,21 +257,20 @@ struct Standing {
     going: bool,
 }
 
-fn turn(r: Standing, bytes: &mut [u8], list: &mut [u64], out: &mut [u8]) -> Standing {
+fn turn(system: &System, r: Standing, bytes: &mut [u8], list: &mut [u64], out: &mut [u8]) -> Standing {
     let scan = r.scan;
-    let got = libc::read(libc::STDIN_FILENO, bytes);
-    let n = io::count(got, bytes);
-    let piece = text_numbers::read_piece(scan, false, &bytes[..n], list, r.left);
+    let got = text_system::streams::read(system, bytes);
+    let piece = text_numbers::read_piece(scan, false, &bytes[..got.n], list, r.left);
     let after = piece.scan;
-    let left = settle(list, piece.count, out);
+    let left = settle(system, list, piece.count, out);
     Standing {
         scan: after,
         left: left,
-        going: 0 < n && piece.event == text_numbers::NOTHING,
+        going: 0 < got.n && piece.event == text_numbers::NOTHING,
     }
 }
 
-fn run(bytes: &mut [u8], list: &mut [u64], out: &mut [u8]) {
+fn run(system: &System, bytes: &mut [u8], list: &mut [u64], out: &mut [u8]) {
     let mut r = Standing {
         scan: text_numbers::start(1),
         left: 0,
@@ -279,13 +279,14 @@ fn run(bytes: &mut [u8], list: &mut [u64], out: &mut [u8]) {
     let mut turns = u64::MAX;
     while turns > 0 && r.going {
         turns -= 1;
-        r = turn(r, bytes, list, out);
+        r = turn(system, r, bytes, list, out);
     }
 }
 
-fn main() {
+fn main(rt: HostRuntime) {
     let mut bytes = [0u8; BYTES];
     let mut list = [0u64; NUMBERS];
-    let mut out = io::large_buffer();
-    run(&mut bytes, &mut list, &mut out);
+    let mut out = [0u8; 65536];
+    let system = text_system::of(rt);
+    run(&system, &mut bytes, &mut list, &mut out);
 }

@@ -1,5 +1,6 @@
 // What a machine holds, as text.
 use queue_entries::Told;
+use text_system::System;
 use unbounded_machine::Machine;
 use unbounded_places::{Answer, Block, Ends, Place, Slot, Worker};
 
@@ -78,21 +79,21 @@ pub fn report(out: &mut [u8], at: usize, place: u64, refusal: u64, s: Standing) 
 }
 
 // The 31 slots of block k.
-fn slots(out: &mut [u8], at: usize, k: usize, slots: [Slot; unbounded_words::POOL]) -> usize {
+fn slots(system: &System, out: &mut [u8], at: usize, k: usize, slots: [Slot; unbounded_words::POOL]) -> usize {
     let mut p = at;
     let mut i: usize = 0;
     while i < 31 {
         let s = slots[k % unbounded_words::BLOCKS * 31 + i];
         let held = [s.state, s.value];
         p = text_output::form(out, p, b" (#,#)", &held);
-        p = text_output::settle(out, p);
+        p = text_output::settle(system, out, p);
         i += 1;
     }
     p
 }
 
 // block B next=N (state,value) ..
-fn block(
+fn block(system: &System, 
     out: &mut [u8],
     at: usize,
     k: usize,
@@ -105,42 +106,42 @@ fn block(
     let p = text_output::form(out, at, b"block # next=", &[k as u64]);
     let next = g.next;
     let q = unbounded_text_places::words::pointer(out, p, next);
-    let r = slots(out, q, k, list);
+    let r = slots(system, out, q, k, list);
     text_output::byte(out, r, b'\n')
 }
 
 // A line for each taken block.
-pub fn blocks(out: &mut [u8], at: usize, m: Machine) -> usize {
+pub fn blocks(system: &System, out: &mut [u8], at: usize, m: Machine) -> usize {
     let list = m.blocks;
     let all = m.slots;
     let mut p = at;
     let mut k: usize = 0;
     while k < unbounded_words::BLOCKS {
         let g = list[k];
-        p = block(out, p, k, g, all);
+        p = block(system, out, p, k, g, all);
         k += 1;
     }
     p
 }
 
-fn items(out: &mut [u8], at: usize, items: &[u64], n: u64) -> usize {
+fn items(system: &System, out: &mut [u8], at: usize, items: &[u64], n: u64) -> usize {
     let mut p = at;
     let mut i: usize = 0;
     while i < items.len() && (i as u64) < n {
         let q = text_output::byte(out, p, b' ');
         p = text_output::number(out, q, items[i]);
-        p = text_output::settle(out, p);
+        p = text_output::settle(system, out, p);
         i += 1;
     }
     p
 }
 
 // contents x y ..., or: contents refused N
-pub fn contents(out: &mut [u8], at: usize, list: &[u64], t: Told) -> usize {
+pub fn contents(system: &System, out: &mut [u8], at: usize, list: &[u64], t: Told) -> usize {
     let p = text_output::text(out, at, b"contents");
     match t {
         Told::Number(n) => {
-            let q = items(out, p, list, n);
+            let q = items(system, out, p, list, n);
             text_output::byte(out, q, b'\n')
         }
         Told::Refused(refusal) => text_output::form(out, p, b" refused #\n", &[refusal]),

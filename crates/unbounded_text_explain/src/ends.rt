@@ -2,6 +2,7 @@
 use crate::notes::Notes;
 use crate::stood;
 use queue_entries::Told;
+use text_system::System;
 use unbounded_text_places::code::WORDS;
 
 // The slot in hand: of a push from U9 to U13, of a pop from V6 to V12.
@@ -24,20 +25,20 @@ fn in_hand(out: &mut [u8], at: usize, word: u64, block: u64) -> usize {
 }
 
 // busy: wN at PLACE
-pub fn busy(out: &mut [u8], at: usize, w: u64, s: [u64; WORDS]) -> usize {
+pub fn busy(system: &System, out: &mut [u8], at: usize, w: u64, s: [u64; WORDS]) -> usize {
     if s[0] == 0 {
         return at;
     }
     let p = text_output::form(out, at, b"busy: w# at ", &[w]);
     let q = stood::name(out, p, s[0]);
     let r = hand_of(out, q, s);
-    text_output::settle(out, r)
+    text_output::settle(system, out, r)
 }
 
 // What contents tell through a buffer that any list fits.
-fn waits(out: &mut [u8], at: usize, items: &[u64], t: Told, n: Notes) -> usize {
+fn waits(system: &System, out: &mut [u8], at: usize, items: &[u64], t: Told, n: Notes) -> usize {
     match t {
-        Told::Number(k) => text_explain::waiting::told(out, at, items, k),
+        Told::Number(k) => text_explain::waiting::told(system, out, at, items, k),
         Told::Refused(_) => {
             let ahead = std::num::wrapping_sub_u64(n.tails, n.heads);
             text_output::form(
@@ -51,8 +52,8 @@ fn waits(out: &mut [u8], at: usize, items: &[u64], t: Told, n: Notes) -> usize {
 }
 
 // What waits, and what was lost along the run.
-pub fn rest(out: &mut [u8], at: usize, items: &[u64], t: Told, n: Notes) -> usize {
-    let p = waits(out, at, items, t, n);
+pub fn rest(system: &System, out: &mut [u8], at: usize, items: &[u64], t: Told, n: Notes) -> usize {
+    let p = waits(system, out, at, items, t, n);
     text_output::form(
         out,
         p,

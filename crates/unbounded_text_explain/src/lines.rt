@@ -2,6 +2,7 @@
 use crate::notes::Notes;
 use crate::{Entered, acts, notes, stood};
 use text_explain::columns;
+use text_system::System;
 
 // The first n bytes of a cause, if there is one.
 fn with_cause(line: &mut [u8], at: usize, cause: &[u8], n: usize) -> usize {
@@ -60,7 +61,7 @@ fn colour_of(e: Entered, is_back: bool) -> u8 {
 }
 
 // Of an entry that was accepted, by what was noted before it.
-pub fn told(
+pub fn told(system: &System, 
     out: &mut [u8],
     at: usize,
     colours: bool,
@@ -75,12 +76,12 @@ pub fn told(
     let k = acts::cause(&mut cause, &key);
     let p = entry_line(&mut line, &key, follows, e, n);
     let q = with_cause(&mut line, p, &cause, k);
-    columns::put(out, at, &line, q, colours, colour_of(e, k != 0))
+    columns::put(system, out, at, &line, q, colours, colour_of(e, k != 0))
 }
 
 // Of the making with so many workers.
-pub fn made(out: &mut [u8], at: usize, colours: bool, refusal: u64, workers: u64) -> usize {
+pub fn made(system: &System, out: &mut [u8], at: usize, colours: bool, refusal: u64, workers: u64) -> usize {
     let table = b"0 made: an unbounded queue, #a workers|\
         2 refused 2: the number of workers, #a, is not 1 to 16|";
-    text_explain::words::made(out, at, colours, table, refusal, &[workers])
+    text_explain::words::made(system, out, at, colours, table, refusal, &[workers])
 }

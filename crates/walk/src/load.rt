@@ -3,6 +3,8 @@
 use bounded_text_words::WORDS;
 use replay_input::source::Reading;
 use replay_survey::Whole;
+use std::fs::File;
+use text_system::System;
 
 #[derive(Clone, Copy)]
 pub struct Loaded {
@@ -75,9 +77,9 @@ fn nothing() -> Loaded {
     stands(none, false, 0, 0)
 }
 
-fn all(
+fn all(system: &System, 
     edition: u64,
-    fd: i32,
+    file: &File,
     many: bool,
     begun: Reading,
     whole: Whole,
@@ -90,16 +92,16 @@ fn all(
     let mut turns = u64::MAX;
     while turns > 0 && replay_input::source::goes_on(reading.event, loaded.refusal) {
         turns -= 1;
-        reading = replay_input::source::next(fd, many, reading, bytes, list);
+        reading = replay_input::source::next(system, file, many, reading, bytes, list);
         loaded = pairs(loaded, edition, whole, list, reading.count);
     }
-    loaded.at = replay_input::source::checked(fd, many, reading, bytes, at);
+    loaded.at = replay_input::source::checked(system, file, many, reading, bytes, at);
     loaded
 }
 
 // Read piece by piece and run to its end or to its first refusal.
-pub fn load(edition: u64, fd: i32, many: bool, begun: Reading, whole: Whole, at: usize) -> Loaded {
+pub fn load(system: &System, edition: u64, file: &File, many: bool, begun: Reading, whole: Whole, at: usize) -> Loaded {
     let mut bytes = [0u8; replay_input::source::BYTES];
     let mut list = [1u64; replay_input::source::NUMBERS];
-    all(edition, fd, many, begun, whole, at, &mut bytes, &mut list)
+    all(system, edition, file, many, begun, whole, at, &mut bytes, &mut list)
 }

@@ -4,56 +4,59 @@
 mod load;
 mod many;
 
+use text_system::System;
+use text_system::files::Flow;
 use walk_options::Options;
 
 // Each answers the status of the program.
 
 // The file that the argument names.
-fn run_file(o: Options) -> u8 {
-    let mut path = io::buffer();
-    let n = os::arg(o.file, &mut path);
-    if os::errno() != 0 {
-        os::fail(b"walk");
+fn run_file(system: &System, o: Options) -> u8 {
+    let mut path = [0u8; 4096];
+    let n = text_system::arguments::read(system, o.file, &mut path);
+    if text_system::why(system) != 0 {
+        text_system::fail(system, b"walk");
         return replay_many::UNREADABLE;
     }
-    let fd = os::open_read(&path[..n]);
-    if fd < 0 {
-        replay_input::say::fail(b"walk", &path[..n]);
-        return replay_many::UNREADABLE;
+    match text_system::files::open(system, &path[..n]) {
+        Some(file) => run_from(system, o, Flow::Of(file), &path[..n]),
+        None => {
+            replay_input::say::fail(system, b"walk", &path[..n]);
+            replay_many::UNREADABLE
+        }
     }
-    let status = run_from(o, fd, &path[..n]);
-    libc::close(fd);
-    status
 }
 
-fn run_from(o: Options, fd: i32, name: &[u8]) -> u8 {
-    let kept = replay_input::source::kept(b"walk", fd, name);
-    if kept < 0 {
-        return replay_many::UNREADABLE;
+fn run_from(system: &System, o: Options, from: Flow, name: &[u8]) -> u8 {
+    match replay_input::source::kept(system, b"walk", from, name) {
+        Some(kept) => {
+            let status = many::run_all(system, o, &kept, name);
+            replay_input::source::release(kept);
+            status
+        }
+        None => replay_many::UNREADABLE,
     }
-    let status = many::run_all(o, kept, name);
-    replay_input::source::release(kept, fd);
-    status
 }
 
-fn run(o: Options) -> u8 {
+fn run(system: &System, o: Options) -> u8 {
     if o.help {
-        return replay_many::status_of(b"walk", replay_many::DONE, walk_options::help());
+        return replay_many::status_of(system, b"walk", replay_many::DONE, walk_options::help(system));
     }
     if o.version {
-        return replay_many::status_of(b"walk", replay_many::DONE, text_options::version(b"walk"));
+        return replay_many::status_of(system, b"walk", replay_many::DONE, text_options::version(system, b"walk"));
     }
     if o.wrong {
         return replay_many::UNREADABLE;
     }
     if o.file != 0 {
-        return run_file(o);
+        return run_file(system, o);
     }
-    run_from(o, libc::STDIN_FILENO, b"standard input")
+    run_from(system, o, Flow::Standard, b"standard input")
 }
 
-fn main() {
-    let o = walk_options::read();
-    let starter = replay_input::starter::asking(o.tells_on);
-    replay_input::starter::hears_status(starter, run(o));
+fn main(rt: HostRuntime) {
+    let system = text_system::of(rt);
+    let o = walk_options::read(&system);
+    let starter = replay_input::starter::asking(&system, o.tells_on);
+    replay_input::starter::hears_status(&system, &starter, run(&system, o));
 }

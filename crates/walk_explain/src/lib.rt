@@ -5,7 +5,9 @@
 mod end;
 
 use bounded_text_words::WORDS;
+use std::fs::File;
 use text_sums::Sum;
+use text_system::System;
 use text_words::writing::Written;
 
 // Which ending is asked for, from 1, 0: all of them; and the file of the schedule that was run, to be told again, with the sum of its bytes.
@@ -13,7 +15,7 @@ use text_words::writing::Written;
 pub struct Asked {
     pub depth: u64,
     pub ending: u64,
-    pub fd: i32,
+    pub file: &File,
     pub due: Sum,
 }
 
@@ -88,19 +90,19 @@ fn in_words(out: &mut [u8], at: usize, acts: &[u8]) -> usize {
 }
 
 // Apart from the schedule's own acts, which might be of the same worker.
-fn way(out: &mut [u8], at: usize, acts: &[u8]) -> usize {
+fn way(system: &System, out: &mut [u8], at: usize, acts: &[u8]) -> usize {
     let p = text_output::text(out, at, b"# and from here\n");
     let q = in_words(out, p, acts);
-    text_output::settle(out, q)
+    text_output::settle(system, out, q)
 }
 
 // The schedule that was run, from its making on.
-fn schedule(out: &mut [u8], at: usize, o: Asked) -> usize {
+fn schedule(system: &System, out: &mut [u8], at: usize, o: Asked) -> usize {
     let begun = replay_input::source::begun(false, 0, 1, 0, text_sums::start(), o.due);
-    replay_words::lines(o.fd, false, begun, 0, out, at)
+    replay_words::lines(system, o.file, false, begun, 0, out, at)
 }
 
-fn told_of(
+fn told_of(system: &System, 
     out: &mut [u8],
     at: usize,
     o: Asked,
@@ -112,11 +114,11 @@ fn told_of(
     let p = heading(out, at, table, row);
     let q = end::lines(out, p, table, row, walk_ways::left(m, acts));
     let r = edition(out, q, m[bounded_text_words::EDITION]);
-    let s = schedule(out, text_output::settle(out, r), o);
-    way(out, s, acts)
+    let s = schedule(system, out, text_output::settle(system, out, r), o);
+    way(system, out, s, acts)
 }
 
-fn ending(
+fn ending(system: &System, 
     out: &mut [u8],
     at: usize,
     o: Asked,
@@ -126,15 +128,15 @@ fn ending(
     row: usize,
 ) -> usize {
     let place = walk_ends::number(table, row, walk_ends::PLACE) as usize;
-    told_of(out, at, o, m, walk_lists::acts_at(list, place), table, row)
+    told_of(system, out, at, o, m, walk_lists::acts_at(list, place), table, row)
 }
 
-fn and_mark(out: &mut [u8], at: usize) -> usize {
+fn and_mark(system: &System, out: &mut [u8], at: usize) -> usize {
     let p = text_output::text(out, at, b"%\n");
-    text_output::settle(out, p)
+    text_output::settle(system, out, p)
 }
 
-fn endings(
+fn endings(system: &System, 
     out: &mut [u8],
     at: usize,
     o: Asked,
@@ -146,14 +148,14 @@ fn endings(
     let mut p = at;
     let mut i = 0;
     while i < n {
-        p = ending(out, p, o, m, list, table, i);
-        p = and_mark(out, p);
+        p = ending(system, out, p, o, m, list, table, i);
+        p = and_mark(system, out, p);
         i += 1;
     }
     p
 }
 
-fn missing(asked: u64, endings: u64) {
+fn missing(system: &System, asked: u64, endings: u64) {
     let mut text = [0u8; 128];
     let p = text_output::form(
         &mut text,
@@ -161,7 +163,7 @@ fn missing(asked: u64, endings: u64) {
         b"walk: there is no ending #, only 1 to #\n",
         &[asked, endings],
     );
-    walk_lists::said::on_error(&text, p);
+    walk_lists::said::on_error(system, &text, p);
 }
 
 fn told(at: usize, found: bool) -> Found {
@@ -172,7 +174,7 @@ fn told(at: usize, found: bool) -> Found {
 }
 
 // The one that is asked for.
-fn one(
+fn one(system: &System, 
     out: &mut [u8],
     at: usize,
     o: Asked,
@@ -184,15 +186,15 @@ fn one(
     if o.ending <= n as u64 {
         if 0 < o.ending {
             let row = (o.ending - 1) as usize;
-            return told(ending(out, at, o, m, list, table, row), true);
+            return told(ending(system, out, at, o, m, list, table, row), true);
         }
     }
-    missing(o.ending, n as u64);
+    missing(system, o.ending, n as u64);
     told(at, false)
 }
 
 // Of a list that has so many sequences of at most so many acts.
-pub fn tell(
+pub fn tell(system: &System, 
     out: &mut [u8],
     at: usize,
     o: Asked,
@@ -201,11 +203,11 @@ pub fn tell(
     list: &[u8],
 ) -> Found {
     let mut table = [0u64; walk_ways::TABLE];
-    let ways = walk_ways::count(m, list, m[bounded_text_words::COUNT], &mut table);
+    let ways = walk_ways::count(system, m, list, m[bounded_text_words::COUNT], &mut table);
     let n = walk_ends::listed(ways);
     if o.ending != 0 {
-        return one(out, at, o, m, list, &table, n);
+        return one(system, out, at, o, m, list, &table, n);
     }
     let p = header(out, at, o.depth, sequences, ways);
-    told(endings(out, p, o, m, list, &table, n), true)
+    told(endings(system, out, p, o, m, list, &table, n), true)
 }

@@ -3,6 +3,8 @@
 
 pub mod said;
 
+use text_system::System;
+
 fn wide(b: u8) -> u64 {
     b as u64
 }
@@ -81,19 +83,19 @@ pub fn entries(out: &mut [u8], at: usize, acts: &[u8]) -> usize {
     p
 }
 
-fn line(out: &mut [u8], at: usize, acts: &[u8]) -> usize {
+fn line(system: &System, out: &mut [u8], at: usize, acts: &[u8]) -> usize {
     let p = entries(out, at, acts);
     let q = text_output::byte(out, p, b'\n');
-    text_output::settle(out, q)
+    text_output::settle(system, out, q)
 }
 
 // Every sequence, one a line.
-pub fn lines(out: &mut [u8], at: usize, list: &[u8]) -> usize {
+pub fn lines(system: &System, out: &mut [u8], at: usize, list: &[u8]) -> usize {
     let mut p = at;
     let mut i = 0;
     let mut turns = list.len();
     while turns > 0 && i < list.len() {
-        p = line(out, p, acts_at(list, i));
+        p = line(system, out, p, acts_at(list, i));
         i = next_at(list, i);
         turns -= 1;
     }

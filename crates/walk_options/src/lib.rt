@@ -2,6 +2,7 @@
 #![tactic(auto)]
 
 use text_options::Arguments;
+use text_system::System;
 
 // The options in the order of the table.
 const EDITION: usize = 0;
@@ -89,13 +90,13 @@ fn options_of(a: Arguments) -> Options {
 }
 
 // Says what is wrong, unless help or the version is asked for.
-pub fn read() -> Options {
+pub fn read(system: &System) -> Options {
     let table =
         b"--edition=#|--depth=#|--ending=+|--list|--explain|--many|--help|--tell-status|-h|--version|--tell-status-on=#|--queue=!|--bits=!|--lent=!|--tape=!|";
-    let a = judged(text_options::read(table, 1));
+    let a = judged(text_options::read(system, table, 1));
     let o = options_of(a);
     if o.wrong && !o.help && !o.version {
-        text_options::complain(
+        text_options::complain(system, 
             b"walk",
             table,
             a,
@@ -106,9 +107,9 @@ pub fn read() -> Options {
 }
 
 // Answers whether all of it was written.
-pub fn help() -> bool {
-    io::write_all(
-        libc::STDOUT_FILENO,
+pub fn help(system: &System) -> bool {
+    text_system::streams::put(
+        system,
         b"walk [--edition N] [--depth D] [--list] [--many] [--explain] [--ending N] [SCHEDULE]\n\
         \n\
         Runs a schedule on the stamped ring, then tries every sequence of acts from there: of exactly so\n\

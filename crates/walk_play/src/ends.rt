@@ -1,5 +1,6 @@
 // A line for each way in which the sequences of a list end: of each worker, and of all together.
 use bounded_text_words::WORDS;
+use text_system::System;
 
 // wK=E, of the i-th end of a row
 fn worker(out: &mut [u8], at: usize, w: u64, table: &[u64], row: usize, i: usize) -> usize {
@@ -48,7 +49,7 @@ fn shortest(out: &mut [u8], at: usize, acts: &[u8]) -> usize {
     walk_lists::entries(out, q, acts)
 }
 
-fn row(
+fn row(system: &System, 
     out: &mut [u8],
     at: usize,
     count: u64,
@@ -63,10 +64,10 @@ fn row(
     let place = walk_ends::number(table, i, walk_ends::PLACE) as usize;
     let r = shortest(out, q, walk_lists::acts_at(list, place));
     let s = text_output::byte(out, r, b'\n');
-    text_output::settle(out, s)
+    text_output::settle(system, out, s)
 }
 
-fn rows(
+fn rows(system: &System, 
     out: &mut [u8],
     at: usize,
     count: u64,
@@ -78,7 +79,7 @@ fn rows(
     let mut p = at;
     let mut i = 0;
     while i < n {
-        p = row(out, p, count, list, k, table, i);
+        p = row(system, out, p, count, list, k, table, i);
         i += 1;
     }
     p
@@ -92,29 +93,29 @@ fn unlisted(out: &mut [u8], at: usize, n: usize) -> usize {
 }
 
 // The ways of worker k, or of all where there is no worker k.
-fn ways(out: &mut [u8], at: usize, w: [u64; WORDS], list: &[u8], k: u64) -> usize {
+fn ways(system: &System, out: &mut [u8], at: usize, w: [u64; WORDS], list: &[u8], k: u64) -> usize {
     let mut table = [0u64; walk_ways::TABLE];
-    let n = walk_ways::count(w, list, k, &mut table);
+    let n = walk_ways::count(system, w, list, k, &mut table);
     let workers = w[bounded_text_words::COUNT];
-    let p = rows(out, at, workers, list, k, &table, walk_ends::listed(n));
+    let p = rows(system, out, at, workers, list, k, &table, walk_ends::listed(n));
     unlisted(out, p, walk_ends::unlisted(n))
 }
 
 // Nothing more is counted once the text is lost.
-fn ways_if(out: &mut [u8], at: usize, w: [u64; WORDS], list: &[u8], k: u64) -> usize {
+fn ways_if(system: &System, out: &mut [u8], at: usize, w: [u64; WORDS], list: &[u8], k: u64) -> usize {
     if at == text_output::LOST {
         return at;
     }
     if k <= w[bounded_text_words::COUNT] {
-        return ways(out, at, w, list, k);
+        return ways(system, out, at, w, list, k);
     }
     at
 }
 
 // Of each of at most three workers, then of all.
-pub fn lines(out: &mut [u8], at: usize, w: [u64; WORDS], list: &[u8]) -> usize {
-    let p = ways_if(out, at, w, list, 0);
-    let q = ways_if(out, p, w, list, 1);
-    let r = ways_if(out, q, w, list, 2);
-    ways_if(out, r, w, list, 3)
+pub fn lines(system: &System, out: &mut [u8], at: usize, w: [u64; WORDS], list: &[u8]) -> usize {
+    let p = ways_if(system, out, at, w, list, 0);
+    let q = ways_if(system, out, p, w, list, 1);
+    let r = ways_if(system, out, q, w, list, 2);
+    ways_if(system, out, r, w, list, 3)
 }

@@ -1,5 +1,7 @@
 // What a refusal means, in one line.
 
+use text_system::System;
+
 // By the refusal's number; there are none that have no text here. The numbers: the entry's place; the worker; or the sequences, their bytes
 // and the buffer's.
 pub fn meaning(out: &mut [u8], at: usize, refusal: u64, numbers: &[u64]) -> usize {
@@ -22,7 +24,7 @@ pub fn meaning(out: &mut [u8], at: usize, refusal: u64, numbers: &[u64]) -> usiz
 }
 
 // On standard error; one of many is told in its place.
-pub fn tell(out: &mut [u8], at: usize, many: bool, refusal: u64, numbers: &[u64]) -> usize {
+pub fn tell(system: &System, out: &mut [u8], at: usize, many: bool, refusal: u64, numbers: &[u64]) -> usize {
     if many {
         let p = meaning(out, at, refusal, numbers);
         return text_output::byte(out, p, b'\n');
@@ -30,6 +32,6 @@ pub fn tell(out: &mut [u8], at: usize, many: bool, refusal: u64, numbers: &[u64]
     let mut text = [0u8; 256];
     let p = meaning(&mut text, 0, refusal, numbers);
     let q = text_output::byte(&mut text, p, b'\n');
-    walk_lists::said::on_error(&text, q);
+    walk_lists::said::on_error(system, &text, q);
     at
 }

@@ -3,7 +3,9 @@ use bounded_text_words::WORDS;
 use bounded_walks::Sized;
 use queue_entries::Told;
 use replay_survey::Played;
+use std::fs::File;
 use text_sums::Sum;
+use text_system::System;
 
 // The longest list, in bytes.
 const BUFFER: usize = 4194304;
@@ -16,7 +18,7 @@ pub struct Asked {
     // in words (walk_explain): every ending, 0, or this one; and the file of the schedule that was run, with the sum of its bytes
     pub explain: bool,
     pub ending: u64,
-    pub fd: i32,
+    pub file: &File,
     pub due: Sum,
 }
 
@@ -40,12 +42,12 @@ fn idle_worker(m: [u64; WORDS]) -> u64 {
     2
 }
 
-fn refused(out: &mut [u8], at: usize, o: Asked, m: [u64; WORDS], refusal: u64) -> Played {
-    let p = crate::refused::tell(out, at, o.many, refusal, &[idle_worker(m)]);
+fn refused(system: &System, out: &mut [u8], at: usize, o: Asked, m: [u64; WORDS], refusal: u64) -> Played {
+    let p = crate::refused::tell(system, out, at, o.many, refusal, &[idle_worker(m)]);
     played(p, true)
 }
 
-fn explained(
+fn explained(system: &System, 
     out: &mut [u8],
     at: usize,
     o: Asked,
@@ -57,14 +59,14 @@ fn explained(
     let asked = walk_explain::Asked {
         depth: o.depth,
         ending: o.ending,
-        fd: o.fd,
+        file: o.file,
         due: due,
     };
-    let t = walk_explain::tell(out, at, asked, m, sequences, list);
+    let t = walk_explain::tell(system, out, at, asked, m, sequences, list);
     played(t.at, t.found == false)
 }
 
-fn told(
+fn told(system: &System, 
     out: &mut [u8],
     at: usize,
     o: Asked,
@@ -73,10 +75,10 @@ fn told(
     list: &[u8],
 ) -> Played {
     if o.list {
-        return played(walk_lists::lines(out, at, list), false);
+        return played(walk_lists::lines(system, out, at, list), false);
     }
     if o.explain {
-        return explained(out, at, o, m, sequences, list);
+        return explained(system, out, at, o, m, sequences, list);
     }
     let p = text_output::form(
         out,
@@ -84,10 +86,10 @@ fn told(
         b"walked depth=# sequences=# bytes=#\n",
         &[o.depth, sequences, list.len() as u64],
     );
-    played(crate::ends::lines(out, p, m, list), false)
+    played(crate::ends::lines(system, out, p, m, list), false)
 }
 
-fn told_first(
+fn told_first(system: &System, 
     out: &mut [u8],
     at: usize,
     o: Asked,
@@ -97,12 +99,12 @@ fn told_first(
     n: usize,
 ) -> Played {
     if n <= buffer.len() {
-        return told(out, at, o, m, sequences, &buffer[..n]);
+        return told(system, out, at, o, m, sequences, &buffer[..n]);
     }
     played(at, false)
 }
 
-fn listed(
+fn listed(system: &System, 
     out: &mut [u8],
     at: usize,
     o: Asked,
@@ -111,7 +113,7 @@ fn listed(
     buffer: &mut [u8],
 ) -> Played {
     match bounded_walks::walk(bounded_text_faces::machine::read(m), o.depth, buffer) {
-        Told::Number(sequences) => told_first(out, at, o, m, sequences, buffer, n),
+        Told::Number(sequences) => told_first(system, out, at, o, m, sequences, buffer, n),
         Told::Refused(_) => played(at, false),
     }
 }
@@ -121,18 +123,18 @@ fn room() -> [u8; BUFFER] {
     [0; BUFFER]
 }
 
-fn walked(out: &mut [u8], at: usize, o: Asked, m: [u64; WORDS], n: usize) -> Played {
+fn walked(system: &System, out: &mut [u8], at: usize, o: Asked, m: [u64; WORDS], n: usize) -> Played {
     let mut buffer = room();
-    listed(out, at, o, m, n, &mut buffer)
+    listed(system, out, at, o, m, n, &mut buffer)
 }
 
 // A list that is longer than the buffer is told with its numbers.
-pub fn walk(out: &mut [u8], at: usize, o: Asked, m: [u64; WORDS]) -> Played {
+pub fn walk(system: &System, out: &mut [u8], at: usize, o: Asked, m: [u64; WORDS]) -> Played {
     match bounded_walks::size(bounded_text_faces::machine::read(m), o.depth) {
-        Sized::Refused(refusal) => refused(out, at, o, m, refusal),
+        Sized::Refused(refusal) => refused(system, out, at, o, m, refusal),
         Sized::Sequences(sequences, bytes) => {
             if (BUFFER as u64) < bytes {
-                let p = crate::refused::tell(
+                let p = crate::refused::tell(system, 
                     out,
                     at,
                     o.many,
@@ -141,7 +143,7 @@ pub fn walk(out: &mut [u8], at: usize, o: Asked, m: [u64; WORDS]) -> Played {
                 );
                 return played(p, true);
             }
-            walked(out, at, o, m, bytes as usize)
+            walked(system, out, at, o, m, bytes as usize)
         }
     }
 }

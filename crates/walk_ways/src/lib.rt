@@ -5,6 +5,7 @@
 use bounded_machine::Machine;
 use bounded_places::Worker;
 use bounded_text_words::WORDS;
+use text_system::System;
 
 pub const TABLE: usize = walk_ends::ROW * walk_ends::ROWS;
 
@@ -80,7 +81,7 @@ fn key_of(ends: [u64; 6], count: u64, k: u64) -> [u64; 6] {
     ends
 }
 
-fn counted(
+fn counted(system: &System, 
     m: Machine,
     count: u64,
     list: &[u8],
@@ -90,20 +91,20 @@ fn counted(
     rows: usize,
 ) -> usize {
     let acts = walk_lists::acts_at(list, at);
-    walk_lists::said::past(at, acts.len());
+    walk_lists::said::past(system, at, acts.len());
     let key = key_of(after(m, acts), count, k);
     walk_ends::count(table, rows, key, acts.len() as u64, at as u64)
 }
 
 // Into the table, each way of worker k, or of all where there is no worker k; answers as walk_ends::count does.
-pub fn count(w: [u64; WORDS], list: &[u8], k: u64, table: &mut [u64]) -> usize {
+pub fn count(system: &System, w: [u64; WORDS], list: &[u8], k: u64, table: &mut [u64]) -> usize {
     let m = bounded_text_faces::machine::read(w);
     let count = w[bounded_text_words::COUNT];
     let mut rows = 0;
     let mut i = 0;
     let mut turns = list.len();
     while turns > 0 && i < list.len() {
-        rows = counted(m, count, list, i, k, table, rows);
+        rows = counted(system, m, count, list, i, k, table, rows);
         i = walk_lists::next_at(list, i);
         turns -= 1;
     }
