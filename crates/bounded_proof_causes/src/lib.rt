@@ -1,3 +1,2 @@
 // Every retry has a cause, proved (proofs/). No code.
 #![tactic(auto)]
-
