@@ -101,6 +101,7 @@ pub fn write(v: Variant, capacity: u64, workers: u64, words: &[u64], buffer: &mu
 }
 
 // The fields after the first, to the first fault or the end.
+#[tactic(auto, using(crate::proofs::Hears::scan_end, crate::proofs::Hears::scan_after))]
 fn scanned(bytes: &[u8], v: Variant) -> Scan
     requires { 7 ≤ length bytes.now }
     ensures { result ≡ count_in (hear_in v bytes.now) }

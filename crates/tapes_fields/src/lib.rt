@@ -98,6 +98,7 @@ fn entry_by(bytes: &[u8], v: Variant, tag: u8, long: usize) -> Field
     }
 }
 
+#[tactic(auto, using(queue_entries::proofs::Pick::picks), unfolding(crate::specs::Judged::field_in))]
 pub fn field_in(bytes: &[u8], v: Variant) -> Field
     ensures { result ≡ field_in v bytes.now }
 {

@@ -41,6 +41,7 @@ fn writing_reply(w: Writing) -> Reply
 }
 
 // A schedule as a tape at the buffer's start, and how many bytes. 13: no variant has this name; then 11, 17, 16.
+#[tactic(auto, using(crate::proofs::Answering::wrote_big, crate::proofs::Answering::wrote_little, crate::proofs::Answering::no_variant))]
 #[unsafe(no_mangle)]
 pub extern "C" fn fern_tape_write(
     variant: u64,

@@ -1,7 +1,7 @@
 use native.Mathlib.Omega.{arith}
 use borrow.Author.Rules.{rules}
 use Rattle.tapes_fields.specs.Fields.{size_of}
-use Rattle.tapes.proofs.Hears.{none_scanned, scan_fault, scan_end, scan_after, entry_inside, scan_more}
+use Rattle.tapes.proofs.Hears.{none_scanned, scan_fault, entry_inside, scan_more}
 use Rattle.tapes.proofs.scanned.Goals as goal
 
 pub loop-number-init : goal.loop-number-init
@@ -12,18 +12,6 @@ returns-in-Fault c = let l = c.loop-number in
     scan_fault c.args.v
     c.args.bytes.now l.at l.n c.field_in-f.result _ l.invariant.0
     l.invariant.1 c.field_in-f.ensures l.invariant.2 c.in-Fault.number (search rules)
-
-pub returns-then-bytes-at-eq3 : goal.returns-then-bytes-at-eq3
-returns-then-bytes-at-eq3 c = let l = c.loop-number in
-    scan_end c.args.v c.args.bytes.now
-    l.at l.n c.field_in-f.result _ l.invariant.0 l.invariant.1 c.field_in-f.ensures l.invariant.2
-    (search rules) c.if-bytes-at-eq3.true
-
-pub returns-in-End : goal.returns-in-End
-returns-in-End c = let l = c.loop-number in
-    scan_after c.args.v
-    c.args.bytes.now l.at l.n c.field_in-f.result _ l.invariant.0
-    l.invariant.1 c.field_in-f.ensures l.invariant.2 (search rules) c.if-bytes-at-eq3.false
 
 pub loop-number-smaller : goal.loop-number-smaller
 unfolding size_of
