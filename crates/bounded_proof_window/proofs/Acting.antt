@@ -1,5 +1,5 @@
 -- Entries of one worker that has lost no exchange in its call, on a machine with these others.
-use mathlib.Core.Path.{◌≡◌, refl, ap, ◌∙◌, subst}
+use mathlib.Core.Path.{◌≡◌, ap, ◌∙◌, subst}
 use mathlib.Core.Bool.{true, false}
 use mathlib.Core.List.{List, [], ◌∷◌}
 use Prim.Native.Nat.{ℕ, ◌+◌, ◌*◌, ◌<◌}
@@ -8,7 +8,7 @@ use lib.Seq.{set-get_or, set-set, get_or-set_same}
 use borrow.Author.Tests.{lt-ltb}
 use Rattle.queue_entries.specs.Limits.{meter_most}
 use Rattle.queue_entries.specs.declared.Call.{Call}
-use Rattle.queue_entries.specs.declared.Order.TheVariants.{Begin, Act}
+use Rattle.queue_entries.specs.declared.Order.TheVariants.{Begin}
 use Rattle.queue_entries.specs.declared.Entry.{Entry}
 use Rattle.queue_entries.specs.declared.Entry.TheVariants.{Asks}
 use Rattle.queue_entries.specs.Entries.{entry_of}

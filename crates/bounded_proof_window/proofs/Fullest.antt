@@ -21,7 +21,7 @@ use Rattle.queue_rows.proofs.Alike.{all_alike}
 use Rattle.bounded_words.specs.declared.Stamp.{Stamp}
 use Rattle.bounded_words.specs.declared.Fixed.{Fixed}
 use Rattle.bounded_words.specs.declared.Width.{Width}
-use Rattle.bounded_words.specs.Words.{claim, stamp, mark_of, fixed_of, marked_of, minus, next_of, same, lap_behind_one_past}
+use Rattle.bounded_words.specs.Words.{claim, stamp, mark_of, fixed_of, minus, same, lap_behind_one_past}
 use Rattle.bounded_places.specs.declared.Slot.{Slot}
 use Rattle.bounded_places.specs.declared.Ends.{Ends}
 use Rattle.bounded_places.specs.declared.Kind.TheVariants.{Force}

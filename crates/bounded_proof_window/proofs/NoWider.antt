@@ -4,14 +4,14 @@
 use mathlib.Core.Path.{◌≡◌, refl, sym, ap, ◌∙◌, subst}
 use mathlib.Core.Bool.{Bool, true, false, cond, true≢false}
 use mathlib.Core.List.{List, [], ◌∷◌, ◌++◌, append_assoc, append-nil}
-use Prim.Native.Nat.{ℕ, zero, suc, ◌+◌, ◌*◌, ◌-◌, ◌%◌, ◌/◌, ◌≤◌, ◌<◌}
+use Prim.Native.Nat.{ℕ, ◌+◌, ◌*◌, ◌-◌, ◌%◌, ◌/◌, ◌≤◌, ◌<◌}
 use native.Mathlib.Omega.{arith}
 use native.Mathlib.Nat.{mod-eq_of_lt, div-eq_of_lt, add-mod_right, mul-le-mul_left}
 use lib.Arith.{digits_div, digits_mod}
 use lib.Dec.{eqb}
 use lib.ListN.{length, length-append, get_or, replicate}
 use borrow.Author.Tests.{ne_eqb}
-use Rattle.queue_entries.specs.Limits.{workers_most, meter_most}
+use Rattle.queue_entries.specs.Limits.{workers_most}
 use Rattle.queue_entries.specs.declared.Call.TheVariants as call
 use Rattle.queue_entries.specs.declared.Order.TheVariants.{Begin}
 use Rattle.queue_entries.specs.declared.Entry.TheVariants.{Asks}
