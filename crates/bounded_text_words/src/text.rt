@@ -49,7 +49,14 @@ pub fn slots(system: &System, out: &mut [u8], at: usize, m: [u64; WORDS]) -> usi
 }
 
 // NAME x y ..., or: NAME refused N
-pub fn told(system: &System, out: &mut [u8], at: usize, name: &[u8], list: &[u64], t: Told) -> usize {
+pub fn told(
+    system: &System,
+    out: &mut [u8],
+    at: usize,
+    name: &[u8],
+    list: &[u64],
+    t: Told,
+) -> usize {
     match t {
         Told::Number(n) => bounded_text_codes::told(system, out, at, name, list, 0, n),
         Told::Refused(refusal) => bounded_text_codes::told(system, out, at, name, list, refusal, 0),
