@@ -79,7 +79,13 @@ pub fn report(out: &mut [u8], at: usize, place: u64, refusal: u64, s: Standing) 
 }
 
 // The 31 slots of block k.
-fn slots(system: &System, out: &mut [u8], at: usize, k: usize, slots: [Slot; unbounded_words::POOL]) -> usize {
+fn slots(
+    system: &System,
+    out: &mut [u8],
+    at: usize,
+    k: usize,
+    slots: [Slot; unbounded_words::POOL],
+) -> usize {
     let mut p = at;
     let mut i: usize = 0;
     while i < 31 {
@@ -93,7 +99,8 @@ fn slots(system: &System, out: &mut [u8], at: usize, k: usize, slots: [Slot; unb
 }
 
 // block B next=N (state,value) ..
-fn block(system: &System, 
+fn block(
+    system: &System,
     out: &mut [u8],
     at: usize,
     k: usize,
