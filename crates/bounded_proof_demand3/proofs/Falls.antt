@@ -10,7 +10,7 @@ use borrow.Author.Tests.{eq-eqb}
 use Rattle.bounded_words.specs.declared.Stamp.{Stamp}
 use Rattle.bounded_words.specs.declared.Fixed.{Fixed}
 use Rattle.bounded_words.specs.declared.Width.{Width}
-use Rattle.bounded_words.specs.Words.{stamp, index_of, marked_of, unmarked_of, minus, with_mark, same, one_past, lap_behind, lap_behind_one_past}
+use Rattle.bounded_words.specs.Words.{index_of, marked_of, unmarked_of, minus, with_mark, same, one_past, lap_behind, lap_behind_one_past}
 use Rattle.bounded_places.specs.declared.Slot.{Slot}
 use Rattle.bounded_places.specs.declared.Ends.{Ends}
 use Rattle.bounded_places.specs.declared.Kind.{Kind}

@@ -1,6 +1,5 @@
 -- Whom a call waits for: alone it ends, unless another worker has in hand the very slot that its own end points to.
 use mathlib.Core.Path.{◌≡◌, refl, sym, ap, ◌∙◌, subst}
-use mathlib.Core.Logic.{◌≢◌}
 use mathlib.Core.Bool.{Bool, true, false, cond, true≢false}
 use mathlib.Core.List.{List, [], ◌∷◌, ◌++◌}
 use Prim.Native.Nat.{ℕ, zero, suc, ◌+◌, ◌*◌, ◌%◌, ◌≤◌, ◌<◌}
@@ -30,7 +29,7 @@ use Rattle.bounded_machine.proofs.Kept.{either, exchanged}
 use Rattle.bounded_machine.specs.declared.Machine.{Machine}
 use Rattle.bounded_machine.specs.declared.Event.{Event}
 use Rattle.bounded_machine.specs.declared.Ran.{Ran}
-use Rattle.bounded_machine.specs.Machine.{place_of, accepted, fresh_with, fixed_on, ends_on}
+use Rattle.bounded_machine.specs.Machine.{accepted, fresh_with, fixed_on, ends_on}
 use Rattle.bounded_machine.specs.Turn.{turn_at, spot_of, stored, acted, acted_by}
 use Rattle.bounded_machine.specs.Run.{run_at}
 use Rattle.bounded_demands.specs.Notions.{with_records, AllowedWith, acts, machine_after, acts_of, InHand, InWidestWindow, KeepsWidestWindow, most_beside, OtherHandAt, slot_needed}
@@ -48,7 +47,7 @@ use Rattle.bounded_proof_demand2.proofs.Demand2.{reached}
 use Rattle.bounded_proof_demand3.specs.Rank.{rank_beside}
 use Rattle.bounded_proof_demand3.proofs.Falls.{Loads, falls, most_beside_lem, eight}
 use Rattle.bounded_proof_demand3.proofs.Found.{hand_of, loose_of, loads_beside}
-use Rattle.bounded_proof_demand3.proofs.Solo.{team, act_turn, own_slot, acted_else, acted_meter, acted_fixed, run_more, idle_stays, own_young}
+use Rattle.bounded_proof_demand3.proofs.Solo.{team, act_turn, own_slot, acted_else, acted_meter, run_more, idle_stays, own_young}
 use Rattle.bounded_proof_demand3.proofs.Way.{other_hand_at}
 
 nothing : {A : Type 0} (j : ℕ) → [] ≡ j ∷ [] → A

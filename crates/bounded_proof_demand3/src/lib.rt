@@ -3,4 +3,3 @@
 // other; Found.antt, what a stamp load finds with no slot in another's hand; Solo.antt, so the call ends; Queue.antt, with a
 // plain queue's answer; Hand.antt, a slot in hand is let go of; Demand3.antt, and that is the demand. Theorems alone.
 #![tactic(auto)]
-
