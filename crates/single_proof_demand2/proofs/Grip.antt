@@ -68,48 +68,48 @@ none_out : (p : Place) → out_of p ≡ [] → (v : ℕ) → HandsOut p v → �
 none_out p n v o = no_cons (sym n ∙ out_is p v o)
 
 -- ---- an act that leaves the slot's value alone, and what waits
-module _ (h : List Event) (w : ℕ) (p q : Place) (quiet-p : access_of p ≡ none) where
+module _ (h : List Event) (w : ℕ) (p q : Place) (quiet_p : access_of p ≡ none) where
   stands_on : (v : ℕ) → Standing h v → Standing (h ++ event w p q ∷ []) v
-  stands_on v s = (s.0, stands_more h (event w p q) v s.0 s.1 (ap item_of quiet-p) (ap is_read quiet-p))
+  stands_on v s = (s.0, stands_more h (event w p q) v s.0 s.1 (ap item_of quiet_p) (ap is_read quiet_p))
 
   unread : is_read (access_of p) ≡ true → (v k : ℕ) × Stands h v k × Holds q v
-  unread r = absurd (true≢false (sym r ∙ ap is_read quiet-p))
+  unread r = absurd (true≢false (sym r ∙ ap is_read quiet_p))
 
-module _ (h : List Event) (w : ℕ) (p q : Place) (quiet-q : access_of q ≡ none) where
+module _ (h : List Event) (w : ℕ) (p q : Place) (quiet_q : access_of q ≡ none) where
   waits_on : waiting (h ++ event w p q ∷ []) ≡ waiting h
-  waits_on = waiting_more h (event w p q) ∙ ap (λ (a : Access). waits_after a (waiting h)) quiet-q
+  waits_on = waiting_more h (event w p q) ∙ ap (λ (a : Access). waits_after a (waiting h)) quiet_q
 
   plain_on : OneSlot h (waiting h) → OneSlot (h ++ event w p q ∷ []) (waiting (h ++ event w p q ∷ []))
-  plain_on o = subst (OneSlot (h ++ event w p q ∷ [])) (sym waits_on) (notions.rests h (waiting h) (event w p q) o quiet-q)
+  plain_on o = subst (OneSlot (h ++ event w p q ∷ [])) (sym waits_on) (notions.rests h (waiting h) (event w p q) o quiet_q)
 
-module _ (h : List Event) (w : ℕ) (p q : Place) (quiet-p : access_of p ≡ none) (quiet-q : access_of q ≡ none) where
+module _ (h : List Event) (w : ℕ) (p q : Place) (quiet_p : access_of p ≡ none) (quiet_q : access_of q ≡ none) where
   rests_on : (v : ℕ) (b : Bool) → Rests h v b → Rests (h ++ event w p q ∷ []) v b
-  rests_on v true r = (waits_on h w p q quiet-q ∙ r.0, stands_on h w p q quiet-p v r.1)
-  rests_on v false r = waits_on h w p q quiet-q ∙ r
+  rests_on v true r = (waits_on h w p q quiet_q ∙ r.0, stands_on h w p q quiet_p v r.1)
+  rests_on v false r = waits_on h w p q quiet_q ∙ r
 
   -- to another's hand
   does_on : (v u : ℕ) (g : Hand) → u ≢ w → Does h v u g → Does (h ++ event w p q ∷ []) v u g
   does_on v u free ne d = d
-  does_on v u (putting x) ne d = waits_on h w p q quiet-q ∙ d
-  does_on v u put ne d = (waits_on h w p q quiet-q ∙ d.0, stands_on h w p q quiet-p v d.1)
+  does_on v u (putting x) ne d = waits_on h w p q quiet_q ∙ d
+  does_on v u put ne d = (waits_on h w p q quiet_q ∙ d.0, stands_on h w p q quiet_p v d.1)
   does_on v u (swapping x) ne d =
-      (waits_on h w p q quiet-q ∙ d.0, stands_on h w p q quiet-p v d.1, took_more h (event w p q) u v d.2 (λ e. absurd (ne (sym e))))
+      (waits_on h w p q quiet_q ∙ d.0, stands_on h w p q quiet_p v d.1, took_more h (event w p q) u v d.2 (λ e. absurd (ne (sym e))))
   does_on v u (swapped old) ne d = (
-    waits_on h w p q quiet-q ∙ d.0,
-    stands_on h w p q quiet-p v d.1,
+    waits_on h w p q quiet_q ∙ d.0,
+    stands_on h w p q quiet_p v d.1,
     (d.2.0, came_more h (event w p q) u old d.2.0 d.2.1 (λ e. ne (sym e))),
     took_more h (event w p q) u old d.3 (λ e. absurd (ne (sym e))),
   )
   does_on v u taking ne d =
-      (waits_on h w p q quiet-q ∙ d.0, stands_on h w p q quiet-p v d.1, took_more h (event w p q) u v d.2 (λ e. absurd (ne (sym e))))
+      (waits_on h w p q quiet_q ∙ d.0, stands_on h w p q quiet_p v d.1, took_more h (event w p q) u v d.2 (λ e. absurd (ne (sym e))))
   does_on v u (took y) ne d = (
-    waits_on h w p q quiet-q ∙ d.0,
+    waits_on h w p q quiet_q ∙ d.0,
     (d.1.0, came_more h (event w p q) u y d.1.0 d.1.1 (λ e. ne (sym e))),
     took_more h (event w p q) u y d.2 (λ e. absurd (ne (sym e))),
   )
 
 -- ---- a hand takes hold
-module _ (h : List Event) (w : ℕ) (p q : Place) (v : ℕ) (quiet-p : access_of p ≡ none) where
+module _ (h : List Event) (w : ℕ) (p q : Place) (v : ℕ) (quiet_p : access_of p ≡ none) where
   abbrev after : List Event
   after = h ++ event w p q ∷ []
 
@@ -119,9 +119,9 @@ module _ (h : List Event) (w : ℕ) (p q : Place) (v : ℕ) (quiet-p : access_of
   opened : (b : Bool) (g : Hand) → access_of q ≡ access_by g → Opens b g → Rests h v b → Does after v w g
   opened b g e opens_put r = waits_by (access_by g) e
   opened b g e opens_swap r =
-      (waits_by (access_by g) e, stands_on h w p q quiet-p v r.1, new_took h (event w p q) v r.0 (ap is_read e))
+      (waits_by (access_by g) e, stands_on h w p q quiet_p v r.1, new_took h (event w p q) v r.0 (ap is_read e))
   opened b g e opens_take r =
-      (waits_by (access_by g) e, stands_on h w p q quiet-p v r.1, new_took h (event w p q) v r.0 (ap is_read e))
+      (waits_by (access_by g) e, stands_on h w p q quiet_p v r.1, new_took h (event w p q) v r.0 (ap is_read e))
 
   plain_opened : (b : Bool) (g : Hand) → access_of q ≡ access_by g → Opens b g → Rests h v b → OneSlot h (waiting h) → OneSlot after (waiting after)
   plain_opened b g e (opens_put {x = x}) r o =
@@ -166,13 +166,13 @@ module _ (hands hands' : ℕ → Hand) (s : Single) (h : List Event) (c : Bool) 
   now_shut n = sym (rw n)
 
   -- on a slot in nobody's hand
-  module _ (b : Bool) (is : s.state ≡ word false b c) (none-holds : (v : ℕ) → hands v ≡ free) (r : Rests h s.value b) where
+  module _ (b : Bool) (is : s.state ≡ word false b c) (none_holds : (v : ℕ) → hands v ≡ free) (r : Rests h s.value b) where
     pub from_loose : (a : Acted) → Effect s false b c p a → Leads a
     unfolding goes state_to
     from_loose a (rests q f fq n o) e =
         let qp = accesses p free f in let qq = accesses q free fq in
         record {
-          grip = loose b (is ∙ ap (word false b) (still_open n)) (all_free (λ v ne. none-holds v) (e ∙ fq)) (rests_on h w p q qp qq s.value b r);
+          grip = loose b (is ∙ ap (word false b) (still_open n)) (all_free (λ v ne. none_holds v) (e ∙ fq)) (rests_on h w p q qp qq s.value b r);
           came = λ v out. absurd (none_out q o v out);
           took_it = λ v out. absurd (none_out q o v out);
           stood = unread h w p q qp;
@@ -181,7 +181,7 @@ module _ (hands hands' : ℕ → Hand) (s : Single) (h : List Event) (c : Bool) 
     from_loose a (shuts q f fq n o) e =
         let qp = accesses p free f in let qq = accesses q free fq in
         record {
-          grip = loose b (ap (word false b) (now_shut n)) (all_free (λ v ne. none-holds v) (e ∙ fq)) (rests_on h w p q qp qq s.value b r);
+          grip = loose b (ap (word false b) (now_shut n)) (all_free (λ v ne. none_holds v) (e ∙ fq)) (rests_on h w p q qp qq s.value b r);
           came = λ v out. absurd (none_out q o v out);
           took_it = λ v out. absurd (none_out q o v out);
           stood = unread h w p q qp;
@@ -191,16 +191,16 @@ module _ (hands hands' : ℕ → Hand) (s : Single) (h : List Event) (c : Bool) 
         let qp = accesses p free f in let qq = accesses q g hq in let hold = opens_holding b g k in
         record {
           grip =
-              held w g (e ∙ hq) (ap (word true (fills g)) (still_open n)) (λ v ne. others v ne ∙ none-holds v) (opened h w p q s.value qp b g qq k r);
+              held w g (e ∙ hq) (ap (word true (fills g)) (still_open n)) (λ v ne. others v ne ∙ none_holds v) (opened h w p q s.value qp b g qq k r);
           came = λ v out. absurd (keeps q g hq hold v out);
           took_it = λ v out. absurd (keeps q g hq hold v out);
           stood = unread h w p q qp;
           plain = plain_opened h w p q s.value qp b g qq k r;
         }
-    from_loose a (puts q x f hq n) e = absurd (clash (putting x) f refl (none-holds w))
-    from_loose a (swaps_in q x f hq n) e = absurd (clash (swapping x) f refl (none-holds w))
-    from_loose a (gets q f hq n) e = absurd (clash taking f refl (none-holds w))
-    from_loose a (unlocks q k n) e = absurd (clash (hand_of_worker p) refl (lets_off_holding (hand_of_worker p) q k).0 (none-holds w))
+    from_loose a (puts q x f hq n) e = absurd (clash (putting x) f refl (none_holds w))
+    from_loose a (swaps_in q x f hq n) e = absurd (clash (swapping x) f refl (none_holds w))
+    from_loose a (gets q f hq n) e = absurd (clash taking f refl (none_holds w))
+    from_loose a (unlocks q k n) e = absurd (clash (hand_of_worker p) refl (lets_off_holding (hand_of_worker p) q k).0 (none_holds w))
 
   -- on a slot in another's hand
   module _ (u : ℕ) (g : Hand) (hu : hands u ≡ g) (is : s.state ≡ word true (fills g) c) (alone : (v : ℕ) → v ≢ u → hands v ≡ free)

@@ -65,10 +65,10 @@ module _ (workers : ℕ) (m : Machine) (h : List Event) (r : Reached workers m h
     -- and what it hands out had come
     came : (v : ℕ) → HandsOut (Idle a) v → (k : ℕ) × Came ends.log w v k
     came v out =
-        let Reached-then = acted_reached workers last ends.log ends.holds.reached w (team workers last ends.log ends.holds.reached w ends.busy_yet) ends.busy_yet in
+        let reached_next = acted_reached workers last ends.log ends.holds.reached w (team workers last ends.log ends.holds.reached w ends.busy_yet) ends.busy_yet in
         let there : stood (acted last w (stood last w)) w ≡ Idle a =
         ap (λ (x : Machine). stood x w) (sym (turn_is workers w a ends.left last ends.log ends.holds ends.busy_yet)) ∙ gives in
-        Reached-then.goes ends.log [] (event w (stood last w) (stood (acted last w (stood last w)) w)) refl v (subst (λ (q : Place). HandsOut q v) (sym there) out)
+        reached_next.goes ends.log [] (event w (stood last w) (stood (acted last w (stood last w)) w)) refl v (subst (λ (q : Place). HandsOut q v) (sym there) out)
 
     ends_alone : EndsAlone source m h w (most_of (stood m w))
     ends_alone =

@@ -11,7 +11,7 @@ use borrow.Author.Tests.{eq-eqb, ne_eqb, eqb-true, eqb-false}
 use Rattle.queue_entries.specs.declared.Entry.{Entry}
 use Rattle.queue_entries.specs.Entries.{entry_of}
 use Rattle.queue_schedules.specs.Alone.{act_by}
-use Rattle.queue_schedules.proofs.Alone.{part, Was, others, its_own, its_last, goes as goes-alone}
+use Rattle.queue_schedules.proofs.Alone.{part, Was, others, its_own, its_last, goes as goes_alone}
 use Rattle.single_places.specs.declared.Single.{Single}
 use Rattle.single_places.specs.declared.Answer.{Answer}
 use Rattle.single_places.specs.declared.Answer.TheVariants.{Pushed, Displaced, Popped}
@@ -116,5 +116,5 @@ module _ (workers w : ℕ) where
   pub lets_go : (s : List ℕ) (m : Machine) (h : List Event) → Reached workers m h → InHand (stood m w)
       → most_of (stood m w) ≤ Rattle.single_demands.specs.Notions.own_acts source w m s → LetsGo source m w s (most_of (stood m w))
   lets_go s m h r i enough =
-      let g = goes-alone single_queue w In Out most some each s m (record { history = h; reached = r; hand = i }) enough in
+      let g = goes_alone single_queue w In Out most some each s m (record { history = h; reached = r; hand = i }) enough in
       record { before = g.before; after = g.after; split = g.split; own = g.count; answer = g.out.0; ends = g.out.1 }

@@ -216,27 +216,27 @@ led (first ∷ second ∷ rest) w i so = go (λ k. led rest x.words k (sound_aft
     d : Did
     d = turn_of (machine_in w) first second
 
-    run_of_lem : Bool → ℕ → Ran
-    run_of_lem b i = run_from (machine_in w) i (cond b (first ∷ second ∷ taken_by face x.words rest) (taken_by face x.words rest))
+    run_taken : Bool → ℕ → Ran
+    run_taken b i = run_from (machine_in w) i (cond b (first ∷ second ∷ taken_by face x.words rest) (taken_by face x.words rest))
 
     go : ((k : ℕ) → Led x.words rest k) → (b : Bool) → eqb x.answer 0 ≡ b → Led w (first ∷ second ∷ rest) i
     go leads true e =
         let more = leads (i + 1) in
-        let goes : run_of_lem true i ≡ run_from (machine_in x.words) (i + 1) (taken_by face x.words rest) =
+        let goes : run_taken true i ≡ run_from (machine_in x.words) (i + 1) (taken_by face x.words rest) =
         ap (λ (b : Bool). cond b (run_from d.machine (i + 1) (taken_by face x.words rest)) (ran d.refusal i (machine_in w)))
         (ap (λ (y : After). eqb y.answer 0) (sym (step_is w so first second)) ∙ e)
         ∙ ap (λ (m : Machine). run_from m (i + 1) (taken_by face x.words rest)) (sym (read_after w so first second)) in
         record {
-          accepted = ap (λ (b : Bool). (run_of_lem b i).refusal) e ∙ ap (λ (r : Ran). r.refusal) goes ∙ more.accepted;
-          machine = ap (λ (b : Bool). (run_of_lem b i).machine) e ∙ ap (λ (r : Ran). r.machine) goes ∙ more.machine;
+          accepted = ap (λ (b : Bool). (run_taken b i).refusal) e ∙ ap (λ (r : Ran). r.refusal) goes ∙ more.accepted;
+          machine = ap (λ (b : Bool). (run_taken b i).machine) e ∙ ap (λ (r : Ran). r.machine) goes ∙ more.machine;
         }
     go leads false e =
         let more = leads i in
         let same : machine_in w ≡ machine_in x.words = ap machine_in (sym (refused_step w first second (eqb-false x.answer 0 e))) in
-        let goes : run_of_lem false i ≡ run_from (machine_in x.words) i (taken_by face x.words rest) = ap (λ (m : Machine). run_from m i (taken_by face x.words rest)) same in
+        let goes : run_taken false i ≡ run_from (machine_in x.words) i (taken_by face x.words rest) = ap (λ (m : Machine). run_from m i (taken_by face x.words rest)) same in
         record {
-          accepted = ap (λ (b : Bool). (run_of_lem b i).refusal) e ∙ ap (λ (r : Ran). r.refusal) goes ∙ more.accepted;
-          machine = ap (λ (b : Bool). (run_of_lem b i).machine) e ∙ ap (λ (r : Ran). r.machine) goes ∙ more.machine;
+          accepted = ap (λ (b : Bool). (run_taken b i).refusal) e ∙ ap (λ (r : Ran). r.refusal) goes ∙ more.accepted;
+          machine = ap (λ (b : Bool). (run_taken b i).machine) e ∙ ap (λ (r : Ran). r.machine) goes ∙ more.machine;
         }
 
 -- ---- from making on
@@ -275,11 +275,11 @@ module _ (w : Words) (workers : ℕ) (made : (make_words w workers).answer ≡ 0
   w₀ : Words
   w₀ = (make_words w workers).words
 
-  words-are₀ : (make_words w workers).words ≡ words_of (fresh_of workers)
-  words-are₀ = fresh.words_are ∙ ap words_of machine_is
+  words_are₀ : (make_words w workers).words ≡ words_of (fresh_of workers)
+  words_are₀ = fresh.words_are ∙ ap words_of machine_is
 
   read₀ : machine_in (make_words w workers).words ≡ fresh_of workers
-  read₀ = ap machine_in words-are₀ ∙ same_machine (fresh_of workers)
+  read₀ = ap machine_in words_are₀ ∙ same_machine (fresh_of workers)
 
   fresh_long : length (fresh_of workers).workers ≡ workers_most
   unfolding fresh_of idlers
@@ -287,7 +287,7 @@ module _ (w : Words) (workers : ℕ) (made : (make_words w workers).answer ≡ 0
 
   pub sound₀ : Sound (make_words w workers).words
   sound₀ = record {
-    stands = ap stand words-are₀ ∙ written_stand (fresh_of workers) fresh_long;
+    stands = ap stand words_are₀ ∙ written_stand (fresh_of workers) fresh_long;
     unbroken = ap broken_of (read₀ ∙ sym machine_is) ∙ stays_unbroken.made workers fresh.refusal_is;
   }
 
@@ -298,13 +298,13 @@ module _ (w : Words) (workers : ℕ) (made : (make_words w workers).answer ≡ 0
   under entries =
       let s = taken_by face (make_words w workers).words entries in
       let leads = led entries (make_words w workers).words 0 sound₀ in
-      let machine-there : machine_after source workers s ≡ machine_in (left_by face (make_words w workers).words entries) = ap (λ (m : Machine). (run_from m 0 s).machine) (sym read₀) ∙ leads.machine in
+      let machine_there : machine_after source workers s ≡ machine_in (left_by face (make_words w workers).words entries) = ap (λ (m : Machine). (run_from m 0 s).machine) (sym read₀) ∙ leads.machine in
       record {
         accepted = ap (λ (m : Machine). (run_from m 0 s).refusal) (sym read₀) ∙ leads.accepted;
-        machine = machine-there;
-        plain = subst (λ (m : Machine). PlainThroughout m (acts_of source workers s) (story_of source workers s)) machine-there (answers_plain workers allowed s);
-        demand2 = subst (λ (m : Machine). Demand2 source workers m (acts_of source workers s)) machine-there (demand2 workers allowed s);
-        demand3 = subst (λ (m : Machine). Demand3 source m (acts_of source workers s)) machine-there (demand3 workers allowed s);
+        machine = machine_there;
+        plain = subst (λ (m : Machine). PlainThroughout m (acts_of source workers s) (story_of source workers s)) machine_there (answers_plain workers allowed s);
+        demand2 = subst (λ (m : Machine). Demand2 source workers m (acts_of source workers s)) machine_there (demand2 workers allowed s);
+        demand3 = subst (λ (m : Machine). Demand3 source m (acts_of source workers s)) machine_there (demand3 workers allowed s);
       }
 
 pub hosted_throughout : HostedThroughout face

@@ -327,11 +327,11 @@ module _ (workers : ℕ) where
           let its : ((known st).each w).calls ≡ call.Close ∷ [] = (subst (Due st m.single.value w) at (o.dues w)).its in
           let led = leads at in
           let t = (new.answers st [] done led.0 refl led.1).0 in
-          let now-asked : t.moment ≡ length st = sym t.named ∙ moment_own st done
+          let now_asked : t.moment ≡ length st = sym t.named ∙ moment_own st done
           ∙ ap (λ (z : Timing). timed z (known st).count (moment_of w st)) (timing at led.0 led.1) ∙ known_count actor change_of 1 st in
           let same : t.call ≡ call.Close = same_call t.call call.Close (sym t.its ∙ its) in
           let asked : asked_at t.moment st t.call ≡ (known st).queue =
-          ap (λ (n : ℕ). asked_at n st t.call) now-asked ∙ ap (asked_at (length st) st) same ∙ queue_now actor change_of 1 st in (
+          ap (λ (n : ℕ). asked_at n st t.call) now_asked ∙ ap (asked_at (length st) st) same ∙ queue_now actor change_of 1 st in (
             its,
             ap said_at led.1 ∙ sym t.plain ∙ ap (λ (z : Reply). z ∷ [])
                 (ap (λ (q : Queue). answer_of q t.call) asked ∙ ap (answer_of (known st).queue) same ∙ ap (λ (b : Bool). cond b plain.No plain.Yes) still),

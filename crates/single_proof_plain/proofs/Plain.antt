@@ -111,9 +111,9 @@ module _ (workers : ℕ) where
     in_call_order : (earlier between later : Story) (first second : Event) (x y : Answer) → st ≡ earlier ++ Does first ∷ between ++ Does second ∷ later → first.after ≡ Idle x
         → second.after ≡ Idle y → length earlier < ((known (earlier ++ Does first ∷ between)).each second.worker).begun
         → moment_of first.worker (earlier ++ Does first ∷ []) < moment_of second.worker (earlier ++ Does first ∷ between ++ Does second ∷ [])
-    in_call_order earlier between later first second x y is said-first said-second late =
-        let p = (o.answers earlier (between ++ Does second ∷ later) first x (is ∙ append_assoc earlier (Does first ∷ between) (Does second ∷ later)) said-first).0 in
-        let q = (o.answers (earlier ++ Does first ∷ between) later second y is said-second).0 in
+    in_call_order earlier between later first second x y is said_first said_second late =
+        let p = (o.answers earlier (between ++ Does second ∷ later) first x (is ∙ append_assoc earlier (Does first ∷ between) (Does second ∷ later)) said_first).0 in
+        let q = (o.answers (earlier ++ Does first ∷ between) later second y is said_second).0 in
         omega (arith, p.named, p.inside, q.named, q.begun)
 
     plain_of : PlainThroughout m (acts_in st) st

@@ -158,7 +158,7 @@ module _ (st : Story) (s : Single) (l b c : Bool) (sc : Scene st s l b c) (w : �
   -- ---- force_push
   b1 : (e : State) (x v : ℕ) → v ≡ s.value → Expects (B1 e x) → Work st w (call.ForcePush x) [] []
       → Outcome (B1 e x) (cond (closed_in s.state) (Idle (Closed x)) (cond (same s.state e) (cond (pushed_in s.state) (B4 x) (B2 x)) (B1 (unlocked s.state) x))) v
-  b1 e x v same-value k o =
+  b1 e x v same_value k o =
       either (λ (q : Place). Outcome (B1 e x) q v) (closed_in s.state) (Idle (Closed x)) (cond (same s.state e) (cond (pushed_in s.state) (B4 x) (B2 x)) (B1 (unlocked s.state) x))
       (λ d. (speaks (B1 e x) (Closed x) (plain.Closed x) v refl (call.ForcePush x)
       (here (B1 e x) (Idle (Closed x)) refl refl (call.ForcePush x) (plain.Closed x) o (force_closed q₀ x (closed_is true d)))))
@@ -178,7 +178,7 @@ module _ (st : Story) (s : Single) (l b c : Bool) (sc : Scene st s l b c) (w : �
           let done = work_on actor change_of 1 st (act (B1 e x) (B4 x)) (call.ForcePush x) [] [] o in
           record {
             due =
-                subst (Swapping (now (B1 e x) (B4 x)) w x) (sym same-value)
+                subst (Swapping (now (B1 e x) (B4 x)) w x) (sym same_value)
                 (decided_now st (act (B1 e x) (B4 x)) (call.ForcePush x) _ _ (plain.Displaced s.value) refl o
                 (subst (Work (now (B1 e x) (B4 x)) w (call.ForcePush x) (items_of (call.ForcePush x ∷ []))) (ap (take 1) items) done)
                 (force_full q₀ x s.value [] (closed_is false d) (eq-eqb _ _ (one_waits (pushed_is true y) ∙ sym room_is)) items));
@@ -210,7 +210,7 @@ module _ (st : Story) (s : Single) (l b c : Bool) (sc : Scene st s l b c) (w : �
   -- ---- pop
   c1 : (e : State) (v : ℕ) → v ≡ s.value → Expects (C1 e) → Work st w call.Pop [] []
       → Outcome (C1 e) (cond (same s.state e) C2 (cond (pushed_in s.state) (C1 (unlocked s.state)) (cond (closed_in s.state) (Idle PopClosed) (Idle Empty)))) v
-  c1 e v same-value k o =
+  c1 e v same_value k o =
       either (λ (q : Place). Outcome (C1 e) q v) (same s.state e) C2 (cond (pushed_in s.state) (C1 (unlocked s.state)) (cond (closed_in s.state) (Idle PopClosed) (Idle Empty))) won
       (λ t. either (λ (q : Place). Outcome (C1 e) q v) (pushed_in s.state) (C1 (unlocked s.state)) (cond (closed_in s.state) (Idle PopClosed) (Idle Empty))
       (λ y. to (C1 e) (C1 (unlocked s.state)) refl v refl (still (C1 e) (C1 (unlocked s.state)) refl call.Pop [] [] o))
@@ -228,7 +228,7 @@ module _ (st : Story) (s : Single) (l b c : Bool) (sc : Scene st s l b c) (w : �
           let items = sc.rests (same_locked s.state l b c sc.is false true k.0 z) (same_pushed s.state l b c sc.is false true k.0 z) in
           record {
             due =
-                subst (Taking (now (C1 e) C2) w) (sym same-value)
+                subst (Taking (now (C1 e) C2) w) (sym same_value)
                 (decided_now st (act (C1 e) C2) call.Pop _ _ (plain.Popped s.value) refl o
                 (subst (Work (now (C1 e) C2) w call.Pop []) (ap (take 1) items) (work_on actor change_of 1 st (act (C1 e) C2) call.Pop [] [] o)) (pop_front q₀ s.value [] items));
             said = λ a f. absurd (not_idle C2 refl a f);

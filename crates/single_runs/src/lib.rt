@@ -34,8 +34,8 @@ fn ran(
 
 // An even number of words, entry by entry, to its end or to the first refusal, which may be 9.
 fn entries(m: Machine, schedule: &[u64]) -> Ran
-    requires m_value { broken_of m ≡ false }
-    requires schedule_len { length schedule.now % 2 ≡ 0 }
+    requires unbroken { broken_of m ≡ false }
+    requires whole { length schedule.now % 2 ≡ 0 }
     ensures { result ≡ run_from m 0 schedule.now }
 {
     let mut single = m.single;

@@ -11,7 +11,7 @@ pub returns-then-schedule-eq1 : goal.returns-then-schedule-eq1
 returns-then-schedule-eq1 c = c.unchanged-then-schedule-eq1.ensures ∙ odd_run _ _ c.broken.result c.broken.ensures c.if-broken.false c.if-schedule-eq1.true
 
 pub entries-done-requires : goal.entries-done-requires
-entries-done-requires c = let h = c.if-schedule-eq1.false in record { m_value = sym c.broken.ensures ∙ c.if-broken.false; schedule_len = omega arith }
+entries-done-requires c = let h = c.if-schedule-eq1.false in record { unbroken = sym c.broken.ensures ∙ c.if-broken.false; whole = omega arith }
 
 pub returns-then-done-eq0 : goal.returns-then-done-eq0
 returns-then-done-eq0 c =
