@@ -6,7 +6,7 @@ use text_system::System;
 use text_system::files::Flow;
 
 pub fn is_standard(name: &[u8]) -> bool {
-    name == b"-"
+    name == b"-".as_slice()
 }
 
 // Only a plain file can be made to last.
