@@ -119,7 +119,14 @@ fn with_pairs(s: Survey, list: &[u64], n: usize) -> Survey {
     searched(s, pairs)
 }
 
-fn turn(system: &System, file: &File, many: bool, s: Survey, bytes: &mut [u8], list: &mut [u64]) -> Survey {
+fn turn(
+    system: &System,
+    file: &File,
+    many: bool,
+    s: Survey,
+    bytes: &mut [u8],
+    list: &mut [u64],
+) -> Survey {
     let r = replay_input::source::turn(system, file, many, s.reading, bytes, list, s.left);
     let mut after = with_pairs(s, list, r.count);
     after.pairs = more(after.pairs, replay_input::source::owing(r));
@@ -128,7 +135,14 @@ fn turn(system: &System, file: &File, many: bool, s: Survey, bytes: &mut [u8], l
     after
 }
 
-fn survey_in(system: &System, file: &File, many: bool, begin: Survey, bytes: &mut [u8], list: &mut [u64]) -> Survey {
+fn survey_in(
+    system: &System,
+    file: &File,
+    many: bool,
+    begin: Survey,
+    bytes: &mut [u8],
+    list: &mut [u64],
+) -> Survey {
     let mut s = begin;
     let mut event = text_numbers::NOTHING;
     let mut turns = u64::MAX;
@@ -142,7 +156,8 @@ fn survey_in(system: &System, file: &File, many: bool, begin: Survey, bytes: &mu
 }
 
 // Of the schedule that begins at this offset and line, before which the bytes have this sum; so many numbers, each 1, are put before it: none or one.
-pub fn surveyed(system: &System, 
+pub fn surveyed(
+    system: &System,
     file: &File,
     many: bool,
     before: usize,
@@ -175,7 +190,16 @@ fn numbers(s: Survey) -> u64 {
 pub fn is_sound(system: &System, s: Survey, file: &File, many: bool, name: &[u8]) -> bool {
     let hints =
         b"|; several schedules are read with --many|; a tape is read with --tape|; a schedule without one is of another --queue|";
-    replay_input::say::is_sound(system, b"replay", name, file, many, s.reading, numbers(s), hints)
+    replay_input::say::is_sound(
+        system,
+        b"replay",
+        name,
+        file,
+        many,
+        s.reading,
+        numbers(s),
+        hints,
+    )
 }
 
 fn of_whole(s: Survey, refusal: u64, place: u64) -> Whole {

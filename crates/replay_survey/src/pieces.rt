@@ -38,7 +38,15 @@ fn piece(r: Reading, begun: bool, from: usize, to: usize, place: u64) -> Pieces 
 }
 
 // The next piece, of a run that is so far; a number that has no pair yet is left for the one after.
-pub fn next(system: &System, file: &File, many: bool, p: Pieces, r: Run, bytes: &mut [u8], list: &mut [u64]) -> Pieces {
+pub fn next(
+    system: &System,
+    file: &File,
+    many: bool,
+    p: Pieces,
+    r: Run,
+    bytes: &mut [u8],
+    list: &mut [u64],
+) -> Pieces {
     let reading = replay_input::source::next(system, file, many, p.reading, bytes, list);
     let even = reading.count - reading.count % 2;
     if p.begun || even < 2 {
