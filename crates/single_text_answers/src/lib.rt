@@ -59,7 +59,10 @@ fn tell(system: &System, letter: u8, h: [u64; NUMBERS], n: &[u64], label: &[u8])
         b'm' => making::make(system, nth(n, 0)),
         b'c' => making::contents(system, label, h, nth(n, 0)),
         b'j' => judge::machine(system, label, h),
-        b'h' => entry::held(system, build::with_place(h, 0, nth(n, 0), nth(n, 1), nth(n, 2))),
+        b'h' => entry::held(
+            system,
+            build::with_place(h, 0, nth(n, 0), nth(n, 1), nth(n, 2)),
+        ),
         _ => {}
     }
 }

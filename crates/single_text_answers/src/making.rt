@@ -52,5 +52,11 @@ fn lent(system: &System, label: &[u8], m: Machine, buffer: &mut [u64], n: usize)
 
 pub fn contents(system: &System, label: &[u8], h: [u64; NUMBERS], n: u64) {
     let mut buffer = [77u64, 78];
-    lent(system, label, crate::build::machine(h), &mut buffer, n as usize);
+    lent(
+        system,
+        label,
+        crate::build::machine(h),
+        &mut buffer,
+        n as usize,
+    );
 }
