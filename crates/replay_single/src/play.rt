@@ -52,7 +52,8 @@ fn counted(asked: bool, s: Summary, refusal: u64, first: u64, after: Place) -> S
 }
 
 // PLACE R s=STATE m=M wN=S
-fn line_unless(system: &System, 
+fn line_unless(
+    system: &System,
     quiet: bool,
     out: &mut [u8],
     at: usize,
@@ -91,7 +92,8 @@ fn steps(system: &System, g: Going, o: Asked, list: &[u64], out: &mut [u8]) -> G
         refusal = ran.refusal;
         let after = single_text::place_of(m, w);
         s = counted(o.summary, s, refusal, first, after);
-        at = line_unless(system, 
+        at = line_unless(
+            system,
             o.quiet,
             out,
             at,
@@ -168,10 +170,15 @@ fn finish(system: &System, g: Going, o: Asked, out: &mut [u8]) -> Played {
     let t = contents(out, q, m);
     let u = tell_summary(s, o.summary, out, t);
     let answers = single_text::answers(m);
-    replay_survey::pieces::played(run, replay_survey::pieces::end(system, out, u, o.many), answers)
+    replay_survey::pieces::played(
+        run,
+        replay_survey::pieces::end(system, out, u, o.many),
+        answers,
+    )
 }
 
-fn all(system: &System, 
+fn all(
+    system: &System,
     o: Asked,
     file: &File,
     begun: Reading,
@@ -194,9 +201,22 @@ fn all(system: &System,
 }
 
 // A schedule, read piece by piece and run to its end or to its first refusal.
-pub fn play(system: &System, o: Asked, file: &File, begun: Reading, whole: Whole, out: &mut [u8], at: usize) -> Played {
+pub fn play(
+    system: &System,
+    o: Asked,
+    file: &File,
+    begun: Reading,
+    whole: Whole,
+    out: &mut [u8],
+    at: usize,
+) -> Played {
     let mut bytes = [0u8; replay_input::source::BYTES];
     let mut list = [1u64; replay_input::source::NUMBERS];
     let made = make(whole, out, at);
-    finish(system, all(system, o, file, begun, made, &mut bytes, &mut list, out), o, out)
+    finish(
+        system,
+        all(system, o, file, begun, made, &mut bytes, &mut list, out),
+        o,
+        out,
+    )
 }
