@@ -87,7 +87,12 @@ pub fn unless_at_end(system: &System, program: &[u8], name: &[u8], file: &File, 
     let mut byte = [0u8; 1];
     let mut m = n;
     if n.more {
-        let got = text_system::files::read_at(system, file, &mut byte, replay_input::source::to_offset(n.offset));
+        let got = text_system::files::read_at(
+            system,
+            file,
+            &mut byte,
+            replay_input::source::to_offset(n.offset),
+        );
         if got.failed {
             replay_input::say::fail(system, program, name);
             return stop(UNREADABLE);
@@ -108,7 +113,14 @@ fn is_as_looked(n: Next, looked: Next) -> bool {
 }
 
 // As `written`, of schedules that were looked through before.
-pub fn written_as_looked(system: &System, program: &[u8], name: &[u8], n: Next, looked: Next, out: &[u8]) -> u8 {
+pub fn written_as_looked(
+    system: &System,
+    program: &[u8],
+    name: &[u8],
+    n: Next,
+    looked: Next,
+    out: &[u8],
+) -> u8 {
     if is_as_looked(n, looked) {
         return written(system, program, n, out);
     }
