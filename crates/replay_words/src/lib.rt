@@ -32,7 +32,14 @@ fn with_head(t: Told, before: usize, capacity: u64, workers: u64, out: &mut [u8]
     }
 }
 
-fn with_pair(system: &System, t: Told, before: usize, first: u64, second: u64, out: &mut [u8]) -> Told {
+fn with_pair(
+    system: &System,
+    t: Told,
+    before: usize,
+    first: u64,
+    second: u64,
+    out: &mut [u8],
+) -> Told {
     if t.begun {
         let w = text_words::writing::entry(out, t.at, t.row, first, second);
         let row = w.row;
@@ -57,7 +64,14 @@ fn with_pairs(system: &System, t: Told, before: usize, list: &[u64], out: &mut [
 }
 
 // The pairs among the first n numbers of the list.
-fn with_some(system: &System, t: Told, before: usize, list: &[u64], n: usize, out: &mut [u8]) -> Told {
+fn with_some(
+    system: &System,
+    t: Told,
+    before: usize,
+    list: &[u64],
+    n: usize,
+    out: &mut [u8],
+) -> Told {
     if n <= list.len() {
         return with_pairs(system, t, before, &list[..n], out);
     }
@@ -104,7 +118,14 @@ fn goes_on(g: Going) -> bool {
 }
 
 // The numbers of a piece, of which nothing more is owed then.
-fn with_piece(system: &System, t: Told, before: usize, r: Reading, list: &[u64], out: &mut [u8]) -> Going {
+fn with_piece(
+    system: &System,
+    t: Told,
+    before: usize,
+    r: Reading,
+    list: &[u64],
+    out: &mut [u8],
+) -> Going {
     let some = with_some(system, t, before, list, r.count, out);
     Going {
         told: with_owed(some, r, out),
@@ -112,7 +133,8 @@ fn with_piece(system: &System, t: Told, before: usize, r: Reading, list: &[u64],
     }
 }
 
-fn turn(system: &System, 
+fn turn(
+    system: &System,
     file: &File,
     many: bool,
     before: usize,
@@ -125,7 +147,8 @@ fn turn(system: &System,
     with_piece(system, g.told, before, r, list, out)
 }
 
-fn all(system: &System, 
+fn all(
+    system: &System,
     file: &File,
     many: bool,
     before: usize,
@@ -154,7 +177,8 @@ fn with_mark(out: &mut [u8], at: usize, many: bool) -> usize {
 }
 
 // Of a schedule that can be read; so many numbers, none or one, stand before it that are not told. Answers where the text goes on.
-pub fn lines(system: &System, 
+pub fn lines(
+    system: &System,
     file: &File,
     many: bool,
     begun: Reading,
@@ -164,12 +188,15 @@ pub fn lines(system: &System,
 ) -> usize {
     let mut bytes = [0u8; replay_input::source::BYTES];
     let mut list = [1u64; replay_input::source::NUMBERS];
-    let told = all(system, file, many, before, begun, &mut bytes, &mut list, out, at);
+    let told = all(
+        system, file, many, before, begun, &mut bytes, &mut list, out, at,
+    );
     text_words::writing::end(out, told.at, told.row)
 }
 
 // The same, and what follows one of many.
-pub fn tell(system: &System, 
+pub fn tell(
+    system: &System,
     file: &File,
     many: bool,
     begun: Reading,
