@@ -2,15 +2,12 @@
 use Prim.Native.Nat.{ℕ, zero, suc, ◌<◌}
 use native.Mathlib.Omega.{arith}
 use mathlib.Core.Bool.{true≢false}
-use mathlib.Core.List.{List, [], ◌∷◌, ◌++◌, map}
+use mathlib.Core.List.{List, [], ◌∷◌, ◌++◌}
 use mathlib.Core.Path.{◌≡◌, refl, sym, ap}
-use lib.ListN.{get_or}
 use Rattle.queue_entries.specs.Schedules.{run_by, history_by}
 use Rattle.queue_entries.specs.Entries.{stray_of, order_of, entry_of}
 use Rattle.queue_entries.specs.Limits.{all, in_limits}
-use Rattle.bounded_words.specs.Limits.{narrow}
 use Rattle.bounded_words.specs.Words.{stamp, fixed_of, doubled, mark_of, marked_of, unmarked_of, plus, minus, with_mark, next_of, same, one_past, lap_behind, lap_behind_one_past}
-use Rattle.bounded_places.specs.declared.Slot.{Slot}
 use Rattle.bounded_places.specs.declared.Kind.TheVariants.{Push}
 use Rattle.bounded_places.specs.declared.Loss.TheVariants as loss
 use Rattle.bounded_places.specs.declared.Place.TheVariants.{P3, O3, O4, O5}

@@ -17,7 +17,7 @@ use Rattle.bounded_machine.specs.History.{moved_of}
 use Rattle.bounded_demands.specs.Notions.{Definition, AllowedWith, machine_after, InHand, acts}
 use Rattle.bounded_demands.specs.Stories.{Story, story_of, known, change_of, put_by, taken_by, given_back}
 use Rattle.bounded_demands.specs.Demands.{Meant, Changes, InCallOrder}
-use Rattle.bounded_slips.specs.Slips.{lost_push_goes_on, never_lets_go, hands_out_again, lost_says_pushed, close_says_yes, push_stamp_untested, force_uncompared, full_gives_another, close_says_no, slipped}
+use Rattle.bounded_slips.specs.Slips.{lost_push_goes_on, never_lets_go, hands_out_again, push_stamp_untested, full_gives_another, close_says_no, slipped}
 use Rattle.bounded_slips.specs.Refuted.{Trial, trial, does}
 use Rattle.bounded_slips.specs.RefutedPlain.{push_drops, pop_of_none, force_of_nothing, closed_twice}
 

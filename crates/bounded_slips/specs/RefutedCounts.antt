@@ -1,5 +1,4 @@
 -- Which statement refuses which slip in what is counted, in a close of any machine, and in the numbers of sixteen bits.
-use Rattle.std.specs.Prelude.{ℕ}
 use Rattle.bounded_words.specs.declared.Width.TheVariants.{Sixteen}
 use Rattle.bounded_words.specs.Limits.{narrow}
 use Rattle.bounded_sixteen_bits.specs.SixteenBits.{narrowed}

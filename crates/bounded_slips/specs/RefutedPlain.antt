@@ -1,5 +1,5 @@
 -- Which tables are no plain queue's: of each slip a schedule on which `AnswersPlain` is false (clause by clause: Clauses.antt); and of which `OneStep` is.
-use Rattle.std.specs.Prelude.{ℕ, List, [], ◌∷◌, ◌++◌}
+use Rattle.std.specs.Prelude.{[], ◌++◌}
 use Rattle.bounded_words.specs.declared.Width.TheVariants.{SixtyFour}
 use Rattle.bounded_demands.specs.Notions.{acts, document01, with_records}
 use Rattle.bounded_demands.specs.Stories.{story_of, moment_named}
