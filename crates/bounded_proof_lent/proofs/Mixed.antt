@@ -2,18 +2,16 @@
 use Prim.Native.Nat.{ℕ, suc, ◌%◌}
 use mathlib.Core.Path.{◌≡◌, refl, sym, ap, ◌∙◌, subst}
 use mathlib.Core.Bool.{Bool, true, false, cond}
-use mathlib.Core.List.{List, [], ◌∷◌, ◌++◌}
+use mathlib.Core.List.{List, [], ◌∷◌}
 use native.Mathlib.Omega.{arith}
 use lib.Dec.{eqb}
 use lib.ListN.{length}
 use Rattle.queue_schedules.proofs.Schedules.{schedule_keeps}
 use Rattle.bounded_words.specs.declared.Width.{Width}
 use Rattle.bounded_words.specs.declared.Width.TheVariants.{SixtyFour}
-use Rattle.bounded_places.specs.declared.Worker.{Worker}
 use Rattle.bounded_machine.specs.declared.Machine.{Machine}
 use Rattle.bounded_machine.specs.Machine.{fresh_with}
-use Rattle.bounded_orders.specs.declared.Metered.{Metered}
-use Rattle.bounded_lent.specs.Lent.{held, broken_lent, Lent, lent, step_lent, run_lent, make_lent}
+use Rattle.bounded_lent.specs.Lent.{broken_lent, Lent, run_lent, make_lent}
 use Rattle.bounded_lent.proofs.Running.{Whole, turned_whole, held_again}
 use Rattle.bounded_demands.specs.Notions.{with_records, AllowedWith, window_length, widest_length}
 use Rattle.bounded_demands.specs.Lending.{item11, steps, held_in, Doing, stepping, running, done_lent, left_lent, taken_lent, all_taken_lent}

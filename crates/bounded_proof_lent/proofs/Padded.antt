@@ -5,7 +5,7 @@ use mathlib.Core.Bool.{Bool, true, false, cond, not}
 use mathlib.Core.List.{List, [], ◌∷◌, ◌++◌}
 use native.Mathlib.Omega.{arith}
 use native.Mathlib.Decide.{dec_lt}
-use lib.Dec.{ltb, leb, eqb}
+use lib.Dec.{ltb, eqb}
 use lib.ListN.{length, set, replicate, length-replicate, length-append, get_or-eq_default}
 use borrow.Author.Tests.{ltb-true, le-leb, eqb-true}
 use Rattle.queue_entries.specs.Limits.{workers_most, in_limits, all}
@@ -40,7 +40,7 @@ use Rattle.bounded_orders.specs.declared.Metered.{Metered}
 use Rattle.bounded_orders.specs.Orders.{records_most, make_refusal_with, make_refusal, metered_of, capacity_told, filled, contents_by}
 use Rattle.bounded_step_machine.specs.Steps.{step_of_by}
 use Rattle.bounded.specs.Bounded.{make_of, step_of}
-use Rattle.bounded_lent.specs.Lent.{held, broken_lent, Lent, lent, lent_of, turn_lent, step_lent, Gone, gone_of, run_lent, make_lent, capacity_lent, contents_lent}
+use Rattle.bounded_lent.specs.Lent.{held, broken_lent, Lent, lent, lent_of, turn_lent, step_lent, run_lent, make_lent, capacity_lent, contents_lent}
 use Rattle.bounded_lent.proofs.Turning.{unbroken_lent, lent_unbroken}
 use Rattle.bounded_lent.proofs.Running.{Whole, turned_whole}
 use Rattle.bounded_lent.proofs.Listing.{idle_fits}

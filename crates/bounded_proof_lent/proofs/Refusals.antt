@@ -1,5 +1,5 @@
 -- Demand 1 of the lent face, of any number of records.
-use Prim.Native.Nat.{ℕ, ◌+◌, ◌*◌, ◌%◌}
+use Prim.Native.Nat.{ℕ, ◌+◌, ◌*◌}
 use mathlib.Core.Path.{◌≡◌, refl, sym, ap, ◌∙◌}
 use mathlib.Core.Bool.{Bool, true, false, cond}
 use mathlib.Core.List.{List, [], ◌∷◌}
@@ -11,7 +11,6 @@ use Rattle.queue_entries.specs.Limits.{in_limits}
 use Rattle.queue_entries.specs.declared.Told.{Told}
 use Rattle.queue_entries.specs.declared.Told.TheVariants.{Number, Refused}
 use Rattle.queue_entries.specs.Told.{told}
-use Rattle.queue_entries.specs.Entries.{entry_of}
 use Rattle.queue_entries.specs.Schedules.{run_by}
 use Rattle.queue_schedules.proofs.Schedules.{schedule_first, schedule_read, schedule_kept, schedule_unread, schedule_keeps, schedule_in}
 use Rattle.bounded_words.specs.Limits.{slots_most, editions_most}
@@ -20,9 +19,9 @@ use Rattle.bounded_places.specs.declared.Worker.{Worker}
 use Rattle.bounded_machine.specs.declared.Machine.{Machine}
 use Rattle.bounded_machine.specs.declared.Did.{Did}
 use Rattle.bounded_machine.specs.declared.Ran.{Ran}
-use Rattle.bounded_machine.specs.Machine.{fresh_with, blank, accepted, fixed_on}
+use Rattle.bounded_machine.specs.Machine.{fresh_with, blank, accepted}
 use Rattle.bounded_machine.specs.Broken.{all_idle}
-use Rattle.bounded_machine.specs.Contents.{count_on, contents_of, contents_refusal_by}
+use Rattle.bounded_machine.specs.Contents.{count_on, contents_refusal_by}
 use Rattle.bounded_machine.specs.Turn.{turn_of}
 use Rattle.bounded_machine.specs.Run.{ran, run_at}
 use Rattle.bounded_machine.proofs.Kept.{either, UnbrokenWith}
@@ -31,7 +30,7 @@ use Rattle.bounded_orders.specs.declared.Metered.{Metered}
 use Rattle.bounded_orders.specs.Orders.{records_most, make_refusal_with, make_refusal, metered_of, report, capacity_told, contents_by}
 use Rattle.bounded_lent.specs.Lent.{held, broken_lent, Lent, lent, lent_of, turn_lent, step_lent, Gone, gone, gone_of, run_lent, make_lent, contents_lent}
 use Rattle.bounded_lent.proofs.Turning.{unbroken_lent, few_lent}
-use Rattle.bounded_lent.proofs.Running.{Whole, turned_whole, held_again}
+use Rattle.bounded_lent.proofs.Running.{Whole, turned_whole}
 use Rattle.bounded_demands.specs.Notions.{has}
 use Rattle.bounded_demands.specs.Lending.{item11, refusal_of, step_by_step}
 use Rattle.bounded_demands.specs.Demands.{LentRefused, LentNumbered, LentListFirst, LentStaysUnbroken, LentDemand1}

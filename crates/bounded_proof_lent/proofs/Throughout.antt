@@ -1,5 +1,5 @@
 -- Steps that are each on what the last one left are a schedule of those that were not refused; so demands 2 and 3 hold of lent records.
-use Prim.Native.Nat.{ℕ, ◌+◌, ◌<◌, ◌≤◌}
+use Prim.Native.Nat.{ℕ, ◌+◌}
 use mathlib.Core.Path.{◌≡◌, refl, sym, ap, ◌∙◌, subst}
 use mathlib.Core.Bool.{Bool, true, false, cond}
 use mathlib.Core.List.{List, [], ◌∷◌, ◌++◌}
@@ -17,15 +17,14 @@ use Rattle.bounded_places.specs.declared.Worker.{Worker}
 use Rattle.bounded_machine.specs.declared.Machine.{Machine}
 use Rattle.bounded_machine.specs.declared.Did.{Did}
 use Rattle.bounded_machine.specs.declared.Event.{Event}
-use Rattle.bounded_machine.specs.Machine.{idler, idlers, machine_of, fresh_with, blank, accepted}
+use Rattle.bounded_machine.specs.Machine.{idler, idlers, fresh_with, blank, accepted}
 use Rattle.bounded_machine.specs.Turn.{turn_of}
 use Rattle.bounded_machine.specs.Run.{ran, run_at}
 use Rattle.bounded_machine.specs.History.{events_of, history_at}
-use Rattle.bounded_machine.proofs.Kept.{either, UnbrokenWith}
+use Rattle.bounded_machine.proofs.Kept.{UnbrokenWith}
 use Rattle.bounded_machine.proofs.Turns.{turn_of_unbroken}
-use Rattle.bounded_orders.specs.declared.Metered.{Metered}
 use Rattle.bounded_orders.specs.Orders.{records_most, make_refusal_with, make_refusal, metered_of}
-use Rattle.bounded_lent.specs.Lent.{held, broken_lent, Lent, lent, lent_of, turn_lent, step_lent, make_lent}
+use Rattle.bounded_lent.specs.Lent.{held, broken_lent, Lent, lent, lent_of, step_lent, make_lent}
 use Rattle.bounded_lent.proofs.Turning.{unbroken_lent, few_lent, lent_unbroken, step_turned}
 use Rattle.bounded_lent.proofs.Running.{Whole, turned_whole, held_again, unchanged}
 use Rattle.bounded_demands.specs.Notions.{with_records, AllowedWith}

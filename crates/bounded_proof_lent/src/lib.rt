@@ -2,4 +2,3 @@
 // lent records are those of the machine that holds them; Acting.antt, a step leaves the other records; Throughout.antt, steps that are each on what the last one left are a schedule.
 // Theorems alone.
 #![tactic(auto)]
-
