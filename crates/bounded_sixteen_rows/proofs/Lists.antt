@@ -1,7 +1,7 @@
 -- Words of sixteen bits that stand for a ring and records: read, stored, and one to one.
-use Prim.Native.Nat.{ℕ, zero, suc, ◌/◌, ◌%◌, ◌<◌}
+use Prim.Native.Nat.{ℕ, zero, suc, ◌%◌, ◌<◌}
 use mathlib.Core.Path.{◌≡◌, refl, sym, ap, ◌∙◌}
-use mathlib.Core.Bool.{Bool, true, false, cond}
+use mathlib.Core.Bool.{true}
 use mathlib.Core.List.{List, [], ◌∷◌}
 use native.Mathlib.Omega.{arith}
 use lib.Dec.{eqb}
@@ -9,14 +9,13 @@ use lib.ListN.{length, get_or, set, length-set}
 use lib.Seq.{get_or-set_same, get_or-set_other}
 use borrow.Author.Tests.{eq-eqb, eqb-true}
 use Rattle.queue_entries.proofs.Pick.{both_left, both_right}
-use Rattle.bounded_words.specs.declared.Fixed.{Fixed}
 use Rattle.bounded_words.specs.Words.{stamp}
 use Rattle.bounded_places.specs.declared.Ends.{Ends}
 use Rattle.bounded_places.specs.declared.Slot.{Slot}
 use Rattle.bounded_places.specs.declared.Worker.{Worker}
 use Rattle.bounded_machine.specs.Machine.{slot}
 use Rattle.bounded_lent.specs.Lent.{Lent, lent}
-use Rattle.bounded_rows.specs.Rows.{fixed_in, ends_in, records_in, records_of, placed, with_record}
+use Rattle.bounded_rows.specs.Rows.{fixed_in, ends_in, records_in, placed, with_record}
 use Rattle.bounded_rows.proofs.Lists.{whole_records, still_placed, long_record}
 use Rattle.bounded_sixteen_rows.specs.SixteenRows.{Shorts, shorts, layout, head_of, stamps_of, values_of, shorts_of, slots_in, metered_in, shaped_for, stand, with_ends, after, after_of}
 

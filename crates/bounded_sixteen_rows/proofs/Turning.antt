@@ -1,8 +1,8 @@
 -- One entry on words of sixteen bits that stand for a ring and records that are not broken: what it leaves fits in sixteen bits, and is what the entry leaves of the ring and the records.
 use Prim.Native.Nat.{ℕ, zero, suc, ◌+◌, ◌*◌, ◌/◌, ◌<◌}
 use mathlib.Core.Path.{◌≡◌, refl, sym, ap, ◌∙◌, subst}
-use mathlib.Core.Bool.{Bool, true, false}
-use mathlib.Core.List.{List, [], ◌∷◌}
+use mathlib.Core.Bool.{true, false}
+use mathlib.Core.List.{List}
 use native.Mathlib.Omega.{arith}
 use lib.Dec.{leb}
 use lib.ListN.{length, get_or, set, replicate, length-set}
@@ -37,7 +37,7 @@ use Rattle.bounded_sixteen_bits.specs.SixteenBits.{Short}
 use Rattle.bounded_narrow.proofs.Shorts.{entry_short}
 use Rattle.bounded_rows.specs.Rows.{fixed_in, ends_in, record_at, with_record, records_in}
 use Rattle.bounded_rows.proofs.Lists.{many, room, get, put, long_record}
-use Rattle.bounded_sixteen_rows.specs.SixteenRows.{Shorts, shorts, slots_in, with_ends, metered_in, stand, after, after_of, turn_shorts}
+use Rattle.bounded_sixteen_rows.specs.SixteenRows.{Shorts, shorts, with_ends, metered_in, stand, after, after_of, turn_shorts}
 use Rattle.bounded_sixteen_rows.proofs.Lists.{get_slot, put_slot, same_fixed, new_ends, Standing, standing, stands, still_standing, as_words}
 
 -- ---- what an entry leaves fits in sixteen bits, where what it is handed does: from the machine that has no other record and no other slot

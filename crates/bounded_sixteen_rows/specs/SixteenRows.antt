@@ -1,5 +1,5 @@
 -- A ring of sixteen bits and its records as words in a host's memory, and back: seven words of sixteen bits, the meter, a stamp of sixteen bits and a value for each slot of the capacity, five words for each record.
-use Rattle.std.specs.Prelude.{ℕ, ◌%◌, Bool, true, false, cond, List, [], ◌∷◌, map, eqb, length, get_or, set}
+use Rattle.std.specs.Prelude.{ℕ, ◌%◌, Bool, true, false, cond, List, [], ◌∷◌, eqb, length, get_or, set}
 use Rattle.bounded_words.specs.declared.Width.TheVariants.{Sixteen}
 use Rattle.bounded_places.specs.declared.Ends.{Ends}
 use Rattle.bounded_places.specs.declared.Slot.{Slot}
