@@ -2,7 +2,7 @@
 use Prim.Native.Nat.{ℕ, ◌+◌, ◌-◌, ◌%◌, ◌<◌, ◌≤◌}
 use mathlib.Core.Path.{◌≡◌, refl, sym, ap, ◌∙◌, subst}
 use mathlib.Core.Bool.{Bool, true, false, cond, not}
-use mathlib.Core.List.{List, [], ◌∷◌, ◌++◌}
+use mathlib.Core.List.{List, [], ◌++◌}
 use native.Mathlib.Omega.{arith}
 use lib.ListN.{length, get_or, drop}
 use borrow.Author.Tests.{lt-ltb, le-ltb}
@@ -24,16 +24,16 @@ use Rattle.bounded_machine.proofs.Items as items
 use Rattle.bounded_machine.proofs.Laws as ring-laws
 use Rattle.queue_entries.proofs.Limits.{limit_most}
 use Rattle.bounded_machine.proofs.Kept.{ring_in}
-use Rattle.bounded_orders.specs.Orders.{Filled, filled, contents_by, contents_on}
+use Rattle.bounded_orders.specs.Orders.{filled, contents_by, contents_on}
 use Rattle.bounded_lent.specs.Lent.{each_fits, broken_lent, held, contents_lent}
 use Rattle.bounded_lent.proofs.Turning.{unbroken_lent, fair_lent}
 use Rattle.bounded_lent.proofs.Listing as lent-listing
 use Rattle.bounded_rows.specs.Rows.{fixed_in, ends_in, records_in, placed}
-use Rattle.bounded_sixteen_rows.specs.SixteenRows.{Shorts, shorts, slots_in, metered_in, stand, broken_shorts}
+use Rattle.bounded_sixteen_rows.specs.SixteenRows.{Shorts, shorts, slots_in, metered_in, broken_shorts}
 use Rattle.bounded_sixteen_rows.proofs.Lists.{get_slot, Standing, standing}
 use Rattle.bounded_sixteen_rows.proofs.Fitting as fitting
 use Rattle.bounded_sixteen_host.specs.declared.Reply.{Reply}
-use Rattle.bounded_sixteen_host.specs.SixteenHost.{reply, reply_of, Listed, listed, listed_of, contents_shorts}
+use Rattle.bounded_sixteen_host.specs.SixteenHost.{reply, reply_of, listed, listed_of, contents_shorts}
 
 pub along_told : (t u : Told) (r : Reply) → t ≡ u → r ≡ reply_of u → r ≡ reply_of t
 along_told t u r h e = e ∙ ap reply_of (sym h)

@@ -1,10 +1,9 @@
 -- A fresh ring written as words, and the refusals of making.
-use Prim.Native.Nat.{ℕ, zero, suc, ◌+◌, ◌*◌, ◌/◌, ◌%◌, ◌<◌, ◌≤◌}
-use mathlib.Core.Path.{◌≡◌, refl, sym, ap, ◌∙◌, subst}
+use Prim.Native.Nat.{ℕ, zero, suc, ◌+◌, ◌*◌, ◌/◌, ◌<◌, ◌≤◌}
+use mathlib.Core.Path.{◌≡◌, refl, sym, ap, ◌∙◌}
 use mathlib.Core.Bool.{Bool, true, false, cond}
 use mathlib.Core.List.{List, [], ◌∷◌, ◌++◌, append_assoc, append-nil}
 use native.Mathlib.Omega.{arith}
-use lib.Dec.{eqb}
 use lib.ListN.{length, get_or, set, drop, replicate, length-set, drop_of_length-le}
 use lib.Seq.{drop-cons, set_at}
 use native.Mathlib.Numerals.{add-one}
@@ -13,7 +12,6 @@ use Rattle.queue_entries.specs.Limits.{in_limits}
 use Rattle.queue_entries.proofs.Limits.{limit_most}
 use Rattle.bounded_words.specs.Limits.{slots_most, editions_most}
 use Rattle.bounded_words.specs.Words.{mark_of}
-use Rattle.bounded_words.proofs.Marks.{mark_is}
 use Rattle.bounded_orders.specs.Orders.{records_most, make_refusal_with}
 use Rattle.bounded_sixteen_rows.specs.SixteenRows.{shorts, layout, shaped_for, after}
 use Rattle.bounded_sixteen_rows.proofs.Lists.{shaped_all}

@@ -1,8 +1,8 @@
 -- Entries over words of sixteen bits, one and a schedule, turn by turn.
-use Prim.Native.Nat.{ℕ, ◌+◌, ◌*◌, ◌%◌, ◌<◌, ◌≤◌}
-use mathlib.Core.Path.{◌≡◌, refl, sym, ap, ◌∙◌, subst}
+use Prim.Native.Nat.{ℕ, ◌+◌, ◌*◌, ◌<◌, ◌≤◌}
+use mathlib.Core.Path.{◌≡◌, refl, sym, ap, ◌∙◌}
 use mathlib.Core.Bool.{Bool, true, false, cond}
-use mathlib.Core.List.{List, [], ◌∷◌}
+use mathlib.Core.List.{List}
 use native.Mathlib.Omega.{arith}
 use lib.Dec.{eqb}
 use lib.ListN.{length, get_or, drop, drop_of_length-le}
@@ -11,13 +11,10 @@ use Rattle.queue_entries.specs.Entries.{entry_of}
 use Rattle.queue_entries.specs.Schedules.{run_by, schedule_by}
 use Rattle.queue_entries.proofs.Searching.{two_words}
 use Rattle.bounded_words.specs.declared.Width.TheVariants.{Sixteen}
-use Rattle.bounded_places.specs.declared.Worker.{Worker}
 use Rattle.bounded_acts.specs.Acts.{act_of}
 use Rattle.bounded_machine.specs.declared.Machine.{Machine}
-use Rattle.bounded_machine.specs.declared.Did.{Did}
 use Rattle.bounded_machine.specs.Turn.{turn_at, turn_of_by}
 use Rattle.bounded_step_machine.proofs.Steps.{turn_unchanged}
-use Rattle.bounded_orders.specs.declared.Metered.{Metered}
 use Rattle.bounded_orders.specs.declared.Report.{Report}
 use Rattle.bounded_orders.specs.Orders.{metered_of, unless_refused, report, judged_of}
 use Rattle.bounded_orders.proofs.Making.{not_refused, is_refused}
@@ -28,7 +25,6 @@ use Rattle.bounded_rows.specs.Rows.{fixed_in, records_in}
 use Rattle.bounded_sixteen_rows.specs.SixteenRows.{Shorts, shorts, shorts_of, metered_in, stand, broken_shorts, After, after, after_of, turn_shorts}
 use Rattle.bounded_sixteen_rows.proofs.Lists.{standing, same_words}
 use Rattle.bounded_sixteen_rows.proofs.Fitting as fitting
-use Rattle.bounded_sixteen_host.specs.declared.Reply.{Reply}
 use Rattle.bounded_sixteen_host.specs.SixteenHost.{reply, broken_refusal, turned, step_shorts, Ended, ended, run_shorts, capacity_shorts}
 
 -- ---- words that were judged

@@ -1,12 +1,12 @@
 -- What each function of the sixteen-bit host's face answers, and the words as they are then. Words that stand for no ring and records are refusal 6; a refused call changes no word.
-use Rattle.std.specs.Prelude.{ℕ, zero, suc, ◌+◌, ◌-◌, ◌/◌, Bool, cond, List, [], ◌∷◌, eqb, ltb, length, get_or, replicate}
+use Rattle.std.specs.Prelude.{ℕ, zero, suc, ◌+◌, ◌/◌, cond, List, [], ◌∷◌, eqb, length, get_or, replicate}
 use Rattle.queue_entries.specs.Entries.{entry_of}
 use Rattle.queue_entries.specs.Schedules.{schedule_by}
 use Rattle.queue_entries.specs.declared.Told.{Told}
 use Rattle.queue_entries.specs.declared.Told.TheVariants.{Number, Refused}
 use Rattle.bounded_words.specs.Words.{mark_of, lap_of}
 use Rattle.bounded_orders.specs.Orders.{make_refusal, Filled}
-use Rattle.bounded_lent.specs.Lent.{capacity_lent, contents_lent}
+use Rattle.bounded_lent.specs.Lent.{contents_lent}
 use Rattle.bounded_rows.specs.Rows.{records_in}
 use Rattle.bounded_sixteen_rows.specs.SixteenRows.{Shorts, shorts, layout, metered_in, shaped_for, stand, broken_shorts, After, after, after_of, turn_shorts}
 use Rattle.bounded_sixteen_host.specs.declared.Reply.{Reply}
