@@ -25,7 +25,15 @@ fn make(whole: Whole, out: &mut [u8], at: usize) -> Going {
 }
 
 // PLACE R h=H hb=B t=T tb=B m=M wN=S
-fn line(system: &System, out: &mut [u8], at: usize, place: u64, refusal: u64, w: u64, m: Machine) -> usize {
+fn line(
+    system: &System,
+    out: &mut [u8],
+    at: usize,
+    place: u64,
+    refusal: u64,
+    w: u64,
+    m: Machine,
+) -> usize {
     let p = unbounded_text::machine::place_of(m, w);
     let s = unbounded_text::machine::standing_of(m);
     let q = unbounded_text::machine::entry(out, at, place, refusal, w, s, p);
@@ -106,10 +114,15 @@ fn finish(system: &System, g: Going, o: Options, out: &mut [u8]) -> Played {
     let q = unbounded_text::machine::blocks(system, out, p, m);
     let t = contents(system, out, q, m);
     let answers = unbounded_text::machine::answers(m);
-    replay_survey::pieces::played(run, replay_survey::pieces::end(system, out, t, o.many), answers)
+    replay_survey::pieces::played(
+        run,
+        replay_survey::pieces::end(system, out, t, o.many),
+        answers,
+    )
 }
 
-fn all(system: &System, 
+fn all(
+    system: &System,
     o: Options,
     file: &File,
     begun: Reading,
@@ -124,7 +137,13 @@ fn all(system: &System,
     while turns > 0 && replay_survey::pieces::goes_on(system, p, g.run) {
         turns -= 1;
         p = replay_survey::pieces::next(system, file, o.many, p, g.run, bytes, list);
-        g = run_piece(system, g, o.quiet, replay_survey::pieces::entries(p, list), out);
+        g = run_piece(
+            system,
+            g,
+            o.quiet,
+            replay_survey::pieces::entries(p, list),
+            out,
+        );
     }
     let run = replay_survey::pieces::ended(system, file, o.many, p, g.run, bytes);
     g.run = run;
@@ -132,7 +151,8 @@ fn all(system: &System,
 }
 
 // A schedule, read piece by piece and run to its end or to its first refusal.
-pub fn play(system: &System, 
+pub fn play(
+    system: &System,
     o: Options,
     file: &File,
     begun: Reading,
@@ -143,5 +163,10 @@ pub fn play(system: &System,
     let mut bytes = [0u8; replay_input::source::BYTES];
     let mut list = [1u64; replay_input::source::NUMBERS];
     let made = make(whole, out, at);
-    finish(system, all(system, o, file, begun, made, &mut bytes, &mut list, out), o, out)
+    finish(
+        system,
+        all(system, o, file, begun, made, &mut bytes, &mut list, out),
+        o,
+        out,
+    )
 }
