@@ -50,14 +50,28 @@ fn colour_of(e: Entered) -> u8 {
 }
 
 // Of an entry that was accepted, by what was noted before it.
-pub fn told(system: &System, out: &mut [u8], at: usize, colours: bool, e: Entered, n: Notes) -> usize {
+pub fn told(
+    system: &System,
+    out: &mut [u8],
+    at: usize,
+    colours: bool,
+    e: Entered,
+    n: Notes,
+) -> usize {
     let mut line = [0u8; columns::WIDE];
     let k = entry_line(&mut line, e, n);
     columns::put(system, out, at, &line, k, colours, colour_of(e))
 }
 
 // Of the making with so many workers.
-pub fn made(system: &System, out: &mut [u8], at: usize, colours: bool, refusal: u64, workers: u64) -> usize {
+pub fn made(
+    system: &System,
+    out: &mut [u8],
+    at: usize,
+    colours: bool,
+    refusal: u64,
+    workers: u64,
+) -> usize {
     let table = b"0 made: a one-slot queue, #a workers|\
         2 refused 2: the number of workers, #a, is not 1 to 16|";
     text_explain::words::made(system, out, at, colours, table, refusal, &[workers])
