@@ -183,7 +183,8 @@ fn with_reading(l: Look, r: Reading, list: &[u64], target: u64, notes: &mut [u64
 }
 
 // One reading more.
-fn turn(system: &System, 
+fn turn(
+    system: &System,
     l: Look,
     file: &File,
     many: bool,
@@ -197,7 +198,8 @@ fn turn(system: &System,
 }
 
 // By pieces as long as the bytes, to the one that has the pair with this number or to the end.
-fn reach(system: &System, 
+fn reach(
+    system: &System,
     from: Look,
     file: &File,
     many: bool,
@@ -216,7 +218,8 @@ fn reach(system: &System,
 }
 
 // Byte by byte, from where no pair and no row was begun; a queue without a capacity has a 1 before its first number.
-fn reach_line(system: &System, 
+fn reach_line(
+    system: &System,
     l: Look,
     file: &File,
     many: bool,
@@ -231,7 +234,8 @@ fn reach_line(system: &System,
 }
 
 // The pair with this number, and the line where it was written.
-fn looked(system: &System, 
+fn looked(
+    system: &System,
     file: &File,
     many: bool,
     begun: Reading,
@@ -240,7 +244,16 @@ fn looked(system: &System,
     list: &mut [u64],
     notes: &mut [u64],
 ) -> Look {
-    let l = reach(system, start(begun, 0), file, many, target, bytes, list, notes);
+    let l = reach(
+        system,
+        start(begun, 0),
+        file,
+        many,
+        target,
+        bytes,
+        list,
+        notes,
+    );
     if begun.is_tape {
         l
     } else {
@@ -372,7 +385,14 @@ fn out(system: &System, text: &mut [u8], at: usize) {
 }
 
 // Of the whole: there is no machine, or no pair for a number.
-fn tell_whole(system: &System, name: &[u8], refusal: u64, whole: Whole, before: usize, edition: u64) {
+fn tell_whole(
+    system: &System,
+    name: &[u8],
+    refusal: u64,
+    whole: Whole,
+    before: usize,
+    edition: u64,
+) {
     let mut text = [0u8; replay_input::say::LINE];
     let p = place(&mut text, name, true, 0);
     let q = refused(&mut text, p, refusal, 0);
@@ -408,7 +428,8 @@ fn entry_if(text: &mut [u8], name: &[u8], l: Look, target: u64) -> usize {
     place(text, name, true, 0)
 }
 
-fn tell_entry(system: &System, 
+fn tell_entry(
+    system: &System,
     name: &[u8],
     l: Look,
     target: u64,
@@ -426,7 +447,8 @@ fn tell_entry(system: &System,
 }
 
 // The file's line, what was written there and why it is refused. A file that has changed meanwhile may have no such entry: then nothing is said.
-pub fn tell(system: &System, 
+pub fn tell(
+    system: &System,
     name: &[u8],
     file: &File,
     many: bool,
@@ -445,20 +467,40 @@ pub fn tell(system: &System,
     let mut list = [1u64; replay_input::source::NUMBERS];
     let mut notes = [0u64; NOTES];
     let target = more(place, 1);
-    let l = looked(system, file, many, begun, target, &mut bytes, &mut list, &mut notes);
+    let l = looked(
+        system, file, many, begun, target, &mut bytes, &mut list, &mut notes,
+    );
     if l.found {
-        tell_entry(system, name, l, target, refusal, &notes, whole.workers, answers);
+        tell_entry(
+            system,
+            name,
+            l,
+            target,
+            refusal,
+            &notes,
+            whole.workers,
+            answers,
+        );
     }
 }
 
 // Of an entry that is refused for what this text says, the same line up to there. Where a file that has changed has no such entry, it has its name alone.
-pub fn tell_of(system: &System, name: &[u8], file: &File, begun: Reading, entry_place: u64, why: &[u8]) {
+pub fn tell_of(
+    system: &System,
+    name: &[u8],
+    file: &File,
+    begun: Reading,
+    entry_place: u64,
+    why: &[u8],
+) {
     let mut text = [0u8; replay_input::say::LINE];
     let mut bytes = [0u8; replay_input::source::BYTES];
     let mut list = [1u64; replay_input::source::NUMBERS];
     let mut notes = [0u64; NOTES];
     let target = more(entry_place, 1);
-    let l = looked(system, file, false, begun, target, &mut bytes, &mut list, &mut notes);
+    let l = looked(
+        system, file, false, begun, target, &mut bytes, &mut list, &mut notes,
+    );
     let p = entry_if(&mut text, name, l, target);
     let q = text_output::text(&mut text, p, why);
     out(system, &mut text, q)
