@@ -61,7 +61,8 @@ fn colour_of(e: Entered, is_back: bool) -> u8 {
 }
 
 // Of an entry that was accepted, by what was noted before it.
-pub fn told(system: &System, 
+pub fn told(
+    system: &System,
     out: &mut [u8],
     at: usize,
     colours: bool,
@@ -80,7 +81,14 @@ pub fn told(system: &System,
 }
 
 // Of the making with so many workers.
-pub fn made(system: &System, out: &mut [u8], at: usize, colours: bool, refusal: u64, workers: u64) -> usize {
+pub fn made(
+    system: &System,
+    out: &mut [u8],
+    at: usize,
+    colours: bool,
+    refusal: u64,
+    workers: u64,
+) -> usize {
     let table = b"0 made: an unbounded queue, #a workers|\
         2 refused 2: the number of workers, #a, is not 1 to 16|";
     text_explain::words::made(system, out, at, colours, table, refusal, &[workers])
