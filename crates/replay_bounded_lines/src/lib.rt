@@ -80,7 +80,14 @@ fn moment_if(asked: bool, out: &mut [u8], at: usize, a: Answers) -> usize {
 }
 
 // left the window at entry N, behind the line of that entry
-fn window_if(system: &System, asked: bool, out: &mut [u8], at: usize, a: Answers, place: u64) -> usize {
+fn window_if(
+    system: &System,
+    asked: bool,
+    out: &mut [u8],
+    at: usize,
+    a: Answers,
+    place: u64,
+) -> usize {
     let window = a.window;
     if asked {
         return replay_bounded_window::tell(system, out, at, &window, place);
@@ -89,7 +96,8 @@ fn window_if(system: &System, asked: bool, out: &mut [u8], at: usize, a: Answers
 }
 
 // PLACE R h=H t=T m=M wN=S, and what is asked beside it
-fn own_line(system: &System, 
+fn own_line(
+    system: &System,
     o: Options,
     out: &mut [u8],
     at: usize,
@@ -114,7 +122,8 @@ fn own_line(system: &System,
 }
 
 // The line of an entry, and the one behind it, if there is one.
-pub fn line(system: &System, 
+pub fn line(
+    system: &System,
     o: Options,
     out: &mut [u8],
     at: usize,
