@@ -82,8 +82,7 @@ module _ (ws : List Worker) (long : length ws ≡ walkers_most) where
       → cond (not x) (cond (not y) (cond (not z) true false) false) false ≡ all_idle ws
   unfolding all_idle all
   three_idle x y z ex ey ez =
-      (λ k. cond (not ((ex ∙ busy_may (record_of_worker ws 0)) k))
-      (cond (not ((ey ∙ busy_may (record_of_worker ws 1)) k)) (cond (not ((ez ∙ busy_may (record_of_worker ws 2)) k)) true false) false) false)
+      (λ k. cond (not ((ex ∙ busy_may (record_of_worker ws 0)) k)) (cond (not ((ey ∙ busy_may (record_of_worker ws 1)) k)) (cond (not ((ez ∙ busy_may (record_of_worker ws 2)) k)) true false) false) false)
       ∙ ap (λ (n : ℕ). all n 0 (λ (i : ℕ). not (view_of (place_of ws i)).busy)) (sym long)
 
   module _ (x : Bool) (ex : x ≡ may_act (record_of_worker ws 0) false) where
@@ -238,8 +237,7 @@ module _ (s : State) (n more : ℕ) (sound : Sound s n (more + 1)) (w : ℕ) (l 
       unfolding after_of broken_with
       sound_next = record {
         few = sound.few;
-        whole = λ stamps values. of_unbroken _ (moved_unbroken (machine_in s stamps values) (whole stamps values) w l SixtyFour 0 (act_in s stamp value w lose)
-            (slot stamp value) lose busy refl _ refl);
+        whole = λ stamps values. of_unbroken _ (moved_unbroken (machine_in s stamps values) (whole stamps values) w l SixtyFour 0 (act_in s stamp value w lose) (slot stamp value) lose busy refl _ refl);
         depth = omega (arith, sound.depth);
         meter = omega (arith, sound.meter);
       }

@@ -1,6 +1,5 @@
 -- What the functions on words rest on.
-use Rattle.std.proofs.Common.{◌≡◌, ℕ, zero, suc, ◌+◌, ◌-◌, ◌*◌, ◌/◌, ◌%◌, ◌^◌, ◌<◌, ◌≤◌, Bool, true, false, not, eqb, sym, refl, ap, ◌∙◌, subst, mod-lt}
-use Rattle.std.proofs.Common.{mod-eq_of_lt, le-div_iff_mul-le, arith, pow-add, le-ltb, lt-ltb, eq-eqb, ne_eqb, eqb-true}
+use Rattle.std.proofs.Common.{◌≡◌, ℕ, zero, suc, ◌+◌, ◌-◌, ◌*◌, ◌/◌, ◌%◌, ◌^◌, ◌<◌, ◌≤◌, Bool, true, false, not, eqb, sym, refl, ap, ◌∙◌, subst, mod-lt, mod-eq_of_lt, le-div_iff_mul-le, arith, pow-add, le-ltb, lt-ltb, eq-eqb, ne_eqb, eqb-true}
 use native.Mathlib.Nat.{mod-le}
 use lib.Bits.{bit_and, and_mask, and_high}
 use Rattle.queue_entries.proofs.Pick.{yes, no}

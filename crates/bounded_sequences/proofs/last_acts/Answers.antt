@@ -28,12 +28,8 @@ pub loop-w-preserved : goal.loop-w-preserved
 loop-w-preserved c =
     let l = c.loop-w in
     let few = c.loop-w-test.true in
-    let h = turn_half _ _ _ _ _ _ _ _ _ l.invariant.2 few c.last_act-r.new.out c.last_act-r.result c.last_act-r.ensures.answer c.last_act-r.ensures.lent c.last_act-r.auto.out in (
-      l.invariant.0,
-      l.invariant.1,
-      turn_again _ _ _ _ _ _ _ _ _ h c.last_act-r-in-loop-w.new.out c.last_act-r-in-loop-w.result
-          c.last_act-r-in-loop-w.ensures.answer c.last_act-r-in-loop-w.ensures.lent c.last_act-r-in-loop-w.auto.out,
-    )
+    let h = turn_half _ _ _ _ _ _ _ _ _ l.invariant.2 few c.last_act-r.new.out c.last_act-r.result c.last_act-r.ensures.answer c.last_act-r.ensures.lent c.last_act-r.auto.out in
+    (l.invariant.0, l.invariant.1, turn_again _ _ _ _ _ _ _ _ _ h c.last_act-r-in-loop-w.new.out c.last_act-r-in-loop-w.result c.last_act-r-in-loop-w.ensures.answer c.last_act-r-in-loop-w.ensures.lent c.last_act-r-in-loop-w.auto.out)
 
 pub returns : goal.returns
 returns c = record { answer = (turn_done _ _ _ _ _ _ _ _ _ c.loop-w.invariant.2 c.loop-w-test.false).0; lent = (turn_done _ _ _ _ _ _ _ _ _ c.loop-w.invariant.2 c.loop-w-test.false).1 }

@@ -7,8 +7,7 @@ use Rattle.bounded_sequences.proofs.last_acts.Given as goal
 
 abbrev pub invariant-loop-w : goal.invariant-loop-w
 invariant-loop-w l =
-    (l.count ≤ walkers_most) × (l.n < depth_most) × Turn (last_choice l.workers) l.count (take l.n l.path)
-    (after (take l.n l.path) (in_turn (last_choice l.workers) l.count 0)) l.initial.out l.initial.r l.out l.r l.w
+    (l.count ≤ walkers_most) × (l.n < depth_most) × Turn (last_choice l.workers) l.count (take l.n l.path) (after (take l.n l.path) (in_turn (last_choice l.workers) l.count 0)) l.initial.out l.initial.r l.out l.r l.w
 
 abbrev pub decreases-loop-w : goal.decreases-loop-w
 decreases-loop-w l = l.count - l.w

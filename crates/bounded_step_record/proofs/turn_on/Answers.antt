@@ -44,8 +44,7 @@ act_at-a-requires c = record {
 }
 
 pub record_after-after-requires : goal.record_after-after-requires
-record_after-after-requires c = let t = few_at (goal.at.record_after-after-requires c).In-Move in
-    let u = in_time_at (goal.at.record_after-after-requires c).In-Move in (omega (arith, t, u), omega (arith, t, u))
+record_after-after-requires c = let t = few_at (goal.at.record_after-after-requires c).In-Move in let u = in_time_at (goal.at.record_after-after-requires c).In-Move in (omega (arith, t, u), omega (arith, t, u))
 
 pub overflow_add-meter : goal.overflow_add-meter
 overflow_add-meter c = let u = in_time_at (goal.at.overflow_add-meter c).In-Move in record { fits = omega (arith, u) }
