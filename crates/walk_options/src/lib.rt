@@ -96,7 +96,8 @@ pub fn read(system: &System) -> Options {
     let a = judged(text_options::read(system, table, 1));
     let o = options_of(a);
     if o.wrong && !o.help && !o.version {
-        text_options::complain(system, 
+        text_options::complain(
+            system,
             b"walk",
             table,
             a,
