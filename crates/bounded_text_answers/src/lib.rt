@@ -110,9 +110,30 @@ fn tell_more(system: &System, letter: u8, m: [u64; WORDS], n: &[u64], label: &[u
 // What a row writes.
 fn tell(system: &System, letter: u8, m: [u64; WORDS], n: &[u64], label: &[u8]) {
     match letter {
-        b'b' => entry::one(system, label, bounded_text_faces::BEGIN, m, nth(n, 0), nth(n, 1)),
-        b'a' => entry::one(system, label, bounded_text_faces::ACT, m, nth(n, 0), nth(n, 1)),
-        b's' => entry::one(system, label, bounded_text_faces::STEP, m, nth(n, 0), nth(n, 1)),
+        b'b' => entry::one(
+            system,
+            label,
+            bounded_text_faces::BEGIN,
+            m,
+            nth(n, 0),
+            nth(n, 1),
+        ),
+        b'a' => entry::one(
+            system,
+            label,
+            bounded_text_faces::ACT,
+            m,
+            nth(n, 0),
+            nth(n, 1),
+        ),
+        b's' => entry::one(
+            system,
+            label,
+            bounded_text_faces::STEP,
+            m,
+            nth(n, 0),
+            nth(n, 1),
+        ),
         b'r' => entry::run(system, label, m, n, false),
         b'R' | b'S' => entry::run(system, label, m, n, true),
         _ => tell_more(system, letter, m, n, label),
