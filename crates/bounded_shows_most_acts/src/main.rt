@@ -51,12 +51,14 @@ fn say(system: &System, call: &[u8], capacity: u64, schedule: &[u64]) {
 
 // A word of tail that another push has put out of date.
 fn pushes(system: &System) {
-    say(system, 
+    say(
+        system,
         b"push at ",
         2,
         &[0, 0, 8, 0, 16, 7, 24, 0, 24, 0, 24, 0, 24, 0, 24, 0],
     );
-    say(system, 
+    say(
+        system,
         b"force_push at ",
         1,
         &[1, 0, 8, 0, 16, 7, 24, 0, 24, 0, 24, 0, 24, 0, 24, 0],
@@ -65,12 +67,14 @@ fn pushes(system: &System) {
 
 // Out of date at the last load before an answer.
 fn pops(system: &System) {
-    say(system, 
+    say(
+        system,
         b"pop at ",
         2,
         &[2, 0, 8, 0, 8, 0, 16, 7, 24, 0, 24, 0, 24, 0, 24, 0, 24, 0],
     );
-    say(system, 
+    say(
+        system,
         b"len at ",
         2,
         &[3, 0, 8, 0, 16, 7, 24, 0, 24, 0, 24, 0, 24, 0, 24, 0],
@@ -86,14 +90,16 @@ fn lookers(system: &System) {
 
 fn hands(system: &System) {
     say(system, b"in hand at ", 2, &[0, 0, 8, 0, 8, 0, 8, 0]);
-    say(system, 
+    say(
+        system,
         b"in hand at ",
         1,
         &[
             16, 7, 24, 0, 24, 0, 24, 0, 24, 0, 24, 0, 1, 0, 8, 0, 8, 0, 8, 0,
         ],
     );
-    say(system, 
+    say(
+        system,
         b"in hand at ",
         2,
         &[
