@@ -17,7 +17,11 @@ fn tell(system: &System, refusal: u64, place: u64, m: Machine) {
     let tail = ring.tail;
     let h = head.0 as u64;
     let t = tail.0 as u64;
-    text_output::say(system, b": # at # h=# t=# m=#\n", &[refusal, place, h, t, m.meter]);
+    text_output::say(
+        system,
+        b": # at # h=# t=# m=#\n",
+        &[refusal, place, h, t, m.meter],
+    );
 }
 
 fn tell_did(system: &System, did: Did) {
@@ -74,7 +78,11 @@ fn rounds(capacity: u64, edition: u64, n: u64) -> Machine {
 // The words of the ends after so many rounds, and after one more.
 fn come_round(system: &System, capacity: u64, edition: u64, n: u64) {
     let m = rounds(capacity, edition, n);
-    text_output::say(system, b"capacity # edition # rounds #", &[capacity, edition, n]);
+    text_output::say(
+        system,
+        b"capacity # edition # rounds #",
+        &[capacity, edition, n],
+    );
     tell_ran(system, bounded_narrow::run(m, &ROUND[..0]));
     text_output::say(system, b"one more", &[]);
     tell_ran(system, bounded_narrow::run(m, &ROUND));
