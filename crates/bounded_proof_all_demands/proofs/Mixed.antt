@@ -1,8 +1,8 @@
 -- Step, begin, act and run in any mixture are one schedule of the entries that were accepted: of the machine that holds its records, at either width.
 use Prim.Native.Nat.{ℕ, ◌%◌}
-use mathlib.Core.Path.{◌≡◌, refl, sym, ap, ◌∙◌, subst}
+use mathlib.Core.Path.{◌≡◌, refl, sym, ◌∙◌, subst}
 use mathlib.Core.Bool.{Bool, true, false, cond}
-use mathlib.Core.List.{List, [], ◌∷◌, ◌++◌}
+use mathlib.Core.List.{List, [], ◌∷◌}
 use native.Mathlib.Omega.{arith}
 use lib.Dec.{eqb, ltb}
 use borrow.Author.Tests.{eqb-false}
@@ -16,7 +16,6 @@ use Rattle.bounded_words.specs.Limits.{slots_most, editions_most}
 use Rattle.bounded_acts.specs.Acts.{act_of}
 use Rattle.bounded_machine.specs.declared.Machine.{Machine}
 use Rattle.bounded_machine.specs.declared.Did.{Did}
-use Rattle.bounded_machine.specs.declared.Ran.{Ran}
 use Rattle.bounded_machine.specs.Machine.{fresh_of, blank, refused, accepted}
 use Rattle.bounded_machine.specs.Broken.{broken_of}
 use Rattle.bounded_machine.specs.Turn.{turn_at}
@@ -24,7 +23,6 @@ use Rattle.bounded_machine.specs.Run.{run_of_by}
 use Rattle.bounded_machine.proofs.Kept.{either}
 use Rattle.bounded_step_machine.specs.Steps.{step_of_by, begin_step_of_by, act_step_of_by}
 use Rattle.bounded.specs.Bounded.{make_of}
-use Rattle.bounded_sixteen_bits.specs.declared.Machine as widths
 use Rattle.bounded_sixteen_bits.specs.SixteenBits.{widened, narrowed}
 use Rattle.bounded_sixteen_bits.proofs.Back.{again}
 use Rattle.bounded_demands.specs.Notions.{Face, sixty_four, sixteen, of_width, document01, Allowed, ran_of, entry_unless, Asking, by_step, by_begin, by_act, by_run, left_by, taken_by, left_by_all, taken_by_all}

@@ -1,13 +1,12 @@
 -- The statements over words, from those over a lent ring and lent records.
-use Prim.Native.Nat.{ℕ, ◌/◌, ◌%◌, ◌≤◌}
+use Prim.Native.Nat.{ℕ, ◌%◌}
 use mathlib.Core.Path.{◌≡◌, refl, sym, ap, ◌∙◌, subst}
-use mathlib.Core.Bool.{Bool, true, false, cond, true≢false}
+use mathlib.Core.Bool.{Bool, true, false, cond}
 use mathlib.Core.List.{List, [], ◌∷◌, ◌++◌}
 use native.Mathlib.Omega.{arith}
 use lib.Dec.{eqb, ltb}
 use lib.ListN.{length, length-set, length-replicate}
 use borrow.Author.Tests.{eqb-true, eqb-false}
-use Rattle.queue_entries.specs.Limits.{workers_most}
 use Rattle.queue_entries.specs.declared.Entry.{Entry}
 use Rattle.queue_entries.specs.declared.Entry.TheVariants.{Unreadable, Asks}
 use Rattle.queue_entries.specs.declared.Verdict.{Verdict}
@@ -22,25 +21,21 @@ use Rattle.bounded_machine.specs.declared.Did.{Did}
 use Rattle.bounded_machine.specs.declared.Event.{Event}
 use Rattle.bounded_machine.specs.Machine.{slot, record_of_worker, place_of, fresh_with, blank, refused, accepted, empty_slots}
 use Rattle.bounded_machine.specs.Turn.{verdict_of, begun, stored, acted_by, carried, turn, turn_of, turn_of_by}
-use Rattle.bounded_machine.specs.Run.{run_of}
 use Rattle.bounded_machine.specs.History.{events_of}
 use Rattle.bounded_machine.proofs.Kept.{either}
-use Rattle.bounded.specs.Bounded.{step_of}
 use Rattle.bounded_orders.specs.declared.Metered.{Metered}
-use Rattle.bounded_orders.specs.declared.Report.{Report}
-use Rattle.bounded_orders.specs.Orders.{make_refusal, metered_of, report, capacity_told}
-use Rattle.bounded_lent.specs.Lent.{held, broken_lent, Lent, lent, lent_of, turn_lent, step_lent, Gone, gone, gone_of, run_lent, make_lent}
+use Rattle.bounded_orders.specs.Orders.{make_refusal, metered_of, report}
+use Rattle.bounded_lent.specs.Lent.{held, broken_lent, Lent, lent, lent_of, turn_lent, step_lent, Gone, gone, run_lent, make_lent}
 use Rattle.bounded_rows.specs.Rows.{Words, words_of, metered_in, records_in, shaped, stand, After, after, after_of}
-use Rattle.bounded_rows.proofs.Standing.{Standing, standing, same_words, same_ring, same_records, written_stand}
+use Rattle.bounded_rows.proofs.Standing.{standing, same_words, same_ring, same_records, written_stand}
 use Rattle.bounded_rows.proofs.Lists.{many_slots}
 use Rattle.bounded_slices.specs.Slices.{broken_words}
-use Rattle.bounded_host.specs.declared.Reply.{Reply}
-use Rattle.bounded_host.specs.Host.{reply, made_from, make_words, Ended, ended, ended_of, run_words, capacity_words, listed, contents_words}
+use Rattle.bounded_host.specs.Host.{reply, made_from, make_words, Ended, ended, ended_of, run_words, capacity_words, contents_words}
 use Rattle.bounded_host_step.specs.Step.{step_words_of}
 use Rattle.bounded_host.proofs.Running.{judged_six}
 use Rattle.bounded_demands.specs.Notions.{with_records, ran_of}
-use Rattle.bounded_demands.specs.Lending.{item11, steps, held_in, acts_lent, holding, holds_did, holds_ran, Doing, stepping, running}
-use Rattle.bounded_demands.specs.Demands.{Demand2, Demand3, AsHeld, OnlyTheActing}
+use Rattle.bounded_demands.specs.Lending.{item11, steps, held_in, acts_lent, holds_did, holds_ran, Doing, stepping, running}
+use Rattle.bounded_demands.specs.Demands.{Demand2, Demand3}
 use Rattle.bounded_demands.proofs.Refusals.{ring_queue}
 use Rattle.bounded_demands.proofs.Mixtures.{schedule_goes}
 use Rattle.bounded_proof_demand2.proofs.Reached.{fresh_long}
@@ -49,7 +44,7 @@ use Rattle.bounded_proof_lent.proofs.Acting.{only_the_acting}
 use Rattle.bounded_proof_lent.proofs.Throughout.{lent_throughout, lent_unbroken_still, sound_fresh}
 use Rattle.bounded_proof_lent.proofs.Refusals.{ran_lent}
 use Rattle.bounded_proof_lent.proofs.Mixed.{goes_steps}
-use Rattle.bounded_proof_host.specs.Hosted.{Hosting, face, held_words, OneToOne, Malformed, RefusedWords, OnlyTheActingWords, AsHeldWords, done_by, left_by}
+use Rattle.bounded_proof_host.specs.Hosted.{face, held_words, OneToOne, Malformed, RefusedWords, OnlyTheActingWords, AsHeldWords, done_by, left_by}
 use Rattle.bounded_proof_host.specs.Hosted.{entries_of, entries_by, acts_words, HostedThroughout}
 
 pub one_to_one : OneToOne stand

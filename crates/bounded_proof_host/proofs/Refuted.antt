@@ -1,15 +1,15 @@
 -- With no slip planted the face is the one that was proved; each slip, refuted by computing.
 use Prim.Native.Nat.{ℕ}
-use mathlib.Core.Bool.{Bool, true, false, cond, true≢false}
-use mathlib.Core.List.{List, [], ◌∷◌}
+use mathlib.Core.Bool.{false, true≢false}
+use mathlib.Core.List.{[], ◌∷◌}
 use mathlib.Core.Path.{◌≡◌, refl, sym, ap, ◌∙◌, subst}
 use native.Mathlib.Omega.{arith}
 use lib.Dec.{eqb}
-use lib.ListN.{length, get_or, set, replicate}
+use lib.ListN.{get_or, set, replicate}
 use Rattle.queue_entries.specs.Limits.{in_limits, all}
 use Rattle.queue_entries.specs.Entries.{stray_of, order_of, entry_of}
 use Rattle.queue_entries.specs.Schedules.{run_by, search_by, schedule_by}
-use Rattle.bounded_words.specs.Words.{stamp, doubled, mark_of, marked_of, unmarked_of, plus, minus, with_mark, next_of, same, one_past, lap_behind, lap_behind_one_past}
+use Rattle.bounded_words.specs.Words.{doubled, mark_of, marked_of, unmarked_of, plus, minus, with_mark, next_of, same, one_past, lap_behind, lap_behind_one_past}
 use Rattle.bounded_places.specs.declared.Worker.{Worker}
 use Rattle.bounded_places.specs.Places.{view_of, inside}
 use Rattle.bounded_acts.specs.Acts.{goes, losing, exchange_of, after_tail, tail_to}

@@ -5,7 +5,7 @@ use mathlib.Core.List.{List, [], ◌∷◌}
 use mathlib.Core.Path.{◌≡◌, refl, sym, ap, ◌∙◌}
 use native.Mathlib.Omega.{arith}
 use lib.Dec.{eqb}
-use lib.ListN.{length, get_or}
+use lib.ListN.{get_or}
 use Rattle.queue_entries.specs.Limits.{in_limits, all}
 use Rattle.queue_entries.specs.declared.Entry.TheVariants.{Unreadable}
 use Rattle.queue_entries.specs.Entries.{stray_of, order_of, entry_of}

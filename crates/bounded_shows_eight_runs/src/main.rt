@@ -200,7 +200,8 @@ fn play(system: &System, begin: Scene, cases: &[u8]) {
 }
 
 fn run_f(system: &System, edition: u64) {
-    play(system, 
+    play(
+        system,
         opened(1, 2, edition),
         b"c 0 0 7 5 |F push 7\n\
         c 0 1 8 2 |F force_push 8, P1 and P2\n\
@@ -213,7 +214,8 @@ fn run_f(system: &System, edition: u64) {
 fn main(rt: HostRuntime) {
     let system = text_system::of(rt);
     let none = opened(0, 0, 0);
-    play(&system, 
+    play(
+        &system,
         none,
         b"A 1 |\n\
         A 2 |\n\
@@ -239,7 +241,8 @@ fn main(rt: HostRuntime) {
     run_f(&system, 1);
     text_output::say(&system, b"F in edition 2:\n", &[]);
     run_f(&system, 2);
-    play(&system, 
+    play(
+        &system,
         opened(1, 2, 1),
         b"c 0 0 7 5 |G push 7\n\
         c 0 1 8 3 |G force_push 8, before F7\n\
@@ -249,7 +252,8 @@ fn main(rt: HostRuntime) {
         d 1 8 0 1 |G pop\n\
         d 1 8 0 1 |G pop\n",
     );
-    play(&system, 
+    play(
+        &system,
         none,
         b"H 0 1 |\n\
         H 1025 1 |\n\

@@ -81,7 +81,8 @@ fn entered(
     }
 }
 
-fn line_unless(system: &System, 
+fn line_unless(
+    system: &System,
     o: Options,
     out: &mut [u8],
     at: usize,
@@ -97,7 +98,8 @@ fn line_unless(system: &System,
 }
 
 // To the list's end or to the first refusal, on words that stand for a ring and records that are not broken.
-fn steps(system: &System, 
+fn steps(
+    system: &System,
     g: Going,
     o: Options,
     head: &mut [u64],
@@ -170,7 +172,8 @@ fn is_at_once(o: Options, records: &[u64]) -> bool {
 }
 
 // The entries of one piece. Ring and records are judged once a piece: no entry breaks what is not broken.
-pub fn run(system: &System, 
+pub fn run(
+    system: &System,
     g: Going,
     o: Options,
     head: &mut [u64],

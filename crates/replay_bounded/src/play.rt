@@ -41,7 +41,8 @@ fn started(broken: bool, whole: Whole, capacity: u64, at: usize) -> Going {
     }
 }
 
-fn all(system: &System, 
+fn all(
+    system: &System,
     o: Options,
     file: &File,
     begun: Reading,
@@ -59,7 +60,8 @@ fn all(system: &System,
     while turns > 0 && replay_survey::pieces::goes_on(system, p, g.run) {
         turns -= 1;
         p = replay_survey::pieces::next(system, file, o.many, p, g.run, bytes, list);
-        g = crate::entries::run(system, 
+        g = crate::entries::run(
+            system,
             g,
             o,
             head,
@@ -89,14 +91,22 @@ fn tell_slots(system: &System, out: &mut [u8], at: usize, head: &[u64], slots: &
 }
 
 // contents x y ..., through a buffer that any list fits
-fn contents(system: &System, out: &mut [u8], at: usize, head: &[u64], slots: &[u64], records: &[u64]) -> usize {
+fn contents(
+    system: &System,
+    out: &mut [u8],
+    at: usize,
+    head: &[u64],
+    slots: &[u64],
+    records: &[u64],
+) -> usize {
     let mut items = [0u64; bounded_words::SLOTS];
     let t = bounded_host::fern_ring_contents(head, slots, records, &mut items);
     bounded_text_codes::told(system, out, at, b"contents", &items, t.refusal, t.number)
 }
 
 // What stands at the end.
-fn finish(system: &System, 
+fn finish(
+    system: &System,
     g: Going,
     o: Options,
     head: &[u64],
@@ -112,10 +122,15 @@ fn finish(system: &System,
     let t = contents(system, out, q, head, slots, records);
     let u = replay_bounded_lines::tell_counts(o, out, t, summary, because);
     let answers = replay_survey::answers::in_records(records);
-    replay_survey::pieces::played(run, replay_survey::pieces::end(system, out, u, o.many), answers)
+    replay_survey::pieces::played(
+        run,
+        replay_survey::pieces::end(system, out, u, o.many),
+        answers,
+    )
 }
 
-fn play_on(system: &System, 
+fn play_on(
+    system: &System,
     o: Options,
     file: &File,
     begun: Reading,
@@ -138,14 +153,15 @@ fn play_on(system: &System,
     let p = text_output::form(out, at, b"made #\n", &[refusal]);
     let broken = bounded_slices::broken(&head, &slots, records);
     let made = started(broken, whole, head[2], p);
-    let g = all(system, 
-        o, file, begun, made, &mut head, &mut slots, records, &mut bytes, &mut list, out,
+    let g = all(
+        system, o, file, begun, made, &mut head, &mut slots, records, &mut bytes, &mut list, out,
     );
     finish(system, g, o, &head, &slots, records, out)
 }
 
 // A schedule, read piece by piece and run to its end or to its first refusal.
-pub fn play(system: &System, 
+pub fn play(
+    system: &System,
     o: Options,
     file: &File,
     begun: Reading,

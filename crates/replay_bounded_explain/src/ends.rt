@@ -17,7 +17,14 @@ fn hand_of(line: &mut [u8], at: usize, head: &[u64], code: u64, word: u64) -> us
 }
 
 // busy: wN at PLACE
-fn busy_line(system: &System, out: &mut [u8], at: usize, head: &[u64], w: u64, r: [u64; 5]) -> usize {
+fn busy_line(
+    system: &System,
+    out: &mut [u8],
+    at: usize,
+    head: &[u64],
+    w: u64,
+    r: [u64; 5],
+) -> usize {
     if r[0] < 11 {
         return at;
     }
@@ -39,7 +46,8 @@ fn busy(system: &System, out: &mut [u8], at: usize, head: &[u64], records: &[u64
     p
 }
 
-fn waits(system: &System, 
+fn waits(
+    system: &System,
     out: &mut [u8],
     at: usize,
     head: &[u64],
@@ -71,7 +79,8 @@ fn lost(out: &mut [u8], at: usize, c: Counts) -> usize {
 }
 
 // From this place of the text on.
-pub fn tell(system: &System, 
+pub fn tell(
+    system: &System,
     out: &mut [u8],
     at: usize,
     head: &[u64],

@@ -23,7 +23,8 @@ fn width(narrow: bool) -> Width {
     }
 }
 
-fn told_if(system: &System, 
+fn told_if(
+    system: &System,
     it: bool,
     o: Asked,
     out: &mut [u8],
@@ -55,7 +56,8 @@ fn run_on(place: u64, at: usize) -> Run {
 }
 
 // An entry that was accepted.
-fn accepted(system: &System, 
+fn accepted(
+    system: &System,
     at: usize,
     c: Counts,
     o: Asked,
@@ -67,7 +69,10 @@ fn accepted(system: &System,
     let shown = is_shown(o, seen, e);
     if e.first % 16 < 8 {
         return Going {
-            run: run_on(e.place, told_if(system, shown, o, out, at, e, c, notes::none())),
+            run: run_on(
+                e.place,
+                told_if(system, shown, o, out, at, e, c, notes::none()),
+            ),
             counts: c,
         };
     }
@@ -80,7 +85,15 @@ fn accepted(system: &System,
     }
 }
 
-fn refused(system: &System, r: Run, c: Counts, o: Asked, refusal: u64, w: u64, out: &mut [u8]) -> Going {
+fn refused(
+    system: &System,
+    r: Run,
+    c: Counts,
+    o: Asked,
+    refusal: u64,
+    w: u64,
+    out: &mut [u8],
+) -> Going {
     Going {
         run: Run {
             place: r.place,
@@ -107,7 +120,8 @@ fn turn(
     bounded_rows::turn(bits, head, slots, records, first, second)
 }
 
-fn step(system: &System, 
+fn step(
+    system: &System,
     g: Going,
     o: Asked,
     head: &mut [u64],
@@ -145,7 +159,8 @@ fn is_refused(g: Going) -> bool {
 }
 
 // The k-th pair of the list, unless one before it was refused.
-fn step_at(system: &System, 
+fn step_at(
+    system: &System,
     g: Going,
     o: Asked,
     head: &mut [u64],
@@ -166,7 +181,8 @@ fn step_at(system: &System,
 }
 
 // To the list's end or to the first refusal.
-pub fn run(system: &System, 
+pub fn run(
+    system: &System,
     g: Going,
     o: Asked,
     head: &mut [u64],

@@ -37,7 +37,8 @@ fn started(refusal: u64, whole: Whole, at: usize) -> Going {
     }
 }
 
-fn all(system: &System, 
+fn all(
+    system: &System,
     o: Asked,
     file: &File,
     begun: Reading,
@@ -56,7 +57,8 @@ fn all(system: &System,
     while turns > 0 && pieces::goes_on(system, p, g.run) {
         turns -= 1;
         p = pieces::next(system, file, o.many, p, g.run, bytes, list);
-        g = crate::entries::run(system, 
+        g = crate::entries::run(
+            system,
             g,
             o,
             head,
@@ -73,7 +75,8 @@ fn all(system: &System,
 }
 
 // What stands at the end; of a schedule of which nothing was run why.
-fn tell_end(system: &System, 
+fn tell_end(
+    system: &System,
     g: Going,
     o: Asked,
     made: bool,
@@ -88,13 +91,22 @@ fn tell_end(system: &System,
         return run.at;
     }
     if run.whole {
-        return text_explain::words::refused(system, out, run.at, o.colours, run.place, run.refusal, 0);
+        return text_explain::words::refused(
+            system,
+            out,
+            run.at,
+            o.colours,
+            run.place,
+            run.refusal,
+            0,
+        );
     }
     let p = text_explain::words::unmet_if(out, run.at, o.follows && !met, o.item);
     crate::ends::tell(system, out, p, head, slots, records, g.counts)
 }
 
-fn finish(system: &System, 
+fn finish(
+    system: &System,
     g: Going,
     o: Asked,
     made: bool,
@@ -111,7 +123,8 @@ fn finish(system: &System,
 }
 
 // On a ring that was made, or refused by this number.
-fn run_made(system: &System, 
+fn run_made(
+    system: &System,
     o: Asked,
     file: &File,
     begun: Reading,
@@ -127,14 +140,15 @@ fn run_made(system: &System,
     let mut bytes = [0u8; replay_input::source::BYTES];
     let mut list = [1u64; replay_input::source::NUMBERS];
     let made = started(refusal, whole, at);
-    let g = all(system, 
-        o, file, begun, made, head, slots, records, &mut seen, &mut bytes, &mut list, out,
+    let g = all(
+        system, o, file, begun, made, head, slots, records, &mut seen, &mut bytes, &mut list, out,
     );
     let met = notes::is_met(&seen);
     finish(system, g, o, refusal == 0, met, head, slots, records, out)
 }
 
-fn play_on(system: &System, 
+fn play_on(
+    system: &System,
     o: Asked,
     file: &File,
     begun: Reading,
@@ -153,13 +167,21 @@ fn play_on(system: &System,
         o.edition,
     );
     let p = lines::told_making(system, o, out, at, refusal, whole.capacity, whole.workers);
-    run_made(system, 
-        o, file, begun, whole, refusal, &mut head, &mut slots, records, out, p,
+    run_made(
+        system, o, file, begun, whole, refusal, &mut head, &mut slots, records, out, p,
     )
 }
 
 // A schedule, read piece by piece and run to its end or to its first refusal.
-pub fn play(system: &System, o: Asked, file: &File, begun: Reading, whole: Whole, out: &mut [u8], at: usize) -> Played {
+pub fn play(
+    system: &System,
+    o: Asked,
+    file: &File,
+    begun: Reading,
+    whole: Whole,
+    out: &mut [u8],
+    at: usize,
+) -> Played {
     let mut records = [0u64; ROOM];
     let used = records_of(o.lent, whole.workers) * bounded_slices::RECORD;
     play_on(system, o, file, begun, whole, &mut records[..used], out, at)

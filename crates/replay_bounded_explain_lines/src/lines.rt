@@ -121,13 +121,22 @@ fn colour_of(e: Entered, causes: Causes) -> u8 {
     columns::PLAIN
 }
 
-pub fn told(system: &System, o: Asked, out: &mut [u8], at: usize, e: Entered, c: Counts, causes: Causes) -> usize {
+pub fn told(
+    system: &System,
+    o: Asked,
+    out: &mut [u8],
+    at: usize,
+    e: Entered,
+    c: Counts,
+    causes: Causes,
+) -> usize {
     let mut line = [0u8; columns::WIDE];
     let n = entry_line(&mut line, o, e, c, causes);
     columns::put(system, out, at, &line, n, o.colours, colour_of(e, causes))
 }
 
-pub fn told_making(system: &System, 
+pub fn told_making(
+    system: &System,
     o: Asked,
     out: &mut [u8],
     at: usize,

@@ -237,7 +237,13 @@ pub fn noted(notes: &mut [u64], records: &[u64], c: Counts, e: Entered) -> Cause
 }
 
 // Behind the line of an entry that was accepted: whether it left the window of sixteen bits.
-pub fn tell_window(system: &System, notes: &mut [u64], e: Entered, out: &mut [u8], at: usize) -> usize {
+pub fn tell_window(
+    system: &System,
+    notes: &mut [u64],
+    e: Entered,
+    out: &mut [u8],
+    at: usize,
+) -> usize {
     let ring = e.ring;
     let before = e.before;
     let after = e.after;

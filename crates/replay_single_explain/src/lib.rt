@@ -45,9 +45,25 @@ fn is_shown(o: Asked, e: Entered, n: Notes) -> bool {
 }
 
 // The line of an entry, if it has one.
-fn line(system: &System, o: Asked, out: &mut [u8], at: usize, refusal: u64, e: Entered, n: Notes) -> usize {
+fn line(
+    system: &System,
+    o: Asked,
+    out: &mut [u8],
+    at: usize,
+    refusal: u64,
+    e: Entered,
+    n: Notes,
+) -> usize {
     if refusal != 0 {
-        return text_explain::words::refused(system, out, at, o.colours, e.place, refusal, e.first / 16);
+        return text_explain::words::refused(
+            system,
+            out,
+            at,
+            o.colours,
+            e.place,
+            refusal,
+            e.first / 16,
+        );
     }
     if is_shown(o, e, n) {
         return single_text_explain::lines::told(system, out, at, o.colours, e, n);
@@ -103,7 +119,14 @@ fn steps(system: &System, begun: Going, o: Asked, list: &[u64], out: &mut [u8]) 
 
 fn make(system: &System, o: Asked, whole: Whole, out: &mut [u8], at: usize) -> Going {
     let did = single::make(whole.workers);
-    let end = single_text_explain::lines::made(system, out, at, o.colours, did.refusal, whole.workers);
+    let end = single_text_explain::lines::made(
+        system,
+        out,
+        at,
+        o.colours,
+        did.refusal,
+        whole.workers,
+    );
     let m = did.machine;
     Going {
         machine: m,
@@ -117,10 +140,15 @@ fn finish(system: &System, g: Going, o: Asked, out: &mut [u8]) -> Played {
     let m = g.machine;
     let at = ends::tell(system, out, o, r, m, g.notes);
     let answers = single_text::answers(m);
-    replay_survey::pieces::played(r, replay_survey::pieces::end(system, out, at, o.many), answers)
+    replay_survey::pieces::played(
+        r,
+        replay_survey::pieces::end(system, out, at, o.many),
+        answers,
+    )
 }
 
-fn all(system: &System, 
+fn all(
+    system: &System,
     o: Asked,
     file: &File,
     begun: Reading,
@@ -143,7 +171,15 @@ fn all(system: &System,
 }
 
 // A schedule, read piece by piece, run and told to its end or to its first refusal.
-pub fn play(system: &System, o: Asked, file: &File, begun: Reading, whole: Whole, out: &mut [u8], at: usize) -> Played {
+pub fn play(
+    system: &System,
+    o: Asked,
+    file: &File,
+    begun: Reading,
+    whole: Whole,
+    out: &mut [u8],
+    at: usize,
+) -> Played {
     let mut bytes = [0u8; replay_input::source::BYTES];
     let mut list = [1u64; replay_input::source::NUMBERS];
     let made = make(system, o, whole, out, at);

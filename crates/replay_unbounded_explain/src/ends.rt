@@ -29,7 +29,14 @@ fn standing(system: &System, out: &mut [u8], at: usize, m: Machine, n: Notes) ->
 }
 
 // Of a run that is over. Of one that was refused as a whole only that is told, and of a refused making nothing more.
-pub fn tell(system: &System, out: &mut [u8], o: crate::Asked, r: Run, m: Machine, n: Notes) -> usize {
+pub fn tell(
+    system: &System,
+    out: &mut [u8],
+    o: crate::Asked,
+    r: Run,
+    m: Machine,
+    n: Notes,
+) -> usize {
     if r.whole {
         return refused(system, out, o.colours, r);
     }

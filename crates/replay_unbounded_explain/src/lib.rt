@@ -42,7 +42,8 @@ pub fn seen(m: Machine, w: u64) -> Seen {
 }
 
 // The line of an entry, if it has one: it is of the life of the item that is followed or not.
-fn line(system: &System, 
+fn line(
+    system: &System,
     o: Asked,
     out: &mut [u8],
     at: usize,
@@ -52,7 +53,15 @@ fn line(system: &System,
     is_of: bool,
 ) -> usize {
     if refusal != 0 {
-        return text_explain::words::refused(system, out, at, o.colours, e.place, refusal, e.first / 16);
+        return text_explain::words::refused(
+            system,
+            out,
+            at,
+            o.colours,
+            e.place,
+            refusal,
+            e.first / 16,
+        );
     }
     if is_of || !o.follows {
         return unbounded_text_explain::lines::told(system, out, at, o.colours, o.follows, e, n);
@@ -68,7 +77,15 @@ fn noted(refusal: u64, e: Entered, n: Notes, is_of: bool) -> Notes {
 }
 
 // The slots of the pool that have the item that is followed are noted apart.
-fn step(system: &System, g: Going, o: Asked, first: u64, second: u64, slots: &mut [u64], out: &mut [u8]) -> Going {
+fn step(
+    system: &System,
+    g: Going,
+    o: Asked,
+    first: u64,
+    second: u64,
+    slots: &mut [u64],
+    out: &mut [u8],
+) -> Going {
     let r = g.run;
     let n = g.notes;
     let w = first / 16;
@@ -93,7 +110,14 @@ fn step(system: &System, g: Going, o: Asked, first: u64, second: u64, slots: &mu
 }
 
 // Entry by entry, to the first that is refused.
-fn steps(system: &System, begun: Going, o: Asked, list: &[u64], slots: &mut [u64], out: &mut [u8]) -> Going {
+fn steps(
+    system: &System,
+    begun: Going,
+    o: Asked,
+    list: &[u64],
+    slots: &mut [u64],
+    out: &mut [u8],
+) -> Going {
     let mut g = begun;
     let mut refusal = 0;
     let n = list.len() / 2;
@@ -111,7 +135,14 @@ fn steps(system: &System, begun: Going, o: Asked, list: &[u64], slots: &mut [u64
 
 fn make(system: &System, o: Asked, whole: Whole, out: &mut [u8], at: usize) -> Going {
     let did = unbounded::make(whole.workers);
-    let end = unbounded_text_explain::lines::made(system, out, at, o.colours, did.refusal, whole.workers);
+    let end = unbounded_text_explain::lines::made(
+        system,
+        out,
+        at,
+        o.colours,
+        did.refusal,
+        whole.workers,
+    );
     let m = did.machine;
     Going {
         machine: m,
@@ -125,10 +156,15 @@ fn finish(system: &System, g: Going, o: Asked, out: &mut [u8]) -> Played {
     let m = g.machine;
     let at = ends::tell(system, out, o, r, m, g.notes);
     let answers = unbounded_text::machine::answers(m);
-    replay_survey::pieces::played(r, replay_survey::pieces::end(system, out, at, o.many), answers)
+    replay_survey::pieces::played(
+        r,
+        replay_survey::pieces::end(system, out, at, o.many),
+        answers,
+    )
 }
 
-fn all(system: &System, 
+fn all(
+    system: &System,
     o: Asked,
     file: &File,
     begun: Reading,
@@ -144,7 +180,14 @@ fn all(system: &System,
     while turns > 0 && replay_survey::pieces::goes_on(system, p, g.run) {
         turns -= 1;
         p = replay_survey::pieces::next(system, file, o.many, p, g.run, bytes, list);
-        g = steps(system, g, o, replay_survey::pieces::entries(p, list), slots, out);
+        g = steps(
+            system,
+            g,
+            o,
+            replay_survey::pieces::entries(p, list),
+            slots,
+            out,
+        );
     }
     let run = replay_survey::pieces::ended(system, file, o.many, p, g.run, bytes);
     g.run = run;
@@ -152,11 +195,21 @@ fn all(system: &System,
 }
 
 // A schedule, read piece by piece, run and told to its end or to its first refusal.
-pub fn play(system: &System, o: Asked, file: &File, begun: Reading, whole: Whole, out: &mut [u8], at: usize) -> Played {
+pub fn play(
+    system: &System,
+    o: Asked,
+    file: &File,
+    begun: Reading,
+    whole: Whole,
+    out: &mut [u8],
+    at: usize,
+) -> Played {
     let mut bytes = [0u8; replay_input::source::BYTES];
     let mut list = [1u64; replay_input::source::NUMBERS];
     let mut slots = [0u64; unbounded_words::POOL];
     let made = make(system, o, whole, out, at);
-    let g = all(system, o, file, begun, made, &mut bytes, &mut list, &mut slots, out);
+    let g = all(
+        system, o, file, begun, made, &mut bytes, &mut list, &mut slots, out,
+    );
     finish(system, g, o, out)
 }

@@ -22,7 +22,11 @@ fn put(system: &System, to: To, out: &[u8], n: usize) -> bool {
         return true;
     }
     if n <= out.len() {
-        return replay_input::say::is_written(system, b"tape", text_system::streams::put(system, &out[..n]));
+        return replay_input::say::is_written(
+            system,
+            b"tape",
+            text_system::streams::put(system, &out[..n]),
+        );
     }
     false
 }
@@ -93,7 +97,8 @@ fn put_first(system: &System, to: To, p: Piece, words: &[u64], out: &mut [u8]) -
 }
 
 // The next piece, and its lines.
-fn turn(system: &System, 
+fn turn(
+    system: &System,
     from: &File,
     before: Piece,
     to: To,
@@ -108,7 +113,14 @@ fn turn(system: &System,
     p
 }
 
-fn first_turn(system: &System, from: &File, to: To, window: &mut [u8], words: &mut [u64], out: &mut [u8]) -> Piece {
+fn first_turn(
+    system: &System,
+    from: &File,
+    to: To,
+    window: &mut [u8],
+    words: &mut [u64],
+    out: &mut [u8],
+) -> Piece {
     let mut p = tape_pieces::next(system, from, tape_pieces::start(), window, words);
     if put_first(system, to, p, words, out) {} else {
         p.state = STUCK;
@@ -116,7 +128,14 @@ fn first_turn(system: &System, from: &File, to: To, window: &mut [u8], words: &m
     p
 }
 
-fn all(system: &System, from: &File, to: To, window: &mut [u8], words: &mut [u64], out: &mut [u8]) -> Piece {
+fn all(
+    system: &System,
+    from: &File,
+    to: To,
+    window: &mut [u8],
+    words: &mut [u64],
+    out: &mut [u8],
+) -> Piece {
     let mut p = first_turn(system, from, to, window, words, out);
     let mut turns = u64::MAX;
     while turns > 0 && tape_pieces::goes_on(p) {

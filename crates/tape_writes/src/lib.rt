@@ -80,7 +80,14 @@ fn put_part(system: &System, w: Work, to: &File, tape: &[u8], from: usize, end: 
 }
 
 // The tape of these entries alone; what of it the whole tape has is that without its first 7 bytes and its last 3.
-fn put_entries(system: &System, w: Work, v: Variant, to: &File, words: &[u64], tape: &mut [u8]) -> Work {
+fn put_entries(
+    system: &System,
+    w: Work,
+    v: Variant,
+    to: &File,
+    words: &[u64],
+    tape: &mut [u8],
+) -> Work {
     let r = tapes::write(v, 0, 0, words, tape);
     match r {
         Writing::Refused(number, place) => refused(
@@ -98,7 +105,15 @@ fn put_entries(system: &System, w: Work, v: Variant, to: &File, words: &[u64], t
 }
 
 // Some bytes of a tape that has no entries: its first 7, or its last 3.
-fn put_frame(system: &System, w: Work, v: Variant, to: &File, tape: &mut [u8], from: usize, end: usize) -> Work {
+fn put_frame(
+    system: &System,
+    w: Work,
+    v: Variant,
+    to: &File,
+    tape: &mut [u8],
+    from: usize,
+    end: usize,
+) -> Work {
     let none = [0u64; 0];
     let r = tapes::write(v, w.capacity, w.workers, &none, tape);
     match r {
@@ -108,7 +123,14 @@ fn put_frame(system: &System, w: Work, v: Variant, to: &File, tape: &mut [u8], f
 }
 
 // The first field, where it is not written yet and its numbers are there.
-fn begin(system: &System, before: Work, v: Variant, to: &File, list: &[u64], tape: &mut [u8]) -> Work {
+fn begin(
+    system: &System,
+    before: Work,
+    v: Variant,
+    to: &File,
+    list: &[u64],
+    tape: &mut [u8],
+) -> Work {
     let mut w = before;
     if list.len() < 2 {
         return w;
@@ -126,7 +148,15 @@ fn counted(before: Work, entries: usize) -> Work {
 }
 
 // The entries among these numbers, from this one on.
-fn with_entries(system: &System, w: Work, v: Variant, to: &File, list: &[u64], from: usize, tape: &mut [u8]) -> Work {
+fn with_entries(
+    system: &System,
+    w: Work,
+    v: Variant,
+    to: &File,
+    list: &[u64],
+    from: usize,
+    tape: &mut [u8],
+) -> Work {
     if list.len() < from {
         return w;
     }
@@ -136,7 +166,14 @@ fn with_entries(system: &System, w: Work, v: Variant, to: &File, list: &[u64], f
     counted(after, n)
 }
 
-fn with_numbers(system: &System, w: Work, v: Variant, to: &File, list: &[u64], tape: &mut [u8]) -> Work {
+fn with_numbers(
+    system: &System,
+    w: Work,
+    v: Variant,
+    to: &File,
+    list: &[u64],
+    tape: &mut [u8],
+) -> Work {
     if w.begun {
         return with_entries(system, w, v, to, list, 0, tape);
     }
@@ -144,7 +181,15 @@ fn with_numbers(system: &System, w: Work, v: Variant, to: &File, list: &[u64], t
     with_entries(system, b, v, to, list, 2, tape)
 }
 
-fn with_some(system: &System, w: Work, v: Variant, to: &File, list: &[u64], n: usize, tape: &mut [u8]) -> Work {
+fn with_some(
+    system: &System,
+    w: Work,
+    v: Variant,
+    to: &File,
+    list: &[u64],
+    n: usize,
+    tape: &mut [u8],
+) -> Work {
     if n <= list.len() {
         return with_numbers(system, w, v, to, &list[..n], tape);
     }
@@ -159,13 +204,22 @@ fn read_on(before: Work, reading: Reading, left: usize) -> Work {
 }
 
 // The numbers of a reading.
-fn taken_in(system: &System, w: Work, r: Reading, v: Variant, to: &File, list: &mut [u64], tape: &mut [u8]) -> Work {
+fn taken_in(
+    system: &System,
+    w: Work,
+    r: Reading,
+    v: Variant,
+    to: &File,
+    list: &mut [u64],
+    tape: &mut [u8],
+) -> Work {
     let after = with_some(system, w, v, to, list, r.count, tape);
     let left = replay_input::source::carry(list, r.count);
     read_on(after, r, left)
 }
 
-fn turn(system: &System, 
+fn turn(
+    system: &System,
     from: &File,
     w: Work,
     v: Variant,
@@ -188,7 +242,8 @@ fn goes_on(w: Work) -> bool {
     }
 }
 
-fn all(system: &System, 
+fn all(
+    system: &System,
     from: &File,
     v: Variant,
     to: &File,
@@ -221,7 +276,16 @@ fn numbers_of(w: Work) -> u64 {
 fn is_sound(system: &System, w: Work, from: &File, name: &[u8]) -> bool {
     let hints =
         b"|; a tape has one schedule|; this is a tape, and tape read prints it|; a tape has one, which other queues do not use: capacity 1|";
-    replay_input::say::is_sound(system, b"tape", name, from, false, w.reading, numbers_of(w), hints)
+    replay_input::say::is_sound(
+        system,
+        b"tape",
+        name,
+        from,
+        false,
+        w.reading,
+        numbers_of(w),
+        hints,
+    )
 }
 
 // Whether what is refused is an entry, and not how the machine is made.
@@ -270,17 +334,33 @@ fn status_of(system: &System, w: Work, from: &File, name: &[u8]) -> u8 {
     0
 }
 
-fn write_to(system: &System, starter: &Starter, from: &File, name: &[u8], v: Variant, tape: &[u8], path: &[u8]) -> u8 {
+fn write_to(
+    system: &System,
+    starter: &Starter,
+    from: &File,
+    name: &[u8],
+    v: Variant,
+    tape: &[u8],
+    path: &[u8],
+) -> u8 {
     match tape_files::files::sink(system, starter, tape, path) {
         Some(to) => {
             let w = worked(system, from, v, &to);
-            tape_files::files::finish(system, starter, status_of(system, w, from, name), tape, path, to)
+            tape_files::files::finish(
+                system,
+                starter,
+                status_of(system, w, from, name),
+                tape,
+                path,
+                to,
+            )
         }
         None => 2,
     }
 }
 
-fn write_from(system: &System, 
+fn write_from(
+    system: &System,
     starter: &Starter,
     from: &File,
     name: &[u8],
@@ -295,7 +375,14 @@ fn write_from(system: &System,
     2
 }
 
-fn run_kept(system: &System, starter: &Starter, kept: File, name: &[u8], v: Variant, tape: &[u8]) -> u8 {
+fn run_kept(
+    system: &System,
+    starter: &Starter,
+    kept: File,
+    name: &[u8],
+    v: Variant,
+    tape: &[u8],
+) -> u8 {
     let mut path = [0u8; 4608];
     let n = tape_files::files::beside(system, tape, &mut path);
     let status = write_from(system, starter, &kept, name, v, tape, &path, n);
@@ -304,7 +391,14 @@ fn run_kept(system: &System, starter: &Starter, kept: File, name: &[u8], v: Vari
 }
 
 // A schedule's text and the name of its tape; answers the status.
-pub fn run(system: &System, starter: &Starter, from: Flow, name: &[u8], v: Variant, tape: &[u8]) -> u8 {
+pub fn run(
+    system: &System,
+    starter: &Starter,
+    from: Flow,
+    name: &[u8],
+    v: Variant,
+    tape: &[u8],
+) -> u8 {
     match replay_input::source::kept(system, b"tape", from, name) {
         Some(kept) => run_kept(system, starter, kept, name, v, tape),
         None => 2,

@@ -81,7 +81,8 @@ fn key_of(ends: [u64; 6], count: u64, k: u64) -> [u64; 6] {
     ends
 }
 
-fn counted(system: &System, 
+fn counted(
+    system: &System,
     m: Machine,
     count: u64,
     list: &[u8],

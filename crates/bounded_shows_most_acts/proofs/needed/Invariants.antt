@@ -1,8 +1,6 @@
-use Prim.Native.Nat.{◌-◌}
+use Rattle.std.proofs.Common.{◌-◌}
 use Rattle.bounded_shows_most_acts.proofs.needed.Given as goal
 
-abbrev pub invariant-loop-n : goal.invariant-loop-n
-invariant-loop-n l = Unit {0}
-
+-- proposed from the loop's first test
 abbrev pub decreases-loop-n : goal.decreases-loop-n
 decreases-loop-n l = 9 - l.n

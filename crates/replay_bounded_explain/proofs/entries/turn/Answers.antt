@@ -1,0 +1,9 @@
+use Rattle.std.proofs.Common.{rules}
+use Rattle.bounded_host.proofs.Answering.{sound, stands_so}
+use Rattle.replay_bounded_explain.proofs.entries.turn.Goals as goal
+
+pub turn-requires : goal.turn-requires
+turn-requires c = record {
+  records_value = sound _ _ _ c.broken.result c.broken.ensures (search rules);
+  records_value_2 = stands_so _ _ _ c.broken.result c.broken.ensures (search rules);
+}
