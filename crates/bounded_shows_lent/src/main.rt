@@ -60,7 +60,8 @@ fn say_ring(system: &System, l: Metered) {
 }
 
 // The line of one step: how many records are lent, the entry, the refusal, the first record that changed, the ring and its first slot.
-fn shown(system: &System, 
+fn shown(
+    system: &System,
     l: Metered,
     records: [Worker; bounded_orders::RECORDS],
     count: usize,
@@ -105,42 +106,48 @@ fn others(system: &System, s: Stepped) {
 fn strange(system: &System, s: Stepped) {
     let ring = s.ring;
     let records = s.records;
-    shown(system, 
+    shown(
+        system,
         ring,
         with(records, Place::P2(Kind::Push, Stamp(2), 9), 0),
         4,
         24,
         0,
     );
-    shown(system, 
+    shown(
+        system,
         ring,
         with(records, Place::P2(Kind::Push, Stamp(2), 9), 0),
         3,
         24,
         0,
     );
-    shown(system, 
+    shown(
+        system,
         ring,
         with(records, Place::P2(Kind::Push, Stamp(4), 9), 0),
         4,
         24,
         0,
     );
-    shown(system, 
+    shown(
+        system,
         ring,
         with(records, Place::P2(Kind::Push, Stamp(1), 9), 0),
         4,
         24,
         0,
     );
-    shown(system, 
+    shown(
+        system,
         ring,
         with(records, Place::Idle(Answer::Nothing), 2),
         4,
         24,
         0,
     );
-    shown(system, 
+    shown(
+        system,
         ring,
         with(records, Place::Idle(Answer::Nothing), 1),
         4,

@@ -47,7 +47,15 @@ fn walk(m: [u64; WORDS], depth: u64, list: &mut [u8]) -> Told {
 }
 
 // The first bytes of the buffer are lent, and the whole of it is shown.
-fn walked(system: &System, out: &mut [u8], at: usize, m: [u64; WORDS], depth: u64, buffer: &mut [u8], room: usize) {
+fn walked(
+    system: &System,
+    out: &mut [u8],
+    at: usize,
+    m: [u64; WORDS],
+    depth: u64,
+    buffer: &mut [u8],
+    room: usize,
+) {
     if room <= buffer.len() {
         let t = walk(m, depth, &mut buffer[..room]);
         let p = say_told(out, at, t);
@@ -105,7 +113,8 @@ fn lists(system: &System, m: [u64; WORDS]) {
     line(system, b"two closing", m, 2, 5);
     line(system, b"two closing", m, 2, 6);
     line(system, b"two closing", m, 12, 8);
-    line(system, 
+    line(
+        system,
         b"push at P3",
         closing(system, b"m 1 1 1 |\ng 0 5 8 0 8 0 |\n"),
         1,
