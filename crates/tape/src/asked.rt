@@ -41,10 +41,10 @@ pub struct Asked {
 }
 
 fn act_of(word: &[u8]) -> u64 {
-    if word == b"write" {
+    if word == b"write".as_slice() {
         return WRITE;
     }
-    if word == b"read" {
+    if word == b"read".as_slice() {
         return READ;
     }
     NOTHING
@@ -94,7 +94,10 @@ fn say(system: &System, text: &[u8]) {
 // What is said where the options and the number of names are right; an option of the other act is not.
 fn of_act(system: &System, a: Arguments, act: u64) -> bool {
     if act == READ && text_options::is_given(a, LITTLE) {
-        say(system, b"tape: --little goes with write alone (see --help)\n");
+        say(
+            system,
+            b"tape: --little goes with write alone (see --help)\n",
+        );
         return true;
     }
     if act == WRITE && text_options::is_given(a, WORDS) {
@@ -114,7 +117,8 @@ fn is_wrong(system: &System, a: Arguments, table: &[u8], act: u64) -> bool {
     if are_named(act, a.count) {
         return of_act(system, a, act);
     }
-    say(system, 
+    say(
+        system,
         b"tape: usage: tape write [--little] SCHEDULE TAPE, or tape read [--words] TAPE (see --help)\n",
     );
     true
