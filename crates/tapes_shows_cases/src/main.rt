@@ -257,7 +257,13 @@ struct Standing {
     going: bool,
 }
 
-fn turn(system: &System, r: Standing, bytes: &mut [u8], list: &mut [u64], out: &mut [u8]) -> Standing {
+fn turn(
+    system: &System,
+    r: Standing,
+    bytes: &mut [u8],
+    list: &mut [u64],
+    out: &mut [u8],
+) -> Standing {
     let scan = r.scan;
     let got = text_system::streams::read(system, bytes);
     let piece = text_numbers::read_piece(scan, false, &bytes[..got.n], list, r.left);
