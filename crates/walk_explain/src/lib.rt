@@ -12,10 +12,10 @@ use text_words::writing::Written;
 
 // Which ending is asked for, from 1, 0: all of them; and the file of the schedule that was run, to be told again, with the sum of its bytes.
 #[derive(Clone, Copy)]
-pub struct Asked {
+pub struct Asked<'a> {
     pub depth: u64,
     pub ending: u64,
-    pub file: &File,
+    pub file: &'a File,
     pub due: Sum,
 }
 
@@ -97,15 +97,16 @@ fn way(system: &System, out: &mut [u8], at: usize, acts: &[u8]) -> usize {
 }
 
 // The schedule that was run, from its making on.
-fn schedule(system: &System, out: &mut [u8], at: usize, o: Asked) -> usize {
+fn schedule(system: &System, out: &mut [u8], at: usize, o: Asked<'_>) -> usize {
     let begun = replay_input::source::begun(false, 0, 1, 0, text_sums::start(), o.due);
     replay_words::lines(system, o.file, false, begun, 0, out, at)
 }
 
-fn told_of(system: &System, 
+fn told_of(
+    system: &System,
     out: &mut [u8],
     at: usize,
-    o: Asked,
+    o: Asked<'_>,
     m: [u64; WORDS],
     acts: &[u8],
     table: &[u64],
@@ -118,17 +119,27 @@ fn told_of(system: &System,
     way(system, out, s, acts)
 }
 
-fn ending(system: &System, 
+fn ending(
+    system: &System,
     out: &mut [u8],
     at: usize,
-    o: Asked,
+    o: Asked<'_>,
     m: [u64; WORDS],
     list: &[u8],
     table: &[u64],
     row: usize,
 ) -> usize {
     let place = walk_ends::number(table, row, walk_ends::PLACE) as usize;
-    told_of(system, out, at, o, m, walk_lists::acts_at(list, place), table, row)
+    told_of(
+        system,
+        out,
+        at,
+        o,
+        m,
+        walk_lists::acts_at(list, place),
+        table,
+        row,
+    )
 }
 
 fn and_mark(system: &System, out: &mut [u8], at: usize) -> usize {
@@ -136,10 +147,11 @@ fn and_mark(system: &System, out: &mut [u8], at: usize) -> usize {
     text_output::settle(system, out, p)
 }
 
-fn endings(system: &System, 
+fn endings(
+    system: &System,
     out: &mut [u8],
     at: usize,
-    o: Asked,
+    o: Asked<'_>,
     m: [u64; WORDS],
     list: &[u8],
     table: &[u64],
@@ -174,10 +186,11 @@ fn told(at: usize, found: bool) -> Found {
 }
 
 // The one that is asked for.
-fn one(system: &System, 
+fn one(
+    system: &System,
     out: &mut [u8],
     at: usize,
-    o: Asked,
+    o: Asked<'_>,
     m: [u64; WORDS],
     list: &[u8],
     table: &[u64],
@@ -194,10 +207,11 @@ fn one(system: &System,
 }
 
 // Of a list that has so many sequences of at most so many acts.
-pub fn tell(system: &System, 
+pub fn tell(
+    system: &System,
     out: &mut [u8],
     at: usize,
-    o: Asked,
+    o: Asked<'_>,
     m: [u64; WORDS],
     sequences: u64,
     list: &[u8],
