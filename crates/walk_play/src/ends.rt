@@ -49,7 +49,8 @@ fn shortest(out: &mut [u8], at: usize, acts: &[u8]) -> usize {
     walk_lists::entries(out, q, acts)
 }
 
-fn row(system: &System, 
+fn row(
+    system: &System,
     out: &mut [u8],
     at: usize,
     count: u64,
@@ -67,7 +68,8 @@ fn row(system: &System,
     text_output::settle(system, out, s)
 }
 
-fn rows(system: &System, 
+fn rows(
+    system: &System,
     out: &mut [u8],
     at: usize,
     count: u64,
@@ -97,12 +99,28 @@ fn ways(system: &System, out: &mut [u8], at: usize, w: [u64; WORDS], list: &[u8]
     let mut table = [0u64; walk_ways::TABLE];
     let n = walk_ways::count(system, w, list, k, &mut table);
     let workers = w[bounded_text_words::COUNT];
-    let p = rows(system, out, at, workers, list, k, &table, walk_ends::listed(n));
+    let p = rows(
+        system,
+        out,
+        at,
+        workers,
+        list,
+        k,
+        &table,
+        walk_ends::listed(n),
+    );
     unlisted(out, p, walk_ends::unlisted(n))
 }
 
 // Nothing more is counted once the text is lost.
-fn ways_if(system: &System, out: &mut [u8], at: usize, w: [u64; WORDS], list: &[u8], k: u64) -> usize {
+fn ways_if(
+    system: &System,
+    out: &mut [u8],
+    at: usize,
+    w: [u64; WORDS],
+    list: &[u8],
+    k: u64,
+) -> usize {
     if at == text_output::LOST {
         return at;
     }

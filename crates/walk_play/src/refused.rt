@@ -24,7 +24,14 @@ pub fn meaning(out: &mut [u8], at: usize, refusal: u64, numbers: &[u64]) -> usiz
 }
 
 // On standard error; one of many is told in its place.
-pub fn tell(system: &System, out: &mut [u8], at: usize, many: bool, refusal: u64, numbers: &[u64]) -> usize {
+pub fn tell(
+    system: &System,
+    out: &mut [u8],
+    at: usize,
+    many: bool,
+    refusal: u64,
+    numbers: &[u64],
+) -> usize {
     if many {
         let p = meaning(out, at, refusal, numbers);
         return text_output::byte(out, p, b'\n');

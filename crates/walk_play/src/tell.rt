@@ -11,14 +11,14 @@ use text_system::System;
 const BUFFER: usize = 4194304;
 
 #[derive(Clone, Copy)]
-pub struct Asked {
+pub struct Asked<'a> {
     pub depth: u64,
     pub list: bool,
     pub many: bool,
     // in words (walk_explain): every ending, 0, or this one; and the file of the schedule that was run, with the sum of its bytes
     pub explain: bool,
     pub ending: u64,
-    pub file: &File,
+    pub file: &'a File,
     pub due: Sum,
 }
 
@@ -42,15 +42,23 @@ fn idle_worker(m: [u64; WORDS]) -> u64 {
     2
 }
 
-fn refused(system: &System, out: &mut [u8], at: usize, o: Asked, m: [u64; WORDS], refusal: u64) -> Played {
+fn refused(
+    system: &System,
+    out: &mut [u8],
+    at: usize,
+    o: Asked<'_>,
+    m: [u64; WORDS],
+    refusal: u64,
+) -> Played {
     let p = crate::refused::tell(system, out, at, o.many, refusal, &[idle_worker(m)]);
     played(p, true)
 }
 
-fn explained(system: &System, 
+fn explained(
+    system: &System,
     out: &mut [u8],
     at: usize,
-    o: Asked,
+    o: Asked<'_>,
     m: [u64; WORDS],
     sequences: u64,
     list: &[u8],
@@ -66,10 +74,11 @@ fn explained(system: &System,
     played(t.at, t.found == false)
 }
 
-fn told(system: &System, 
+fn told(
+    system: &System,
     out: &mut [u8],
     at: usize,
-    o: Asked,
+    o: Asked<'_>,
     m: [u64; WORDS],
     sequences: u64,
     list: &[u8],
@@ -89,10 +98,11 @@ fn told(system: &System,
     played(crate::ends::lines(system, out, p, m, list), false)
 }
 
-fn told_first(system: &System, 
+fn told_first(
+    system: &System,
     out: &mut [u8],
     at: usize,
-    o: Asked,
+    o: Asked<'_>,
     m: [u64; WORDS],
     sequences: u64,
     buffer: &[u8],
@@ -104,10 +114,11 @@ fn told_first(system: &System,
     played(at, false)
 }
 
-fn listed(system: &System, 
+fn listed(
+    system: &System,
     out: &mut [u8],
     at: usize,
-    o: Asked,
+    o: Asked<'_>,
     m: [u64; WORDS],
     n: usize,
     buffer: &mut [u8],
@@ -123,18 +134,26 @@ fn room() -> [u8; BUFFER] {
     [0; BUFFER]
 }
 
-fn walked(system: &System, out: &mut [u8], at: usize, o: Asked, m: [u64; WORDS], n: usize) -> Played {
+fn walked(
+    system: &System,
+    out: &mut [u8],
+    at: usize,
+    o: Asked<'_>,
+    m: [u64; WORDS],
+    n: usize,
+) -> Played {
     let mut buffer = room();
     listed(system, out, at, o, m, n, &mut buffer)
 }
 
 // A list that is longer than the buffer is told with its numbers.
-pub fn walk(system: &System, out: &mut [u8], at: usize, o: Asked, m: [u64; WORDS]) -> Played {
+pub fn walk(system: &System, out: &mut [u8], at: usize, o: Asked<'_>, m: [u64; WORDS]) -> Played {
     match bounded_walks::size(bounded_text_faces::machine::read(m), o.depth) {
         Sized::Refused(refusal) => refused(system, out, at, o, m, refusal),
         Sized::Sequences(sequences, bytes) => {
             if (BUFFER as u64) < bytes {
-                let p = crate::refused::tell(system, 
+                let p = crate::refused::tell(
+                    system,
                     out,
                     at,
                     o.many,
