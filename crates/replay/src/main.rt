@@ -40,10 +40,16 @@ fn run_from(system: &System, o: Options, from: Flow, name: &[u8]) -> u8 {
 
 fn run(system: &System, o: Options) -> u8 {
     if o.help {
-        return replay_many::status_of(system, b"replay", replay_many::DONE, replay_options::help(system));
+        return replay_many::status_of(
+            system,
+            b"replay",
+            replay_many::DONE,
+            replay_options::help(system),
+        );
     }
     if o.version {
-        return replay_many::status_of(system, 
+        return replay_many::status_of(
+            system,
             b"replay",
             replay_many::DONE,
             text_options::version(system, b"replay"),

@@ -7,7 +7,8 @@ use std::fs::File;
 use text_system::System;
 
 fn surveyed(system: &System, o: Options, file: &File, from: Next) -> Survey {
-    replay_survey::surveyed(system, 
+    replay_survey::surveyed(
+        system,
         file,
         o.many,
         crate::queue::before(o),
@@ -79,7 +80,8 @@ fn one(system: &System, o: Options, file: &File, name: &[u8], from: Next, out: &
 }
 
 // A function of its own, since the check of a slice looks for its length among all that is in hand.
-fn tell_refused(system: &System, 
+fn tell_refused(
+    system: &System,
     name: &[u8],
     file: &File,
     many: bool,
@@ -91,13 +93,14 @@ fn tell_refused(system: &System,
     edition: u64,
     answers: [u64; replay_survey::answers::WORDS],
 ) {
-    replay_refusals::tell(system, 
-        name, file, many, begun, whole, refusal, place, before, edition, &answers,
+    replay_refusals::tell(
+        system, name, file, many, begun, whole, refusal, place, before, edition, &answers,
     )
 }
 
 // What is refused is told on standard error too, behind what was printed so far; of many the lines follow as they come.
-fn with_refusal(system: &System, 
+fn with_refusal(
+    system: &System,
     o: Options,
     file: &File,
     name: &[u8],
@@ -116,7 +119,8 @@ fn with_refusal(system: &System,
     };
     if at != text_output::LOST {
         let answers = p.answers;
-        tell_refused(system, 
+        tell_refused(
+            system,
             name,
             file,
             o.many,

@@ -65,7 +65,8 @@ pub fn barred(o: Options) -> u64 {
 }
 
 // In plain words.
-fn explained(system: &System, 
+fn explained(
+    system: &System,
     o: Options,
     file: &File,
     begun: Reading,
@@ -76,16 +77,41 @@ fn explained(system: &System,
     let queue = o.queue;
     match queue {
         replay_options::SINGLE => {
-            replay_single_explain::play(system, asked_of_single(system, o), file, begun, whole, out, at)
+            replay_single_explain::play(
+                system,
+                asked_of_single(system, o),
+                file,
+                begun,
+                whole,
+                out,
+                at,
+            )
         }
         replay_options::UNBOUNDED => {
-            replay_unbounded_explain::play(system, asked_of_unbounded(system, o), file, begun, whole, out, at)
+            replay_unbounded_explain::play(
+                system,
+                asked_of_unbounded(system, o),
+                file,
+                begun,
+                whole,
+                out,
+                at,
+            )
         }
-        _ => replay_bounded_explain::play::play(system, asked_in_words(system, o), file, begun, whole, out, at),
+        _ => replay_bounded_explain::play::play(
+            system,
+            asked_in_words(system, o),
+            file,
+            begun,
+            whole,
+            out,
+            at,
+        ),
     }
 }
 
-pub fn play(system: &System, 
+pub fn play(
+    system: &System,
     o: Options,
     file: &File,
     begun: Reading,
@@ -104,8 +130,18 @@ pub fn play(system: &System,
         return explained(system, o, file, begun, whole, out, at);
     }
     match queue {
-        replay_options::SINGLE => replay_single::play::play(system, asked(o), file, begun, whole, out, at),
-        replay_options::UNBOUNDED => replay_unbounded::play::play(system, o, file, begun, whole, out, at),
+        replay_options::SINGLE => replay_single::play::play(
+            system,
+            asked(o),
+            file,
+            begun,
+            whole,
+            out,
+            at,
+        ),
+        replay_options::UNBOUNDED => replay_unbounded::play::play(
+            system, o, file, begun, whole, out, at,
+        ),
         _ => replay_bounded::play::play(system, o, file, begun, whole, out, at),
     }
 }
