@@ -1,8 +1,5 @@
-use Prim.Native.Nat.{◌-◌, ◌/◌}
+use Rattle.std.proofs.Common.{◌-◌}
 use Rattle.bounded_shows_narrow.proofs.rounds.Given as goal
 
-abbrev pub invariant-loop-k : goal.invariant-loop-k
-invariant-loop-k l = Unit {0}
-
 abbrev pub decreases-loop-k : goal.decreases-loop-k
-decreases-loop-k l = l.n / 64 - l.k
+decreases-loop-k l = l.fn.n - l.k
