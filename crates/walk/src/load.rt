@@ -77,7 +77,8 @@ fn nothing() -> Loaded {
     stands(none, false, 0, 0)
 }
 
-fn all(system: &System, 
+fn all(
+    system: &System,
     edition: u64,
     file: &File,
     many: bool,
@@ -100,8 +101,18 @@ fn all(system: &System,
 }
 
 // Read piece by piece and run to its end or to its first refusal.
-pub fn load(system: &System, edition: u64, file: &File, many: bool, begun: Reading, whole: Whole, at: usize) -> Loaded {
+pub fn load(
+    system: &System,
+    edition: u64,
+    file: &File,
+    many: bool,
+    begun: Reading,
+    whole: Whole,
+    at: usize,
+) -> Loaded {
     let mut bytes = [0u8; replay_input::source::BYTES];
     let mut list = [1u64; replay_input::source::NUMBERS];
-    all(system, edition, file, many, begun, whole, at, &mut bytes, &mut list)
+    all(
+        system, edition, file, many, begun, whole, at, &mut bytes, &mut list,
+    )
 }

@@ -40,10 +40,20 @@ fn run_from(system: &System, o: Options, from: Flow, name: &[u8]) -> u8 {
 
 fn run(system: &System, o: Options) -> u8 {
     if o.help {
-        return replay_many::status_of(system, b"walk", replay_many::DONE, walk_options::help(system));
+        return replay_many::status_of(
+            system,
+            b"walk",
+            replay_many::DONE,
+            walk_options::help(system),
+        );
     }
     if o.version {
-        return replay_many::status_of(system, b"walk", replay_many::DONE, text_options::version(system, b"walk"));
+        return replay_many::status_of(
+            system,
+            b"walk",
+            replay_many::DONE,
+            text_options::version(system, b"walk"),
+        );
     }
     if o.wrong {
         return replay_many::UNREADABLE;

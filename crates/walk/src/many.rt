@@ -9,7 +9,17 @@ use walk_options::Options;
 use walk_play::tell::Asked;
 
 fn surveyed(system: &System, o: Options, file: &File, from: Next) -> Survey {
-    replay_survey::surveyed(system, file, o.many, 0, 16, false, from.offset, from.line, from.sum)
+    replay_survey::surveyed(
+        system,
+        file,
+        o.many,
+        0,
+        16,
+        false,
+        from.offset,
+        from.line,
+        from.sum,
+    )
 }
 
 fn numbers(s: Survey) -> u64 {
@@ -19,7 +29,16 @@ fn numbers(s: Survey) -> u64 {
 fn is_sound(system: &System, s: Survey, file: &File, many: bool, name: &[u8]) -> bool {
     let hints =
         b"|; several schedules are read with --many|; tape read prints a tape as a schedule|; walk has the ring alone, which has one|";
-    replay_input::say::is_sound(system, b"walk", name, file, many, s.reading, numbers(s), hints)
+    replay_input::say::is_sound(
+        system,
+        b"walk",
+        name,
+        file,
+        many,
+        s.reading,
+        numbers(s),
+        hints,
+    )
 }
 
 // Read once, and not run.
@@ -32,7 +51,7 @@ fn look(system: &System, o: Options, file: &File, name: &[u8], from: Next) -> Ne
     }
 }
 
-fn asked(o: Options, file: &File, due: Sum) -> Asked {
+fn asked(o: Options, file: &File, due: Sum) -> Asked<'_> {
     Asked {
         depth: o.depth,
         list: o.list,
@@ -49,14 +68,29 @@ fn answers_in(m: [u64; bounded_text_words::WORDS]) -> [u64; replay_survey::answe
 }
 
 // What is refused of an entry is told with its line, below; one of many here too, in its place.
-fn refused(system: &System, out: &mut [u8], at: usize, many: bool, refusal: u64, place: u64) -> usize {
+fn refused(
+    system: &System,
+    out: &mut [u8],
+    at: usize,
+    many: bool,
+    refusal: u64,
+    place: u64,
+) -> usize {
     if !many && replay_refusals::is_of_entry(refusal) {
         return at;
     }
     walk_play::refused::tell(system, out, at, many, refusal, &[place])
 }
 
-fn play(system: &System, o: Options, file: &File, begun: Reading, whole: Whole, out: &mut [u8], at: usize) -> Played {
+fn play(
+    system: &System,
+    o: Options,
+    file: &File,
+    begun: Reading,
+    whole: Whole,
+    out: &mut [u8],
+    at: usize,
+) -> Played {
     let l = crate::load::load(system, o.edition, file, o.many, begun, whole, at);
     if replay_input::source::is_lost(l.at) {
         return replay_survey::told(l.at, false);
@@ -76,7 +110,8 @@ fn play(system: &System, o: Options, file: &File, begun: Reading, whole: Whole, 
 }
 
 // A function of its own, since the check of a slice looks for its length among all that is in hand.
-fn tell_refused(system: &System, 
+fn tell_refused(
+    system: &System,
     name: &[u8],
     file: &File,
     many: bool,
@@ -87,16 +122,24 @@ fn tell_refused(system: &System,
     edition: u64,
     answers: [u64; replay_survey::answers::WORDS],
 ) {
-    replay_refusals::tell(system, 
-        name, file, many, begun, whole, refusal, place, 0, edition, &answers,
+    replay_refusals::tell(
+        system, name, file, many, begun, whole, refusal, place, 0, edition, &answers,
     )
 }
 
-fn tell_entry(system: &System, o: Options, file: &File, name: &[u8], begun: Reading, whole: Whole, p: Played) {
+fn tell_entry(
+    system: &System,
+    o: Options,
+    file: &File,
+    name: &[u8],
+    begun: Reading,
+    whole: Whole,
+    p: Played,
+) {
     if replay_refusals::is_of_entry(p.refusal) {
         let answers = p.answers;
-        tell_refused(system, 
-            name, file, o.many, begun, whole, p.refusal, p.place, o.edition, answers,
+        tell_refused(
+            system, name, file, o.many, begun, whole, p.refusal, p.place, o.edition, answers,
         );
     }
 }
