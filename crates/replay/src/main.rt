@@ -5,6 +5,7 @@ mod many;
 mod queue;
 
 use replay_options::Options;
+use std::process::ExitCode;
 use text_system::System;
 use text_system::files::Flow;
 
@@ -64,9 +65,10 @@ fn run(system: &System, o: Options) -> u8 {
     run_from(system, o, Flow::Standard, b"standard input")
 }
 
-fn main(rt: HostRuntime) {
+fn main(rt: HostRuntime) -> ExitCode {
     let system = text_system::of(rt);
     let o = replay_options::read(&system);
     let starter = replay_input::starter::asking(&system, o.tells_on);
-    replay_input::starter::hears_status(&system, &starter, run(&system, o));
+    let status = run(&system, o);
+    replay_input::starter::ending(&system, &starter, status)
 }

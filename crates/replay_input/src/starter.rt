@@ -1,10 +1,17 @@
 // What the starter hears, if it asks, on a descriptor that it opens: the path of each file that it is to remove where a signal ends the program,
-// each ended by a 0; then the status, a digit. The program itself ends with 0.
+// each ended by a 0; then the status, a digit. The program itself ends with 0, or as if a pipe's signal had ended it.
 use std::fs::File;
+use std::process::ExitCode;
 use text_system::System;
 
 // The descriptor where none is named.
 pub const FILENO: u64 = 3;
+
+// The status where something cannot be read or written.
+const FAILED: u8 = 2;
+
+// As a program that the system's signal for a pipe that nobody reads has ended: 128, and the signal's number.
+const UNREAD: u8 = 141;
 
 // Who asks: the process that started this one, and on which descriptor; 0: nobody.
 #[derive(Drop)]
@@ -62,6 +69,15 @@ pub fn hears_file(system: &System, starter: &Starter, path: &[u8]) {
 pub fn hears_status(system: &System, starter: &Starter, status: u8) {
     let digit = [b'0' + status % 3];
     hears(system, starter, &digit);
+}
+
+// What the program ends with. Of a pipe that nobody reads any more nobody is told but who sees how it ended; else the starter hears the status.
+pub fn ending(system: &System, starter: &Starter, status: u8) -> ExitCode {
+    if status == FAILED && text_system::why(system) == text_system::CLOSED_PIPE {
+        return ExitCode::from(UNREAD);
+    }
+    hears_status(system, starter, status);
+    ExitCode::SUCCESS
 }
 
 // The number of a descriptor in an argument, read as the numbers of a schedule are; 0: it is none.

@@ -5,6 +5,7 @@ mod asked;
 
 use asked::Asked;
 use replay_input::starter::Starter;
+use std::process::ExitCode;
 use tapes_numbers::Variant;
 use text_system::System;
 use text_system::files::Flow;
@@ -67,9 +68,10 @@ fn status_of(system: &System, starter: &Starter, a: Asked) -> u8 {
     run_file(system, starter, a, &name[..n])
 }
 
-fn main(rt: HostRuntime) {
+fn main(rt: HostRuntime) -> ExitCode {
     let system = text_system::of(rt);
     let a = asked::read(&system);
     let starter = replay_input::starter::asking(&system, a.tells_on);
-    replay_input::starter::hears_status(&system, &starter, status_of(&system, &starter, a));
+    let status = status_of(&system, &starter, a);
+    replay_input::starter::ending(&system, &starter, status)
 }

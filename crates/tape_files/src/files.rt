@@ -34,7 +34,7 @@ pub fn beside(system: &System, name: &[u8], path: &mut [u8]) -> usize {
     text_output::text(path, q, &letters)
 }
 
-// A file to write to; None: there is none, and that is said.
+// A file to write to; None: there is none, and that is said, or the starter was ended and hears nothing.
 pub fn sink(system: &System, starter: &Starter, name: &[u8], path: &[u8]) -> Option<File> {
     if is_standard(name) {
         return replay_input::spare::nameless(system, b"tape");
@@ -43,7 +43,11 @@ pub fn sink(system: &System, starter: &Starter, name: &[u8], path: &[u8]) -> Opt
         crate::say::special(system, name);
         return None;
     }
+    text_system::failed(system, 0);
     replay_input::starter::hears_file(system, starter, path);
+    if text_system::why(system) == text_system::CLOSED_PIPE {
+        return None;
+    }
     let file = text_system::files::create(system, path);
     if file.is_none() {
         replay_input::say::fail(system, b"tape", name);
