@@ -53,10 +53,18 @@ def listed():
     return uses
 
 
+def apart(text):
+    """Each `use` line with braces as a line for each name in them."""
+    def lines(found):
+        names = [name for name in re.split(r'\s*,\s*', found[2].strip(' ,\n')) if name]
+        return '\n'.join(f'use {found[1][:-2]};' if name == 'self' else f'use {found[1]}{name};' for name in names)
+    return re.sub(r'\buse ((?:\w+::)+)\{([^{}]*)\};', lines, text)
+
+
 @cache
 def sources(crate):
     """The text of each source file of a crate, without comments."""
-    return [re.sub(r'//.*', '', file.read_text()) for file in sorted((root / 'crates' / crate / 'src').rglob('*.rt'))]
+    return [apart(re.sub(r'//.*', '', file.read_text())) for file in sorted((root / 'crates' / crate / 'src').rglob('*.rt'))]
 
 
 @cache

@@ -70,5 +70,5 @@ fn main(rt: HostRuntime) -> ExitCode {
     let o = replay_options::read(&system);
     let starter = replay_input::starter::asking(&system, o.tells_on);
     let status = run(&system, o);
-    replay_input::starter::ending(&system, &starter, status)
+    replay_input::starter::ending(&system, starter, status)
 }

@@ -1,36 +1,25 @@
 // What the starter hears, if it asks, on a descriptor that it opens: the path of each file that it is to remove where a signal ends the program,
 // each ended by a 0; then the status, a digit. The program itself ends with 0, or as if a pipe's signal had ended it.
-use std::fs::File;
 use std::process::ExitCode;
 use text_system::System;
 
 // The descriptor where none is named.
 pub const FILENO: u64 = 3;
 
-// The status where something cannot be read or written.
-const FAILED: u8 = 2;
-
 // As a program that the system's signal for a pipe that nobody reads has ended: 128, and the signal's number.
 const UNREAD: u8 = 141;
 
 // Who asks: the process that started this one, and on which descriptor; 0: nobody.
-#[derive(Drop)]
+#[derive(Clone, Copy)]
 pub struct Starter {
     pub process: u32,
     pub descriptor: u64,
-    // it is opened before any file of the program's could have its number
-    hears: Option<File>,
+    // what is opened later and has that number is no starter's
+    hears: bool,
 }
 
 fn as_descriptor(number: u64) -> u64 {
     if number < 1048576 { number } else { 0 }
-}
-
-fn heard_on(system: &System, descriptor: u64) -> Option<File> {
-    if descriptor == 0 {
-        return None;
-    }
-    text_system::descriptors::to_write(system, descriptor)
 }
 
 // Asked on this descriptor, or by nobody: 0.
@@ -39,44 +28,42 @@ pub fn asking(system: &System, descriptor: u64) -> Starter {
     Starter {
         process: text_system::process::parent(system),
         descriptor: number,
-        hears: heard_on(system, number),
+        hears: number != 0 && text_system::descriptors::may_write(system, number),
     }
 }
 
 // Whether a starter that asked has ended meanwhile.
-pub fn is_gone(system: &System, starter: &Starter) -> bool {
+pub fn is_gone(system: &System, starter: Starter) -> bool {
     if starter.descriptor == 0 {
         return false;
     }
     text_system::process::parent(system) != starter.process
 }
 
-fn hears(system: &System, starter: &Starter, bytes: &[u8]) {
-    match &starter.hears {
-        Some(file) => {
-            text_system::files::put(system, file, bytes);
-        }
-        None => {}
+fn hears(system: &System, starter: Starter, bytes: &[u8]) {
+    if starter.hears {
+        text_system::descriptors::write(system, starter.descriptor, bytes);
     }
 }
 
-pub fn hears_file(system: &System, starter: &Starter, path: &[u8]) {
+pub fn hears_file(system: &System, starter: Starter, path: &[u8]) {
     hears(system, starter, path);
     hears(system, starter, &[0u8]);
 }
 
 // 0: done. 1: refused. 2: the input or the arguments cannot be read, or something cannot be written.
-pub fn hears_status(system: &System, starter: &Starter, status: u8) {
+pub fn hears_status(system: &System, starter: Starter, status: u8) {
     let digit = [b'0' + status % 3];
     hears(system, starter, &digit);
 }
 
-// What the program ends with. Of a pipe that nobody reads any more nobody is told but who sees how it ended; else the starter hears the status.
-pub fn ending(system: &System, starter: &Starter, status: u8) -> ExitCode {
-    if status == FAILED && text_system::why(system) == text_system::CLOSED_PIPE {
+// What the program ends with: its starter has heard the status, and sees by this that nobody reads what it wrote.
+pub fn ending(system: &System, starter: Starter, status: u8) -> ExitCode {
+    let is_unread = text_system::why(system) == text_system::CLOSED_PIPE;
+    hears_status(system, starter, status);
+    if is_unread {
         return ExitCode::from(UNREAD);
     }
-    hears_status(system, starter, status);
     ExitCode::SUCCESS
 }
 

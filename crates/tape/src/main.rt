@@ -18,13 +18,13 @@ fn variant_of(a: Asked) -> Variant {
     }
 }
 
-fn write(system: &System, starter: &Starter, a: Asked, from: Flow, name: &[u8]) -> u8 {
+fn write(system: &System, starter: Starter, a: Asked, from: Flow, name: &[u8]) -> u8 {
     let mut tape = [0u8; 4096];
     let n = text_system::arguments::read(system, a.to, &mut tape);
     tape_writes::run(system, starter, from, name, variant_of(a), &tape[..n])
 }
 
-fn run_from(system: &System, starter: &Starter, a: Asked, from: Flow, name: &[u8]) -> u8 {
+fn run_from(system: &System, starter: Starter, a: Asked, from: Flow, name: &[u8]) -> u8 {
     if a.act == asked::WRITE {
         write(system, starter, a, from, name)
     } else {
@@ -32,7 +32,7 @@ fn run_from(system: &System, starter: &Starter, a: Asked, from: Flow, name: &[u8
     }
 }
 
-fn run_file(system: &System, starter: &Starter, a: Asked, name: &[u8]) -> u8 {
+fn run_file(system: &System, starter: Starter, a: Asked, name: &[u8]) -> u8 {
     if tape_files::files::is_standard(name) {
         return run_from(system, starter, a, Flow::Standard, b"standard input");
     }
@@ -53,7 +53,7 @@ fn told(system: &System, whole: bool) -> u8 {
 }
 
 // 0: done. 1: the tape or the schedule is refused. 2: anything else.
-fn status_of(system: &System, starter: &Starter, a: Asked) -> u8 {
+fn status_of(system: &System, starter: Starter, a: Asked) -> u8 {
     if a.help {
         return told(system, asked::help(system));
     }
@@ -72,6 +72,6 @@ fn main(rt: HostRuntime) -> ExitCode {
     let system = text_system::of(rt);
     let a = asked::read(&system);
     let starter = replay_input::starter::asking(&system, a.tells_on);
-    let status = status_of(&system, &starter, a);
-    replay_input::starter::ending(&system, &starter, status)
+    let status = status_of(&system, starter, a);
+    replay_input::starter::ending(&system, starter, status)
 }

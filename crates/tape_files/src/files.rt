@@ -35,7 +35,7 @@ pub fn beside(system: &System, name: &[u8], path: &mut [u8]) -> usize {
 }
 
 // A file to write to; None: there is none, and that is said, or the starter was ended and hears nothing.
-pub fn sink(system: &System, starter: &Starter, name: &[u8], path: &[u8]) -> Option<File> {
+pub fn sink(system: &System, starter: Starter, name: &[u8], path: &[u8]) -> Option<File> {
     if is_standard(name) {
         return replay_input::spare::nameless(system, b"tape");
     }
@@ -77,7 +77,7 @@ fn to_output(system: &System, file: File) -> bool {
 }
 
 // A starter that was ended, even so that it could hand nothing on, has ended the program too.
-fn replaced(system: &System, starter: &Starter, name: &[u8], path: &[u8]) -> bool {
+fn replaced(system: &System, starter: Starter, name: &[u8], path: &[u8]) -> bool {
     if replay_input::starter::is_gone(system, starter) {
         crate::say::abandoned(system, name);
         return false;
@@ -89,7 +89,7 @@ fn replaced(system: &System, starter: &Starter, name: &[u8], path: &[u8]) -> boo
     false
 }
 
-fn renamed(system: &System, starter: &Starter, name: &[u8], path: &[u8], file: File) -> bool {
+fn renamed(system: &System, starter: Starter, name: &[u8], path: &[u8], file: File) -> bool {
     let lasts = text_system::files::keep(system, &file);
     if lasts {} else {
         replay_input::say::fail(system, b"tape", name);
@@ -103,7 +103,7 @@ fn renamed(system: &System, starter: &Starter, name: &[u8], path: &[u8], file: F
 }
 
 // What was written becomes the file.
-fn commit(system: &System, starter: &Starter, name: &[u8], path: &[u8], file: File) -> bool {
+fn commit(system: &System, starter: Starter, name: &[u8], path: &[u8], file: File) -> bool {
     if is_standard(name) {
         return to_output(system, file);
     }
@@ -121,7 +121,7 @@ fn discard(system: &System, name: &[u8], path: &[u8], file: File) {
 // Where the status is 0, what was written becomes the file; otherwise it is gone. Answers the status, or 2.
 pub fn finish(
     system: &System,
-    starter: &Starter,
+    starter: Starter,
     status: u8,
     name: &[u8],
     path: &[u8],

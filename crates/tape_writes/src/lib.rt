@@ -336,7 +336,7 @@ fn status_of(system: &System, w: Work, from: &File, name: &[u8]) -> u8 {
 
 fn write_to(
     system: &System,
-    starter: &Starter,
+    starter: Starter,
     from: &File,
     name: &[u8],
     v: Variant,
@@ -361,7 +361,7 @@ fn write_to(
 
 fn write_from(
     system: &System,
-    starter: &Starter,
+    starter: Starter,
     from: &File,
     name: &[u8],
     v: Variant,
@@ -377,7 +377,7 @@ fn write_from(
 
 fn run_kept(
     system: &System,
-    starter: &Starter,
+    starter: Starter,
     kept: File,
     name: &[u8],
     v: Variant,
@@ -393,7 +393,7 @@ fn run_kept(
 // A schedule's text and the name of its tape; answers the status.
 pub fn run(
     system: &System,
-    starter: &Starter,
+    starter: Starter,
     from: Flow,
     name: &[u8],
     v: Variant,

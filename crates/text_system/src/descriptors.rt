@@ -2,7 +2,7 @@
 ghost use Rattle.std.specs.Prelude.{◌≤◌, length};
 
 use crate::System;
-use crate::files::{File, is_plain, open, open_to_add, read};
+use crate::files::{File, is_at_start, is_flow, open, open_to_add, open_to_change, read};
 
 // The longest path of these.
 const PATH: usize = 64;
@@ -29,18 +29,14 @@ fn put_number(path: &mut [u8; PATH], at: usize, number: u64) -> usize {
     put(path, at, &digits[from..])
 }
 
-fn opened(s: &System, folder: &[u8], number: u64, adds: bool) -> Option<File> {
+fn opened(s: &System, folder: &[u8], number: u64) -> Option<File> {
     let mut path = [0u8; PATH];
     let n = put(&mut path, 0, folder);
     let end = put_number(&mut path, n, number);
     if path.len() < end {
         return None;
     }
-    if adds {
-        open_to_add(s, &path[..end])
-    } else {
-        open(s, &path[..end])
-    }
+    open(s, &path[..end])
 }
 
 fn is_at(text: &[u8], at: usize, word: &[u8]) -> bool {
@@ -92,7 +88,7 @@ const BOTH: u64 = 2;
 
 fn told_in(text: &[u8]) -> Told {
     Told {
-        is_open: true,
+        is_open: behind(text, b"pos:\t") < text.len(),
         place: number_behind(text, b"pos:\t", 10),
         access: number_behind(text, b"flags:\t", 8) % 4,
     }
@@ -100,7 +96,7 @@ fn told_in(text: &[u8]) -> Told {
 
 fn look(s: &System, number: u64) -> Told {
     let mut text = [0u8; 256];
-    if let Some(file) = opened(s, b"/proc/self/fdinfo/", number, false) {
+    if let Some(file) = opened(s, b"/proc/self/fdinfo/", number) {
         let got = read(s, &file, &mut text);
         if 0 < got.n {
             return told_in(&text[..got.n]);
@@ -113,22 +109,51 @@ fn look(s: &System, number: u64) -> Told {
     }
 }
 
-// What may be written to.
-pub fn to_write(s: &System, number: u64) -> Option<File> {
+pub fn may_write(s: &System, number: u64) -> bool {
     let t = look(s, number);
-    if t.is_open && (t.access == WRITES || t.access == BOTH) {
-        return opened(s, b"/proc/self/fd/", number, true);
+    t.is_open && (t.access == WRITES || t.access == BOTH)
+}
+
+// By a file that is closed again: one that stayed open would take a number that the caller has left free. To open a named pipe that nobody reads would wait
+// for a reader, so this opens it for reading too until then.
+fn put_behind(s: &System, path: &[u8], bytes: &[u8]) -> bool {
+    let reader = open_to_change(s, path);
+    let writer = open_to_add(s, path);
+    std::mem::drop(reader);
+    match writer {
+        Some(file) => crate::files::put(s, &file, bytes),
+        None => false,
+    }
+}
+
+// Answers whether all of it was written.
+pub fn write(s: &System, number: u64, bytes: &[u8]) -> bool {
+    let mut path = [0u8; PATH];
+    let n = put(&mut path, 0, b"/proc/self/fd/");
+    let end = put_number(&mut path, n, number);
+    if path.len() < end {
+        return false;
+    }
+    put_behind(s, &path[..end], bytes)
+}
+
+const INPUT: &[u8] = b"/proc/self/fd/0";
+
+fn at_start(s: &System, file: File) -> Option<File> {
+    if is_at_start(s, &file) {
+        return Some(file);
     }
     None
 }
 
-// Standard input, where it is a plain file that stands at its start and may be read. Nothing else is opened: to open a pipe could wait.
+// Standard input, where it stands at its start and may be read. No pipe and no socket is opened: to open one could wait.
 pub fn whole_input(s: &System) -> Option<File> {
     let t = look(s, 0);
-    if t.is_open && t.place == 0 && (t.access == READS || t.access == BOTH) {
-        if is_plain(s, b"/proc/self/fd/0") {
-            return open(s, b"/proc/self/fd/0");
-        }
+    if !t.is_open || t.place != 0 || (t.access != READS && t.access != BOTH) || is_flow(s, INPUT) {
+        return None;
     }
-    None
+    match open(s, INPUT) {
+        Some(file) => at_start(s, file),
+        None => None,
+    }
 }

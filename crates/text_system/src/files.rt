@@ -6,7 +6,7 @@ use crate::streams::{Got, got_none, got_some, is_done};
 pub use std::fs::File;
 use std::fs::OpenOptions;
 use std::io::{Read, Seek, SeekFrom, Write};
-use std::os::unix::fs::{FileExt, OpenOptionsExt};
+use std::os::unix::fs::{FileExt, FileTypeExt, OpenOptionsExt};
 use std::random::RandomSource;
 
 fn path_of<'a>(s: &System, name: &'a [u8]) -> Option<&'a str> {
@@ -129,14 +129,14 @@ pub fn is_link(s: &System, name: &[u8]) -> bool {
     }
 }
 
-// What is no folder, device or pipe, by its name or behind a link.
-pub fn is_plain(s: &System, name: &[u8]) -> bool {
+// What is a pipe or a socket, by its name or behind a link, or can't be told.
+pub fn is_flow(s: &System, name: &[u8]) -> bool {
     match path_of(s, name) {
         Some(path) => match std::fs::metadata(&s.rt, path) {
-            Ok(m) => m.is_file(),
-            Err(_) => false,
+            Ok(m) => m.file_type().is_fifo() || m.file_type().is_socket(),
+            Err(_) => true,
         },
-        None => false,
+        None => true,
     }
 }
 
