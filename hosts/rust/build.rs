@@ -1,5 +1,5 @@
 //! Links the library of the folder that FERNMOLDEW_LIB names; where it is not set, the proved one of target/native, if hosts/library has made it of what stands here; else one that is compiled from the sources with no
-//! proof, in seconds, into OUT_DIR, with a warning. Nothing is proved here, and nothing written elsewhere: `cargo check` and an editor come this way too. With FERNMOLDEW_PROVED=only nothing that is not proved is linked.
+//! proof, in half a minute, into OUT_DIR, with a warning. Nothing is proved here, and nothing written elsewhere: `cargo check` and an editor come this way too. With FERNMOLDEW_PROVED=only nothing that is not proved is linked.
 
 use std::path::{Path, PathBuf};
 use std::process::{Command, Output};
@@ -20,10 +20,11 @@ fn library(root: &Path, words: &[&str], room: &Path) -> Output {
 
 /// What the library is made of, so that a change has this run again.
 fn watch(root: &Path) {
-    let reached = Command::new(root.join("tools/reached")).args(LIBRARIES).output();
+    let made_of = LIBRARIES.map(|name| format!("{name}_c"));
+    let reached = Command::new(root.join("tools/reached")).args(&made_of).output();
     let reached = reached.unwrap_or_else(|error| fail(&format!("tools/reached: {error}"))).stdout;
     let crates = String::from_utf8(reached).expect("names of crates");
-    for part in crates.split_whitespace().chain(LIBRARIES) {
+    for part in crates.split_whitespace().chain(made_of.iter().map(String::as_str)) {
         for folder in ["src", "specs"] {
             let folder = root.join("crates").join(part).join(folder);
             if folder.is_dir() {
@@ -31,7 +32,7 @@ fn watch(root: &Path) {
             }
         }
     }
-    for file in ["crates.txt", "hosts/library", "hosts/c/fernmoldew.h", "oracle/host_face.c", "tools/unproved", "tools/made-of"] {
+    for file in ["crates.txt", "hosts/library", "tools/unproved", "tools/made-of"] {
         println!("cargo:rerun-if-changed={}", root.join(file).display());
     }
 }
