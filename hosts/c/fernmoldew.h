@@ -58,7 +58,7 @@
  * queue.
  *
  * A tape is a schedule as bytes, for an archive: fern_tape_write and fern_tape_read, which need no ring; and entry by
- * entry as you do them, fern_tape_begin, fern_tape_append and fern_tape_end. */
+ * entry as you do them, fern_recorder_begin, fern_recorder_append and fern_recorder_end. */
 #ifndef FERNMOLDEW_H
 #define FERNMOLDEW_H
 
@@ -133,7 +133,7 @@ enum fern_tape_about {
     FERN_TAPE_ABOUT /* how many words they are */
 };
 
-/* The words of a recorder, in which fern_tape_begin and fern_tape_append keep where it stands. */
+/* The words of a recorder, in which fern_recorder_begin and fern_recorder_append keep where it stands. */
 enum fern_recorder_word {
     FERN_RECORDER_VARIANT,
     FERN_RECORDER_LENGTH,  /* bytes of the tape so far, but for its last field */
@@ -470,25 +470,26 @@ FERN_NODISCARD struct fern_reply fern_tape_read(const uint8_t *tape, size_t tape
 
 /* ---- A recorder: a tape entry by entry into a lent buffer. Its FERN_RECORDER_WORDS words are yours, and go with the buffer
  * from call to call. Proved: each call answers what fern_tape_write answers of the entries that were accepted so far (with
- * the new one, from fern_tape_append), and after fern_tape_end the whole buffer is as fern_tape_write leaves it. Words that
- * are not a recorder's of this buffer (another count of them, a variant that there is none of, a length that is not that of
- * so many entries or for which, with the last field, there is no room) are refused with FERN_BROKEN (0). What is refused
- * changes nothing, and recording can go on. */
+ * the new one, from fern_recorder_append), and after fern_recorder_end the whole buffer is as fern_tape_write leaves it.
+ * Words that are not a recorder's of this buffer (another count of them, a variant that there is none of, a length that is
+ * not that of so many entries or for which, with the last field, there is no room) are refused with FERN_BROKEN (0). What
+ * is refused changes nothing, and recording can go on. */
 
 /* A recorder over this buffer, with no entry yet: its words, and the tape of no entries. How many bytes, 10. Refusals:
  * FERN_BROKEN for another count of words; then FERN_TAPE_FIELD, FERN_TAPE_ENTRY and FERN_TAPE_ROOM, as fern_tape_write. */
-FERN_NODISCARD struct fern_reply fern_tape_begin(uint64_t *recorder, size_t recorder_words, uint64_t variant, uint64_t capacity,
-                                  uint64_t workers, uint8_t *tape, size_t tape_bytes);
+FERN_NODISCARD struct fern_reply fern_recorder_begin(uint64_t *recorder, size_t recorder_words, uint64_t variant,
+                                      uint64_t capacity, uint64_t workers, uint8_t *tape, size_t tape_bytes);
 
 /* One entry more: how many bytes the tape has with it, last field and all. Refusals, and their number, in this order:
  * FERN_BROKEN (0), FERN_TAPE_ENTRY (the entry's place from 0), FERN_TAPE_ROOM (how many bytes it would take; with a longer
- * buffer that begins with the same bytes the recorder goes on). The buffer is a tape again after fern_tape_end. */
-FERN_NODISCARD struct fern_reply fern_tape_append(uint64_t *recorder, size_t recorder_words, uint64_t first, uint64_t second,
-                                   uint8_t *tape, size_t tape_bytes);
+ * buffer that begins with the same bytes the recorder goes on). The buffer is a tape again after fern_recorder_end. */
+FERN_NODISCARD struct fern_reply fern_recorder_append(uint64_t *recorder, size_t recorder_words, uint64_t first,
+                                       uint64_t second, uint8_t *tape, size_t tape_bytes);
 
 /* The last field: how many bytes the tape has. There is always room for it. The recorder is as it was: more entries may
  * follow, over it, and another end. Refusal: FERN_BROKEN (0). */
-FERN_NODISCARD struct fern_reply fern_tape_end(const uint64_t *recorder, size_t recorder_words, uint8_t *tape, size_t tape_bytes);
+FERN_NODISCARD struct fern_reply fern_recorder_end(const uint64_t *recorder, size_t recorder_words, uint8_t *tape,
+                                    size_t tape_bytes);
 
 /* The version of the library: FERN_VERSION of the header that it was made with. In libfernmoldew alone. */
 const char *fern_version(void);
@@ -711,30 +712,62 @@ FERN_NODISCARD static inline struct fern_called fern_unbounded_call(const struct
     return fern_called_of(refusal, fern_unbounded_record(queue, worker));
 }
 
-/* ---- A recorder that keeps its words and its buffer: fern_tape_begin, _append and _end with one argument for both. (In
- * earlier headers those three names took this struct; they are the proved functions above now.) */
+/* ---- A recorder with its buffer in one struct: fern_tape_begin, fern_tape_append and fern_tape_end, from before there were
+ * the proved functions above, and as they were. A begin is fern_recorder_begin. The two others are C over fern_tape_write,
+ * which makes each field, and not proved to be what that makes of the whole: they also take fields that you set yourself
+ * (entries counted from elsewhere, a buffer made shorter), which fern_recorder_append and fern_recorder_end refuse with
+ * FERN_BROKEN. Where only these functions set length, entries and variant, and the buffer is made no shorter, answers and
+ * bytes are those of the proved ones; tests/host/header.c compares them. */
 
 struct fern_recorder {
     uint8_t *tape;
     size_t tape_bytes; /* how long the buffer is */
-    uint64_t words[FERN_RECORDER_WORDS];
+    size_t length;     /* bytes so far, but for the last field */
+    uint64_t entries;  /* entries so far */
+    uint64_t variant;
 };
 
-FERN_NODISCARD static inline struct fern_reply fern_recorder_begin(struct fern_recorder *recorder, uint64_t variant, uint64_t capacity, uint64_t workers, uint8_t *tape, size_t tape_bytes) {
-    const struct fern_reply reply = fern_tape_begin(recorder->words, FERN_RECORDER_WORDS, variant, capacity, workers, tape, tape_bytes);
-    if (reply.refusal == FERN_ACCEPTED) {
-        recorder->tape = tape;
-        recorder->tape_bytes = tape_bytes;
-    }
+/* A recorder over this buffer, with no entry yet. Refusals 13, 17 and 16, as fern_tape_write of no entries. */
+FERN_NODISCARD static inline struct fern_reply fern_tape_begin(struct fern_recorder *recorder, uint64_t variant, uint64_t capacity, uint64_t workers, uint8_t *tape, size_t tape_bytes) {
+    uint64_t words[FERN_RECORDER_WORDS] = {0};
+    const struct fern_reply reply = fern_recorder_begin(words, FERN_RECORDER_WORDS, variant, capacity, workers, tape, tape_bytes);
+    const struct fern_recorder fresh = {tape, tape_bytes, (size_t)words[FERN_RECORDER_LENGTH], words[FERN_RECORDER_ENTRIES], words[FERN_RECORDER_VARIANT]};
+    if (reply.refusal == FERN_ACCEPTED)
+        *recorder = fresh;
     return reply;
 }
 
-FERN_NODISCARD static inline struct fern_reply fern_recorder_append(struct fern_recorder *recorder, uint64_t first, uint64_t second) {
-    return fern_tape_append(recorder->words, FERN_RECORDER_WORDS, first, second, recorder->tape, recorder->tape_bytes);
+/* One more entry: how many bytes the tape has with it. Refusal 17 with the entry's place, for one that no tape carries; 16
+ * with the bytes that it would take, last field and all. What is refused changes nothing, and recording can go on. */
+FERN_NODISCARD static inline struct fern_reply fern_tape_append(struct fern_recorder *recorder, uint64_t first, uint64_t second) {
+    uint8_t alone[FERN_TAPE_HEAD_BYTES + FERN_TAPE_ENTRY_BYTES + FERN_TAPE_END_BYTES];
+    const uint64_t entry[2] = {first, second};
+    struct fern_reply reply = fern_tape_write(recorder->variant, 0, 0, entry, 2, alone, sizeof alone);
+    if (reply.refusal != FERN_ACCEPTED) {
+        reply.number = recorder->entries;
+        return reply;
+    }
+    const size_t field = (size_t)reply.number - FERN_TAPE_HEAD_BYTES - FERN_TAPE_END_BYTES;
+    reply.number = recorder->length + field + FERN_TAPE_END_BYTES;
+    if (reply.number > recorder->tape_bytes) {
+        reply.refusal = FERN_TAPE_ROOM;
+        return reply;
+    }
+    for (size_t i = 0; i < field; i++)
+        recorder->tape[recorder->length + i] = alone[FERN_TAPE_HEAD_BYTES + i];
+    recorder->length += field;
+    recorder->entries++;
+    return reply;
 }
 
-FERN_NODISCARD static inline struct fern_reply fern_recorder_end(const struct fern_recorder *recorder) {
-    return fern_tape_end(recorder->words, FERN_RECORDER_WORDS, recorder->tape, recorder->tape_bytes);
+/* The last field: how many bytes the tape has. There is always room for it. The recorder is as it was: more entries may
+ * follow, over it, and another end. */
+static inline size_t fern_tape_end(const struct fern_recorder *recorder) {
+    uint8_t alone[FERN_TAPE_HEAD_BYTES + FERN_TAPE_END_BYTES];
+    const struct fern_reply reply = fern_tape_write(recorder->variant, 0, 0, NULL, 0, alone, sizeof alone);
+    for (size_t i = 0; reply.refusal == FERN_ACCEPTED && i < FERN_TAPE_END_BYTES; i++)
+        recorder->tape[recorder->length + i] = alone[FERN_TAPE_HEAD_BYTES + i];
+    return recorder->length + FERN_TAPE_END_BYTES;
 }
 
 /* A refusal in words. */

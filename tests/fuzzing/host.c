@@ -220,16 +220,16 @@ static void recording(void) {
         int what = byte() & 7;
         memcpy(was, tape, room);
         if (what == 0) {
-            reply = fern_tape_begin(words.words, words.count, variant, capacity, workers, tape, room);
+            reply = fern_recorder_begin(words.words, words.count, variant, capacity, workers, tape, room);
             if (!reply.refusal) honest = 1, taken = 0;
         } else if (what == 1) {
-            reply = fern_tape_end(words.words, words.count, tape, room);
+            reply = fern_recorder_end(words.words, words.count, tape, room);
         } else if (what == 2) {
             changed(words);
             honest = 0, reply.refusal = 0;
         } else {
             if (byte() & 7) first %= 256, second = first % 16 < 2 ? second : 0;
-            reply = fern_tape_append(words.words, words.count, first, second, tape, room);
+            reply = fern_recorder_append(words.words, words.count, first, second, tape, room);
             if (!reply.refusal) schedule.words[taken++] = first, schedule.words[taken++] = second;
         }
         if (reply.refusal && (differ(words, before) || memcmp(tape, was, room))) broken_promise("what a recorder refuses changes nothing");

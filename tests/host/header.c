@@ -1,4 +1,4 @@
-/* The part of fernmoldew.h that is C and not proved, beside the proved functions that it calls: whole calls, also one that is still under way; accessors; a ring that is renewed; a recorder of tapes; the one-slot queue under its names of today, and the unbounded queue; entries
+/* The part of fernmoldew.h that is C and not proved, beside the proved functions that it calls: whole calls, also one that is still under way; accessors; a ring that is renewed; a recorder of tapes, by its words and in one struct; the one-slot queue under its names of today, and the unbounded queue; entries
  * that are refused, and words that somebody wrote over. Each answer is that of the entries one by one. C99 and C++11 to 20 take it. Status 1 where something is not so. */
 #include "fernmoldew.h"
 
@@ -227,7 +227,48 @@ static void unbounded(void) {
     expect(fern_unbounded_broken(FERN_UNBOUNDED_LENT(&queue)) == FERN_BROKEN && fern_unbounded_call(&queue, 0, FERN_POP, 0).refusal == FERN_BROKEN, "broken");
 }
 
-/* A recorder's tape and refusals beside fern_tape_write of the whole, in buffers that are exactly as long as is said; and its words written over, which are then refused exactly where they are no recorder's, by the header's own words. */
+/* A recorder's tape and refusals beside fern_tape_write of the whole, in buffers that are exactly as long as is said. */
+static void recorded(void) {
+    uint64_t state = 37, refusals[32] = {0};
+    for (int turn = 0; turn < 3000; turn++) {
+        const size_t room = random_below(&state, 90);
+        uint8_t *tape = (uint8_t *)malloc(room + 1), *whole = (uint8_t *)malloc(room + 1);
+        uint64_t schedule[40];
+        size_t words = 0;
+        const uint64_t variant = random_below(&state, 9) == 0 ? 2 : random_below(&state, 2) == 0 ? 1 : 129, capacity = random_below(&state, 9) == 0 ? 65536 : 65535;
+        struct fern_recorder recorder;
+        memset(tape, 85, room + 1);
+        memset(whole, 85, room + 1);
+        struct fern_reply ours = fern_tape_begin(&recorder, variant, capacity, 3, tape, room), theirs = fern_tape_write(variant, capacity, 3, NULL, 0, whole, room);
+        expect(ours.refusal == theirs.refusal && ours.number == theirs.number, "a recorder begins as a tape of no entries");
+        for (int entries = 0; ours.refusal == FERN_ACCEPTED && entries < 15; entries++) {
+            const uint64_t code = random_below(&state, 11), worker = random_below(&state, 20) == 0 ? 16 : random_below(&state, 16);
+            schedule[words] = 16 * worker + code;
+            schedule[words + 1] = code < 2 ? UINT64_C(0x0123456789abcdef) + (uint64_t)turn : random_below(&state, 20) == 0;
+            const struct fern_recorder before = recorder;
+            const struct fern_reply appended = fern_tape_append(&recorder, schedule[words], schedule[words + 1]);
+            theirs = fern_tape_write(variant, capacity, 3, schedule, words + 2, whole, room);
+            expect(appended.refusal == theirs.refusal && appended.number == theirs.number, "an entry is refused as the whole with it is");
+            if (appended.refusal == FERN_ACCEPTED)
+                words += 2;
+            else
+                expect(recorder.length == before.length && recorder.entries == before.entries, "what is refused is not recorded");
+            refusals[appended.refusal]++;
+            if (random_below(&state, 4) == 0) {
+                const size_t bytes = fern_tape_end(&recorder);
+                theirs = fern_tape_write(variant, capacity, 3, schedule, words, whole, room);
+                expect(theirs.refusal == FERN_ACCEPTED && bytes == theirs.number && memcmp(tape, whole, bytes) == 0 && recorder.entries == words / 2, "a recorder's tape is that of the whole");
+            }
+        }
+        refusals[ours.refusal]++;
+        expect(tape[room] == 85, "nothing is written past the buffer");
+        free(tape);
+        free(whole);
+    }
+    expect(refusals[FERN_ACCEPTED] && refusals[FERN_TAPE_FIELD] && refusals[FERN_TAPE_ENTRY] && refusals[FERN_TAPE_ROOM], "of every refusal");
+}
+
+/* The proved recorder the same way, every byte of the buffer, and the struct's functions beside it in a buffer of their own; and its words written over, which are then refused exactly where they are no recorder's, by the header's own words. */
 static bool is_recorder(const uint64_t *words, size_t count, size_t room) {
     if (count != 3 || (words[0] != 1 && words[0] != 129) || words[1] < 7 || room < 10 || words[1] > room - 3)
         return false;
@@ -237,43 +278,55 @@ static bool is_recorder(const uint64_t *words, size_t count, size_t room) {
     return false;
 }
 
-static void recorded(void) {
+static bool is_as(const struct fern_recorder *recorder, const uint64_t *words) {
+    return recorder->variant == words[FERN_RECORDER_VARIANT] && recorder->length == words[FERN_RECORDER_LENGTH] && recorder->entries == words[FERN_RECORDER_ENTRIES];
+}
+
+static void recorded_in_words(void) {
     uint64_t state = 37, refusals[32] = {0};
     for (int turn = 0; turn < 3000; turn++) {
         const size_t room = random_below(&state, 90);
-        uint8_t *tape = (uint8_t *)malloc(room + 1), *whole = (uint8_t *)malloc(room + 1), *kept = (uint8_t *)malloc(room + 1);
+        uint8_t *tape = (uint8_t *)malloc(room + 1), *whole = (uint8_t *)malloc(room + 1), *kept = (uint8_t *)malloc(room + 1), *beside = (uint8_t *)malloc(room + 1);
         uint64_t schedule[40];
         size_t words = 0;
         const uint64_t variant = random_below(&state, 9) == 0 ? 2 : random_below(&state, 2) == 0 ? 1 : 129, capacity = random_below(&state, 9) == 0 ? 65536 : 65535;
-        struct fern_recorder recorder = {NULL, 0, {7, 8, 9}};
+        uint64_t recorder[FERN_RECORDER_WORDS] = {7, 8, 9};
+        struct fern_recorder in_one = {NULL, 4, 5, 6, 3};
         memset(tape, 85, room + 1);
         memset(whole, 85, room + 1);
-        struct fern_reply ours = fern_recorder_begin(&recorder, variant, capacity, 3, tape, room), theirs = fern_tape_write(variant, capacity, 3, NULL, 0, whole, room);
+        memset(beside, 85, room + 1);
+        struct fern_reply ours = fern_recorder_begin(recorder, FERN_RECORDER_WORDS, variant, capacity, 3, tape, room), theirs = fern_tape_write(variant, capacity, 3, NULL, 0, whole, room);
         expect(ours.refusal == theirs.refusal && ours.number == theirs.number && memcmp(tape, whole, room) == 0, "a recorder begins as a tape of no entries");
-        expect(ours.refusal == FERN_ACCEPTED ? recorder.words[0] == variant && recorder.words[1] == 7 && recorder.words[2] == 0 : recorder.words[0] == 7 && recorder.words[1] == 8 && recorder.words[2] == 9 && recorder.tape == NULL, "a recorder's words are those of no entries, or as they were");
+        expect(ours.refusal == FERN_ACCEPTED ? recorder[0] == variant && recorder[1] == 7 && recorder[2] == 0 : recorder[0] == 7 && recorder[1] == 8 && recorder[2] == 9, "a recorder's words are those of no entries, or as they were");
+        struct fern_reply same = fern_tape_begin(&in_one, variant, capacity, 3, beside, room);
+        expect(same.refusal == ours.refusal && same.number == ours.number && memcmp(beside, tape, room + 1) == 0, "a struct begins as the words do");
+        expect(ours.refusal == FERN_ACCEPTED ? in_one.tape == beside && in_one.tape_bytes == room && is_as(&in_one, recorder) : in_one.tape == NULL && in_one.tape_bytes == 4 && in_one.length == 5 && in_one.entries == 6 && in_one.variant == 3, "and holds them, or is as it was");
         for (int entries = 0; ours.refusal == FERN_ACCEPTED && entries < 15; entries++) {
             const uint64_t code = random_below(&state, 11), worker = random_below(&state, 20) == 0 ? 16 : random_below(&state, 16);
             schedule[words] = 16 * worker + code;
             schedule[words + 1] = code < 2 ? UINT64_C(0x0123456789abcdef) + (uint64_t)turn : random_below(&state, 20) == 0;
-            const struct fern_recorder before = recorder;
+            const uint64_t before[] = {recorder[0], recorder[1], recorder[2]};
             memcpy(kept, tape, room + 1);
-            const struct fern_reply appended = fern_recorder_append(&recorder, schedule[words], schedule[words + 1]);
+            const struct fern_reply appended = fern_recorder_append(recorder, FERN_RECORDER_WORDS, schedule[words], schedule[words + 1], tape, room);
             memset(whole, 85, room + 1);
             theirs = fern_tape_write(variant, capacity, 3, schedule, words + 2, whole, room);
             expect(appended.refusal == theirs.refusal && appended.number == theirs.number, "an entry is refused as the whole with it is");
+            same = fern_tape_append(&in_one, schedule[words], schedule[words + 1]);
+            expect(same.refusal == appended.refusal && same.number == appended.number && is_as(&in_one, recorder) && memcmp(beside, tape, room + 1) == 0, "a struct's entry is that of the words");
             if (appended.refusal == FERN_ACCEPTED)
                 words += 2;
             else
-                expect(memcmp(recorder.words, before.words, sizeof before.words) == 0 && memcmp(tape, kept, room + 1) == 0, "what is refused changes nothing");
+                expect(memcmp(recorder, before, sizeof before) == 0 && memcmp(tape, kept, room + 1) == 0, "what is refused changes nothing");
             refusals[appended.refusal]++;
             if (random_below(&state, 4) == 0) {
-                ours = fern_recorder_end(&recorder);
+                ours = fern_recorder_end(recorder, FERN_RECORDER_WORDS, tape, room);
                 memset(whole, 85, room + 1);
                 theirs = fern_tape_write(variant, capacity, 3, schedule, words, whole, room);
-                expect(theirs.refusal == FERN_ACCEPTED && ours.refusal == FERN_ACCEPTED && ours.number == theirs.number && memcmp(tape, whole, room + 1) == 0 && recorder.words[2] == words / 2, "a recorder's buffer is that of the whole, every byte");
+                expect(theirs.refusal == FERN_ACCEPTED && ours.refusal == FERN_ACCEPTED && ours.number == theirs.number && memcmp(tape, whole, room + 1) == 0 && recorder[2] == words / 2, "a recorder's buffer is that of the whole, every byte");
+                expect(fern_tape_end(&in_one) == ours.number && is_as(&in_one, recorder) && memcmp(beside, tape, room + 1) == 0, "a struct's end is that of the words");
             }
             if (random_below(&state, 3) == 0) { /* words that somebody wrote over, in a buffer of their own */
-                uint64_t spoiled[4] = {recorder.words[0], recorder.words[1], recorder.words[2], 0};
+                uint64_t spoiled[4] = {recorder[0], recorder[1], recorder[2], 0};
                 size_t count = random_below(&state, 9) == 0 ? random_below(&state, 5) : 3, bytes = random_below(&state, 6) == 0 ? random_below(&state, room + 1) : room;
                 const uint64_t far[] = {0, 1, 7, UINT64_MAX, UINT64_MAX - 2, (UINT64_MAX >> 2) + 1, spoiled[1] + 4, spoiled[1] + 8, spoiled[2] + 1, 129};
                 for (uint64_t times = random_below(&state, 3); times > 0; times--)
@@ -282,11 +335,11 @@ static void recorded(void) {
                 memcpy(lent, tape, bytes);
                 const bool stands = is_recorder(spoiled, count, bytes);
                 uint64_t after[4] = {spoiled[0], spoiled[1], spoiled[2], 0};
-                ours = fern_tape_append(after, count, schedule[words ? words - 2 : 0], schedule[words ? words - 1 : 1], lent, bytes);
+                ours = fern_recorder_append(after, count, schedule[words ? words - 2 : 0], schedule[words ? words - 1 : 1], lent, bytes);
                 expect((ours.refusal == FERN_BROKEN) == !stands, "words are refused with 6 exactly where they are no recorder's");
                 expect(ours.refusal == FERN_ACCEPTED || (memcmp(after, spoiled, sizeof after) == 0 && memcmp(lent, tape, bytes) == 0), "and then nothing changes");
                 memcpy(lent, tape, bytes);
-                ours = fern_tape_end(spoiled, count, lent, bytes);
+                ours = fern_recorder_end(spoiled, count, lent, bytes);
                 expect((ours.refusal == FERN_BROKEN) == !stands && (stands ? ours.number == spoiled[1] + 3 : ours.number == 0 && memcmp(lent, tape, bytes) == 0), "an end of such words");
                 refusals[ours.refusal]++;
                 free(lent);
@@ -298,11 +351,38 @@ static void recorded(void) {
         free(tape);
         free(whole);
         free(kept);
+        free(beside);
     }
     uint64_t words[FERN_RECORDER_WORDS] = {5, 6, 7};
     uint8_t tape[10];
-    expect(fern_tape_begin(words, 2, FERN_TAPE_BIG, 1, 1, tape, 10).refusal == FERN_BROKEN && words[0] == 5 && words[1] == 6 && fern_tape_begin(words, 3, FERN_TAPE_BIG, 1, 1, NULL, 0).refusal == FERN_TAPE_ROOM && words[2] == 7, "a begin that is refused");
+    expect(fern_recorder_begin(words, 2, FERN_TAPE_BIG, 1, 1, tape, 10).refusal == FERN_BROKEN && words[0] == 5 && words[1] == 6 && fern_recorder_begin(words, 3, FERN_TAPE_BIG, 1, 1, NULL, 0).refusal == FERN_TAPE_ROOM && words[2] == 7, "a begin that is refused");
     expect(refusals[FERN_ACCEPTED] && refusals[FERN_TAPE_FIELD] && refusals[FERN_TAPE_ENTRY] && refusals[FERN_TAPE_ROOM] && refusals[FERN_BROKEN], "of every refusal");
+}
+
+/* Fields of the struct that a host set itself, where the proved functions refuse such words: entries counted from elsewhere go on from there, a buffer made shorter has no room, a variant that there is none of is told with the place, and its end writes nothing. */
+static void recorded_as_set(void) {
+    uint8_t tape[40], before[40];
+    uint64_t words[FERN_RECORDER_WORDS];
+    struct fern_recorder recorder;
+    const uint64_t push = fern_entry(1, FERN_PUSH);
+    memset(tape, 85, sizeof tape);
+    struct fern_reply reply = fern_tape_begin(&recorder, FERN_TAPE_BIG, 2, 2, tape, sizeof tape);
+    recorder.entries = words[FERN_RECORDER_ENTRIES] = 1000;
+    words[FERN_RECORDER_VARIANT] = FERN_TAPE_BIG;
+    words[FERN_RECORDER_LENGTH] = 7;
+    expect(reply.refusal == FERN_ACCEPTED && fern_recorder_append(words, FERN_RECORDER_WORDS, push, 5, tape, sizeof tape).refusal == FERN_BROKEN, "so many entries are not in so few bytes");
+    reply = fern_tape_append(&recorder, push, 5);
+    expect(reply.refusal == FERN_ACCEPTED && reply.number == 22 && recorder.entries == 1001 && recorder.length == 19 && fern_tape_end(&recorder) == 22, "and the struct goes on");
+    reply = fern_tape_append(&recorder, 16 * 16, 0);
+    expect(reply.refusal == FERN_TAPE_ENTRY && reply.number == 1001, "with places counted from there");
+    memcpy(before, tape, sizeof tape);
+    recorder.tape_bytes = 20;
+    reply = fern_tape_append(&recorder, push, 5);
+    expect(reply.refusal == FERN_TAPE_ROOM && reply.number == 34, "no room in a buffer made shorter");
+    recorder.tape_bytes = sizeof tape;
+    recorder.variant = 2;
+    reply = fern_tape_append(&recorder, push, 5);
+    expect(reply.refusal == FERN_TAPE_FIELD && reply.number == 1001 && fern_tape_end(&recorder) == 22 && memcmp(tape, before, sizeof tape) == 0 && recorder.entries == 1001 && recorder.length == 19, "no such variant");
 }
 
 int main(void) {
@@ -313,5 +393,7 @@ int main(void) {
     one_slot();
     unbounded();
     recorded();
+    recorded_in_words();
+    recorded_as_set();
     return wrong;
 }

@@ -29,7 +29,7 @@ int main(int count, char **words) {
         return 2;
     state = strtoull(words[1], NULL, 10);
     FILE *out = fopen(words[2], "wb"), *log = fopen(words[3], "w");
-    if (!out || !log || fern_ring_fresh(&ring, CAPACITY, 1) != FERN_ACCEPTED || fern_tape_begin(recorder, FERN_RECORDER_WORDS, below(2) ? FERN_TAPE_BIG : FERN_TAPE_LITTLE, CAPACITY, WORKERS, tape, room).refusal != FERN_ACCEPTED)
+    if (!out || !log || fern_ring_fresh(&ring, CAPACITY, 1) != FERN_ACCEPTED || fern_recorder_begin(recorder, FERN_RECORDER_WORDS, below(2) ? FERN_TAPE_BIG : FERN_TAPE_LITTLE, CAPACITY, WORKERS, tape, room).refusal != FERN_ACCEPTED)
         return 1;
     fprintf(log, "capacity %d\nworkers %d\n", CAPACITY, WORKERS);
     for (int at = 0; at < ENTRIES; at++) {
@@ -44,15 +44,15 @@ int main(int count, char **words) {
         if (fern_ring_entry(&ring, first, second) != FERN_ACCEPTED)
             return 1;
         printf("%" PRIu64 " %" PRIu64 "\n", first, second);
-        struct fern_reply reply = fern_tape_append(recorder, FERN_RECORDER_WORDS, first, second, tape, room);
+        struct fern_reply reply = fern_recorder_append(recorder, FERN_RECORDER_WORDS, first, second, tape, room);
         if (reply.refusal == FERN_TAPE_ROOM) {
             room = (size_t)reply.number;
             tape = realloc(tape, room);
-            reply = fern_tape_append(recorder, FERN_RECORDER_WORDS, first, second, tape, room);
+            reply = fern_recorder_append(recorder, FERN_RECORDER_WORDS, first, second, tape, room);
         }
         if (reply.refusal != FERN_ACCEPTED)
             return 1;
-        if (below(8) == 0 && fern_tape_end(recorder, FERN_RECORDER_WORDS, tape, room).number != reply.number)
+        if (below(8) == 0 && fern_recorder_end(recorder, FERN_RECORDER_WORDS, tape, room).number != reply.number)
             return 1;
         const uint64_t *record = fern_record(&ring, worker);
         if (!begins && !fern_busy(record)) {
@@ -72,7 +72,7 @@ int main(int count, char **words) {
                 fprintf(log, " %" PRIu64, under[worker].item);
             fprintf(log, " %d..\n", under[worker].begun);
         }
-    const struct fern_reply ended = fern_tape_end(recorder, FERN_RECORDER_WORDS, tape, room);
+    const struct fern_reply ended = fern_recorder_end(recorder, FERN_RECORDER_WORDS, tape, room);
     if (ended.refusal != FERN_ACCEPTED || fwrite(tape, 1, (size_t)ended.number, out) != ended.number || fclose(out) || fclose(log))
         return 1;
     free(tape);

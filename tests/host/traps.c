@@ -63,7 +63,7 @@ static void nothing_lent(void) {
     expect(answers(fern_tape_write(FERN_TAPE_BIG, 1, 1, NULL, 0, tape, sizeof tape), FERN_ACCEPTED, sizeof tape) && answers(fern_tape_write(FERN_TAPE_BIG, 1, 1, NULL, 0, NULL, 0), FERN_TAPE_ROOM, sizeof tape), "a tape of no entries");
     expect(answers(fern_tape_read(tape, sizeof tape, about, FERN_TAPE_ABOUT, NULL, 0), FERN_ACCEPTED, 0) && answers(fern_tape_read(NULL, 0, about, FERN_TAPE_ABOUT, NULL, 0), FERN_TAPE_CUT, 0), "is read, and no bytes are cut short");
     uint64_t recorder[FERN_RECORDER_WORDS];
-    expect(answers(fern_tape_begin(recorder, FERN_RECORDER_WORDS, FERN_TAPE_BIG, 1, 1, NULL, 0), FERN_TAPE_ROOM, sizeof tape) && answers(fern_tape_begin(NULL, 0, FERN_TAPE_BIG, 1, 1, tape, sizeof tape), FERN_BROKEN, 0) && answers(fern_tape_begin(recorder, FERN_RECORDER_WORDS, FERN_TAPE_BIG, 1, 1, tape, sizeof tape), FERN_ACCEPTED, sizeof tape) && answers(fern_tape_append(recorder, FERN_RECORDER_WORDS, fern_entry(0, FERN_POP), 0, NULL, 0), FERN_BROKEN, 0) && answers(fern_tape_end(recorder, FERN_RECORDER_WORDS, NULL, 0), FERN_BROKEN, 0), "a recorder of no buffer and of no words");
+    expect(answers(fern_recorder_begin(recorder, FERN_RECORDER_WORDS, FERN_TAPE_BIG, 1, 1, NULL, 0), FERN_TAPE_ROOM, sizeof tape) && answers(fern_recorder_begin(NULL, 0, FERN_TAPE_BIG, 1, 1, tape, sizeof tape), FERN_BROKEN, 0) && answers(fern_recorder_begin(recorder, FERN_RECORDER_WORDS, FERN_TAPE_BIG, 1, 1, tape, sizeof tape), FERN_ACCEPTED, sizeof tape) && answers(fern_recorder_append(recorder, FERN_RECORDER_WORDS, fern_entry(0, FERN_POP), 0, NULL, 0), FERN_BROKEN, 0) && answers(fern_recorder_end(recorder, FERN_RECORDER_WORDS, NULL, 0), FERN_BROKEN, 0), "a recorder of no buffer and of no words");
 }
 
 /* ---- the end of the meter */
@@ -181,9 +181,9 @@ static void *every_call(void *given) {
     ON_STACK(written = fern_tape_write(FERN_TAPE_LITTLE, FERN_CAPACITY, WORKERS, schedule, words, tape, sizeof tape));
     ON_STACK(fern_tape_read(tape, written.number, about, FERN_TAPE_ABOUT, schedule, words));
     uint64_t recorder[FERN_RECORDER_WORDS];
-    ON_STACK(fern_tape_begin(recorder, FERN_RECORDER_WORDS, FERN_TAPE_LITTLE, FERN_CAPACITY, WORKERS, tape, sizeof tape));
-    ON_STACK(fern_tape_append(recorder, FERN_RECORDER_WORDS, fern_entry(0, FERN_PUSH), 7, tape, sizeof tape));
-    ON_STACK(fern_tape_end(recorder, FERN_RECORDER_WORDS, tape, sizeof tape));
+    ON_STACK(fern_recorder_begin(recorder, FERN_RECORDER_WORDS, FERN_TAPE_LITTLE, FERN_CAPACITY, WORKERS, tape, sizeof tape));
+    ON_STACK(fern_recorder_append(recorder, FERN_RECORDER_WORDS, fern_entry(0, FERN_PUSH), 7, tape, sizeof tape));
+    ON_STACK(fern_recorder_end(recorder, FERN_RECORDER_WORDS, tape, sizeof tape));
     return NULL;
 }
 

@@ -176,7 +176,7 @@ fn recorder_in(words: &[u64], room: usize) -> Recorder
 
 // A recorder over this buffer, with no entry yet: its words, and the tape of no entries. 6: there are not three words; then as `fern_tape_write`.
 #[unsafe(no_mangle)]
-pub extern "C" fn fern_tape_begin(
+pub extern "C" fn fern_recorder_begin(
     recorder: &mut [u64],
     variant: u64,
     capacity: u64,
@@ -240,7 +240,7 @@ fn append_at(
 
 // One entry more, and how many bytes the tape then has. 6: the words are no recorder's of this buffer; then 17 and 16, as `fern_tape_write` of all entries so far and this one.
 #[unsafe(no_mangle)]
-pub extern "C" fn fern_tape_append(
+pub extern "C" fn fern_recorder_append(
     recorder: &mut [u64],
     first: u64,
     second: u64,
@@ -271,7 +271,7 @@ fn end_at(v: Variant, long: usize, tape: &mut [u8]) -> Reply
 
 // The last field, and how many bytes the tape has: what `fern_tape_write` makes of all entries so far. 6: the words are no recorder's of this buffer.
 #[unsafe(no_mangle)]
-pub extern "C" fn fern_tape_end(recorder: &[u64], tape: &mut [u8]) -> Reply
+pub extern "C" fn fern_recorder_end(recorder: &[u64], tape: &mut [u8]) -> Reply
     ensures { written result tape.new ≡ end_tape recorder.now tape.old }
 {
     let stand = recorder_in(recorder, tape.len());

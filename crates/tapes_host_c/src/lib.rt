@@ -31,7 +31,7 @@ pub extern "C" fn fern_tape_read(tape: &[u8], about: &mut [u64], schedule: &mut 
 
 // A recorder over this buffer, with no entry yet: its words, and the tape of no entries. 6: there are not three words; then as `fern_tape_write`.
 #[unsafe(no_mangle)]
-pub extern "C" fn fern_tape_begin(
+pub extern "C" fn fern_recorder_begin(
     recorder: &mut [u64],
     variant: u64,
     capacity: u64,
@@ -40,12 +40,12 @@ pub extern "C" fn fern_tape_begin(
 ) -> Reply
     ensures { recorded result recorder.new tape.new ≡ begin_tape variant capacity workers recorder.old tape.old }
 {
-    tapes_host::fern_tape_begin(recorder, variant, capacity, workers, tape)
+    tapes_host::fern_recorder_begin(recorder, variant, capacity, workers, tape)
 }
 
 // One entry more, and how many bytes the tape then has. 6: the words are no recorder's of this buffer; then 17 and 16, as `fern_tape_write` of all entries so far and this one.
 #[unsafe(no_mangle)]
-pub extern "C" fn fern_tape_append(
+pub extern "C" fn fern_recorder_append(
     recorder: &mut [u64],
     first: u64,
     second: u64,
@@ -53,13 +53,13 @@ pub extern "C" fn fern_tape_append(
 ) -> Reply
     ensures { recorded result recorder.new tape.new ≡ append_tape recorder.old first second tape.old }
 {
-    tapes_host::fern_tape_append(recorder, first, second, tape)
+    tapes_host::fern_recorder_append(recorder, first, second, tape)
 }
 
 // The last field, and how many bytes the tape has: what `fern_tape_write` makes of all entries so far. 6: the words are no recorder's of this buffer.
 #[unsafe(no_mangle)]
-pub extern "C" fn fern_tape_end(recorder: &[u64], tape: &mut [u8]) -> Reply
+pub extern "C" fn fern_recorder_end(recorder: &[u64], tape: &mut [u8]) -> Reply
     ensures { written result tape.new ≡ end_tape recorder.now tape.old }
 {
-    tapes_host::fern_tape_end(recorder, tape)
+    tapes_host::fern_recorder_end(recorder, tape)
 }

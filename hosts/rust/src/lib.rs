@@ -72,9 +72,9 @@ extern "C" {
     fn fern_ring_broken(head: *const u64, n: usize, slots: *const u64, m: usize, records: *const u64, k: usize) -> u64;
     fn fern_tape_write(variant: u64, capacity: u64, workers: u64, schedule: *const u64, length: usize, tape: *mut u8, room: usize) -> Reply;
     fn fern_tape_read(tape: *const u8, length: usize, about: *mut u64, n: usize, schedule: *mut u64, room: usize) -> Reply;
-    fn fern_tape_begin(recorder: *mut u64, n: usize, variant: u64, capacity: u64, workers: u64, tape: *mut u8, room: usize) -> Reply;
-    fn fern_tape_append(recorder: *mut u64, n: usize, first: u64, second: u64, tape: *mut u8, room: usize) -> Reply;
-    fn fern_tape_end(recorder: *const u64, n: usize, tape: *mut u8, room: usize) -> Reply;
+    fn fern_recorder_begin(recorder: *mut u64, n: usize, variant: u64, capacity: u64, workers: u64, tape: *mut u8, room: usize) -> Reply;
+    fn fern_recorder_append(recorder: *mut u64, n: usize, first: u64, second: u64, tape: *mut u8, room: usize) -> Reply;
+    fn fern_recorder_end(recorder: *const u64, n: usize, tape: *mut u8, room: usize) -> Reply;
 }
 
 /// The words of a ring but for its slots.
@@ -781,20 +781,20 @@ impl<'a> Recorder<'a> {
     pub fn begin(about: About, tape: &'a mut [u8]) -> Result<Self, Spoiled> {
         let (About { variant, capacity, workers }, mut words) = (about, [0; 3]);
         // SAFETY: words and buffer are borrowed apart from each other; each is as long as is said. So of the two below.
-        taped(unsafe { fern_tape_begin(words.as_mut_ptr(), words.len(), variant as u64, capacity, workers, tape.as_mut_ptr(), tape.len()) })?;
+        taped(unsafe { fern_recorder_begin(words.as_mut_ptr(), words.len(), variant as u64, capacity, workers, tape.as_mut_ptr(), tape.len()) })?;
         Ok(Recorder { words, tape })
     }
 
     /// One entry more: how many bytes the tape has with it. Refusals 17, with the entry's place, and 16, with the bytes that it would take; what is refused changes nothing.
     pub fn append(&mut self, [first, second]: [u64; 2]) -> Result<usize, Spoiled> {
         // SAFETY: as said above.
-        taped(unsafe { fern_tape_append(self.words.as_mut_ptr(), self.words.len(), first, second, self.tape.as_mut_ptr(), self.tape.len()) })
+        taped(unsafe { fern_recorder_append(self.words.as_mut_ptr(), self.words.len(), first, second, self.tape.as_mut_ptr(), self.tape.len()) })
     }
 
     /// The whole tape. More entries may follow, and another end.
     pub fn end(&mut self) -> &[u8] {
         // SAFETY: as said above.
-        let ended = taped(unsafe { fern_tape_end(self.words.as_ptr(), self.words.len(), self.tape.as_mut_ptr(), self.tape.len()) });
+        let ended = taped(unsafe { fern_recorder_end(self.words.as_ptr(), self.words.len(), self.tape.as_mut_ptr(), self.tape.len()) });
         &self.tape[..ended.expect("a recorder's own words are never refused, and keep room for the last field")]
     }
 }

@@ -1,6 +1,6 @@
 use Rattle.tapes_host.proofs.Recording.{begin_not_three, begin_refused, begun}
 use borrow.Author.Rules.{rules}
-use Rattle.tapes_host.proofs.fern_tape_begin.Goals as goal
+use Rattle.tapes_host.proofs.fern_recorder_begin.Goals as goal
 
 pub returns-then-recorder-ne-ABOUT : goal.returns-then-recorder-ne-ABOUT
 returns-then-recorder-ne-ABOUT c = search (rules, begin_not_three)

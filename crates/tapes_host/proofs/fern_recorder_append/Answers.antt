@@ -1,6 +1,6 @@
 use Rattle.tapes_host.proofs.Recording.{three_words, end_fits, few_entries, append_broken, append_told}
 use borrow.Author.Rules.{rules}
-use Rattle.tapes_host.proofs.fern_tape_append.Goals as goal
+use Rattle.tapes_host.proofs.fern_recorder_append.Goals as goal
 
 pub append_at-requires : goal.append_at-requires
 append_at-requires c = (search (rules, three_words), search (rules, end_fits), search (rules, few_entries))

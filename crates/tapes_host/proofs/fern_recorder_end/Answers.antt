@@ -1,6 +1,6 @@
 use Rattle.tapes_host.proofs.Recording.{end_fits, end_broken, end_told}
 use borrow.Author.Rules.{rules}
-use Rattle.tapes_host.proofs.fern_tape_end.Goals as goal
+use Rattle.tapes_host.proofs.fern_recorder_end.Goals as goal
 
 pub end_at-requires : goal.end_at-requires
 end_at-requires c = search (rules, end_fits)
