@@ -223,7 +223,7 @@ impl Scan {
 }
 
 // A number that has ended goes into the list; one that finds no room is left out.
-fn keep(list: &mut [u64], count: usize, number: u64) -> usize {
+pub fn keep(list: &mut [u64], count: usize, number: u64) -> usize {
     if count < list.len() {
         list[count] = number;
         return count + 1;
