@@ -7,25 +7,20 @@ pub const NUMBERS: usize = 64;
 
 // The first such byte from there on, or the text's end.
 fn find(text: &[u8], from: usize, b: u8) -> usize {
-    let mut i = from;
-    while i < text.len() {
+    for i in from..text.len() {
         if text[i] == b {
             return i;
         }
-        i += 1;
     }
     text.len()
 }
 
 // What stands after the byte at `from`, up to the one at `to`.
 fn between(text: &[u8], from: usize, to: usize) -> &[u8] {
-    if from < to {
-        if to <= text.len() {
-            let first = from + 1;
-            return &text[first..to];
-        }
+    if from < to && to <= text.len() {
+        return &text[from + 1..to];
     }
-    &text[..0]
+    &[]
 }
 
 pub fn letter(text: &[u8], at: usize) -> u8 {
