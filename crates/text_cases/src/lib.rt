@@ -2,6 +2,8 @@
 // for is said by who goes through the rows. Rows in place of calls keep a program's check short.
 #![tactic(auto)]
 
+use text_numbers::Scan;
+
 // The most numbers of a row.
 pub const NUMBERS: usize = 64;
 
@@ -30,8 +32,7 @@ pub fn letter(text: &[u8], at: usize) -> u8 {
 // The numbers of the row at this place, into the list; how many.
 pub fn numbers(text: &[u8], at: usize, list: &mut [u64]) -> usize {
     let digits = between(text, at, find(text, at, b'|'));
-    let piece = text_numbers::read_piece(text_numbers::start(1), false, digits, list, 0);
-    piece.count
+    Scan::start(1).read_piece(false, digits, list, 0).count
 }
 
 pub fn label(text: &[u8], at: usize) -> &[u8] {
