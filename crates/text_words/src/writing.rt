@@ -22,16 +22,16 @@ const CALLS_AND_ACTS: [&str; 10] = [
     "fail",
 ];
 
-pub fn capacity(text: &mut Text<'_>, number: u64) {
+pub fn capacity(text: &mut Text, number: u64) {
     text.form("capacity #\n", &[number]);
 }
 
-pub fn workers(text: &mut Text<'_>, number: u64) {
+pub fn workers(text: &mut Text, number: u64) {
     text.form("workers #\n", &[number]);
 }
 
 // wK and what it does
-fn entry_line(text: &mut Text<'_>, first: u64, item: u64) {
+fn entry_line(text: &mut Text, first: u64, item: u64) {
     text.form("w# ", &[first / 16]);
     text.nth(&CALLS_AND_ACTS, (first % 16) as usize, &[item]);
 }
@@ -42,7 +42,7 @@ impl Row {
     }
 
     // Writes the acts that are left, where there are any.
-    pub fn end(&mut self, text: &mut Text<'_>) {
+    pub fn end(&mut self, text: &mut Text) {
         match self.times {
             0 => return,
             1 => {
@@ -58,7 +58,7 @@ impl Row {
     }
 
     // So many acts more: one row with these, where they are of one worker and a row's number holds them all.
-    pub fn acts(&mut self, text: &mut Text<'_>, first: u64, times: u64) {
+    pub fn acts(&mut self, text: &mut Text, first: u64, times: u64) {
         if self.times != 0 && self.first == first && times <= u64::MAX - self.times {
             self.times += times;
             return;
@@ -68,7 +68,7 @@ impl Row {
     }
 
     // One entry more, which can be read.
-    pub fn entry(&mut self, text: &mut Text<'_>, first: u64, item: u64) {
+    pub fn entry(&mut self, text: &mut Text, first: u64, item: u64) {
         if first % 16 < 8 {
             self.end(text);
             entry_line(text, first, item);
