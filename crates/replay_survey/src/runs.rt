@@ -1,7 +1,7 @@
 // What the replays of all queues have in common: a machine that was made is run piece by piece, and told at the end.
-use crate::pieces::Run;
+use crate::pieces::{Pieces, Run};
 use crate::{Played, answers, pieces};
-use replay_input::source::{BYTES, NUMBERS, Reading};
+use replay_input::source::{BYTES, Input, NUMBERS, Reading};
 use std::fs::File;
 use text_output::Text;
 use text_system::System;
@@ -49,17 +49,24 @@ pub fn play<R: Runner>(
 ) -> Played {
     let mut bytes = [0u8; BYTES];
     let mut list = [1u64; NUMBERS];
-    let mut p = pieces::start(begun);
+    let mut input = Input {
+        system,
+        file,
+        many,
+        bytes: &mut bytes,
+        list: &mut list,
+    };
+    let mut p = Pieces::start(begun);
     let mut run = start;
     for _ in 0..u64::MAX {
-        if !pieces::goes_on(system, p, run, text) {
+        if !p.goes_on(system, run, text) {
             break;
         }
-        p = pieces::next(system, file, many, p, run, &mut bytes, &mut list);
-        run = runner.entries(system, run, pieces::entries(p, &list), text);
+        p.next(&mut input, run);
+        run = runner.entries(system, run, p.entries(input.list), text);
     }
-    pieces::ended(system, file, many, p, &mut bytes, text);
+    p.ended(&mut input, text);
     runner.tell(system, run, text);
     pieces::end(system, text, many);
-    pieces::played(run, runner.answers())
+    run.played(runner.answers())
 }
