@@ -11,10 +11,11 @@ pub const WORKERS: usize = 16;
 
 pub const METER: u64 = 4294967295;
 
+#[tactic(auto, unfolding(crate::specs::Limits::in_limits))]
 pub fn in_limits(n: u64, most: u64) -> bool
     ensures { result ≡ in_limits n most }
 {
-    if n == 0 { false } else { n <= most }
+    n != 0 && n <= most
 }
 
 // A number that was asked for, or the number of the refusal.
@@ -68,10 +69,11 @@ fn call_of(code: u64, item: u64) -> Call
 }
 
 // An item where none may be.
+#[tactic(auto, unfolding(crate::specs::Entries::stray_of))]
 fn stray(code: u64, item: u64) -> bool
     ensures { result ≡ stray_of code item }
 {
-    if 1 < code { item != 0 } else { false }
+    1 < code && item != 0
 }
 
 // "First = 16 × worker + code; second = item."
@@ -112,13 +114,10 @@ pub fn search_but(barred: u64, schedule: &[u64]) -> Finding
     ensures { result ≡ search_by (entry_but barred) 0 schedule.now }
 {
     let n = schedule.len() / 2;
-    let mut i = 0;
-    while i < n {
-        let Entry::Asks(worker, order) = entry_but(barred, schedule[2 * i], schedule[2 * i + 1])
-        else {
+    for i in 0..n {
+        let Entry::Asks(_, _) = entry_but(barred, schedule[2 * i], schedule[2 * i + 1]) else {
             return Finding::UnreadableAt(i);
         };
-        i += 1;
     }
     Finding::AllRead
 }
@@ -143,29 +142,12 @@ pub fn verdict_for(meter: u64, busy: bool, weak: bool, o: Order) -> Verdict
     ensures { result ≡ verdict_for meter busy weak o }
 {
     match o {
-        Order::Begin(c) => {
-            if busy {
-                Verdict::Refuse(4)
-            } else {
-                Verdict::Start(c)
-            }
-        }
-        Order::Act(lose) => {
-            if busy {} else {
-                return Verdict::Refuse(5);
-            }
-            if METER <= meter {
-                return Verdict::Refuse(7);
-            }
-            if lose {
-                if weak {
-                    Verdict::Move(true)
-                } else {
-                    Verdict::Refuse(8)
-                }
-            } else {
-                Verdict::Move(false)
-            }
-        }
+        Order::Begin(_) if busy => Verdict::Refuse(4),
+        Order::Begin(c) => Verdict::Start(c),
+        Order::Act(_) if !busy => Verdict::Refuse(5),
+        Order::Act(_) if METER <= meter => Verdict::Refuse(7),
+        Order::Act(false) => Verdict::Move(false),
+        Order::Act(true) if weak => Verdict::Move(true),
+        Order::Act(true) => Verdict::Refuse(8),
     }
 }
