@@ -46,19 +46,16 @@ pub fn contents(m: Machine, buffer: &mut [u64]) -> Told
     if single_machine::broken(m) {
         return Told::Refused(6);
     }
-    let workers = m.workers;
-    if single_machine::idle_from(0, workers) {} else {
+    if !single_machine::idle_from(0, m.workers) {
         return Told::Refused(4);
     }
-    let single = m.single;
-    let found = single.state;
-    if single_words::pushed(found) {} else {
+    if !single_words::pushed(m.single.state) {
         return Told::Number(0);
     }
     if buffer.len() < 1 {
         return Told::Refused(10);
     }
-    buffer[0] = single.value;
+    buffer[0] = m.single.value;
     Told::Number(1)
 }
 
@@ -73,12 +70,10 @@ pub fn run(m: Machine, schedule: &[u64]) -> Ran
 pub fn step(m: Machine, first: u64, second: u64) -> Did
     ensures { result ≡ step_of m first second }
 {
-    let entry = [first, second];
-    let r = run(m, &entry);
-    let after = r.machine;
+    let r = run(m, &[first, second]);
     Did {
         refusal: r.refusal,
-        machine: after,
+        machine: r.machine,
     }
 }
 

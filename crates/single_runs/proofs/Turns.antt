@@ -66,8 +66,10 @@ module _ (m : Machine) (s : List ℕ) (whole : broken_of m ≡ false) where
   first_stand n k = record { within = omega arith; pairs = k; unbroken = unbroken_of m whole; left = refl }
 
 module _ (s : List ℕ) (n i : ℕ) (m : Machine) (whole : Ran) (at : Stand s n i m whole) where
-  pub ended : n ≤ i → ran 0 i m ≡ whole
-  ended ge = loop_ended single_queue s n i m whole at.left at.pairs ge
+  pub ended : n ≤ i → ran 0 n m ≡ whole
+  ended ge =
+      let e : n ≡ i = omega (arith, at.within) in
+      ap (λ (k : ℕ). ran 0 k m) e ∙ loop_ended single_queue s n i m whole at.left at.pairs ge
 
   -- ---- one turn
   module _ (lt : i < n) (x : Entry) (ex : x ≡ entry_of (get_or s (2 * i) 0) (get_or s (2 * i + 1) 0)) where
