@@ -128,7 +128,8 @@ impl Look {
     fn turn(&mut self, input: &mut Input) {
         let mut r = self.reading;
         r.next(input);
-        let pairs = pairs_of(&r, input.list);
+        let list = &mut *input.list;
+        let pairs = pairs_of(&r, list);
         self.note_all(&r, pairs);
         self.row = self.pairs;
         self.times = (pairs.len() as u64).saturating_add(r.owing());

@@ -117,10 +117,11 @@ impl Survey {
     fn turn(&mut self, input: &mut Input) {
         self.reading.turn(input, self.left);
         let count = self.reading.count;
-        self.with_pairs(input.list, count);
+        let list = &mut *input.list;
+        self.with_pairs(list, count);
         self.add(self.reading.owing());
         self.reading.owing_none();
-        self.left = replay_input::source::carry(input.list, count);
+        self.left = replay_input::source::carry(list, count);
     }
 
     pub fn numbers(&self) -> u64 {

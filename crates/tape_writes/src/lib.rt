@@ -146,12 +146,13 @@ impl Work {
     fn turn(&mut self, input: &mut Input, sink: &mut Sink) {
         self.reading.turn(input, self.left);
         let count = self.reading.count;
-        if count <= input.list.len() {
-            self.with_numbers(sink, &input.list[..count]);
+        let list = &mut *input.list;
+        if count <= list.len() {
+            self.with_numbers(sink, &list[..count]);
         } else {
             self.stuck = true;
         }
-        self.left = replay_input::source::carry(input.list, count);
+        self.left = replay_input::source::carry(list, count);
     }
 
     // Whether there are no numbers, or one, or as many as a schedule needs.
@@ -267,13 +268,10 @@ fn run_kept(
     v: Variant,
     tape: &[u8],
 ) -> u8 {
-    let mut path = [0u8; 4608];
-    let n = tape_files::files::beside(system, tape, &mut path);
-    let status = if n <= path.len() {
-        write_to(system, starter, &kept, name, v, tape, &path[..n])
-    } else {
-        2
-    };
+    let mut room = [0u8; 4608];
+    let mut path = Text::new(&mut room);
+    tape_files::files::beside(system, tape, &mut path);
+    let status = write_to(system, starter, &kept, name, v, tape, path.as_bytes());
     replay_input::source::release(kept);
     status
 }
