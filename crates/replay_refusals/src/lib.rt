@@ -50,12 +50,6 @@ struct Look {
     notes: [Note; WORKERS],
 }
 
-// The whole pairs that a reading brought in the list.
-fn pairs_of<'a>(r: &Reading, list: &'a [u64]) -> &'a [[u64; 2]] {
-    let (pairs, _) = list[..r.count.min(list.len())].as_chunks::<2>();
-    pairs
-}
-
 impl Look {
     fn start(begun: Reading, pairs: u64, target: u64) -> Look {
         Look {
@@ -129,7 +123,8 @@ impl Look {
         let mut r = self.reading;
         r.next(input);
         let list = &mut *input.list;
-        let pairs = pairs_of(&r, list);
+        let count = r.count.min(list.len());
+        let (pairs, _) = list[..count].as_chunks::<2>();
         self.note_all(&r, pairs);
         self.row = self.pairs;
         self.times = (pairs.len() as u64).saturating_add(r.owing());

@@ -102,24 +102,24 @@ impl Survey {
         }
     }
 
-    // The pairs among the first n numbers of the list.
-    fn with_pairs(&mut self, list: &[u64], n: usize) {
-        let even = n - n % 2;
-        if list.len() < even {
-            return;
-        }
-        let pairs = &list[..even];
+    // The whole pairs of the list.
+    fn with_pairs(&mut self, list: &[u64]) {
+        let count = list.len() / 2;
+        let pairs = &list[..2 * count];
         self.with_first(pairs);
         self.search(pairs);
-        self.add((even / 2) as u64);
+        self.add(count as u64);
     }
 
     fn turn(&mut self, input: &mut Input) {
         self.reading.turn(input, self.left);
         let count = self.reading.count;
         let list = &mut *input.list;
-        self.with_pairs(list, count);
-        self.add(self.reading.owing());
+        if count <= list.len() {
+            self.with_pairs(&list[..count]);
+        }
+        let owing = self.reading.owing();
+        self.add(owing);
         self.reading.owing_none();
         self.left = replay_input::source::carry(list, count);
     }
