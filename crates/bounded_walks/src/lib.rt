@@ -17,7 +17,7 @@ use bounded_words::Fixed;
 use queue_entries::Told;
 use queue_walks::Walked;
 
-// How many sequences in how many bytes, or the number of the refusal.
+// How many sequences in how many bytes, or the number of the refusal. An enum of its own, since `size_of` of specs/Walks.antt answers it.
 #[derive(Clone, Copy)]
 pub enum Sized {
     Sequences(u64, u64),
@@ -30,14 +30,10 @@ fn all_busy(m: Machine) -> bool
 {
     let workers = m.workers;
     let count = m.count as usize;
-    let mut i = 0;
-    while i < count {
+    for i in 0..count {
         let worker = workers[i];
-        let p = worker.place;
-        let view = bounded_places::view_of(p);
-        if view.busy {
-            i += 1;
-        } else {
+        let view = bounded_places::view_of(worker.place);
+        if !view.busy {
             return false;
         }
     }
@@ -54,7 +50,7 @@ fn acts_left(meter: u64) -> u64
     }
 }
 
-// Order: 6, 19, 20, 21; 0 where it is not refused.
+// Order: 6, 19, 20, 21; 0 where it is not refused, as `size_refusal` of specs/Walks.antt has it.
 fn refusal_of(m: Machine, depth: u64) -> u64
     ensures { result ≡ size_refusal m depth }
 {
@@ -67,7 +63,7 @@ fn refusal_of(m: Machine, depth: u64) -> u64
     if (queue_walks::DEPTH as u64) < depth {
         return 19;
     }
-    if all_busy(m) {} else {
+    if !all_busy(m) {
         return 20;
     }
     if acts_left(m.meter) < depth {
@@ -79,8 +75,7 @@ fn refusal_of(m: Machine, depth: u64) -> u64
 fn number_of(slot: Slot, value: bool) -> u64
     ensures { result ≡ number_of value slot }
 {
-    let stamp = slot.stamp;
-    if value { slot.value } else { stamp.0 }
+    if value { slot.value } else { slot.stamp.0 }
 }
 
 // One row of the slots' numbers: their values, or their stamps.
@@ -88,10 +83,8 @@ fn row_of(slots: [Slot; bounded_words::SLOTS], value: bool) -> [u64; bounded_wor
     ensures { result ≡ row_of value slots }
 {
     let mut row = [0; bounded_words::SLOTS];
-    let mut i = 0;
-    while i < bounded_words::SLOTS {
+    for i in 0..bounded_words::SLOTS {
         row[i] = number_of(slots[i], value);
-        i += 1;
     }
     row
 }
@@ -121,11 +114,9 @@ fn walk_into(m: Machine, depth: u64, out: &mut [u8]) -> Walked
         capacity: ring.capacity,
         edition: ring.edition,
     };
-    let head = ring.head;
-    let tail = ring.tail;
     let e = Ends {
-        head: head,
-        tail: tail,
+        head: ring.head,
+        tail: ring.tail,
     };
     let slots = ring.slots;
     let records = m.workers;
@@ -136,7 +127,7 @@ fn walk_into(m: Machine, depth: u64, out: &mut [u8]) -> Walked
         State {
             fixed: f,
             ends: e,
-            workers: workers,
+            workers,
             count: m.count,
             meter: m.meter,
         },
