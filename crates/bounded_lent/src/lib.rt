@@ -17,13 +17,10 @@ fn records_fit(records: &[Worker], f: Fixed, meter: u64, counted: bool) -> bool
     requires { Fair f }
     ensures { result ≡ each_fits f meter counted records.now }
 {
-    let n = records.len();
-    let mut i = 0;
-    while i < n {
-        if bounded_machine::record_fits(f, meter, records[i], counted) {} else {
+    for record in records {
+        if !bounded_machine::record_fits(f, meter, *record, counted) {
             return false;
         }
-        i += 1;
     }
     true
 }
@@ -41,7 +38,7 @@ pub fn broken(ring: &Metered, records: &[Worker]) -> bool
         head: ring.ring.head,
         tail: ring.ring.tail,
     };
-    if bounded_orders::ring_fits(f, e, records.len()) {} else {
+    if !bounded_orders::ring_fits(f, e, records.len()) {
         return true;
     }
     !records_fit(records, f, ring.meter, true)
@@ -100,16 +97,14 @@ pub fn run(ring: &mut Metered, records: &mut [Worker], schedule: &[u64]) -> Repo
 {
     let whole = bounded_orders::judged(broken(ring, records), schedule);
     let n = bounded_orders::entries_of(whole);
-    let mut i = 0;
-    while i < n {
+    for i in 0..n {
         let refusal = turn(ring, records, schedule[2 * i], schedule[2 * i + 1]);
         if refusal != 0 {
             return Report {
-                refusal: refusal,
+                refusal,
                 place: i as u64,
             };
         }
-        i += 1;
     }
     whole
 }
@@ -121,10 +116,8 @@ pub fn make(records: &mut [Worker], capacity: u64, edition: u64) -> Made
     let count = records.len();
     let made = bounded_orders::make(count, capacity, edition);
     let n = bounded_orders::unless_refused(made.refusal, count);
-    let mut i = 0;
-    while i < n {
+    for i in 0..n {
         records[i] = bounded_orders::idle();
-        i += 1;
     }
     made
 }
