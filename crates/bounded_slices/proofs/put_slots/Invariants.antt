@@ -1,5 +1,3 @@
-use Prim.Native.Nat.{◌-◌}
-use Rattle.bounded_words.specs.Limits.{slots_most}
 use Rattle.bounded_slices.proofs.Filling.{Stored}
 use Rattle.bounded_slices.proofs.put_slots.Given as goal
 

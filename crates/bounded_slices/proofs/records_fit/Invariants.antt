@@ -1,4 +1,3 @@
-use Prim.Native.Nat.{◌-◌}
 use Rattle.bounded_slices.proofs.Fitting.{Going}
 use Rattle.bounded_slices.proofs.records_fit.Given as goal
 

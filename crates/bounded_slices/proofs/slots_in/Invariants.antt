@@ -1,5 +1,3 @@
-use Prim.Native.Nat.{◌-◌}
-use Rattle.bounded_words.specs.Limits.{slots_most}
 use Rattle.bounded_slices.proofs.Filling.{Taken}
 use Rattle.bounded_slices.proofs.slots_in.Given as goal
 
