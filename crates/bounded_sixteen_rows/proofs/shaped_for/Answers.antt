@@ -5,11 +5,11 @@ use Rattle.bounded_sixteen_rows.proofs.shaped_for.Goals as goal
 pub returns-then-head-ne-HEAD : goal.returns-then-head-ne-HEAD
 returns-then-head-ne-HEAD c = search (rules, shape_1)
 
-pub returns-then-stamps-ne-capacity : goal.returns-then-stamps-ne-capacity
-returns-then-stamps-ne-capacity c = search (rules, shape_2)
+pub returns-then-stamps-capacity : goal.returns-then-stamps-capacity
+returns-then-stamps-capacity c = search (rules, shape_2)
 
-pub returns-then-values-ne-capacity : goal.returns-then-values-ne-capacity
-returns-then-values-ne-capacity c = search (rules, shape_3)
+pub returns-then-values-capacity : goal.returns-then-values-capacity
+returns-then-values-capacity c = search (rules, shape_3)
 
 pub returns : goal.returns
 returns c = search (rules, shape_4)
