@@ -10,7 +10,6 @@ ghost use Rattle.bounded.specs.Bounded.{make_of, step_of, begin_step_of, act_ste
 
 use bounded_machine::{Did, Machine, Ran};
 use bounded_words::Width;
-use queue_entries::Told;
 
 // A fresh machine, or refusal 1, 2 or 18 with the blank one.
 pub fn make(capacity: u64, workers: u64, edition: u64) -> Did
@@ -35,7 +34,7 @@ pub fn broken(m: Machine) -> bool
     bounded_machine::broken(m)
 }
 
-pub fn capacity(m: Machine) -> Told
+pub fn capacity(m: Machine) -> Result<u64, u64>
     ensures { result ≡ capacity_of m }
 {
     let ring = m.ring;
@@ -43,7 +42,7 @@ pub fn capacity(m: Machine) -> Told
 }
 
 // The items as `Drop` would meet them, written at the buffer's start. Nothing is removed.
-pub fn contents(m: Machine, buffer: &mut [u64]) -> Told
+pub fn contents(m: Machine, buffer: &mut [u64]) -> Result<u64, u64>
     ensures answer { result ≡ told (contents_refusal m (length buffer.old)) (count_in m) }
     ensures lent { buffer.new ≡ written m buffer.old }
 {

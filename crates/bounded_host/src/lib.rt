@@ -9,7 +9,6 @@ ghost use Rattle.bounded_host.specs.Host.{reply_of, broken_refusal, make_words, 
 
 use bounded_machine::Ring;
 use bounded_words::Width;
-use queue_entries::Told;
 
 // The number of a refusal, 0 where there is none; and what the call is asked for: an entry's place, a count, a capacity.
 #[repr(C)]
@@ -102,15 +101,15 @@ pub extern "C" fn fern_ring_broken(head: &[u64], slots: &[u64], records: &[u64])
     }
 }
 
-fn reply_of(t: Told) -> Reply
+fn reply_of(t: Result<u64, u64>) -> Reply
     ensures { result ≡ reply_of t }
 {
     match t {
-        Told::Number(n) => Reply {
+        Ok(n) => Reply {
             refusal: 0,
             number: n,
         },
-        Told::Refused(k) => Reply {
+        Err(k) => Reply {
             refusal: k,
             number: 0,
         },

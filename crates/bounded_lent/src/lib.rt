@@ -10,7 +10,6 @@ ghost use Rattle.bounded_lent.specs.Lent.{each_fits, broken_lent, lent, turn_len
 use bounded_orders::{Made, Metered, Report};
 use bounded_places::{Ends, Worker};
 use bounded_words::{Fixed, Width};
-use queue_entries::Told;
 
 // Whether every record fits the ring, as one within the count does or as one past it, which has to be idle.
 fn records_fit(records: &[Worker], f: Fixed, meter: u64, counted: bool) -> bool
@@ -122,18 +121,18 @@ pub fn make(records: &mut [Worker], capacity: u64, edition: u64) -> Made
     made
 }
 
-pub fn capacity(ring: &Metered, records: &[Worker]) -> Told
+pub fn capacity(ring: &Metered, records: &[Worker]) -> Result<u64, u64>
     ensures { result ≡ capacity_lent ring.now records.now }
 {
     bounded_orders::capacity_told(broken(ring, records), ring.ring.capacity)
 }
 
 // The items as `Drop` would meet them, written at the buffer's start. Nothing is removed.
-pub fn contents(ring: &Metered, records: &[Worker], buffer: &mut [u64]) -> Told
+pub fn contents(ring: &Metered, records: &[Worker], buffer: &mut [u64]) -> Result<u64, u64>
     ensures { filled result buffer.new ≡ contents_lent ring.now records.now buffer.old }
 {
     if broken(ring, records) {
-        return bounded_orders::refused(6);
+        return Err(6);
     }
     let f = Fixed {
         mark: ring.ring.mark,

@@ -3,14 +3,12 @@
 
 ghost use Rattle.std.specs.Prelude.{◌≡◌, true, false};
 ghost use Rattle.bounded_orders.specs.Orders.{ring_fits_lent, make_refusal_with, made_from, made_of, unless_refused, judged_of, capacity_told, filled, contents_by, contents_on};
-ghost use Rattle.queue_entries.specs.declared.Told.TheVariants.{Refused};
 ghost use Rattle.bounded_machine.specs.Machine.{idler, fixed_on, ends_on};
 ghost use Rattle.bounded_machine.specs.Broken.{ring_fits};
 
 use bounded_machine::{Machine, Ring};
 use bounded_places::{Answer, Ends, Place, Worker};
 use bounded_words::Fixed;
-use queue_entries::{Finding, Told};
 
 // What a host keeps beside the records: the ring, and the accepted acts since it was made.
 #[derive(Clone, Copy)]
@@ -119,11 +117,11 @@ pub fn judged(broken: bool, schedule: &[u64]) -> Report
         };
     }
     match queue_entries::search(schedule) {
-        Finding::UnreadableAt(place) => Report {
+        Some(place) => Report {
             refusal: 9,
             place: place as u64,
         },
-        Finding::AllRead => Report {
+        None => Report {
             refusal: 0,
             place: (schedule.len() / 2) as u64,
         },
@@ -137,46 +135,40 @@ pub fn entries_of(r: Report) -> usize
     unless_refused(r.refusal, r.place as usize)
 }
 
-pub fn capacity_told(broken: bool, capacity: u64) -> Told
+pub fn capacity_told(broken: bool, capacity: u64) -> Result<u64, u64>
     ensures { result ≡ capacity_told broken capacity }
 {
     if broken {
-        return Told::Refused(6);
+        return Err(6);
     }
-    Told::Number(capacity)
-}
-
-pub fn refused(number: u64) -> Told
-    ensures { result ≡ Refused number }
-{
-    Told::Refused(number)
+    Ok(capacity)
 }
 
 // The items between the ends, written at the buffer's start, of a ring that is broken or not, whose workers are all idle or not.
-pub fn contents_by(broken: bool, idle: bool, ring: Ring, buffer: &mut [u64]) -> Told
+pub fn contents_by(broken: bool, idle: bool, ring: Ring, buffer: &mut [u64]) -> Result<u64, u64>
     requires { broken ≡ false → ring_fits (fixed_on ring) (ends_on ring) ≡ true }
     ensures { filled result buffer.new ≡ contents_by broken idle ring buffer.old }
 {
     if broken {
-        return Told::Refused(6);
+        return Err(6);
     }
     if idle {} else {
-        return Told::Refused(4);
+        return Err(4);
     }
     let n = bounded_machine::count_in(ring);
     if buffer.len() < (n as usize) {
-        return Told::Refused(10);
+        return Err(10);
     }
     let mut k = 0;
     while k < n {
         buffer[k as usize] = bounded_machine::item_at(ring, k);
         k += 1;
     }
-    Told::Number(n)
+    Ok(n)
 }
 
 // The same of a ring by itself.
-pub fn contents_on(idle: bool, ring: Ring, buffer: &mut [u64]) -> Told
+pub fn contents_on(idle: bool, ring: Ring, buffer: &mut [u64]) -> Result<u64, u64>
     ensures { filled result buffer.new ≡ contents_on idle ring buffer.old }
 {
     let f = Fixed {

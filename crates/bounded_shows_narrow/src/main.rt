@@ -2,7 +2,6 @@
 #![tactic(auto)]
 
 use bounded_sixteen_bits::{Did, Machine, Ran};
-use queue_entries::Told;
 use text_system::System;
 
 // A push of 5 and its five acts, a pop and its five.
@@ -29,10 +28,10 @@ fn tell_ran(system: &System, r: Ran) {
     tell(system, r.refusal, r.place, r.machine);
 }
 
-fn tell_told(system: &System, told: Told) {
+fn tell_told(system: &System, told: Result<u64, u64>) {
     match told {
-        Told::Refused(n) => text_output::say(system, ": refused #\n", &[n]),
-        Told::Number(n) => text_output::say(system, ": #\n", &[n]),
+        Err(n) => text_output::say(system, ": refused #\n", &[n]),
+        Ok(n) => text_output::say(system, ": #\n", &[n]),
     }
 }
 

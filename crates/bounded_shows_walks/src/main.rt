@@ -3,31 +3,30 @@
 #![tactic(auto)]
 
 use bounded_text_words::WORDS;
-use bounded_walks::Sized;
-use queue_entries::Told;
+use queue_walks::Walked;
 use text_output::Text;
 use text_system::System;
 
-fn say_size(text: &mut Text, s: Sized) {
+fn say_size(text: &mut Text, s: Result<Walked, u64>) {
     match s {
-        Sized::Sequences(sequences, bytes) => text.form(" size # in #", &[sequences, bytes]),
-        Sized::Refused(refusal) => text.form(" size refused #", &[refusal]),
+        Ok(w) => text.form(" size # in #", &[w.sequences, w.bytes as u64]),
+        Err(refusal) => text.form(" size refused #", &[refusal]),
     }
 }
 
-fn say_told(text: &mut Text, t: Told) {
+fn say_told(text: &mut Text, t: Result<u64, u64>) {
     match t {
-        Told::Number(n) => text.form(", walk #:", &[n]),
-        Told::Refused(refusal) => text.form(", walk refused #:", &[refusal]),
+        Ok(n) => text.form(", walk #:", &[n]),
+        Err(refusal) => text.form(", walk refused #:", &[refusal]),
     }
 }
 
 // The machine in hand, whose check is dear, is made here and used up.
-fn size(m: [u64; WORDS], depth: u64) -> Sized {
+fn size(m: [u64; WORDS], depth: u64) -> Result<Walked, u64> {
     bounded_walks::size(bounded_text_faces::machine::read(m), depth)
 }
 
-fn walk(m: [u64; WORDS], depth: u64, list: &mut [u8]) -> Told {
+fn walk(m: [u64; WORDS], depth: u64, list: &mut [u8]) -> Result<u64, u64> {
     bounded_walks::walk(bounded_text_faces::machine::read(m), depth, list)
 }
 

@@ -13,7 +13,6 @@ ghost use Rattle.bounded_sixteen_host.specs.SixteenHost.{reply_of, broken_refusa
 
 use bounded_places::Ends;
 use bounded_words::Fixed;
-use queue_entries::Told;
 
 // The number of a refusal, 0 where there is none; and what the call is asked for: an entry's place, a count, a capacity.
 #[repr(C)]
@@ -192,15 +191,15 @@ pub extern "C" fn fern_ring16_capacity(
     }
 }
 
-fn reply_of(t: Told) -> Reply
+fn reply_of(t: Result<u64, u64>) -> Reply
     ensures { result ≡ reply_of t }
 {
     match t {
-        Told::Number(n) => Reply {
+        Ok(n) => Reply {
             refusal: 0,
             number: n,
         },
-        Told::Refused(k) => Reply {
+        Err(k) => Reply {
             refusal: k,
             number: 0,
         },
@@ -223,23 +222,30 @@ fn item_at(f: Fixed, e: Ends, stamps: &[u16], values: &[u64], k: u64) -> u64
 }
 
 // The items between the ends of a ring that fits, written at the buffer's start.
-fn list(idle: bool, f: Fixed, e: Ends, stamps: &[u16], values: &[u64], buffer: &mut [u64]) -> Told
+fn list(
+    idle: bool,
+    f: Fixed,
+    e: Ends,
+    stamps: &[u16],
+    values: &[u64],
+    buffer: &mut [u64],
+) -> Result<u64, u64>
     requires e_value { ring_fits f e ≡ true }
     requires stamps_len { length stamps.now ≡ f.capacity }
     requires values_len { length values.now ≡ f.capacity }
     ensures { filled result buffer.new ≡ contents_by false idle (ring_of_parts f e (slots_in stamps.now values.now)) buffer.old }
 {
     if !idle {
-        return Told::Refused(4);
+        return Err(4);
     }
     let n = bounded_acts::count(f, e.tail, e.head);
     if buffer.len() < (n as usize) {
-        return Told::Refused(10);
+        return Err(10);
     }
     for k in 0..n {
         buffer[k as usize] = item_at(f, e, stamps, values, k);
     }
-    Told::Number(n)
+    Ok(n)
 }
 
 // The items as `Drop` would meet them, written at the buffer's start; how many. Nothing is removed.

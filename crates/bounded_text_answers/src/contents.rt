@@ -1,27 +1,26 @@
 // contents, in a buffer of at most three words or of some thousand, each marked by 77.
 use bounded_text_words::WORDS;
-use queue_entries::Told;
 use text_output::Text;
 use text_system::System;
 
-fn say_contents(text: &mut Text, label: &[u8], t: Told) {
+fn say_contents(text: &mut Text, label: &[u8], t: Result<u64, u64>) {
     text.bytes(label);
     text.text(": ");
     crate::judge::say_told(text, t);
 }
 
 // LABEL: REFUSAL or ok COUNT, then the buffer
-fn say(system: &System, label: &[u8], t: Told, buffer: &[u64]) {
+fn say(system: &System, label: &[u8], t: Result<u64, u64>, buffer: &[u64]) {
     let mut room = [0u8; 512];
     let mut text = Text::new(&mut room);
     say_contents(&mut text, label, t);
-    let whole = Told::Number(buffer.len() as u64);
+    let whole = Ok(buffer.len() as u64);
     bounded_text_words::text::told(system, &mut text, ", buffer", buffer, whole);
     text.flush(system);
 }
 
 // LABEL: REFUSAL or ok COUNT, then the buffer's first word, its 1,023rd and its last
-fn say_many(system: &System, label: &[u8], t: Told, buffer: &[u64]) {
+fn say_many(system: &System, label: &[u8], t: Result<u64, u64>, buffer: &[u64]) {
     let n = buffer.len();
     if 1023 <= n {
         let mut room = [0u8; 512];

@@ -1,7 +1,6 @@
 // One machine handed to every function, and one line of what they said.
 use bounded_text_faces::{Call, Left};
 use bounded_text_words::WORDS;
-use queue_entries::Told;
 use text_output::Text;
 use text_system::System;
 
@@ -36,10 +35,10 @@ fn say_ran(text: &mut Text, form: &str, m: [u64; WORDS], schedule: &[u64]) {
 }
 
 // REFUSAL, or ok NUMBER
-pub fn say_told(text: &mut Text, t: Told) {
+pub fn say_told(text: &mut Text, t: Result<u64, u64>) {
     match t {
-        Told::Number(n) => text.form("ok #", &[n]),
-        Told::Refused(r) => text.number(r),
+        Ok(n) => text.form("ok #", &[n]),
+        Err(r) => text.number(r),
     }
 }
 

@@ -6,7 +6,6 @@ pub mod machine;
 
 use bounded_machine::{Did, Machine, Ran};
 use bounded_text_words::WORDS;
-use queue_entries::Told;
 
 // What an entry is handed to.
 #[derive(Clone, Copy, PartialEq, Eq)]
@@ -65,10 +64,10 @@ pub fn broken(m: [u64; WORDS]) -> bool {
     bounded::broken(machine::read(m))
 }
 
-pub fn capacity(m: [u64; WORDS]) -> Told {
+pub fn capacity(m: [u64; WORDS]) -> Result<u64, u64> {
     bounded::capacity(machine::read(m))
 }
 
-pub fn contents(m: [u64; WORDS], buffer: &mut [u64]) -> Told {
+pub fn contents(m: [u64; WORDS], buffer: &mut [u64]) -> Result<u64, u64> {
     bounded::contents(machine::read(m), buffer)
 }

@@ -1,6 +1,5 @@
 // What a machine holds, as text, as `text_output` has it.
 use crate::WORDS;
-use queue_entries::Told;
 use text_output::Text;
 use text_system::System;
 
@@ -43,9 +42,9 @@ pub fn slots(system: &System, text: &mut Text, m: [u64; WORDS]) {
 }
 
 // NAME x y ..., or: NAME refused N
-pub fn told(system: &System, text: &mut Text, name: &str, list: &[u64], t: Told) {
+pub fn told(system: &System, text: &mut Text, name: &str, list: &[u64], t: Result<u64, u64>) {
     match t {
-        Told::Number(n) => bounded_text_codes::told(system, text, name, list, 0, n),
-        Told::Refused(refusal) => bounded_text_codes::told(system, text, name, list, refusal, 0),
+        Ok(n) => bounded_text_codes::told(system, text, name, list, 0, n),
+        Err(refusal) => bounded_text_codes::told(system, text, name, list, refusal, 0),
     }
 }

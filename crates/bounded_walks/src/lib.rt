@@ -14,15 +14,7 @@ use bounded_machine::Machine;
 use bounded_places::{Ends, Slot, Worker};
 use bounded_sequences::State;
 use bounded_words::Fixed;
-use queue_entries::Told;
 use queue_walks::Walked;
-
-// How many sequences in how many bytes, or the number of the refusal. An enum of its own, since `size_of` of specs/Walks.antt answers it.
-#[derive(Clone, Copy)]
-pub enum Sized {
-    Sequences(u64, u64),
-    Refused(u64),
-}
 
 fn all_busy(m: Machine) -> bool
     requires { m.count ≤ workers_most }
@@ -145,32 +137,27 @@ fn walk_into(m: Machine, depth: u64, out: &mut [u8]) -> Walked
 }
 
 // The number of sequences and of bytes, for a host that lends a buffer that fits.
-pub fn size(m: Machine, depth: u64) -> Sized
+pub fn size(m: Machine, depth: u64) -> Result<Walked, u64>
     ensures { result ≡ size_of m depth }
 {
     let refusal = refusal_of(m, depth);
     if refusal == 0 {
         let mut none = [0u8; 1];
-        let told = walk_into(m, depth, &mut none);
-        Sized::Sequences(told.sequences, told.bytes as u64)
+        Ok(walk_into(m, depth, &mut none))
     } else {
-        Sized::Refused(refusal)
+        Err(refusal)
     }
 }
 
 // The list, written at the buffer's start.
-pub fn walk(m: Machine, depth: u64, buffer: &mut [u8]) -> Told
+pub fn walk(m: Machine, depth: u64, buffer: &mut [u8]) -> Result<u64, u64>
     ensures answer { result ≡ walk_told m depth buffer.old }
     ensures lent { buffer.new ≡ listed m depth buffer.old }
 {
-    match size(m, depth) {
-        Sized::Refused(refusal) => Told::Refused(refusal),
-        Sized::Sequences(sequences, bytes) => {
-            if (buffer.len() as u64) < bytes {
-                return Told::Refused(22);
-            }
-            let told = walk_into(m, depth, buffer);
-            Told::Number(told.sequences)
-        }
+    let sized = size(m, depth)?;
+    if buffer.len() < sized.bytes {
+        return Err(22);
     }
+    let told = walk_into(m, depth, buffer);
+    Ok(told.sequences)
 }

@@ -18,13 +18,6 @@ pub fn in_limits(n: u64, most: u64) -> bool
     n != 0 && n <= most
 }
 
-// A number that was asked for, or the number of the refusal.
-#[derive(Clone, Copy)]
-pub enum Told {
-    Number(u64),
-    Refused(u64),
-}
-
 // The eight calls, with the item of the two that have one.
 #[derive(Clone, Copy)]
 pub enum Call {
@@ -92,14 +85,6 @@ pub fn entry_of(first: u64, second: u64) -> Entry
     }
 }
 
-// What the search of a schedule for refusal 9 finds.
-#[derive(Clone, Copy)]
-pub enum Finding {
-    AllRead,
-    // the place of the first entry that can't be read
-    UnreadableAt(usize),
-}
-
 // As a queue reads them that has no call of this code.
 pub fn entry_but(barred: u64, first: u64, second: u64) -> Entry
     ensures { result ≡ entry_but barred first second }
@@ -110,20 +95,21 @@ pub fn entry_but(barred: u64, first: u64, second: u64) -> Entry
     entry_of(first, second)
 }
 
-pub fn search_but(barred: u64, schedule: &[u64]) -> Finding
+// The search of a schedule for refusal 9: the place of the first entry that can't be read.
+pub fn search_but(barred: u64, schedule: &[u64]) -> Option<usize>
     ensures { result ≡ search_by (entry_but barred) 0 schedule.now }
 {
     let n = schedule.len() / 2;
     for i in 0..n {
         let Entry::Asks(_, _) = entry_but(barred, schedule[2 * i], schedule[2 * i + 1]) else {
-            return Finding::UnreadableAt(i);
+            return Some(i);
         };
     }
-    Finding::AllRead
+    None
 }
 
 // No code is 16: every call is there.
-pub fn search(schedule: &[u64]) -> Finding
+pub fn search(schedule: &[u64]) -> Option<usize>
     ensures { result ≡ search_by entry_of 0 schedule.now }
 {
     search_but(16, schedule)

@@ -1,5 +1,4 @@
 // What stands at the end of a run: who is busy, what waits, what was lost.
-use queue_entries::Told;
 use replay_survey::pieces::Run;
 use single_machine::Machine;
 use single_text_explain::acts;
@@ -43,10 +42,17 @@ fn busy(system: &System, out: &mut [u8], at: usize, m: Machine) -> usize {
 }
 
 // What contents tell through a buffer of one item.
-fn waits(system: &System, out: &mut [u8], at: usize, item: &[u64], t: Told, n: Notes) -> usize {
+fn waits(
+    system: &System,
+    out: &mut [u8],
+    at: usize,
+    item: &[u64],
+    t: Result<u64, u64>,
+    n: Notes,
+) -> usize {
     match t {
-        Told::Number(k) => text_explain::waiting::told(system, out, at, item, k),
-        Told::Refused(_) => {
+        Ok(k) => text_explain::waiting::told(system, out, at, item, k),
+        Err(_) => {
             let ahead = std::num::wrapping_sub_u64(n.puts, n.takes);
             text_output::form(
                 out,

@@ -6,7 +6,6 @@ pub mod counts;
 pub mod pieces;
 pub mod runs;
 
-use queue_entries::Finding;
 use replay_input::say::Hints;
 use replay_input::source::{Input, Reading, Start};
 use std::fs::File;
@@ -96,9 +95,8 @@ impl Survey {
         if self.unread.is_some() {
             return;
         }
-        match queue_entries::search_but(self.barred, entries_of(self.pairs, list)) {
-            Finding::UnreadableAt(k) => self.unread = Some(place_of(self.pairs, k as u64)),
-            Finding::AllRead => {}
+        if let Some(k) = queue_entries::search_but(self.barred, entries_of(self.pairs, list)) {
+            self.unread = Some(place_of(self.pairs, k as u64));
         }
     }
 

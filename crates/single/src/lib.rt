@@ -8,7 +8,6 @@ ghost use Rattle.single_machine.specs.Contents.{count_in, contents_refusal, writ
 ghost use Rattle.single_machine.specs.Run.{run_of};
 ghost use Rattle.single.specs.Single.{make_of, step_of, begin_step_of, act_step_of};
 
-use queue_entries::Told;
 use single_machine::{Did, Machine, Ran};
 
 // A fresh machine, or refusal 2 with the blank one.
@@ -28,35 +27,35 @@ pub fn broken(m: Machine) -> bool
     single_machine::broken(m)
 }
 
-pub fn capacity(m: Machine) -> Told
+pub fn capacity(m: Machine) -> Result<u64, u64>
     ensures { result ≡ capacity_of m }
 {
     if single_machine::broken(m) {
-        Told::Refused(6)
+        Err(6)
     } else {
-        Told::Number(1)
+        Ok(1)
     }
 }
 
 // The item as `Drop` would meet it, if there is one, written at the buffer's start. Nothing is removed.
-pub fn contents(m: Machine, buffer: &mut [u64]) -> Told
+pub fn contents(m: Machine, buffer: &mut [u64]) -> Result<u64, u64>
     ensures answer { result ≡ told (contents_refusal m (length buffer.old)) (count_in m) }
     ensures lent { buffer.new ≡ written m buffer.old }
 {
     if single_machine::broken(m) {
-        return Told::Refused(6);
+        return Err(6);
     }
     if !single_machine::idle_from(0, m.workers) {
-        return Told::Refused(4);
+        return Err(4);
     }
     if !single_words::pushed(m.single.state) {
-        return Told::Number(0);
+        return Ok(0);
     }
     if buffer.len() < 1 {
-        return Told::Refused(10);
+        return Err(10);
     }
     buffer[0] = m.single.value;
-    Told::Number(1)
+    Ok(1)
 }
 
 // A schedule, entry by entry, to its end or to the first refusal.

@@ -6,8 +6,6 @@ ghost use Rattle.std.specs.Prelude.{◌≡◌};
 ghost use Rattle.single_rows.specs.Rows.{words};
 ghost use Rattle.single_host.specs.Host.{reply_of, broken_refusal, after, make_words, step_words_of, ended, run_words, listed, contents_words};
 
-use queue_entries::Told;
-
 // The number of a refusal, 0 where there is none; and what the call is asked for: an entry's place or a count.
 #[repr(C)]
 #[derive(Clone, Copy)]
@@ -88,15 +86,15 @@ pub extern "C" fn fern_slot_broken(head: &[u64], records: &[u64]) -> u64
     }
 }
 
-fn reply_of(t: Told) -> Reply
+fn reply_of(t: Result<u64, u64>) -> Reply
     ensures { result ≡ reply_of t }
 {
     match t {
-        Told::Number(n) => Reply {
+        Ok(n) => Reply {
             refusal: 0,
             number: n,
         },
-        Told::Refused(k) => Reply {
+        Err(k) => Reply {
             refusal: k,
             number: 0,
         },

@@ -13,8 +13,7 @@ use Rattle.queue_entries.specs.declared.Entry.TheVariants.{Unreadable, Asks}
 use Rattle.queue_entries.specs.Entries.{entry_of}
 use Rattle.queue_entries.specs.declared.Verdict.{Verdict}
 use Rattle.queue_entries.specs.declared.Verdict.TheVariants.{Refuse, Start, Move}
-use Rattle.queue_entries.specs.declared.Finding.{Finding}
-use Rattle.queue_entries.specs.declared.Finding.TheVariants.{AllRead, UnreadableAt}
+use Rattle.std.specs.Prelude.{Option, Some, None}
 use Rattle.queue_entries.specs.Schedules.{search_by}
 use Rattle.queue_schedules.proofs.Schedules.{schedule_broken, schedule_odd, schedule_found, schedule_none}
 use Rattle.queue_schedules.proofs.Ended.{not_refused}
@@ -50,11 +49,11 @@ module _ (m : Machine) (s : List ℕ) (b : Bool) (e : b ≡ broken_of m) where
     pub odd_run : length s % 2 ≡ 1 → ran 11 0 m ≡ run_of m s
     odd_run k = sym (schedule_odd single_queue broken_of m s (sym e ∙ h) k)
 
-    module _ (o : length s % 2 ≡ 1 → ⊥) (f : Finding) (g : f ≡ search_by entry_of 0 s) where
-      pub unread_run : (i : ℕ) → f ≡ UnreadableAt i → ran 9 i m ≡ run_of m s
+    module _ (o : length s % 2 ≡ 1 → ⊥) (f : Option ℕ) (g : f ≡ search_by entry_of 0 s) where
+      pub unread_run : (i : ℕ) → f ≡ Some i → ran 9 i m ≡ run_of m s
       unread_run i z = sym (schedule_found single_queue broken_of m s (sym e ∙ h) o i (sym g ∙ z))
 
-      pub read_run : f ≡ AllRead → run_from m 0 s ≡ run_of m s
+      pub read_run : f ≡ None → run_from m 0 s ≡ run_of m s
       read_run z = sym (schedule_none single_queue broken_of m s (sym e ∙ h) o (sym g ∙ z))
 
 module _ (m : Machine) (s : List ℕ) (whole : broken_of m ≡ false) where

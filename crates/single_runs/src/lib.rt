@@ -6,7 +6,7 @@ ghost use Rattle.single_machine.specs.Broken.{broken_of};
 ghost use Rattle.single_machine.specs.Machine.{machine_of};
 ghost use Rattle.single_machine.specs.Run.{ran, run_from, run_of};
 
-use queue_entries::{Entry, Finding, Verdict};
+use queue_entries::{Entry, Verdict};
 use single_machine::{Machine, Ran};
 use single_places::{Single, Worker};
 
@@ -100,7 +100,7 @@ pub fn run(m: Machine, schedule: &[u64]) -> Ran
         return done;
     }
     match queue_entries::search(schedule) {
-        Finding::UnreadableAt(place) => unchanged(9, place, m),
-        Finding::AllRead => done,
+        Some(place) => unchanged(9, place, m),
+        None => done,
     }
 }

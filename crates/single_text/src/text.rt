@@ -1,6 +1,5 @@
 // Places and what a machine holds, as text, as `text_output` has it.
 use crate::code::Coded;
-use queue_entries::Told;
 use single_machine::Machine;
 use single_places::Place;
 use text_output::Text;
@@ -79,10 +78,10 @@ pub fn value(text: &mut Text, m: Machine) {
 }
 
 // contents, or: contents x, or: contents refused N; as the machine answers to a buffer of one item
-pub fn contents(text: &mut Text, item: u64, t: Told) {
+pub fn contents(text: &mut Text, item: u64, t: Result<u64, u64>) {
     match t {
-        Told::Number(0) => text.text("contents\n"),
-        Told::Number(_) => text.form("contents #\n", &[item]),
-        Told::Refused(refusal) => text.form("contents refused #\n", &[refusal]),
+        Ok(0) => text.text("contents\n"),
+        Ok(_) => text.form("contents #\n", &[item]),
+        Err(refusal) => text.form("contents refused #\n", &[refusal]),
     }
 }

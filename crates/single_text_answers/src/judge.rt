@@ -1,6 +1,5 @@
 // One machine handed to every function, and one line of what they said.
 use crate::build::NUMBERS;
-use queue_entries::Told;
 use single_machine::{Did, Machine};
 use text_system::System;
 
@@ -59,10 +58,10 @@ fn schedules(out: &mut [u8], at: usize, m: Machine) -> usize {
 }
 
 // REFUSAL, or ok NUMBER
-fn say_told(out: &mut [u8], at: usize, t: Told) -> usize {
+fn say_told(out: &mut [u8], at: usize, t: Result<u64, u64>) -> usize {
     match t {
-        Told::Number(n) => text_output::form(out, at, b"ok #", &[n]),
-        Told::Refused(r) => text_output::number(out, at, r),
+        Ok(n) => text_output::form(out, at, b"ok #", &[n]),
+        Err(r) => text_output::number(out, at, r),
     }
 }
 

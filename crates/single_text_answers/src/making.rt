@@ -1,6 +1,5 @@
 // Makings, and contents in a buffer of at most two words, which 77 and 78 mark.
 use crate::build::NUMBERS;
-use queue_entries::Told;
 use single_machine::Machine;
 use text_system::System;
 
@@ -26,15 +25,15 @@ pub fn make(system: &System, workers: u64) {
     text_output::end(system, &mut out, q);
 }
 
-fn told(out: &mut [u8], at: usize, t: Told) -> usize {
+fn told(out: &mut [u8], at: usize, t: Result<u64, u64>) -> usize {
     match t {
-        Told::Number(n) => text_output::form(out, at, b"#", &[n]),
-        Told::Refused(r) => text_output::form(out, at, b"refused #", &[r]),
+        Ok(n) => text_output::form(out, at, b"#", &[n]),
+        Err(r) => text_output::form(out, at, b"refused #", &[r]),
     }
 }
 
 // LABEL: TOLD, and what stands where 77 and 78 stood
-fn line(system: &System, label: &[u8], t: Told, marks: &[u64]) {
+fn line(system: &System, label: &[u8], t: Result<u64, u64>, marks: &[u64]) {
     let mut out = [0u8; 512];
     let p = text_output::text(&mut out, 0, label);
     let q = text_output::text(&mut out, p, b": ");

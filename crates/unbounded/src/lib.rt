@@ -9,16 +9,8 @@ ghost use Rattle.unbounded_machine.specs.Contents.{count_in, contents_refusal, w
 ghost use Rattle.unbounded_machine.specs.Run.{run_of};
 ghost use Rattle.unbounded.specs.Unbounded.{make_of, step_of, begin_step_of, act_step_of, capacity_of};
 
-use queue_entries::Told;
 use unbounded_machine::{Did, Machine, Ran};
 use unbounded_places::Block;
-
-// How `capacity` is told: the queue has none.
-#[derive(Clone, Copy)]
-pub enum Bound {
-    None,
-    Refused(u64),
-}
 
 // A fresh machine, or refusal 2 with the blank one.
 pub fn make(workers: u64) -> Did
@@ -40,27 +32,24 @@ pub fn broken(m: Machine) -> bool
     unbounded_machine::broken_in(e, blocks, workers, m.count)
 }
 
-pub fn capacity(m: Machine) -> Bound
+// The queue has no capacity: there is nothing to tell but a refusal.
+pub fn capacity(m: Machine) -> Result<(), u64>
     ensures { result ≡ capacity_of sizes m }
 {
-    if broken(m) {
-        Bound::Refused(6)
-    } else {
-        Bound::None
-    }
+    if broken(m) { Err(6) } else { Ok(()) }
 }
 
 // The items as `Drop` would meet them, written at the buffer's start. Nothing is removed.
-pub fn contents(m: Machine, buffer: &mut [u64]) -> Told
+pub fn contents(m: Machine, buffer: &mut [u64]) -> Result<u64, u64>
     ensures answer { result ≡ told (contents_refusal sizes m (length buffer.old)) (count_in sizes m) }
     ensures lent { buffer.new ≡ written sizes m buffer.old }
 {
     if broken(m) {
-        return Told::Refused(6);
+        return Err(6);
     }
     let workers = m.workers;
     if unbounded_machine::all_idle(workers) {} else {
-        return Told::Refused(4);
+        return Err(4);
     }
     let e = m.ends;
     let mut blocks = m.blocks;
@@ -68,7 +57,7 @@ pub fn contents(m: Machine, buffer: &mut [u64]) -> Told
     let walked = unbounded_machine::walk(e, blocks);
     let n = walked.count;
     if buffer.len() < (n as usize) {
-        return Told::Refused(10);
+        return Err(10);
     }
     let mut b = e.front;
     let mut h = unbounded_words::unmarked(e.head);
@@ -77,7 +66,7 @@ pub fn contents(m: Machine, buffer: &mut [u64]) -> Told
     let mut left = unbounded_machine::STEPS;
     while 0 < left {
         if unbounded_words::same_word(h, t) {
-            return Told::Number(n);
+            return Ok(n);
         }
         let k = unbounded_words::number(b);
         if unbounded_words::past_slots(h) {
@@ -98,7 +87,7 @@ pub fn contents(m: Machine, buffer: &mut [u64]) -> Told
             left -= 1;
         }
     }
-    Told::Number(n)
+    Ok(n)
 }
 
 // A schedule, entry by entry, to its end or to the first refusal.

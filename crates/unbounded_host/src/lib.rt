@@ -9,8 +9,6 @@ ghost use Rattle.unbounded.specs.Unbounded.{step_of};
 ghost use Rattle.unbounded_rows.specs.Rows.{words, machine_in, shaped};
 ghost use Rattle.unbounded_host.specs.Host.{reply_of, broken_refusal, after, after_of, make_words, step_words_of, ended, ended_of, run_words, listed, contents_words};
 
-use queue_entries::Told;
-
 // The number of a refusal, 0 where there is none; and what the call is asked for: an entry's place or a count.
 #[repr(C)]
 #[derive(Clone, Copy)]
@@ -134,15 +132,15 @@ pub extern "C" fn fern_unbounded_broken(head: &[u64], pool: &[u64], records: &[u
     }
 }
 
-fn reply_of(t: Told) -> Reply
+fn reply_of(t: Result<u64, u64>) -> Reply
     ensures { result ≡ reply_of t }
 {
     match t {
-        Told::Number(n) => Reply {
+        Ok(n) => Reply {
             refusal: 0,
             number: n,
         },
-        Told::Refused(k) => Reply {
+        Err(k) => Reply {
             refusal: k,
             number: 0,
         },

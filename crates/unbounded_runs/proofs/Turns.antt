@@ -9,8 +9,7 @@ use borrow.Author.Tests.{ne_eqb, eq-eqb}
 use Rattle.queue_entries.specs.Limits.{workers_most}
 use Rattle.queue_entries.specs.declared.Order.{Order}
 use Rattle.queue_entries.specs.declared.Order.TheVariants.{Begin, Act}
-use Rattle.queue_entries.specs.declared.Finding.{Finding}
-use Rattle.queue_entries.specs.declared.Finding.TheVariants.{AllRead, UnreadableAt}
+use Rattle.std.specs.Prelude.{Option, Some, None}
 use Rattle.queue_entries.specs.Schedules.{run_by, search_by, schedule_by}
 use Rattle.queue_entries.proofs.Searching.{two_words}
 use Rattle.queue_entries.proofs.Pick.{yes, no, on, off}
@@ -197,11 +196,11 @@ module _ (m : Machine) (s : List ℕ) (b : Bool) (e : b ≡ broken_of sizes m) w
     unfolding schedule_by
     odd_run k = no _ b _ _ _ e h (sym (simp (eq-eqb _ _ k)))
 
-    module _ (k : length s % 2 ≡ 1 → ⊥) (f : Finding) (g : f ≡ search_by entry_here 0 s) where
-      pub unread_run : (i : ℕ) → f ≡ UnreadableAt i → ran 9 i m ≡ run_of sizes m s
+    module _ (k : length s % 2 ≡ 1 → ⊥) (f : Option ℕ) (g : f ≡ search_by entry_here 0 s) where
+      pub unread_run : (i : ℕ) → f ≡ Some i → ran 9 i m ≡ run_of sizes m s
       unfolding schedule_by
       unread_run i z = no _ b _ _ _ e h (sym (simp (ne_eqb _ _ k, sym g ∙ z)))
 
-      pub read_run : f ≡ AllRead → run_from sizes m 0 s ≡ run_of sizes m s
+      pub read_run : f ≡ None → run_from sizes m 0 s ≡ run_of sizes m s
       unfolding schedule_by
       read_run z = no _ b _ _ _ e h (sym (simp (ne_eqb _ _ k, sym g ∙ z)))

@@ -7,7 +7,6 @@ ghost use Rattle.unbounded_machine.specs.Broken.{broken_in};
 ghost use Rattle.unbounded_machine.specs.Machine.{machine_of};
 ghost use Rattle.unbounded_machine.specs.Run.{ran, run_from, run_of};
 
-use queue_entries::Finding;
 use unbounded_machine::{Machine, Ran};
 use unbounded_places::{Block, Ends, Slot, Worker};
 
@@ -129,7 +128,7 @@ pub fn run(m: Machine, schedule: &[u64]) -> Ran
         return ran(11, 0, ends, blocks, slots, workers, count, meter);
     }
     match queue_entries::search_but(unbounded_entries::FORCE_PUSH, schedule) {
-        Finding::UnreadableAt(place) => ran(9, place, ends, blocks, slots, workers, count, meter),
-        Finding::AllRead => run_from(ends, blocks, slots, workers, count, meter, schedule),
+        Some(place) => ran(9, place, ends, blocks, slots, workers, count, meter),
+        None => run_from(ends, blocks, slots, workers, count, meter, schedule),
     }
 }

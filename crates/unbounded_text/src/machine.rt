@@ -1,5 +1,4 @@
 // What a machine holds, as text.
-use queue_entries::Told;
 use text_output::Text;
 use text_system::System;
 use unbounded_machine::Machine;
@@ -97,14 +96,14 @@ fn items(system: &System, text: &mut Text, items: &[u64], n: u64) {
 }
 
 // contents x y ..., or: contents refused N
-pub fn contents(system: &System, text: &mut Text, list: &[u64], t: Told) {
+pub fn contents(system: &System, text: &mut Text, list: &[u64], t: Result<u64, u64>) {
     text.text("contents");
     match t {
-        Told::Number(n) => {
+        Ok(n) => {
             items(system, text, list, n);
             text.byte(b'\n');
         }
-        Told::Refused(refusal) => text.form(" refused #\n", &[refusal]),
+        Err(refusal) => text.form(" refused #\n", &[refusal]),
     }
 }
 

@@ -1,7 +1,6 @@
 // What stands at the end of a run: a worker that is busy, what waits, what was lost.
 use crate::notes::Notes;
 use crate::stood;
-use queue_entries::Told;
 use text_output::Text;
 use text_system::System;
 use unbounded_text_places::code::{Case, Coded};
@@ -38,10 +37,10 @@ pub fn busy(system: &System, text: &mut Text, w: u64, s: Coded) {
 }
 
 // What contents tell through a buffer that any list fits.
-fn waits(system: &System, text: &mut Text, items: &[u64], t: Told, n: Notes) {
+fn waits(system: &System, text: &mut Text, items: &[u64], t: Result<u64, u64>, n: Notes) {
     match t {
-        Told::Number(k) => text_explain::waiting::told(system, text, items, k),
-        Told::Refused(_) => text.form(
+        Ok(k) => text_explain::waiting::told(system, text, items, k),
+        Err(_) => text.form(
             "waits: not told while a worker is busy; claims of tail ahead of head: #\n",
             &[n.tails.wrapping_sub(n.heads)],
         ),
@@ -49,7 +48,7 @@ fn waits(system: &System, text: &mut Text, items: &[u64], t: Told, n: Notes) {
 }
 
 // What waits, and what was lost along the run.
-pub fn rest(system: &System, text: &mut Text, items: &[u64], t: Told, n: Notes) {
+pub fn rest(system: &System, text: &mut Text, items: &[u64], t: Result<u64, u64>, n: Notes) {
     waits(system, text, items, t, n);
     text.form(
         "exchanges lost: # because the words differed, # by the schedule\n",

@@ -1,7 +1,5 @@
 // The walk from a machine, and what is told of it.
 use bounded_text_words::WORDS;
-use bounded_walks::Sized;
-use queue_entries::Told;
 use replay_survey::Played;
 use std::fs::File;
 use text_sums::Sum;
@@ -124,8 +122,8 @@ fn listed(
     buffer: &mut [u8],
 ) -> Played {
     match bounded_walks::walk(bounded_text_faces::machine::read(m), o.depth, buffer) {
-        Told::Number(sequences) => told_first(system, out, at, o, m, sequences, buffer, n),
-        Told::Refused(_) => played(at, false),
+        Ok(sequences) => told_first(system, out, at, o, m, sequences, buffer, n),
+        Err(_) => played(at, false),
     }
 }
 
@@ -149,20 +147,20 @@ fn walked(
 // A list that is longer than the buffer is told with its numbers.
 pub fn walk(system: &System, out: &mut [u8], at: usize, o: Asked<'_>, m: [u64; WORDS]) -> Played {
     match bounded_walks::size(bounded_text_faces::machine::read(m), o.depth) {
-        Sized::Refused(refusal) => refused(system, out, at, o, m, refusal),
-        Sized::Sequences(sequences, bytes) => {
-            if (BUFFER as u64) < bytes {
+        Err(refusal) => refused(system, out, at, o, m, refusal),
+        Ok(all) => {
+            if BUFFER < all.bytes {
                 let p = crate::refused::tell(
                     system,
                     out,
                     at,
                     o.many,
                     22,
-                    &[sequences, bytes, BUFFER as u64],
+                    &[all.sequences, all.bytes as u64, BUFFER as u64],
                 );
                 return played(p, true);
             }
-            walked(system, out, at, o, m, bytes as usize)
+            walked(system, out, at, o, m, all.bytes)
         }
     }
 }
