@@ -38,47 +38,6 @@ const TABLE: &[Known] = &[
     ("--tell-status-on", Wanted::Number),
 ];
 
-// The options in the order of the table.
-const QUEUE: usize = 0;
-
-const EDITION: usize = 1;
-
-const BITS: usize = 2;
-
-const FOLLOW: usize = 3;
-
-const LENT: usize = 4;
-
-const QUIET: usize = 5;
-
-const CAUSES: usize = 6;
-
-const MOMENTS: usize = 7;
-
-const LOSSES: usize = 8;
-
-const STOCK: usize = 9;
-
-const SUMMARY: usize = 10;
-
-const MANY: usize = 11;
-
-const WORDS: usize = 12;
-
-const EXPLAIN: usize = 13;
-
-const TAPE: usize = 14;
-
-const HELP: usize = 15;
-
-const TELLS: usize = 16;
-
-const SHORT_HELP: usize = 17;
-
-const VERSION: usize = 18;
-
-const TELLS_ON: usize = 19;
-
 #[derive(Clone, Copy)]
 pub struct Options {
     pub queue: Queue,
@@ -115,7 +74,7 @@ pub struct Options {
 }
 
 fn queue_of(a: &Arguments) -> Queue {
-    match a.value(QUEUE) {
+    match a.value("--queue") {
         Some(1) => Queue::Single,
         Some(2) => Queue::Unbounded,
         _ => Queue::Bounded,
@@ -123,66 +82,77 @@ fn queue_of(a: &Arguments) -> Queue {
 }
 
 fn is_narrow(a: &Arguments) -> bool {
-    a.value(BITS) == Some(1)
+    a.value("--bits") == Some(1)
 }
 
 // An edition, a width, lent records, causes, moments, losses or a stock are of no use to a queue that has none. Lent records are of 64 bits; moments are kept for sixteen
 // workers.
 fn judge_queue(a: &mut Arguments) {
     let queue = queue_of(a);
-    let ring = [EDITION, BITS, LENT, CAUSES, MOMENTS, LOSSES, STOCK];
-    a.clashes(QUEUE, &ring, queue != Queue::Bounded);
-    a.clashes(QUEUE, &[SUMMARY], queue == Queue::Unbounded);
-    a.clashes(BITS, &[LENT], is_narrow(a));
-    a.clashes(LENT, &[MOMENTS], a.is_given(LENT));
+    let ring = [
+        "--edition",
+        "--bits",
+        "--lent",
+        "--causes",
+        "--moments",
+        "--losses",
+        "--stock",
+    ];
+    a.clashes("--queue", &ring, queue != Queue::Bounded);
+    a.clashes("--queue", &["--summary"], queue == Queue::Unbounded);
+    a.clashes("--bits", &["--lent"], is_narrow(a));
+    a.clashes("--lent", &["--moments"], a.is_given("--lent"));
 }
 
 // Where a schedule is only told in words there is no run, and where a run is told in plain words there are no lines in numbers.
 fn judge_words(a: &mut Arguments) {
-    let run = [EDITION, BITS, LENT, EXPLAIN];
-    let lines = [QUIET, CAUSES, MOMENTS, LOSSES, STOCK, SUMMARY];
-    a.clashes(WORDS, &run, a.is_given(WORDS));
-    a.clashes(WORDS, &lines, a.is_given(WORDS));
-    a.clashes(EXPLAIN, &lines, a.is_given(EXPLAIN));
-    a.needs(FOLLOW, EXPLAIN);
+    let run = ["--edition", "--bits", "--lent", "--explain"];
+    let lines = [
+        "--quiet",
+        "--causes",
+        "--moments",
+        "--losses",
+        "--stock",
+        "--summary",
+    ];
+    a.clashes("--words-of", &run, a.is_given("--words-of"));
+    a.clashes("--words-of", &lines, a.is_given("--words-of"));
+    a.clashes("--explain", &lines, a.is_given("--explain"));
+    a.needs("--follow", "--explain");
 }
 
 // Without a line for each entry, what is asked of them is counted at the end, or nowhere.
 fn judge_quiet(a: &mut Arguments) {
-    a.clashes(QUIET, &[MOMENTS], a.is_given(QUIET));
-    a.needs_beside(CAUSES, QUIET, SUMMARY);
-    a.needs_beside(LOSSES, QUIET, SUMMARY);
-    a.needs_beside(STOCK, QUIET, SUMMARY);
+    a.clashes("--quiet", &["--moments"], a.is_given("--quiet"));
+    a.needs_beside("--causes", "--quiet", "--summary");
+    a.needs_beside("--losses", "--quiet", "--summary");
+    a.needs_beside("--stock", "--quiet", "--summary");
 }
 
 fn options_of(a: &Arguments) -> Options {
     Options {
         queue: queue_of(a),
-        edition: if a.is_given(EDITION) {
-            a.value(EDITION).unwrap_or(0)
-        } else {
-            1
-        },
+        edition: a.value("--edition").unwrap_or(1),
         narrow: is_narrow(a),
-        lent: a.is_given(LENT),
-        quiet: a.is_given(QUIET),
-        causes: a.is_given(CAUSES),
-        moments: a.is_given(MOMENTS),
-        losses: a.is_given(LOSSES),
-        stock: a.is_given(STOCK),
-        summary: a.is_given(SUMMARY),
-        many: a.is_given(MANY),
-        words: a.is_given(WORDS),
-        explain: a.is_given(EXPLAIN),
-        follow: a.is_given(FOLLOW),
-        item: a.value(FOLLOW).unwrap_or(0),
-        tape: a.is_given(TAPE),
-        help: a.is_given(HELP) || a.is_given(SHORT_HELP),
-        version: a.is_given(VERSION),
-        tells_on: if a.is_given(TELLS) {
+        lent: a.is_given("--lent"),
+        quiet: a.is_given("--quiet"),
+        causes: a.is_given("--causes"),
+        moments: a.is_given("--moments"),
+        losses: a.is_given("--losses"),
+        stock: a.is_given("--stock"),
+        summary: a.is_given("--summary"),
+        many: a.is_given("--many"),
+        words: a.is_given("--words-of"),
+        explain: a.is_given("--explain"),
+        follow: a.is_given("--follow"),
+        item: a.value("--follow").unwrap_or(0),
+        tape: a.is_given("--tape"),
+        help: a.is_given("--help") || a.is_given("-h"),
+        version: a.is_given("--version"),
+        tells_on: if a.is_given("--tell-status") {
             3
         } else {
-            a.value(TELLS_ON).unwrap_or(0)
+            a.value("--tell-status-on").unwrap_or(0)
         },
         file: a.name(0),
         wrong: a.is_wrong(),

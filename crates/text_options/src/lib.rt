@@ -27,21 +27,21 @@ pub enum Wanted {
 // An option's name, and what it wants.
 pub type Known = (&'static str, Wanted);
 
-// What is wrong with the arguments: the arguments by their numbers, and the options by their places in the table, that it is about.
+// What is wrong with the arguments: the arguments by their numbers, and the options, that it is about.
 #[derive(Clone, Copy)]
-pub enum Wrong {
+enum Wrong {
     // of no use, or one name too many
     Unknown(usize),
     OneMore(usize),
     // a value where there is none, none where there is one, another one
-    NoValue(usize, usize),
-    Lacking(usize),
-    NotIt(usize, usize),
+    NoValue(Known, usize),
+    Lacking(Known),
+    NotIt(Known, usize),
     // this option does not go with that one, needs that one, needs the third beside that one
-    Clash(usize, usize),
-    Needs(usize, usize),
-    Beside(usize, usize, usize),
-    OfAnother(usize),
+    Clash(&'static str, &'static str),
+    Needs(&'static str, &'static str),
+    Beside(&'static str, &'static str, &'static str),
+    OfAnother(Known),
 }
 
 // An option as it is given: the last argument that gives it, and the one that its value ends, the same or the next one; its value, which an earlier argument may have given.
@@ -127,42 +127,36 @@ impl Arguments {
         if n < MOST { self.given[n] } else { None }
     }
 
+    fn given_by(&self, name: &str) -> Option<Given> {
+        self.given(self.table.iter().position(|known| known.0 == name)?)
+    }
+
     fn give(&mut self, n: usize, given: Given) {
         if n < MOST {
             self.given[n] = Some(given);
         }
     }
 
-    fn wanted(&self, n: usize) -> Wanted {
-        if n < self.table.len() {
-            self.table[n].1
-        } else {
-            Wanted::Nothing
-        }
-    }
-
-    fn name_of(&self, n: usize) -> &'static str {
-        if n < self.table.len() {
-            self.table[n].0
-        } else {
-            ""
-        }
-    }
-
     // The value of the n-th option, in the i-th argument.
     fn take_value(&mut self, i: usize, n: usize, word: &[u8]) {
-        let value = value_in(self.wanted(n), word);
-        let from = self.given(n).map_or(i, |g| g.from);
         self.waiting = None;
-        self.give(n, Given { from, to: i, value });
-        if value.is_none() {
-            self.fails(Wrong::NotIt(n, i));
+        if n < self.table.len() {
+            let known = self.table[n];
+            let value = value_in(known.1, word);
+            let from = self.given(n).map_or(i, |g| g.from);
+            self.give(n, Given { from, to: i, value });
+            if value.is_none() {
+                self.fails(Wrong::NotIt(known, i));
+            }
         }
     }
 
     // The n-th option in the i-th argument, with what stands behind its =.
-    fn take_option(&mut self, i: usize, n: usize, value: Option<&[u8]>) {
-        let before = self.value(n);
+    fn take_option(&mut self, i: usize, n: usize, known: Known, value: Option<&[u8]>) {
+        let before = match self.given(n) {
+            Some(g) => g.value,
+            None => None,
+        };
         self.give(
             n,
             Given {
@@ -171,10 +165,10 @@ impl Arguments {
                 value: before,
             },
         );
-        match (self.wanted(n), value) {
+        match (known.1, value) {
             (Wanted::Nothing, None) => {}
-            (Wanted::Nothing, Some(_)) => self.fails(Wrong::NoValue(n, i)),
-            (Wanted::OfAnother, _) => self.fails(Wrong::OfAnother(n)),
+            (Wanted::Nothing, Some(_)) => self.fails(Wrong::NoValue(known, i)),
+            (Wanted::OfAnother, _) => self.fails(Wrong::OfAnother(known)),
             (_, None) => self.waiting = Some(n),
             (_, Some(word)) => self.take_value(i, n, word),
         }
@@ -200,8 +194,10 @@ impl Arguments {
             return self.take_name(most, i);
         }
         let (name, value) = cut(word);
-        if let Some(n) = self.table.iter().position(|k| k.0.as_bytes() == name) {
-            return self.take_option(i, n, value);
+        for (n, known) in self.table.iter().enumerate() {
+            if known.0.as_bytes() == name {
+                return self.take_option(i, n, *known, value);
+            }
         }
         match word {
             b"-" => {
@@ -217,18 +213,18 @@ impl Arguments {
         self.wrong.is_some()
     }
 
-    pub fn is_given(&self, n: usize) -> bool {
-        self.given(n).is_some()
+    pub fn is_given(&self, name: &str) -> bool {
+        self.given_by(name).is_some()
     }
 
-    // The number of the last argument that gives the n-th option.
-    pub fn place(&self, n: usize) -> Option<usize> {
-        Some(self.given(n)?.from)
+    // The number of the last argument that gives the option.
+    pub fn place(&self, name: &str) -> Option<usize> {
+        Some(self.given_by(name)?.from)
     }
 
-    // The number that is the value of the n-th option, or how many words of its list stand before the one that is given.
-    pub fn value(&self, n: usize) -> Option<u64> {
-        self.given(n)?.value
+    // The number that is the value of the option, or how many words of its list stand before the one that is given.
+    pub fn value(&self, name: &str) -> Option<u64> {
+        self.given_by(name)?.value
     }
 
     // How many names there are, and the number of the argument that is the k-th.
@@ -251,24 +247,24 @@ impl Arguments {
     }
 
     // Where it holds, none of these options goes with the other one, which is given.
-    pub fn clashes(&mut self, other: usize, options: &[usize], it: bool) {
-        for n in options {
-            if it && self.is_given(*n) {
-                self.fails(Wrong::Clash(*n, other));
+    pub fn clashes(&mut self, other: &'static str, options: &[&'static str], it: bool) {
+        for name in options {
+            if it && self.is_given(name) {
+                self.fails(Wrong::Clash(name, other));
             }
         }
     }
 
-    pub fn needs(&mut self, n: usize, other: usize) {
-        if self.is_given(n) && !self.is_given(other) {
-            self.fails(Wrong::Needs(n, other));
+    pub fn needs(&mut self, name: &'static str, other: &'static str) {
+        if self.is_given(name) && !self.is_given(other) {
+            self.fails(Wrong::Needs(name, other));
         }
     }
 
     // Beside the other option, which is given, it needs the third.
-    pub fn needs_beside(&mut self, n: usize, other: usize, third: usize) {
-        if self.is_given(n) && self.is_given(other) && !self.is_given(third) {
-            self.fails(Wrong::Beside(n, other, third));
+    pub fn needs_beside(&mut self, name: &'static str, other: &'static str, third: &'static str) {
+        if self.is_given(name) && self.is_given(other) && !self.is_given(third) {
+            self.fails(Wrong::Beside(name, other, third));
         }
     }
 }
@@ -282,7 +278,9 @@ pub fn read(system: &System, table: &'static [Known], most: usize) -> Arguments 
         a.take(most, i, &word[..n]);
     }
     if let Some(n) = a.waiting {
-        a.fails(Wrong::Lacking(n));
+        if n < table.len() {
+            a.fails(Wrong::Lacking(table[n]));
+        }
     }
     a
 }
@@ -315,19 +313,19 @@ fn choices(text: &mut Text, wanted: Wanted) {
 
 impl Arguments {
     // The value that an argument gives: what stands behind its =, or all of it where the option was given by the argument before.
-    fn tell_value(&self, system: &System, text: &mut Text, n: usize, i: usize) {
+    fn tell_value(&self, system: &System, text: &mut Text, name: &str, i: usize) {
         let mut word = [0u8; 4096];
         let k = text_system::arguments::read(system, i, &mut word);
         let whole = &word[..k];
         match cut(whole) {
-            (_, Some(value)) if self.place(n) == Some(i) => text_names::shown(text, value),
+            (_, Some(value)) if self.place(name) == Some(i) => text_names::shown(text, value),
             _ => text_names::shown(text, whole),
         }
     }
 
     // An option as it was given, with its value.
-    fn tell_given(&self, system: &System, text: &mut Text, n: usize) {
-        if let Some(g) = self.given(n) {
+    fn tell_given(&self, system: &System, text: &mut Text, name: &str) {
+        if let Some(g) = self.given_by(name) {
             argument(system, text, g.from);
             if g.from != g.to {
                 text.byte(b' ');
@@ -346,34 +344,34 @@ impl Arguments {
                 argument(system, text, i);
                 text.text(" is one name too many");
             }
-            Wrong::NoValue(n, i) => {
-                put!(text, "{} takes no value: ", self.name_of(n));
+            Wrong::NoValue((name, _), i) => {
+                put!(text, "{name} takes no value: ");
                 argument(system, text, i);
             }
-            Wrong::Lacking(n) => {
-                put!(text, "{} wants ", self.name_of(n));
-                choices(text, self.wanted(n));
+            Wrong::Lacking((name, wanted)) => {
+                put!(text, "{name} wants ");
+                choices(text, wanted);
             }
-            Wrong::NotIt(n, i) => {
-                put!(text, "{} wants ", self.name_of(n));
-                choices(text, self.wanted(n));
+            Wrong::NotIt((name, wanted), i) => {
+                put!(text, "{name} wants ");
+                choices(text, wanted);
                 text.text(", not ");
-                self.tell_value(system, text, n, i);
+                self.tell_value(system, text, name, i);
             }
-            Wrong::Clash(n, other) => {
-                put!(text, "{} does not go with ", self.name_of(n));
+            Wrong::Clash(name, other) => {
+                put!(text, "{name} does not go with ");
                 self.tell_given(system, text, other);
             }
-            Wrong::Needs(n, other) => {
-                put!(text, "{} needs {}", self.name_of(n), self.name_of(other));
+            Wrong::Needs(name, other) => {
+                put!(text, "{name} needs {other}");
             }
-            Wrong::Beside(n, other, third) => {
-                put!(text, "{} beside ", self.name_of(n));
+            Wrong::Beside(name, other, third) => {
+                put!(text, "{name} beside ");
                 self.tell_given(system, text, other);
-                put!(text, " needs {}", self.name_of(third));
+                put!(text, " needs {third}");
             }
-            Wrong::OfAnother(n) => {
-                put!(text, "{}{foreign}", self.name_of(n));
+            Wrong::OfAnother((name, _)) => {
+                put!(text, "{name}{foreign}");
             }
         }
     }

@@ -22,29 +22,6 @@ const TABLE: &[Known] = &[
     ("--tape", Wanted::OfAnother),
 ];
 
-// The options in the order of the table.
-const EDITION: usize = 0;
-
-const DEPTH: usize = 1;
-
-const ENDING: usize = 2;
-
-const LIST: usize = 3;
-
-const EXPLAIN: usize = 4;
-
-const MANY: usize = 5;
-
-const HELP: usize = 6;
-
-const TELLS: usize = 7;
-
-const SHORT_HELP: usize = 8;
-
-const VERSION: usize = 9;
-
-const TELLS_ON: usize = 10;
-
 #[derive(Clone, Copy)]
 pub struct Options {
     // handed to making as it stands
@@ -67,36 +44,28 @@ pub struct Options {
     pub wrong: bool,
 }
 
-fn value_or(a: &Arguments, n: usize, unless_given: u64) -> u64 {
-    if a.is_given(n) {
-        a.value(n).unwrap_or(0)
-    } else {
-        unless_given
-    }
-}
-
 // Endings in words are a text of their own, of one schedule.
 fn judge(a: &mut Arguments) {
-    let words = [EXPLAIN, ENDING];
+    let words = ["--explain", "--ending"];
     a.refuse_dash();
-    a.clashes(LIST, &words, a.is_given(LIST));
-    a.clashes(MANY, &words, a.is_given(MANY));
+    a.clashes("--list", &words, a.is_given("--list"));
+    a.clashes("--many", &words, a.is_given("--many"));
 }
 
 fn options_of(a: &Arguments) -> Options {
     Options {
-        edition: value_or(a, EDITION, 1),
-        depth: value_or(a, DEPTH, 12),
-        list: a.is_given(LIST),
-        explain: a.place(EXPLAIN).max(a.place(ENDING)),
-        ending: a.value(ENDING),
-        many: a.is_given(MANY),
-        help: a.is_given(HELP) || a.is_given(SHORT_HELP),
-        version: a.is_given(VERSION),
-        tells_on: if a.is_given(TELLS) {
+        edition: a.value("--edition").unwrap_or(1),
+        depth: a.value("--depth").unwrap_or(12),
+        list: a.is_given("--list"),
+        explain: a.place("--explain").max(a.place("--ending")),
+        ending: a.value("--ending"),
+        many: a.is_given("--many"),
+        help: a.is_given("--help") || a.is_given("-h"),
+        version: a.is_given("--version"),
+        tells_on: if a.is_given("--tell-status") {
             3
         } else {
-            a.value(TELLS_ON).unwrap_or(0)
+            a.value("--tell-status-on").unwrap_or(0)
         },
         file: a.name(0),
         wrong: a.is_wrong(),
