@@ -35,26 +35,25 @@ pub struct Report {
 pub const RECORDS: usize = 64;
 
 // Whether a ring is not broken, lent with so many records; the records are another matter.
+#[tactic(auto, unfolding(crate::specs::Orders::ring_fits_lent))]
 pub fn ring_fits(f: Fixed, e: Ends, count: usize) -> bool
     ensures { result ≡ ring_fits_lent f e count }
 {
-    if queue_entries::in_limits(count as u64, RECORDS as u64) {} else {
-        return false;
-    }
-    bounded_machine::ring_fits(f, e)
+    queue_entries::in_limits(count as u64, RECORDS as u64) && bounded_machine::ring_fits(f, e)
 }
 
 // The number of the refusal where there are at most so many records; 0 where making is not refused.
+#[tactic(auto, unfolding(crate::specs::Orders::make_refusal_with))]
 pub fn make_refusal(most: u64, capacity: u64, workers: u64, edition: u64) -> u64
     ensures { result ≡ make_refusal_with most capacity workers edition }
 {
-    if queue_entries::in_limits(capacity, bounded_words::SLOTS as u64) {} else {
+    if !queue_entries::in_limits(capacity, bounded_words::SLOTS as u64) {
         return 1;
     }
-    if queue_entries::in_limits(workers, most) {} else {
+    if !queue_entries::in_limits(workers, most) {
         return 2;
     }
-    if queue_entries::in_limits(edition, bounded_words::EDITIONS) {} else {
+    if !queue_entries::in_limits(edition, bounded_words::EDITIONS) {
         return 18;
     }
     0
@@ -63,11 +62,10 @@ pub fn make_refusal(most: u64, capacity: u64, workers: u64, edition: u64) -> u64
 fn made_from(number: u64, m: Machine) -> Made
     ensures { result ≡ made_from number m }
 {
-    let ring = m.ring;
     Made {
         refusal: number,
         ring: Metered {
-            ring: ring,
+            ring: m.ring,
             meter: m.meter,
         },
     }
@@ -152,17 +150,15 @@ pub fn contents_by(broken: bool, idle: bool, ring: Ring, buffer: &mut [u64]) -> 
     if broken {
         return Err(6);
     }
-    if idle {} else {
+    if !idle {
         return Err(4);
     }
     let n = bounded_machine::count_in(ring);
     if buffer.len() < (n as usize) {
         return Err(10);
     }
-    let mut k = 0;
-    while k < n {
+    for k in 0..n {
         buffer[k as usize] = bounded_machine::item_at(ring, k);
-        k += 1;
     }
     Ok(n)
 }
@@ -171,18 +167,6 @@ pub fn contents_by(broken: bool, idle: bool, ring: Ring, buffer: &mut [u64]) -> 
 pub fn contents_on(idle: bool, ring: Ring, buffer: &mut [u64]) -> Result<u64, u64>
     ensures { filled result buffer.new ≡ contents_on idle ring buffer.old }
 {
-    let f = Fixed {
-        mark: ring.mark,
-        lap: ring.lap,
-        capacity: ring.capacity,
-        edition: ring.edition,
-    };
-    let head = ring.head;
-    let tail = ring.tail;
-    let e = Ends {
-        head: head,
-        tail: tail,
-    };
-    let fits = bounded_machine::ring_fits(f, e);
+    let fits = bounded_machine::ring_fits(ring.fixed(), ring.ends());
     contents_by(!fits, idle, ring, buffer)
 }
