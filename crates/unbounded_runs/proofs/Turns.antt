@@ -182,9 +182,9 @@ module _ (s : List ℕ) (n i : ℕ) (m : Machine) (sound : Bool) (busy : ℕ) (k
   short (a ∷ []) h = refl
   short (a ∷ b ∷ l) h = absurd (omega arith)
 
-  pub ends : n ≤ i → ran 0 i m ≡ whole
+  pub ends : n ≤ i → i ≤ n → ran 0 n m ≡ whole
   unfolding Stand
-  ends ge = let half = st.1 in sym (short (drop (2 * i) s) (omega (arith, length-drop (2 * i) s))) ∙ st.7
+  ends ge le = let half = st.1 in let e : n ≡ i = omega arith in ap (λ (k : ℕ). ran 0 k m) e ∙ sym (short (drop (2 * i) s) (omega (arith, length-drop (2 * i) s))) ∙ st.7
 
 module _ (m : Machine) (s : List ℕ) (b : Bool) (e : b ≡ broken_of sizes m) where
   pub broken_run : b ≡ true → ran 6 0 m ≡ run_of sizes m s
