@@ -26,10 +26,7 @@ pub fn make(workers: u64) -> Did
 pub fn broken(m: Machine) -> bool
     ensures { result ≡ broken_of sizes m }
 {
-    let e = m.ends;
-    let blocks = m.blocks;
-    let workers = m.workers;
-    unbounded_machine::broken_in(e, blocks, workers, m.count)
+    unbounded_machine::broken_in(m.ends, m.blocks, m.workers, m.count)
 }
 
 // The queue has no capacity: there is nothing to tell but a refusal.
@@ -47,8 +44,7 @@ pub fn contents(m: Machine, buffer: &mut [u64]) -> Result<u64, u64>
     if broken(m) {
         return Err(6);
     }
-    let workers = m.workers;
-    if unbounded_machine::all_idle(workers) {} else {
+    if !unbounded_machine::all_idle(m.workers) {
         return Err(4);
     }
     let e = m.ends;
@@ -63,29 +59,21 @@ pub fn contents(m: Machine, buffer: &mut [u64]) -> Result<u64, u64>
     let mut h = unbounded_words::unmarked(e.head);
     let t = unbounded_words::unmarked(e.tail);
     let mut met: usize = 0;
-    let mut left = unbounded_machine::STEPS;
-    while 0 < left {
-        if unbounded_words::same_word(h, t) {
+    for _ in 0..unbounded_machine::STEPS {
+        if h == t {
             return Ok(n);
         }
         let k = unbounded_words::number(b);
         if unbounded_words::past_slots(h) {
             let g = blocks[k as usize];
-            let next = g.next;
-            blocks[k as usize] = Block {
-                next: next,
-                free: true,
-            };
-            b = next;
-            h = unbounded_words::next(h);
-            left -= 1;
+            blocks[k as usize] = Block { free: true, ..g };
+            b = g.next;
         } else {
             let s = slots[(k * unbounded_words::SLOTS + unbounded_words::offset(h)) as usize];
             buffer[met] = s.value;
             met += 1;
-            h = unbounded_words::next(h);
-            left -= 1;
         }
+        h = unbounded_words::next(h);
     }
     Ok(n)
 }
@@ -101,12 +89,10 @@ pub fn run(m: Machine, schedule: &[u64]) -> Ran
 pub fn step(m: Machine, first: u64, second: u64) -> Did
     ensures { result ≡ step_of sizes m first second }
 {
-    let entry = [first, second];
-    let r = run(m, &entry);
-    let after = r.machine;
+    let r = run(m, &[first, second]);
     Did {
         refusal: r.refusal,
-        machine: after,
+        machine: r.machine,
     }
 }
 
