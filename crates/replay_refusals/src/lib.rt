@@ -169,11 +169,12 @@ fn looked(system: &System, file: &File, many: bool, begun: Reading, place: u64) 
     if begun.tape.is_none() {
         // byte by byte; a queue without a capacity has a 1 before its first number
         list[0] = 1;
+        let mut byte = [0u8; 1];
         let mut input = Input {
             system,
             file,
             many,
-            bytes: &mut bytes[..1],
+            bytes: &mut byte,
             list: &mut list,
         };
         look.restart();
@@ -296,7 +297,9 @@ impl Look {
         let i = (w % 64) as usize;
         let note = self.notes[i];
         match refusal {
-            3 => put!(text, ": there are {workers}"),
+            3 => {
+                put!(text, ": there are {workers}");
+            }
             4 => {
                 if let Some(entry) = note.begun {
                     put!(text, ": with the call of entry {entry}");
