@@ -143,16 +143,8 @@ pub fn put_ring(head: &mut [u64], l: Metered)
     ensures { head.new ≡ head_of l }
 {
     let ring = l.ring;
-    let f = Fixed {
-        mark: ring.mark,
-        lap: ring.lap,
-        capacity: ring.capacity,
-        edition: ring.edition,
-    };
-    let e = Ends {
-        head: ring.head,
-        tail: ring.tail,
-    };
+    let f = ring.fixed();
+    let e = ring.ends();
     put_fixed(head, f);
     bounded_rows::put_head(head, e, l.meter);
     head[7] = LAYOUT;

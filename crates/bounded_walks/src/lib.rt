@@ -100,16 +100,8 @@ fn walk_into(m: Machine, depth: u64, out: &mut [u8]) -> Walked
     ensures lent { out.new ≡ sets out.old 0 (bytes_of (walk_of depth m)) }
 {
     let ring = m.ring;
-    let f = Fixed {
-        mark: ring.mark,
-        lap: ring.lap,
-        capacity: ring.capacity,
-        edition: ring.edition,
-    };
-    let e = Ends {
-        head: ring.head,
-        tail: ring.tail,
-    };
+    let f = ring.fixed();
+    let e = ring.ends();
     let slots = ring.slots;
     let records = m.workers;
     let workers = first_records(records);
