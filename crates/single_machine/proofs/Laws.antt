@@ -38,4 +38,3 @@ module _ (m : Machine) where
       pub broken_records : not d ≡ broken_of m
       unfolding broken_of
       broken_records = on (leb m.single.state.0 state_most) _ _ _ (le-leb _ _ h) (yes _ b _ _ _ e q (ap not g))
-

@@ -16,6 +16,6 @@ pub returns-else-not-may_act-2 : goal.returns-else-not-may_act-2
 returns-else-not-may_act-2 c =
     let none = c.if-not-may_act-2.false in
     elim c.if-not-may_act.branch [
-    then-not-may_act w ↦ let busy : w.may_act-then-not-may_act.result ≡ true = not_false _ (sym w.value-is ∙ none) in none ∙ (search (rules, second_busy))
-    | else-not-may_act w ↦ none ∙ (search (rules, first_busy))
+      | then-not-may_act w ↦ let busy : w.may_act-then-not-may_act.result ≡ true = not_false _ (sym w.value-is ∙ none) in none ∙ (search (rules, second_busy))
+      | else-not-may_act w ↦ none ∙ (search (rules, first_busy))
     ]

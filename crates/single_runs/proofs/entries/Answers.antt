@@ -61,7 +61,7 @@ overflow_add-meter c = let h = in_time _ _ _ _ _ c.loop-i.invariant c.loop-i-tes
 pub loop-i-preserved : goal.loop-i-preserved
 unfolding begun stored
 loop-i-preserved c = elim c.match-verdict_of.branch [
-    in-Start w ↦
+  | in-Start w ↦
       rw (w.single-is, w.workers-is, w.meter-is)
       (start _ _ _ _ _ c.loop-i.invariant
       c.loop-i-test.true
@@ -83,7 +83,7 @@ loop-i-preserved c = elim c.match-verdict_of.branch [
       (search rules) c.if-count-worker.false
       c.verdict_of.result c.verdict_of.ensures
       w.in-Move.field-0 w.act_at-a.result w.in-Move.is w.act_at-a.ensures)
-  ]
+]
 
 pub returns : goal.returns
 returns c = c.ran-2.ensures ∙ ended _ _ _ _ _ c.loop-i.invariant c.loop-i-test.false

@@ -13,10 +13,10 @@ pub returns-then-capacity-gt65535 : goal.returns-then-capacity-gt65535
 returns-then-capacity-gt65535 c =
     let at = refused c.args.v c.args.capacity c.args.workers c.args.words.now c.args.buffer.now 17 0 in
     elim c.then-capacity-gt65535.branch [
-    then-capacity-gt65535-via-then-capacity-gt65535 w ↦
-        let p = at (wide_capacity _ _ _ _ c.if-words-eq1.false w.if-capacity-gt65535.true) in record { answer = p.0; lent = p.1 }
-    | then-capacity-gt65535-via-else-capacity-gt65535+then-workers-gt65535 w ↦
-        let p = at (wide_workers _ _ _ _ c.if-words-eq1.false w.if-capacity-gt65535.false w.if-workers-gt65535.true) in record { answer = p.0; lent = p.1 }
+      | then-capacity-gt65535-via-then-capacity-gt65535 w ↦
+          let p = at (wide_capacity _ _ _ _ c.if-words-eq1.false w.if-capacity-gt65535.true) in record { answer = p.0; lent = p.1 }
+      | then-capacity-gt65535-via-else-capacity-gt65535+then-workers-gt65535 w ↦
+          let p = at (wide_workers _ _ _ _ c.if-words-eq1.false w.if-capacity-gt65535.false w.if-workers-gt65535.true) in record { answer = p.0; lent = p.1 }
     ]
 
 pub returns-then-buffer-long : goal.returns-then-buffer-long
