@@ -77,7 +77,7 @@ class Crate:
         head = HEAD.match(line)
         if head:
             self.last = head[3] or head[2]
-        elif re.match(r'[^\s)}]', line) and not line.startswith(('--', 'use ', 'mod ', 'pub mod ', 'unfolding ', 'infixl ')) and re.match(rf'{KEPT}(\S+)', line)[1] != self.last:
+        elif re.match(r'[^\s)}\]]', line) and not line.startswith(('--', 'use ', 'mod ', 'pub mod ', 'unfolding ', 'infixl ')) and re.match(rf'{KEPT}(\S+)', line)[1] != self.last:
             raise NotUnderstood(f'{self.folder.name}/{file}: {line}')
 
     def add(self, part, names):
@@ -131,7 +131,10 @@ class Crate:
         text, scope = bare(part.text), self.scopes[part.file]
         words = {word for word in APART.split(text) if word}
         found = set()
+        own = {name for (file, name), keys in self.names.items() if file == part.file and any(self.parts[key] is part for key in keys)}
         for name, keys in scope.items():
+            if name in own:  # a record's field, whatever another record of the file calls so
+                continue
             if name in words or '◌' in name and words & {*name.split('◌')} - {''}:
                 found |= keys
         if part.file.startswith('src/'):
