@@ -27,16 +27,14 @@ pub extern "C" fn fern_unbounded_make(
 ) -> u64
     ensures { after result (words head.new pool.new records.new) ≡ make_words (words head.old pool.old records.old) workers }
 {
-    if unbounded_rows::shaped(head, pool, records) {} else {
+    if !unbounded_rows::shaped(head, pool, records) {
         return 6;
     }
     let made = unbounded::make(workers);
-    let refusal = made.refusal;
-    if refusal == 0 {} else {
-        return refusal;
+    if made.refusal != 0 {
+        return made.refusal;
     }
-    let m = made.machine;
-    unbounded_rows::put_machine(head, pool, records, m);
+    unbounded_rows::put_machine(head, pool, records, made.machine);
     0
 }
 
@@ -54,10 +52,8 @@ fn step_on(head: &mut [u64], pool: &mut [u64], records: &mut [u64], first: u64, 
         first,
         second,
     );
-    let refusal = did.refusal;
-    let m = did.machine;
-    unbounded_rows::put_machine(head, pool, records, m);
-    refusal
+    unbounded_rows::put_machine(head, pool, records, did.machine);
+    did.refusal
 }
 
 fn run_on(head: &mut [u64], pool: &mut [u64], records: &mut [u64], schedule: &[u64]) -> Reply
@@ -65,13 +61,10 @@ fn run_on(head: &mut [u64], pool: &mut [u64], records: &mut [u64], schedule: &[u
     ensures { ended result (words head.new pool.new records.new) ≡ ended_of (run_of sizes (machine_in (words head.old pool.old records.old)) schedule.now) }
 {
     let ran = unbounded::run(unbounded_rows::machine_in(head, pool, records), schedule);
-    let refusal = ran.refusal;
-    let place = ran.place;
-    let m = ran.machine;
-    unbounded_rows::put_machine(head, pool, records, m);
+    unbounded_rows::put_machine(head, pool, records, ran.machine);
     Reply {
-        refusal: refusal,
-        number: place,
+        refusal: ran.refusal,
+        number: ran.place,
     }
 }
 
@@ -86,7 +79,7 @@ pub extern "C" fn fern_unbounded_step(
 ) -> u64
     ensures { after result (words head.new pool.new records.new) ≡ step_words_of (words head.old pool.old records.old) first second }
 {
-    if unbounded_rows::stands(head, pool, records) {} else {
+    if !unbounded_rows::stands(head, pool, records) {
         return 6;
     }
     step_on(head, pool, records, first, second)
@@ -102,7 +95,7 @@ pub extern "C" fn fern_unbounded_run(
 ) -> Reply
     ensures { ended result (words head.new pool.new records.new) ≡ run_words (words head.old pool.old records.old) schedule.now }
 {
-    if unbounded_rows::stands(head, pool, records) {} else {
+    if !unbounded_rows::stands(head, pool, records) {
         return Reply {
             refusal: 6,
             number: 0,
@@ -118,7 +111,7 @@ pub extern "C" fn fern_unbounded_run(
 pub extern "C" fn fern_unbounded_broken(head: &[u64], pool: &[u64], records: &[u64]) -> u64
     ensures { result ≡ broken_refusal (words head.now pool.now records.now) }
 {
-    if unbounded_rows::stands(head, pool, records) {} else {
+    if !unbounded_rows::stands(head, pool, records) {
         return 6;
     }
     // the slots are not asked for, and are most of the words
@@ -157,7 +150,7 @@ pub extern "C" fn fern_unbounded_contents(
 ) -> Reply
     ensures { listed result buffer.new ≡ contents_words (words head.now pool.now records.now) buffer.old }
 {
-    if unbounded_rows::stands(head, pool, records) {} else {
+    if !unbounded_rows::stands(head, pool, records) {
         return Reply {
             refusal: 6,
             number: 0,
