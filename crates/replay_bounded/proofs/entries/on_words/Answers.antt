@@ -1,6 +1,6 @@
 use Rattle.std.proofs.Common.{rules}
 use Rattle.bounded_host.proofs.Answering.{sound, stands_so}
-use Rattle.replay_bounded.proofs.entries.run.Goals as goal
+use Rattle.replay_bounded.proofs.entries.on_words.Goals as goal
 
 pub steps-requires : goal.steps-requires
 steps-requires c = record {
