@@ -116,8 +116,11 @@ impl Next {
         UNREADABLE
     }
 
-    // The rest of the text; answers the status.
+    // The rest of the text, unless what was read has failed, which was said; answers the status.
     pub fn written(&self, system: &System, program: &str, text: &mut Text) -> u8 {
+        if self.status == UNREADABLE {
+            return UNREADABLE;
+        }
         text.flush(system);
         status_of(system, program, self.status, !text.is_lost())
     }
