@@ -27,15 +27,14 @@ impl Loaded {
                 whole: true,
             }
         };
-        Loaded {
-            words: made.words,
-            run,
-        }
+        let words = made.words;
+        Loaded { words, run }
     }
 
     fn entries(&mut self, list: &[u64]) {
         let left = bounded_text_faces::run(self.words, list);
-        self.words = left.words;
+        let words = left.words;
+        self.words = words;
         self.run = self.run.ran(left.place, left.refusal);
     }
 }
