@@ -1,4 +1,5 @@
 // The entries of a schedule, run on the words of a ring and its records, each with its line.
+use bounded_causes::Causes;
 use bounded_text_explain::acts::Entered;
 use bounded_words::Width;
 use replay_bounded_explain_lines::lines;
@@ -38,6 +39,11 @@ fn turn_of(bits: Width, lent: &mut Lent, first: u64, second: u64) -> u64 {
     turn(bits, lent.head, lent.slots, lent.records, first, second)
 }
 
+// Ring and records are lent as `&mut` too: the borrow checker has no rule for a field lent as `&` beside one lent as `&mut` behind the same reference.
+fn noted(notes: &mut Notes, lent: &mut Lent, e: &Entered) -> Option<Causes> {
+    notes.noted(lent.records, e)
+}
+
 impl Told<'_> {
     // An entry that was accepted.
     fn accepted(&mut self, system: &System, e: &Entered, text: &mut Text) {
@@ -47,7 +53,8 @@ impl Told<'_> {
         };
         let is_act = e.first % 16 >= 8;
         let causes = if is_act {
-            self.notes.noted(self.lent.records, e)
+            let lent = &mut self.lent;
+            noted(&mut self.notes, lent, e)
         } else {
             None
         };
