@@ -1,5 +1,5 @@
 -- The counts of the claims and of the values read, in machine words and in the history.
-use Rattle.std.proofs.Common.{◌≡◌, ℕ, ◌+◌, ◌<◌, Bool, true, false, refl, mod-eq_of_lt}
+use Rattle.std.proofs.Common.{◌≡◌, ◌+◌, ◌<◌, Bool, true, false, refl, mod-eq_of_lt}
 use Rattle.bounded_words.specs.Limits.{wide}
 use Rattle.bounded_places.specs.declared.Moved.{Moved}
 use Rattle.bounded_places.specs.declared.Moved.TheVariants.{Neither, Tail, Head}
