@@ -45,11 +45,12 @@ class Crate:
         self.scopes = {file: self.scope_of(file, text) for file, text in self.texts.items()}
 
     def read_code(self, file, text):
-        for begin in re.finditer(r'^(?:pub )?(?:extern "C" )?fn (\w+)', text, re.M):
-            body = re.compile(r'^(?:\S.*)?\{$', re.M).search(text, begin.start())  # the lines of a contract stand further in
-            after = re.compile(r'^\}', re.M).search(text, body.end())
-            self.contracts[begin[1]] = Part(file, begin.start(), body.end(), text[begin.start() : body.end()])
-            self.bodies[begin[1]] = Part(file, body.end(), after.end(), text[body.end() : after.end()])
+        for begin in re.finditer(r'^(    )?(?:pub )?(?:extern "C" )?fn (\w+)', text, re.M):  # a method stands further in
+            further = begin[1] or ''
+            body = re.compile(rf'^{further}(?:\S.*)?\{{$', re.M).search(text, begin.start())  # the lines of a contract stand further in
+            after = re.compile(rf'^{further}\}}', re.M).search(text, body.end())
+            self.contracts[begin[2]] = Part(file, begin.start(), body.end(), text[begin.start() : body.end()])
+            self.bodies[begin[2]] = Part(file, body.end(), after.end(), text[body.end() : after.end()])
         for item in re.finditer(r'^(?:pub )?const (\w+)\b.*;$', text, re.M):
             self.parts[file, item[1]] = Part(file, item.start(), item.end(), item[0])
             self.names[file, item[1]] = {(file, item[1])}
