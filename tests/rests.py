@@ -45,11 +45,12 @@ class Crate:
         self.scopes = {file: self.scope_of(file, text) for file, text in self.texts.items()}
 
     def read_code(self, file, text):
-        for begin in re.finditer(r'^(?:pub )?(?:extern "C" )?fn (\w+)', text, re.M):
-            body = re.compile(r'^(?:\S.*)?\{$', re.M).search(text, begin.start())  # the lines of a contract stand further in
-            after = re.compile(r'^\}', re.M).search(text, body.end())
-            self.contracts[begin[1]] = Part(file, begin.start(), body.end(), text[begin.start() : body.end()])
-            self.bodies[begin[1]] = Part(file, body.end(), after.end(), text[body.end() : after.end()])
+        for begin in re.finditer(r'^(    )?(?:pub )?(?:extern "C" )?fn (\w+)', text, re.M):  # a method stands further in
+            further = begin[1] or ''
+            body = re.compile(rf'^{further}(?:\S.*)?\{{$', re.M).search(text, begin.start())  # the lines of a contract stand further in
+            after = re.compile(rf'^{further}\}}', re.M).search(text, body.end())
+            self.contracts[begin[2]] = Part(file, begin.start(), body.end(), text[begin.start() : body.end()])
+            self.bodies[begin[2]] = Part(file, body.end(), after.end(), text[body.end() : after.end()])
         for item in re.finditer(r'^(?:pub )?const (\w+)\b.*;$', text, re.M):
             self.parts[file, item[1]] = Part(file, item.start(), item.end(), item[0])
             self.names[file, item[1]] = {(file, item[1])}
@@ -77,7 +78,7 @@ class Crate:
         head = HEAD.match(line)
         if head:
             self.last = head[3] or head[2]
-        elif re.match(r'[^\s)}]', line) and not line.startswith(('--', 'use ', 'mod ', 'pub mod ', 'unfolding ', 'infixl ')) and re.match(rf'{KEPT}(\S+)', line)[1] != self.last:
+        elif re.match(r'[^\s)}\]]', line) and not line.startswith(('--', 'use ', 'mod ', 'pub mod ', 'unfolding ', 'infixl ')) and re.match(rf'{KEPT}(\S+)', line)[1] != self.last:
             raise NotUnderstood(f'{self.folder.name}/{file}: {line}')
 
     def add(self, part, names):
@@ -131,7 +132,10 @@ class Crate:
         text, scope = bare(part.text), self.scopes[part.file]
         words = {word for word in APART.split(text) if word}
         found = set()
+        own = {name for (file, name), keys in self.names.items() if file == part.file and any(self.parts[key] is part for key in keys)}
         for name, keys in scope.items():
+            if name in own:  # a record's field, whatever another record of the file calls so
+                continue
             if name in words or '◌' in name and words & {*name.split('◌')} - {''}:
                 found |= keys
         if part.file.startswith('src/'):

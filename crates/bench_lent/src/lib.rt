@@ -6,18 +6,11 @@ use bounded_places::Worker;
 
 // place, head, tail, meter
 fn tell(told: &mut [u64; 4], place: u64, l: Metered) {
-    let ring = l.ring;
-    let head = ring.head;
-    let tail = ring.tail;
-    told[0] = place;
-    told[1] = head.0;
-    told[2] = tail.0;
-    told[3] = l.meter;
+    *told = [place, l.ring.head.0, l.ring.tail.0, l.meter];
 }
 
 fn idlers() -> [Worker; bounded_orders::RECORDS] {
-    let idle = bounded_orders::idle();
-    [idle; bounded_orders::RECORDS]
+    [bounded_orders::idle(); bounded_orders::RECORDS]
 }
 
 // The refusal, or 0.
@@ -33,8 +26,7 @@ pub extern "C" fn bench_lent(
     if made.refusal != 0 {
         return made.refusal;
     }
-    let ring = made.ring;
-    let passed = bounded_lent_by_value::lend_all(ring, idlers(), records as usize, schedule);
+    let passed = bounded_lent_by_value::lend_all(made.ring, idlers(), records as usize, schedule);
     let report = passed.report;
     tell(told, report.place, passed.ring);
     report.refusal

@@ -6,13 +6,7 @@ use bounded_machine::{Machine, Ran};
 // place, head, tail, meter
 fn tell(told: &mut [u64; 4], r: Ran) {
     let m = r.machine;
-    let ring = m.ring;
-    let head = ring.head;
-    let tail = ring.tail;
-    told[0] = r.place;
-    told[1] = head.0;
-    told[2] = tail.0;
-    told[3] = m.meter;
+    *told = [r.place, m.ring.head.0, m.ring.tail.0, m.meter];
 }
 
 // The refusal, or 0.

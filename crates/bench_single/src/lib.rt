@@ -6,12 +6,7 @@ use single_machine::Ran;
 // place, state, value, meter
 fn tell(told: &mut [u64; 4], r: Ran) {
     let m = r.machine;
-    let single = m.single;
-    let state = single.state;
-    told[0] = r.place;
-    told[1] = state.0;
-    told[2] = single.value;
-    told[3] = m.meter;
+    *told = [r.place, m.single.state.0, m.single.value, m.meter];
 }
 
 // The refusal, or 0.

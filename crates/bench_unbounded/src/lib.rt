@@ -6,13 +6,7 @@ use unbounded_machine::Ran;
 // place, head, tail, meter
 fn tell(told: &mut [u64; 4], r: Ran) {
     let m = r.machine;
-    let ends = m.ends;
-    let head = ends.head;
-    let tail = ends.tail;
-    told[0] = r.place;
-    told[1] = head.0;
-    told[2] = tail.0;
-    told[3] = m.meter;
+    *told = [r.place, m.ends.head.0, m.ends.tail.0, m.meter];
 }
 
 // The refusal, or 0.

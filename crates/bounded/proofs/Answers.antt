@@ -5,7 +5,7 @@ use mathlib.Core.Bool.{Bool, true, false}
 use mathlib.Core.List.{List}
 use lib.ListN.{length}
 use Rattle.queue_entries.specs.Limits.{workers_most}
-use Rattle.queue_entries.specs.declared.Told.{Told}
+use Rattle.std.specs.Prelude.{Result}
 use Rattle.queue_entries.specs.Told.{told}
 use Rattle.bounded_machine.specs.declared.Machine.{Machine}
 use Rattle.bounded_machine.specs.declared.Did.{Did}
@@ -30,7 +30,7 @@ module _ (capacity workers edition number : ℕ) (e : number ≡ make_refusal_wi
       h ∙ ap (refused number) q ∙ refused_by (λ (n : ℕ). refused n blank) (accepted (fresh_of capacity workers edition)) workers_most capacity workers edition number e z
 
 -- ---- capacity
-pub capacity_is : (m : Machine) (b : Bool) (r : Told) → b ≡ broken_of m → r ≡ capacity_told b m.ring.capacity → r ≡ capacity_of m
+pub capacity_is : (m : Machine) (b : Bool) (r : Result ℕ ℕ) → b ≡ broken_of m → r ≡ capacity_told b m.ring.capacity → r ≡ capacity_of m
 unfolding capacity_refusal capacity_of capacity_told
 capacity_is m b r e h = h ∙ ap (λ (x : Bool). capacity_told x m.ring.capacity) e
 
@@ -38,7 +38,7 @@ capacity_is m b r e h = h ∙ ap (λ (x : Bool). capacity_told x m.ring.capacity
 pub ring_sound : (m : Machine) (b : Bool) → b ≡ broken_of m → b ≡ false → ring_fits (fixed_on m.ring) (ends_on m.ring) ≡ true
 ring_sound m b e h = ring_in m (unbroken_of m (sym e ∙ h))
 
-module _ (m : Machine) (before after : List ℕ) (r : Told) (b idle : Bool) (eb : b ≡ broken_of m) (ei : idle ≡ all_idle m.workers)
+module _ (m : Machine) (before after : List ℕ) (r : Result ℕ ℕ) (b idle : Bool) (eb : b ≡ broken_of m) (ei : idle ≡ all_idle m.workers)
     (h : filled r after ≡ contents_by b idle m.ring before) where
   whole : filled r after ≡ filled (told (contents_refusal m (length before)) (count_in m)) (written m before)
   unfolding contents_by contents_refusal written

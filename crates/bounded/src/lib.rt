@@ -10,7 +10,6 @@ ghost use Rattle.bounded.specs.Bounded.{make_of, step_of, begin_step_of, act_ste
 
 use bounded_machine::{Did, Machine, Ran};
 use bounded_words::Width;
-use queue_entries::Told;
 
 // A fresh machine, or refusal 1, 2 or 18 with the blank one.
 pub fn make(capacity: u64, workers: u64, edition: u64) -> Did
@@ -35,22 +34,19 @@ pub fn broken(m: Machine) -> bool
     bounded_machine::broken(m)
 }
 
-pub fn capacity(m: Machine) -> Told
+pub fn capacity(m: Machine) -> Result<u64, u64>
     ensures { result ≡ capacity_of m }
 {
-    let ring = m.ring;
-    bounded_orders::capacity_told(bounded_machine::broken(m), ring.capacity)
+    bounded_orders::capacity_told(bounded_machine::broken(m), m.ring.capacity)
 }
 
 // The items as `Drop` would meet them, written at the buffer's start. Nothing is removed.
-pub fn contents(m: Machine, buffer: &mut [u64]) -> Told
+pub fn contents(m: Machine, buffer: &mut [u64]) -> Result<u64, u64>
     ensures answer { result ≡ told (contents_refusal m (length buffer.old)) (count_in m) }
     ensures lent { buffer.new ≡ written m buffer.old }
 {
-    let ring = m.ring;
-    let workers = m.workers;
-    let idle = bounded_machine::all_idle(workers);
-    bounded_orders::contents_by(bounded_machine::broken(m), idle, ring, buffer)
+    let idle = bounded_machine::all_idle(m.workers);
+    bounded_orders::contents_by(bounded_machine::broken(m), idle, m.ring, buffer)
 }
 
 // A schedule, entry by entry, to its end or to the first refusal.

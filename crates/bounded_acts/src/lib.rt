@@ -18,6 +18,7 @@ pub struct Acted {
     pub loss: Loss,
 }
 
+#[tactic(auto, unfolding(crate::specs::Acts::goes))]
 pub fn goes(e: Ends, s: Slot, p: Place) -> Acted
     ensures { result ≡ goes e s p }
 {
@@ -29,6 +30,7 @@ pub fn goes(e: Ends, s: Slot, p: Place) -> Acted
     }
 }
 
+#[tactic(auto, unfolding(crate::specs::Acts::losing))]
 pub fn losing(e: Ends, s: Slot, p: Place, l: Loss) -> Acted
     ensures { result ≡ losing e s p l }
 {
@@ -41,40 +43,43 @@ pub fn losing(e: Ends, s: Slot, p: Place, l: Loss) -> Acted
 }
 
 // The exchange step of P3, F6 and O3.
+#[tactic(auto, unfolding(crate::specs::Acts::exchange_of, bounded_words::specs::Words::same))]
 pub fn exchange(found: Stamp, expected: Stamp, lose: bool) -> Exchange
     ensures { result ≡ exchange_of found expected lose }
 {
-    if bounded_words::same_word(found, expected) {
-        if lose {
-            Exchange::Failed
-        } else {
-            Exchange::Won
-        }
-    } else {
+    if found != expected {
         Exchange::Differed(found)
+    } else if lose {
+        Exchange::Failed
+    } else {
+        Exchange::Won
     }
 }
 
 // The kinds of effect.
 
+#[tactic(auto, unfolding(crate::specs::Acts::stamp_to))]
 pub fn stamp_to(bits: Width, s: Slot, w: Stamp, by: u64) -> Slot
     ensures { result ≡ stamp_to s (plus bits w by) }
 {
-    let n = bounded_words::later(bits, w, by);
     Slot {
-        stamp: n,
+        stamp: bounded_words::later(bits, w, by),
         value: s.value,
     }
 }
 
+#[tactic(auto, unfolding(crate::specs::Acts::value_to))]
 pub fn value_to(s: Slot, v: u64) -> Slot
     ensures { result ≡ value_to s v }
 {
-    let w = s.stamp;
-    Slot { stamp: w, value: v }
+    Slot {
+        stamp: s.stamp,
+        value: v,
+    }
 }
 
 // How many items lie between the two words.
+#[tactic(auto, unfolding(crate::specs::Acts::count_of))]
 pub fn count(f: Fixed, tail: Stamp, head: Stamp) -> u64
     requires { Within f tail head }
     ensures { result ≡ count_of f tail head }
@@ -82,12 +87,10 @@ pub fn count(f: Fixed, tail: Stamp, head: Stamp) -> u64
     let hix = bounded_words::index(f, head);
     let tix = bounded_words::index(f, tail);
     if hix < tix {
-        return tix - hix;
-    }
-    if tix < hix {
-        return f.capacity - hix + tix;
-    }
-    if bounded_words::unmarked_is(f, tail, head) {
+        tix - hix
+    } else if tix < hix {
+        f.capacity - hix + tix
+    } else if bounded_words::unmarked_is(f, tail, head) {
         0
     } else {
         f.capacity

@@ -32,6 +32,12 @@ pub struct Since {
     pub mark: bool,
 }
 
+const UNTOUCHED: Since = Since {
+    tail: false,
+    head: false,
+    mark: false,
+};
+
 // Of one worker.
 #[derive(Clone, Copy)]
 pub struct Watch {
@@ -44,6 +50,13 @@ pub struct Watch {
     // its latest act left it with a slot in hand
     pub hand: bool,
 }
+
+const UNWATCHED: Watch = Watch {
+    word: UNTOUCHED,
+    stamp: UNTOUCHED,
+    others: false,
+    hand: false,
+};
 
 #[derive(Clone, Copy)]
 pub struct Watches {
@@ -68,103 +81,80 @@ pub struct Named {
 pub fn stand_of(p: Place) -> Stand
     ensures { result ≡ stand_of p }
 {
-    let view = bounded_places::view_of(p);
-    view.stand
+    bounded_places::view_of(p).stand
 }
 
 // An act that leads from the one to the other goes back to an earlier place of its call: a retry.
+#[tactic(auto, unfolding(crate::specs::Causes::goes_back_of))]
 pub fn goes_back(s: Stand, t: Stand) -> bool
     ensures { result ≡ goes_back_of s t }
 {
-    if t.far == 0 { false } else { t.far < s.far }
-}
-
-fn pick(first: bool, a: bool, b: bool) -> bool
-    ensures { result ≡ cond first a b }
-{
-    if first { a } else { b }
+    t.far != 0 && t.far < s.far
 }
 
 pub fn claims_tail(m: Moved) -> bool
     ensures { result ≡ claims_tail m }
 {
-    match m {
-        Moved::Neither => false,
-        Moved::Tail => true,
-        Moved::Head => false,
-    }
+    matches!(m, Moved::Tail)
 }
 
 pub fn claims_head(m: Moved) -> bool
     ensures { result ≡ claims_head m }
 {
-    match m {
-        Moved::Neither => false,
-        Moved::Tail => false,
-        Moved::Head => true,
-    }
+    matches!(m, Moved::Head)
 }
 
+#[tactic(auto, unfolding(crate::specs::Causes::deed_of))]
 fn deed_of(s: Stand, t: Stand, m: Moved) -> Deed
     ensures { result ≡ deed_of s t m }
 {
     Deed {
         tail: claims_tail(m),
         head: claims_head(m),
-        mark: pick(s.close, t.yes, false),
+        mark: s.close && t.yes,
         word: t.far == 2,
-        stamp: pick(s.stamps, s.far == 2, false),
+        stamp: s.stamps && s.far == 2,
         hand: t.hand,
     }
 }
 
+#[tactic(auto, unfolding(crate::specs::Causes::since_with))]
 fn since_with(d: Deed, s: Since) -> Since
     ensures { result ≡ since_with d s }
 {
     Since {
-        tail: pick(d.tail, true, s.tail),
-        head: pick(d.head, true, s.head),
-        mark: pick(d.mark, true, s.mark),
+        tail: d.tail || s.tail,
+        head: d.head || s.head,
+        mark: d.mark || s.mark,
     }
 }
 
 fn since_act(fresh: bool, d: Deed, s: Since) -> Since
     ensures { result ≡ cond fresh untouched (since_with d s) }
 {
-    if fresh {
-        Since {
-            tail: false,
-            head: false,
-            mark: false,
-        }
-    } else {
-        since_with(d, s)
-    }
+    if fresh { UNTOUCHED } else { since_with(d, s) }
 }
 
+#[tactic(auto, unfolding(crate::specs::Causes::own_act))]
 fn own_act(others: bool, d: Deed, x: Watch) -> Watch
     ensures { result ≡ own_act others d x }
 {
-    let word = since_act(d.word, d, x.word);
-    let stamp = since_act(d.stamp, d, x.stamp);
     Watch {
-        word: word,
-        stamp: stamp,
-        others: pick(d.stamp, others, x.others),
+        word: since_act(d.word, d, x.word),
+        stamp: since_act(d.stamp, d, x.stamp),
+        others: if d.stamp { others } else { x.others },
         hand: d.hand,
     }
 }
 
+#[tactic(auto, unfolding(crate::specs::Causes::other_act))]
 fn other_act(d: Deed, x: Watch) -> Watch
     ensures { result ≡ other_act d x }
 {
-    let word = since_with(d, x.word);
-    let stamp = since_with(d, x.stamp);
     Watch {
-        word: word,
-        stamp: stamp,
-        others: x.others,
-        hand: x.hand,
+        word: since_with(d, x.word),
+        stamp: since_with(d, x.stamp),
+        ..x
     }
 }
 
@@ -181,48 +171,27 @@ fn watch_with(own: bool, others: bool, d: Deed, x: Watch) -> Watch
 pub fn start() -> Watches
     ensures { result ≡ start }
 {
-    let none = Since {
-        tail: false,
-        head: false,
-        mark: false,
-    };
-    let each = [Watch {
-        word: none,
-        stamp: none,
-        others: false,
-        hand: false,
-    }; WATCHED];
-    Watches { each: each }
+    Watches {
+        each: [UNWATCHED; WATCHED],
+    }
 }
 
 fn watch_of(xs: [Watch; WATCHED], w: u64) -> Watch
     ensures { result ≡ watch_of xs w }
 {
     if w < WATCHED as u64 {
-        return xs[w as usize];
-    }
-    let none = Since {
-        tail: false,
-        head: false,
-        mark: false,
-    };
-    Watch {
-        word: none,
-        stamp: none,
-        others: false,
-        hand: false,
+        xs[w as usize]
+    } else {
+        UNWATCHED
     }
 }
 
 fn others_hold(xs: [Watch; WATCHED], w: u64) -> bool
     ensures { result ≡ others_hold xs w }
 {
-    let mut i = 0;
-    while i < WATCHED {
-        let x = xs[i];
-        if pick(i as u64 == w, true, !x.hand) {
-            i += 1;
-        } else {
+    for (i, x) in xs.iter().enumerate() {
+        let own = i as u64 == w;
+        if !own && x.hand {
             return true;
         }
     }
@@ -234,11 +203,8 @@ fn watch_all(xs: [Watch; WATCHED], w: u64, d: Deed) -> [Watch; WATCHED]
 {
     let others = others_hold(xs, w);
     let mut now = xs;
-    let mut i = 0;
-    while i < WATCHED {
-        let x = xs[i];
-        now[i] = watch_with(i as u64 == w, others, d, x);
-        i += 1;
+    for (i, x) in xs.iter().enumerate() {
+        now[i] = watch_with(i as u64 == w, others, d, *x);
     }
     now
 }
@@ -248,7 +214,7 @@ fn own_in(end: Moved, s: Since) -> bool
 {
     match end {
         Moved::Neither => false,
-        Moved::Tail => pick(s.tail, true, s.mark),
+        Moved::Tail => s.tail || s.mark,
         Moved::Head => s.head,
     }
 }
@@ -266,45 +232,34 @@ fn other_in(end: Moved, s: Since) -> bool
 fn scheduled(l: Loss) -> bool
     ensures { result ≡ scheduled l }
 {
-    match l {
-        Loss::Nothing => false,
-        Loss::ByWords => false,
-        Loss::BySchedule => true,
-    }
+    matches!(l, Loss::BySchedule)
 }
 
+#[tactic(auto, unfolding(crate::specs::Causes::causes_of))]
 fn causes_of(s: Stand, x: Watch, y: Watch, l: Loss) -> Causes
     ensures { result ≡ causes_of s x y l }
 {
-    let end = s.end;
-    let word = x.word;
-    let stamp = y.stamp;
     Causes {
-        schedule: pick(s.stamps, scheduled(l), false),
-        own: own_in(end, word),
-        other: pick(s.stamps, other_in(end, stamp), false),
-        hand: pick(s.stamps, y.others, false),
+        schedule: s.stamps && scheduled(l),
+        own: own_in(s.end, x.word),
+        other: s.stamps && other_in(s.end, y.stamp),
+        hand: s.stamps && y.others,
     }
 }
 
 // An act of worker w that led from one place to the other and lost this: what is then kept, whether it goes back, and the causes.
+#[tactic(auto, unfolding(crate::specs::Causes::named_of))]
 pub fn name_causes(ws: Watches, w: u64, before: Place, after: Place, loss: Loss) -> Named
     ensures { result ≡ named_of ws w before after loss }
 {
-    let stood = bounded_places::view_of(before);
+    let s = stand_of(before);
     let stands = bounded_places::view_of(after);
-    let s = stood.stand;
     let t = stands.stand;
-    let moved = stands.moved;
-    let d = deed_of(s, t, moved);
-    let xs = ws.each;
-    let ys = watch_all(xs, w, d);
-    let x = watch_of(xs, w);
-    let y = watch_of(ys, w);
-    let causes = causes_of(s, x, y, loss);
+    let d = deed_of(s, t, stands.moved);
+    let each = watch_all(ws.each, w, d);
     Named {
-        watches: Watches { each: ys },
+        watches: Watches { each },
         back: goes_back(s, t),
-        causes: causes,
+        causes: causes_of(s, watch_of(ws.each, w), watch_of(each, w), loss),
     }
 }

@@ -19,9 +19,9 @@ fn triple(code: u64, first: u64, second: u64) -> Coded
     ensures { result ≡ triple code first second }
 {
     Coded {
-        code: code,
-        first: first,
-        second: second,
+        code,
+        first,
+        second,
     }
 }
 
@@ -152,20 +152,20 @@ pub fn place_in(code: u64, a: u64, b: u64) -> Place
 pub fn within(code: u64, from: u64, to: u64) -> bool
     ensures { result ≡ within code from to }
 {
-    if from <= code { code < to } else { false }
+    from <= code && code < to
 }
 
 pub fn may_be(word: u64, held: bool) -> bool
     ensures { result ≡ may_be word held }
 {
-    if held { true } else { word == 0 }
+    held || word == 0
 }
 
 // What is asked of the place that the words stand for, by the code alone, so that an entry goes by its place once: when it acts.
 pub fn busy_in(code: u64, first: u64, second: u64) -> bool
     ensures { result ≡ (view_of (place_in code first second)).busy }
 {
-    if code < 11 { false } else { true }
+    11 <= code
 }
 
 pub fn weak_in(code: u64, first: u64, second: u64) -> bool

@@ -5,8 +5,7 @@ use mathlib.Core.Bool.{Bool, true, false}
 use mathlib.Core.List.{List, [], ◌∷◌, ◌++◌}
 use native.Mathlib.Omega.{arith}
 use lib.ListN.{take}
-use Rattle.queue_entries.specs.declared.Finding.{Finding}
-use Rattle.queue_entries.specs.declared.Finding.TheVariants.{AllRead, UnreadableAt}
+use Rattle.std.specs.Prelude.{Option, Some, None}
 use Rattle.queue_entries.specs.Schedules.{search_by}
 use Rattle.queue_schedules.proofs.Schedules.{Queue, run_in, taken, run_none, run_half, run_on, run_halt, schedule_in, schedule_broken, schedule_odd}
 use Rattle.queue_schedules.proofs.Schedules.{schedule_found, schedule_none, Ways, is_broken, is_odd, is_unread, is_read, way}
@@ -68,9 +67,9 @@ module _ {M D R : Type 0} (q : Queue M D R) where
         subst (λ (k : ℕ). Goes m (ran_of (search_by q.reading 0 s) k s) (q.machine_in (q.ran number 0 m))) (sym (q.place_is number 0 m))
         (go (search_by q.reading 0 s))
       where
-        go : (f : Finding) → Goes m (ran_of f 0 s) (q.machine_in (q.ran number 0 m))
-        go AllRead = sym (q.machine_is number 0 m)
-        go (UnreadableAt k) = sym (q.machine_is number 0 m)
+        go : (f : Option ℕ) → Goes m (ran_of f 0 s) (q.machine_in (q.ran number 0 m))
+        go None = sym (q.machine_is number 0 m)
+        go (Some k) = sym (q.machine_is number 0 m)
 
     -- the entries of a schedule that were run lead to what it leaves
     pub schedule_goes : Ran (schedule_in q broken m s)
@@ -81,10 +80,10 @@ module _ {M D R : Type 0} (q : Queue M D R) where
         go (is_odd e o) = subst Ran (sym (schedule_odd q broken m s e o)) (whole 11)
         go (is_unread e o k h) =
             subst Ran (sym (schedule_found q broken m s e o k h))
-            (subst (λ (f : Finding). Goes m (ran_of f (q.place_in (q.ran 9 k m)) s) (q.machine_in (q.ran 9 k m))) (sym h) (sym (q.machine_is 9 k m)))
+            (subst (λ (f : Option ℕ). Goes m (ran_of f (q.place_in (q.ran 9 k m)) s) (q.machine_in (q.ran 9 k m))) (sym h) (sym (q.machine_is 9 k m)))
         go (is_read e o h) =
             subst Ran (sym (schedule_none q broken m s e o h))
-            (subst (λ (f : Finding). Goes m (ran_of f (q.place_in (run_in q m 0 s)) s) (q.machine_in (run_in q m 0 s))) (sym h)
+            (subst (λ (f : Option ℕ). Goes m (ran_of f (q.place_in (run_in q m 0 s)) s) (q.machine_in (run_in q m 0 s))) (sym h)
             (subst (λ (k : ℕ). Goes m (take (2 * k) s) (q.machine_in (run_in q m 0 s))) same (run_goes s m 0).1))
           where
             same : q.place_in (run_in q m 0 s) - 0 ≡ q.place_in (run_in q m 0 s)

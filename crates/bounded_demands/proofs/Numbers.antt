@@ -8,8 +8,7 @@ use lib.Dec.{ltb, eqb}
 use lib.ListN.{length}
 use borrow.Author.Tests.{eqb-true}
 use Rattle.queue_entries.specs.Limits.{workers_most, meter_most, in_limits}
-use Rattle.queue_entries.specs.declared.Finding.{Finding}
-use Rattle.queue_entries.specs.declared.Finding.TheVariants.{AllRead, UnreadableAt}
+use Rattle.std.specs.Prelude.{Option, Some, None}
 use Rattle.queue_entries.specs.Schedules.{run_by, search_by, searched, schedule_by}
 use Rattle.queue_entries.specs.declared.Call.{Call}
 use Rattle.queue_entries.specs.declared.Order.{Order}
@@ -173,9 +172,9 @@ schedule_among bits broken m s =
     picked (λ (r : Ran). has runs r.refusal ≡ true) (broken m) (ran 6 0 m) _ refl
     (picked (λ (r : Ran). has runs r.refusal ≡ true) (eqb (length s % 2) 1) (ran 11 0 m) _ refl (found (search_by entry_of 0 s)))
   where
-    found : (f : Finding) → has runs (searched (λ (d : Did). d.refusal) (λ (d : Did). d.machine) (turn_at bits) ran m s f).refusal ≡ true
-    found AllRead = from_among bits m 0 s
-    found (UnreadableAt k) = refl
+    found : (f : Option ℕ) → has runs (searched (λ (d : Did). d.refusal) (λ (d : Did). d.machine) (turn_at bits) ran m s f).refusal ≡ true
+    found None = from_among bits m 0 s
+    found (Some k) = refl
 
 pub run_among : (bits : Width) (m : Machine) (s : List ℕ) → has runs (run_of_by (act_of bits) m s).refusal ≡ true
 run_among bits = schedule_among bits broken_of

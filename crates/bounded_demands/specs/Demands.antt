@@ -1,14 +1,13 @@
 -- The demands of document 01, all of them, in its words. The notions (history, claim, hand, stock ..) are defined in Notions.antt.
 -- The proofs are gathered in crates/bounded_proof_all_demands/proofs/Headlines.antt; docs/PROMISES.md says in plain words what each says and
 -- what not.
-use Rattle.std.specs.Prelude.{ℕ, suc, ◌+◌, ◌*◌, ◌-◌, ◌%◌, ◌≤◌, ◌<◌, ◌/◌, Bool, true, false, not, ◌≡◌, ltb, length, take, drop}
+use Rattle.std.specs.Prelude.{ℕ, suc, ◌+◌, ◌*◌, ◌-◌, ◌%◌, ◌≤◌, ◌<◌, ◌/◌, Bool, true, false, not, ◌≡◌, ltb, length, take, drop, Result, Ok, Err}
 use mathlib.Core.List.{List, [], ◌∷◌, ◌++◌, map, Memᴰ}
 use Rattle.queue_entries.specs.Limits.{workers_most, meter_most, in_limits}
 use Rattle.queue_numbers.specs.Numbers.{on, first_of}
 use Rattle.bounded_words.specs.Limits.{slots_most, editions_most}
 use Rattle.queue_entries.specs.declared.Call.{Call}
 use Rattle.queue_entries.specs.declared.Call.TheVariants.{Close}
-use Rattle.queue_entries.specs.declared.Told.{Told}
 use Rattle.queue_entries.specs.Told.{told}
 use Rattle.queue_entries.specs.declared.Order.{Order}
 use Rattle.queue_entries.specs.declared.Order.TheVariants.{Act}
@@ -64,16 +63,13 @@ use Rattle.bounded_sixteen_bits.specs.SixteenBits.{widened, narrowed, Short}
 use Rattle.bounded_narrow.specs.Narrow as narrow
 use Rattle.bounded_stock.specs.Stock.{tallied_of}
 use Rattle.queue_walks.specs.Walks.{depth_most}
-use Rattle.queue_walks.specs.Listed.{bytes_of}
+use Rattle.queue_walks.specs.Listed.{bytes_of, walked as sized}
 use Rattle.queue_walks.specs.Meaning.{Before, InOrder}
 use Rattle.bounded_sequences.specs.Sequences.{walk_of}
-use Rattle.bounded_walks.specs.declared.Sized.{Sized}
-use Rattle.bounded_walks.specs.declared.Sized.TheVariants.{Sequences}
+use Rattle.queue_walks.specs.declared.Walked.{Walked}
 use Rattle.bounded_walks.specs.Walks.{size_of}
 use Rattle.bounded_demands.specs.Notions.{Tried, entries_of, Face, Definition, of_width, Allowed, machine_after, acts_of, Acts, acts, InHand, HandsOut, Reads, Truth, item_at, items_of, tailers_of, takers_of, LatestIn, ItemIn, WrittenIn, CallClaim, tally, tallied_by, reads_in, waiting, stock, unread_by, lesser, Exchanges, lost_in, struck, Fifo, Words, Plain, since, turn_length, window_length, widest_length, KeepsWindow, KeepsWindowOf, KeepsWidestWindow, KeepsPrompt, rounds, sleeping_push, sleeping_pop, value_at, queue_answer, LenAnswers, most_of, most_beside, OtherHand, OtherHandAt, slot_needed, lent_others, begins, unreadable, begin_grounds, act_grounds, entry_grounds, passed, own_acts, LetsGo, has, ClosesYes, NoClaims, ClaimsOn, with_records, AllowedWith, Asking, left_by_all, taken_by_all, Promises, fresh_in, pushing_in, stocked_in, sixty_four, at_the_end}
 use Rattle.bounded_walks.specs.Walks.{size_refusal}
-use Rattle.bounded_walks.specs.declared.Sized.TheVariants as sized
-use Rattle.queue_entries.specs.declared.Told.TheVariants as answer
 use Rattle.queue_numbers.specs.Answers.{BothWays, number_in, value_in}
 use Rattle.bounded_demands.specs.Answers.{sized_number, sized_values, sized_of}
 use Rattle.bounded.specs.Bounded.{make_of, step_of}
@@ -312,10 +308,10 @@ pub record OnlyOne {M D R : Type 0} (f : Face M D R) : Type 0 where
   pub begin : (m : M) (first second : ℕ) (x y : D) → x ≡ f.begin m first second → y ≡ f.begin m first second → x ≡ y
   pub act : (m : M) (first second : ℕ) (x y : D) → x ≡ f.act m first second → y ≡ f.act m first second → x ≡ y
   pub run : (m : M) (s : List ℕ) (x y : R) → x ≡ f.run m s → y ≡ f.run m s → x ≡ y
-  pub contents : (m : M) (before : List ℕ) (x y : Told) (a b : List ℕ)
+  pub contents : (m : M) (before : List ℕ) (x y : Result ℕ ℕ) (a b : List ℕ)
       → (x ≡ told (contents_refusal (f.wide m) (length before)) (count_in (f.wide m))) × (a ≡ written (f.wide m) before)
       → (y ≡ told (contents_refusal (f.wide m) (length before)) (count_in (f.wide m))) × (b ≡ written (f.wide m) before) → (x ≡ y) × (a ≡ b)
-  pub capacity : (m : M) (x y : Told) → x ≡ capacity_of (f.wide m) → y ≡ capacity_of (f.wide m) → x ≡ y
+  pub capacity : (m : M) (x y : Result ℕ ℕ) → x ≡ capacity_of (f.wide m) → y ≡ capacity_of (f.wide m) → x ≡ y
   pub broken : (m : M) (x y : Bool) → x ≡ broken_of (f.wide m) → y ≡ broken_of (f.wide m) → x ≡ y
 
 -- And of what is counted along a run for reports (crates bounded_stock, bounded_causes and bounded_moments).
@@ -341,8 +337,8 @@ pub record OnlyOneMeets {M D R : Type 0} (p : Promises M D R) : Type 0 where
   pub begin : (m : M) (first second : ℕ) (x y : D) → p.begin m first second x → p.begin m first second y → x ≡ y
   pub act : (m : M) (first second : ℕ) (x y : D) → p.act m first second x → p.act m first second y → x ≡ y
   pub run : (m : M) (s : List ℕ) (x y : R) → p.run m s x → p.run m s y → x ≡ y
-  pub contents : (m : M) (before : List ℕ) (x y : Told) (a b : List ℕ) → p.contents m before x a → p.contents m before y b → (x ≡ y) × (a ≡ b)
-  pub capacity : (m : M) (x y : Told) → p.capacity m x → p.capacity m y → x ≡ y
+  pub contents : (m : M) (before : List ℕ) (x y : Result ℕ ℕ) (a b : List ℕ) → p.contents m before x a → p.contents m before y b → (x ≡ y) × (a ≡ b)
+  pub capacity : (m : M) (x y : Result ℕ ℕ) → p.capacity m x → p.capacity m y → x ≡ y
   pub broken : (m : M) (x y : Bool) → p.broken m x → p.broken m y → x ≡ y
 
 -- Each number of `Numbered` is given, by the machines named here; `spent` has a push begun and its meter at the end.
@@ -369,8 +365,8 @@ pub record EachNumber {M D R : Type 0} (f : Face M D R) (spent : M) : Type 0 whe
 -- "Where an answer is an enum, a definition gives this paper's number and values for each of the enum's cases": there and back, inverse to each other, of what `capacity`, `contents` and `walk` answer
 -- and of what `size` does; and the promises use it.
 pub record EnumsBothWays : Type 0 where
-  pub numbers : BothWays answer.Refused number_in value_in told
-  pub sizes : BothWays sized.Refused sized_number sized_values sized_of
+  pub numbers : BothWays Err number_in value_in told
+  pub sizes : BothWays Err sized_number sized_values sized_of
   pub size : (m : Machine) (depth : ℕ) → size_of m depth ≡ sized_of (size_refusal m depth) (length (walk_of depth m), length (bytes_of (walk_of depth m)))
 
 -- Demand 1 of a face.
@@ -920,10 +916,10 @@ pub record WalkToldBy (f : WalkFace) : Type 0 where
   pub filled : (m : Machine) (depth : ℕ) (buffer : List ℕ) → f.refusal m depth (length buffer) ≡ 0
       → (take (length (bytes_of (walk_of depth m))) (f.listed m depth buffer) ≡ bytes_of (walk_of depth m)) × (drop (length (bytes_of (walk_of depth m))) (f.listed m depth buffer) ≡ drop (length (bytes_of (walk_of depth m))) buffer)
   -- a host that lends as many bytes as `size` told is not refused for them
-  pub fits : (m : Machine) (depth sequences bytes : ℕ) → f.size m depth ≡ Sequences sequences bytes → f.refusal m depth bytes ≡ 0
-  pub answer : (m : Machine) (depth : ℕ) (buffer : List ℕ) (x y : Told) (a b : List ℕ)
+  pub fits : (m : Machine) (depth sequences bytes : ℕ) → f.size m depth ≡ Ok (sized sequences bytes) → f.refusal m depth bytes ≡ 0
+  pub answer : (m : Machine) (depth : ℕ) (buffer : List ℕ) (x y : Result ℕ ℕ) (a b : List ℕ)
       → x ≡ f.told m depth buffer → y ≡ f.told m depth buffer → a ≡ f.listed m depth buffer → b ≡ f.listed m depth buffer → (x ≡ y) × (a ≡ b)
-  pub size : (m : Machine) (depth : ℕ) (x y : Sized) → x ≡ f.size m depth → y ≡ f.size m depth → x ≡ y
+  pub size : (m : Machine) (depth : ℕ) (x y : Result Walked ℕ) → x ≡ f.size m depth → y ≡ f.size m depth → x ≡ y
 
 abbrev pub WalkTold : Type 0
 WalkTold = WalkToldBy item10
@@ -931,13 +927,13 @@ WalkTold = WalkToldBy item10
 -- "The number of sequences is the answer", of any machine, any depth and any buffer; what is refused is told by its number. `size` tells that number and the bytes that the list needs, or the
 -- same refusal, which is never 22. Of any functions; met by `item10`.
 pub record WalkCountsBy (f : WalkFace) : Type 0 where
-  pub counted : (m : Machine) (depth : ℕ) (buffer : List ℕ) → f.refusal m depth (length buffer) ≡ 0 → f.told m depth buffer ≡ answer.Number (length (walk_of depth m))
-  pub refused : (m : Machine) (depth : ℕ) (buffer : List ℕ) → (f.refusal m depth (length buffer) ≡ 0 → ⊥) → f.told m depth buffer ≡ answer.Refused (f.refusal m depth (length buffer))
-  pub size_counted : (m : Machine) (depth room : ℕ) → f.refusal m depth room ≡ 0 → f.size m depth ≡ Sequences (length (walk_of depth m)) (length (bytes_of (walk_of depth m)))
-  pub size_refused : (m : Machine) (depth room number : ℕ) → f.refusal m depth room ≡ number → (number ≡ 0 → ⊥) → (number ≡ 22 → ⊥) → f.size m depth ≡ sized.Refused number
+  pub counted : (m : Machine) (depth : ℕ) (buffer : List ℕ) → f.refusal m depth (length buffer) ≡ 0 → f.told m depth buffer ≡ Ok (length (walk_of depth m))
+  pub refused : (m : Machine) (depth : ℕ) (buffer : List ℕ) → (f.refusal m depth (length buffer) ≡ 0 → ⊥) → f.told m depth buffer ≡ Err (f.refusal m depth (length buffer))
+  pub size_counted : (m : Machine) (depth room : ℕ) → f.refusal m depth room ≡ 0 → f.size m depth ≡ Ok (sized (length (walk_of depth m)) (length (bytes_of (walk_of depth m))))
+  pub size_refused : (m : Machine) (depth room number : ℕ) → f.refusal m depth room ≡ number → (number ≡ 0 → ⊥) → (number ≡ 22 → ⊥) → f.size m depth ≡ Err number
   -- 22 is given exactly where nothing else is amiss and the list is longer than the buffer
   pub short : (m : Machine) (depth room : ℕ) → f.refusal m depth room ≡ 22
-      → (f.size m depth ≡ Sequences (length (walk_of depth m)) (length (bytes_of (walk_of depth m)))) × (room < length (bytes_of (walk_of depth m)))
+      → (f.size m depth ≡ Ok (sized (length (walk_of depth m)) (length (bytes_of (walk_of depth m))))) × (room < length (bytes_of (walk_of depth m)))
 
 abbrev pub WalkCounts : Type 0
 WalkCounts = WalkCountsBy item10
@@ -995,7 +991,7 @@ pub record OnlyOneLent (p : Promise) : Type 0 where
   pub make : (ys : List Worker) (capacity edition : ℕ) (x y : Lent) → p.make ys capacity edition x → p.make ys capacity edition y → x ≡ y
   pub step : (l : Metered) (ys : List Worker) (first second : ℕ) (x y : Lent) → p.step l ys first second x → p.step l ys first second y → x ≡ y
   pub run : (l : Metered) (ys : List Worker) (s : List ℕ) (x y : Gone) → p.run l ys s x → p.run l ys s y → x ≡ y
-  pub capacity : (l : Metered) (ys : List Worker) (x y : Told) → p.capacity l ys x → p.capacity l ys y → x ≡ y
+  pub capacity : (l : Metered) (ys : List Worker) (x y : Result ℕ ℕ) → p.capacity l ys x → p.capacity l ys y → x ≡ y
   pub contents : (l : Metered) (ys : List Worker) (before : List ℕ) (x y : Filled) → p.contents l ys before x → p.contents l ys before y → x ≡ y
   pub broken : (l : Metered) (ys : List Worker) (x y : Bool) → p.broken l ys x → p.broken l ys y → x ≡ y
 

@@ -1,11 +1,9 @@
 -- What is said of a ring and records that are lent (document 02, item 11).
 -- The statements are over a definition of the lent face (`Lending`), so that they can be said of one with a slip.
-use Rattle.std.specs.Prelude.{ℕ, ◌-◌, Bool, cond, ◌≡◌, List, [], ◌∷◌, ◌++◌, eqb, length}
+use Rattle.std.specs.Prelude.{ℕ, ◌-◌, Bool, cond, ◌≡◌, List, [], ◌∷◌, ◌++◌, eqb, length, Result, Ok, Err}
 use Rattle.queue_entries.specs.Limits.{workers_most, meter_most}
 use Rattle.queue_entries.specs.Entries.{entry_of}
 use Rattle.queue_entries.specs.Schedules.{search_by, run_by}
-use Rattle.queue_entries.specs.declared.Told.{Told}
-use Rattle.queue_entries.specs.declared.Told.TheVariants.{Number, Refused}
 use Rattle.bounded_words.specs.declared.Width.TheVariants.{SixtyFour}
 use Rattle.bounded_places.specs.declared.Worker.{Worker}
 use Rattle.bounded_machine.specs.declared.Machine.{Machine}
@@ -25,7 +23,7 @@ pub record Lending : Type 0 where
   pub make : List Worker → ℕ → ℕ → Lent
   pub step : Metered → List Worker → ℕ → ℕ → Lent
   pub run : Metered → List Worker → List ℕ → Gone
-  pub capacity : Metered → List Worker → Told
+  pub capacity : Metered → List Worker → Result ℕ ℕ
   pub contents : Metered → List Worker → List ℕ → Filled
 
 abbrev pub item11 : Lending
@@ -37,7 +35,7 @@ pub record Promise : Type 1 where
   pub make : List Worker → ℕ → ℕ → Lent → Type 0
   pub step : Metered → List Worker → ℕ → ℕ → Lent → Type 0
   pub run : Metered → List Worker → List ℕ → Gone → Type 0
-  pub capacity : Metered → List Worker → Told → Type 0
+  pub capacity : Metered → List Worker → Result ℕ ℕ → Type 0
   pub contents : Metered → List Worker → List ℕ → Filled → Type 0
 
 -- The promises that the functions of crate bounded_lent make.
@@ -82,9 +80,9 @@ acts_lent d x (first ∷ second ∷ rest) =
     (acts_lent d (d.step x.ring x.records first second) rest)
 
 -- The refusal of an answer that may be a number; 0 is none.
-abbrev pub refusal_of : Told → ℕ
-refusal_of (Number n) = 0
-refusal_of (Refused n) = n
+abbrev pub refusal_of : Result ℕ ℕ → ℕ
+refusal_of (Ok n) = 0
+refusal_of (Err n) = n
 
 -- The entries of a schedule as steps, one after another, stopping at the first refusal.
 abbrev pub step_by_step : Lending → Metered → List Worker → List ℕ → Gone

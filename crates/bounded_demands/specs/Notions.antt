@@ -1,16 +1,13 @@
 -- The notions that the demands are said in: claim, hand, truth and the rest, of the machine's own struct, of the words of a schedule and
 -- of the history of its acts (history, tally of claims and stock: crates/bounded_machine/specs/History.antt). The demands are Demands.antt.
-use Rattle.std.specs.Prelude.{ℕ, zero, suc, ◌+◌, ◌*◌, ◌-◌, ◌/◌, ◌%◌, ◌≤◌, ◌<◌, Bool, true, false, cond, not, List, [], ◌∷◌, ◌++◌, map, ◌≡◌, ◌≢◌, eqb, ltb, leb, length, get_or, drop, take}
+use Rattle.std.specs.Prelude.{ℕ, zero, suc, ◌+◌, ◌*◌, ◌-◌, ◌/◌, ◌%◌, ◌≤◌, ◌<◌, Bool, true, false, cond, not, List, [], ◌∷◌, ◌++◌, map, ◌≡◌, ◌≢◌, eqb, ltb, leb, length, get_or, drop, take, Option, Some, None, Result}
 use Rattle.queue_entries.specs.Limits.{workers_most, meter_most}
 use Rattle.queue_entries.specs.declared.Call.{Call}
 use Rattle.queue_entries.specs.declared.Call.TheVariants as call
 use Rattle.queue_entries.specs.declared.Order.TheVariants.{Begin, Act}
 use Rattle.queue_entries.specs.declared.Entry.{Entry}
 use Rattle.queue_entries.specs.declared.Entry.TheVariants.{Unreadable, Asks}
-use Rattle.queue_entries.specs.declared.Finding.{Finding}
-use Rattle.queue_entries.specs.declared.Told.{Told}
 use Rattle.queue_entries.specs.Told.{told}
-use Rattle.queue_entries.specs.declared.Finding.TheVariants.{AllRead, UnreadableAt}
 use Rattle.queue_entries.specs.Entries.{entry_of, stray_of}
 use Rattle.queue_numbers.specs.Numbers.{Ground, on}
 use Rattle.queue_entries.specs.Schedules.{search_by}
@@ -162,8 +159,8 @@ pub record Promises (M D R : Type 0) : Type 1 where
   pub act : M → ℕ → ℕ → D → Type 0
   pub run : M → List ℕ → R → Type 0
   -- the answer, and the buffer after it
-  pub contents : M → List ℕ → Told → List ℕ → Type 0
-  pub capacity : M → Told → Type 0
+  pub contents : M → List ℕ → Result ℕ ℕ → List ℕ → Type 0
+  pub capacity : M → Result ℕ ℕ → Type 0
   pub broken : M → Bool → Type 0
 
 -- Those that the functions of the face make.
@@ -231,9 +228,9 @@ abbrev pub acts_of : Definition → ℕ → ℕ → ℕ → List ℕ → List Ev
 acts_of d capacity workers edition s = d.history (fresh_with d.records capacity workers edition) s
 
 -- The entries of a schedule that were run: those before the refused one; none where one can't be read.
-abbrev pub ran_of : Finding → ℕ → List ℕ → List ℕ
-ran_of AllRead place s = take (2 * place) s
-ran_of (UnreadableAt at) place s = []
+abbrev pub ran_of : Option ℕ → ℕ → List ℕ → List ℕ
+ran_of None place s = take (2 * place) s
+ran_of (Some at) place s = []
 
 -- An entry, unless it was refused.
 abbrev pub entry_unless : ℕ → ℕ → ℕ → List ℕ

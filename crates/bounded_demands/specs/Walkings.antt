@@ -1,19 +1,18 @@
 -- The functions of a walk, of which `WalkTold` of Demands.antt is said. And the table of walks: calls just begun on one slot, and how many sequences of so many acts there are. What is said of it:
 -- `WalksCounted` of Demands.antt, proved in proofs/Walkings.antt.
-use Rattle.std.specs.Prelude.{ℕ, List, [], ◌∷◌, ◌++◌, length}
-use Rattle.queue_entries.specs.declared.Told.{Told}
+use Rattle.std.specs.Prelude.{ℕ, List, [], ◌∷◌, ◌++◌, length, Result}
 use Rattle.bounded_machine.specs.declared.Machine.{Machine}
 use Rattle.bounded_sequences.specs.Sequences.{walk_of}
-use Rattle.bounded_walks.specs.declared.Sized.{Sized}
+use Rattle.queue_walks.specs.declared.Walked.{Walked}
 use Rattle.bounded_walks.specs.Walks.{walk_refusal, walk_told, listed, size_of}
 use Rattle.bounded_demands.specs.Notions.{document01, machine_after, acts}
 
 -- Of a machine and so many acts: the refusal with room for so many bytes, the answer, the buffer after it, and the size.
 pub record WalkFace : Type 0 where
   pub refusal : Machine → ℕ → ℕ → ℕ
-  pub told : Machine → ℕ → List ℕ → Told
+  pub told : Machine → ℕ → List ℕ → Result ℕ ℕ
   pub listed : Machine → ℕ → List ℕ → List ℕ
-  pub size : Machine → ℕ → Sized
+  pub size : Machine → ℕ → Result Walked ℕ
 
 -- Crate bounded_walks's.
 abbrev pub item10 : WalkFace

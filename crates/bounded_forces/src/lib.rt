@@ -10,40 +10,38 @@ use bounded_places::{Answer, Ends, Exchange, Kind, Loss, Place, Slot};
 use bounded_words::{Fixed, Stamp, Width};
 
 // The word that F7 stores: "in edition 2 .. next(t) but keeps tail's mark, in one action".
+#[tactic(auto, unfolding(bounded_acts::specs::Acts::forced_tail))]
 fn forced_tail(bits: Width, f: Fixed, tail: Stamp, t: Stamp) -> Stamp
     requires { Fair f }
     ensures { result ≡ forced_tail bits f tail t }
 {
     let w = bounded_words::next(bits, f, t);
-    if f.edition == 2 {
-        if bounded_words::marked(f, tail) {
-            bounded_words::with_mark(bits, f, w)
-        } else {
-            w
-        }
+    if f.edition == 2 && bounded_words::marked(f, tail) {
+        bounded_words::with_mark(bits, f, w)
     } else {
         w
     }
 }
 
+#[tactic(auto, unfolding(bounded_acts::specs::Acts::tail_to))]
 fn tail_to_forced(bits: Width, f: Fixed, e: Ends, t: Stamp) -> Ends
     requires { Fair f }
     ensures { result ≡ tail_to e (forced_tail bits f e.tail t) }
 {
-    let h = e.head;
-    let w = forced_tail(bits, f, e.tail, t);
-    Ends { head: h, tail: w }
+    Ends {
+        head: e.head,
+        tail: forced_tail(bits, f, e.tail, t),
+    }
 }
 
+#[tactic(auto, unfolding(bounded_acts::specs::Acts::head_to))]
 fn head_to_lap_before_next(bits: Width, f: Fixed, e: Ends, t: Stamp) -> Ends
     requires { Fair f }
     ensures { result ≡ head_to e (minus bits (next_of bits f t) f.lap) }
 {
-    let tail = e.tail;
-    let w = bounded_words::earlier(bits, bounded_words::next(bits, f, t), f.lap);
     Ends {
-        head: w,
-        tail: tail,
+        head: bounded_words::earlier(bits, bounded_words::next(bits, f, t), f.lap),
+        tail: e.tail,
     }
 }
 
@@ -75,8 +73,7 @@ pub fn f7(bits: Width, f: Fixed, e: Ends, s: Slot, t: Stamp, item: u64) -> Acted
 pub fn f8(e: Ends, s: Slot, t: Stamp, item: u64) -> Acted
     ensures { result ≡ act_f8 e s t item }
 {
-    let old = s.value;
-    bounded_acts::goes(e, bounded_acts::value_to(s, item), Place::F9(t, old))
+    bounded_acts::goes(e, bounded_acts::value_to(s, item), Place::F9(t, s.value))
 }
 
 pub fn f9(bits: Width, e: Ends, s: Slot, t: Stamp, old: u64) -> Acted

@@ -7,7 +7,7 @@ use native.Mathlib.Omega.{arith}
 use lib.Dec.{eqb}
 use lib.ListN.{length, get_or, replicate}
 use borrow.Author.Tests.{eq-eqb, ne_eqb, eqb-true}
-use Rattle.queue_entries.specs.declared.Told.{Told}
+use Rattle.std.specs.Prelude.{Result}
 use Rattle.queue_entries.specs.Told.{told}
 use Rattle.bounded_words.specs.declared.Fixed.{Fixed}
 use Rattle.bounded_words.specs.Limits.{slots_most}
@@ -33,7 +33,7 @@ use Rattle.bounded_host.proofs.Running.{judged_six}
 use Rattle.bounded_host.specs.Host as host
 use Rattle.bounded_host.specs.Host.{reply, broken_refusal, make_words, ended, run_words, reply_of, capacity_words, Listed, listed, listed_of, contents_words}
 
-pub along_told : (t u : Told) (r : Reply) → t ≡ u → r ≡ reply_of u → r ≡ reply_of t
+pub along_told : (t u : Result ℕ ℕ) (r : Reply) → t ≡ u → r ≡ reply_of u → r ≡ reply_of t
 along_told t u r h e = e ∙ ap reply_of (sym h)
 
 -- ---- words that were judged
@@ -102,7 +102,7 @@ module _ (h ss rs : List ℕ) (b : Bool) (eb : b ≡ broken_words (words h ss rs
 
     module _ (whole : b ≡ false) (f : Fixed) (ef : f ≡ fixed_in h) (e : Ends) (ee : e ≡ ends_in h) (idle : Bool)
         (ei : idle ≡ cond (placed rs) (each_fits f (get_or h 6 0) false (records_in rs)) false) (all : List Slot) (ea : all ≡ slots_in ss) where
-      pub contents_listed : (t : Told) (buffer' : List ℕ) → filled t buffer' ≡ contents_on idle (ring_of_parts f e all) buffer → (r : Reply) → r ≡ reply_of t
+      pub contents_listed : (t : Result ℕ ℕ) (buffer' : List ℕ) → filled t buffer' ≡ contents_on idle (ring_of_parts f e all) buffer → (r : Reply) → r ≡ reply_of t
           → listed r buffer' ≡ contents_words (words h ss rs) buffer
       unfolding contents_words
       contents_listed t buffer' et r er =

@@ -1,8 +1,6 @@
 -- What each function of the host's face answers, and the words as they are then: the words are read as a ring and records, document 02's item 11 says what comes of these, and that is written as words.
 -- Words that stand for no ring and records are refusal 6; a refused call changes no word. One entry by itself: crate bounded_host_step.
-use Rattle.std.specs.Prelude.{ℕ, cond, List, eqb}
-use Rattle.queue_entries.specs.declared.Told.{Told}
-use Rattle.queue_entries.specs.declared.Told.TheVariants.{Number, Refused}
+use Rattle.std.specs.Prelude.{ℕ, cond, List, eqb, Result, Ok, Err}
 use Rattle.bounded_orders.specs.Orders.{Filled}
 use Rattle.bounded_lent.specs.Lent.{Lent, Gone, run_lent, make_lent, capacity_lent, contents_lent}
 use Rattle.bounded_rows.specs.Rows.{Words, records_in, metered_in, words_of, shaped, stand, After, after, after_of}
@@ -38,9 +36,9 @@ unfoldable pub run_words : Words → List ℕ → Ended
 run_words w s = cond (stand w) (ended_of (run_lent (metered_in w) (records_in w.records) s)) (ended (reply 6 0) w)
 
 -- a number, or a refusal and 0
-abbrev pub reply_of : Told → Reply
-reply_of (Number n) = reply 0 n
-reply_of (Refused k) = reply k 0
+abbrev pub reply_of : Result ℕ ℕ → Reply
+reply_of (Ok n) = reply 0 n
+reply_of (Err k) = reply k 0
 
 unfoldable pub capacity_words : Words → Reply
 capacity_words w = cond (stand w) (reply_of (capacity_lent (metered_in w) (records_in w.records))) (reply 6 0)

@@ -9,7 +9,6 @@ ghost use Rattle.bounded_host.specs.Host.{reply_of, broken_refusal, make_words, 
 
 use bounded_machine::Ring;
 use bounded_words::Width;
-use queue_entries::Told;
 
 // The number of a refusal, 0 where there is none; and what the call is asked for: an entry's place, a count, a capacity.
 #[repr(C)]
@@ -30,11 +29,11 @@ pub extern "C" fn fern_ring_make(
 ) -> u64
     ensures { after result (words head.new slots.new records.new) ≡ make_words (words head.old slots.old records.old) capacity edition }
 {
-    if bounded_slices::shaped(head, slots, records) {} else {
+    if !bounded_slices::shaped(head, slots, records) {
         return 6;
     }
     let made = bounded_orders::make(records.len() / bounded_slices::RECORD, capacity, edition);
-    if made.refusal == 0 {} else {
+    if made.refusal != 0 {
         return made.refusal;
     }
     let l = made.ring;
@@ -66,8 +65,7 @@ pub extern "C" fn fern_ring_run(
     }
     let whole = bounded_orders::judged(false, schedule);
     let n = bounded_orders::entries_of(whole);
-    let mut i = 0;
-    while i < n {
+    for i in 0..n {
         let refusal = bounded_rows::turn(
             Width::SixtyFour,
             head,
@@ -78,11 +76,10 @@ pub extern "C" fn fern_ring_run(
         );
         if refusal != 0 {
             return Reply {
-                refusal: refusal,
+                refusal,
                 number: i as u64,
             };
         }
-        i += 1;
     }
     Reply {
         refusal: whole.refusal,
@@ -104,15 +101,15 @@ pub extern "C" fn fern_ring_broken(head: &[u64], slots: &[u64], records: &[u64])
     }
 }
 
-fn reply_of(t: Told) -> Reply
+fn reply_of(t: Result<u64, u64>) -> Reply
     ensures { result ≡ reply_of t }
 {
     match t {
-        Told::Number(n) => Reply {
+        Ok(n) => Reply {
             refusal: 0,
             number: n,
         },
-        Told::Refused(k) => Reply {
+        Err(k) => Reply {
             refusal: k,
             number: 0,
         },
@@ -155,11 +152,9 @@ pub extern "C" fn fern_ring_contents(
     let e = bounded_rows::ends_in(head);
     let idle = bounded_slices::records_fit(records, f, head[6], false);
     let all = bounded_slices::slots_in(slots);
-    let first = e.head;
-    let last = e.tail;
     let ring = Ring {
-        head: first,
-        tail: last,
+        head: e.head,
+        tail: e.tail,
         mark: f.mark,
         lap: f.lap,
         capacity: f.capacity,

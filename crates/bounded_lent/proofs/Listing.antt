@@ -6,7 +6,7 @@ use mathlib.Core.List.{List}
 use native.Mathlib.Omega.{arith}
 use lib.ListN.{length}
 use borrow.Author.Tests.{le-ltb}
-use Rattle.queue_entries.specs.declared.Told.TheVariants.{Refused}
+use Rattle.std.specs.Prelude.{Err}
 use Rattle.queue_entries.specs.Told.{told}
 use Rattle.bounded_words.specs.declared.Fixed.{Fixed}
 use Rattle.bounded_places.specs.declared.Worker.{Worker}
@@ -34,7 +34,7 @@ past_count f meter r h = rw (le-ltb meter r.differed (few_differed f meter r tru
     go false = refl
 
 module _ (l : Metered) (ys : List Worker) where
-  pub six_first : (ws : List ℕ) → broken_lent l ys ≡ true → filled (Refused 6) ws ≡ contents_lent l ys ws
+  pub six_first : (ws : List ℕ) → broken_lent l ys ≡ true → filled (Err 6) ws ≡ contents_lent l ys ws
   unfolding contents_lent contents_by told
   six_first ws h = rw h refl
 

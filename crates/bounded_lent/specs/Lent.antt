@@ -1,7 +1,6 @@
 -- A ring and records that are lent: what is broken, what making and an entry make of them, and what a schedule, capacity and contents are.
-use Rattle.std.specs.Prelude.{ℕ, Bool, true, cond, List, leb, eqb, length}
+use Rattle.std.specs.Prelude.{ℕ, Bool, true, cond, List, leb, eqb, length, Result}
 use Rattle.queue_entries.specs.Limits.{all}
-use Rattle.queue_entries.specs.declared.Told.{Told}
 use Rattle.queue_entries.specs.Entries.{entry_of}
 use Rattle.queue_entries.specs.Schedules.{schedule_by}
 use Rattle.bounded_places.specs.declared.Worker.{Worker}
@@ -68,7 +67,7 @@ make_lent ys capacity edition =
     (lent (make_refusal (length ys) capacity edition) (metered_of blank) ys)
 
 -- `capacity`: 6, else the ring's capacity at any time
-abbrev pub capacity_lent : Metered → List Worker → Told
+abbrev pub capacity_lent : Metered → List Worker → Result ℕ ℕ
 capacity_lent l ys = capacity_told (broken_lent l ys) l.ring.capacity
 
 -- every lent record fits the ring, as one within the count or as one past it, which has to be idle

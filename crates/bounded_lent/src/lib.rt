@@ -10,20 +10,16 @@ ghost use Rattle.bounded_lent.specs.Lent.{each_fits, broken_lent, lent, turn_len
 use bounded_orders::{Made, Metered, Report};
 use bounded_places::{Ends, Worker};
 use bounded_words::{Fixed, Width};
-use queue_entries::Told;
 
 // Whether every record fits the ring, as one within the count does or as one past it, which has to be idle.
 fn records_fit(records: &[Worker], f: Fixed, meter: u64, counted: bool) -> bool
     requires { Fair f }
     ensures { result ≡ each_fits f meter counted records.now }
 {
-    let n = records.len();
-    let mut i = 0;
-    while i < n {
-        if bounded_machine::record_fits(f, meter, records[i], counted) {} else {
+    for record in records {
+        if !bounded_machine::record_fits(f, meter, *record, counted) {
             return false;
         }
-        i += 1;
     }
     true
 }
@@ -41,7 +37,7 @@ pub fn broken(ring: &Metered, records: &[Worker]) -> bool
         head: ring.ring.head,
         tail: ring.ring.tail,
     };
-    if bounded_orders::ring_fits(f, e, records.len()) {} else {
+    if !bounded_orders::ring_fits(f, e, records.len()) {
         return true;
     }
     !records_fit(records, f, ring.meter, true)
@@ -100,16 +96,14 @@ pub fn run(ring: &mut Metered, records: &mut [Worker], schedule: &[u64]) -> Repo
 {
     let whole = bounded_orders::judged(broken(ring, records), schedule);
     let n = bounded_orders::entries_of(whole);
-    let mut i = 0;
-    while i < n {
+    for i in 0..n {
         let refusal = turn(ring, records, schedule[2 * i], schedule[2 * i + 1]);
         if refusal != 0 {
             return Report {
-                refusal: refusal,
+                refusal,
                 place: i as u64,
             };
         }
-        i += 1;
     }
     whole
 }
@@ -121,26 +115,24 @@ pub fn make(records: &mut [Worker], capacity: u64, edition: u64) -> Made
     let count = records.len();
     let made = bounded_orders::make(count, capacity, edition);
     let n = bounded_orders::unless_refused(made.refusal, count);
-    let mut i = 0;
-    while i < n {
+    for i in 0..n {
         records[i] = bounded_orders::idle();
-        i += 1;
     }
     made
 }
 
-pub fn capacity(ring: &Metered, records: &[Worker]) -> Told
+pub fn capacity(ring: &Metered, records: &[Worker]) -> Result<u64, u64>
     ensures { result ≡ capacity_lent ring.now records.now }
 {
     bounded_orders::capacity_told(broken(ring, records), ring.ring.capacity)
 }
 
 // The items as `Drop` would meet them, written at the buffer's start. Nothing is removed.
-pub fn contents(ring: &Metered, records: &[Worker], buffer: &mut [u64]) -> Told
+pub fn contents(ring: &Metered, records: &[Worker], buffer: &mut [u64]) -> Result<u64, u64>
     ensures { filled result buffer.new ≡ contents_lent ring.now records.now buffer.old }
 {
     if broken(ring, records) {
-        return bounded_orders::refused(6);
+        return Err(6);
     }
     let f = Fixed {
         mark: ring.ring.mark,

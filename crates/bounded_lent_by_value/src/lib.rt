@@ -26,11 +26,7 @@ pub struct Passed {
 fn at_most(count: usize) -> usize
     ensures { result ≡ at_most_of count }
 {
-    if count <= bounded_orders::RECORDS {
-        count
-    } else {
-        bounded_orders::RECORDS
-    }
+    count.min(bounded_orders::RECORDS)
 }
 
 // The first so many of the records are lent, or all of them.
@@ -48,9 +44,9 @@ pub fn lend(
     let n = at_most(count);
     let refusal = bounded_lent::step(&mut ring, &mut records[..n], first, second);
     Stepped {
-        refusal: refusal,
-        ring: ring,
-        records: records,
+        refusal,
+        ring,
+        records,
     }
 }
 
@@ -67,8 +63,8 @@ pub fn lend_all(
     let n = at_most(count);
     let report = bounded_lent::run(&mut ring, &mut records[..n], schedule);
     Passed {
-        report: report,
-        ring: ring,
-        records: records,
+        report,
+        ring,
+        records,
     }
 }

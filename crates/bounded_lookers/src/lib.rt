@@ -14,28 +14,27 @@ use bounded_words::{Fixed, Stamp, Width};
 fn told(e: Ends, s: Slot, yes: bool) -> Acted
     ensures { result ≡ goes e s (Idle (yes_no yes)) }
 {
-    if yes {
-        bounded_acts::goes(e, s, Place::Idle(Answer::Yes))
-    } else {
-        bounded_acts::goes(e, s, Place::Idle(Answer::No))
-    }
+    let answer = if yes { Answer::Yes } else { Answer::No };
+    bounded_acts::goes(e, s, Place::Idle(answer))
 }
 
+#[tactic(auto, unfolding(bounded_acts::specs::Acts::tail_to))]
 fn tail_to_marked(bits: Width, f: Fixed, e: Ends) -> Ends
     requires { Fair f }
     ensures { result ≡ tail_to e (with_mark bits f e.tail) }
 {
-    let h = e.head;
-    let w = bounded_words::with_mark(bits, f, e.tail);
-    Ends { head: h, tail: w }
+    Ends {
+        head: e.head,
+        tail: bounded_words::with_mark(bits, f, e.tail),
+    }
 }
 
+#[tactic(auto, unfolding(bounded_words::specs::Words::same))]
 pub fn len3(f: Fixed, e: Ends, s: Slot, t: Stamp, h: Stamp) -> Acted
     requires { Within f t h }
     ensures { result ≡ act_len3 f e s t h }
 {
-    let again = e.tail;
-    if bounded_words::same_word(again, t) {
+    if e.tail == t {
         bounded_acts::goes(e, s, Place::Idle(Answer::Len(bounded_acts::count(f, t, h))))
     } else {
         bounded_acts::goes(e, s, Place::Len1)
@@ -46,24 +45,21 @@ pub fn empty2(f: Fixed, e: Ends, s: Slot, h: Stamp) -> Acted
     requires { Fair f }
     ensures { result ≡ act_empty2 f e s h }
 {
-    let t = e.tail;
-    told(e, s, bounded_words::unmarked_is(f, t, h))
+    told(e, s, bounded_words::unmarked_is(f, e.tail, h))
 }
 
 pub fn full2(bits: Width, f: Fixed, e: Ends, s: Slot, t: Stamp) -> Acted
     requires { Fair f }
     ensures { result ≡ act_full2 bits f e s t }
 {
-    let h = e.head;
-    told(e, s, bounded_words::lap_behind_unmarked(bits, f, h, t))
+    told(e, s, bounded_words::lap_behind_unmarked(bits, f, e.head, t))
 }
 
 pub fn close1(bits: Width, f: Fixed, e: Ends, s: Slot) -> Acted
     requires { Fair f }
     ensures { result ≡ act_close1 bits f e s }
 {
-    let t = e.tail;
-    if bounded_words::marked(f, t) {
+    if bounded_words::marked(f, e.tail) {
         bounded_acts::goes(e, s, Place::Idle(Answer::No))
     } else {
         bounded_acts::goes(tail_to_marked(bits, f, e), s, Place::Idle(Answer::Yes))
@@ -74,6 +70,5 @@ pub fn is_closed1(f: Fixed, e: Ends, s: Slot) -> Acted
     requires { Fair f }
     ensures { result ≡ act_is_closed1 f e s }
 {
-    let t = e.tail;
-    told(e, s, bounded_words::marked(f, t))
+    told(e, s, bounded_words::marked(f, e.tail))
 }

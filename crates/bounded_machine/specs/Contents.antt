@@ -1,7 +1,6 @@
 -- "Contents" of document 01, as `Drop` walks, and `capacity`.
-use Rattle.std.specs.Prelude.{ℕ, zero, suc, ◌+◌, ◌≤◌, ◌-◌, Bool, cond, List, [], ◌∷◌, ◌++◌, ◌≡◌, ltb, eqb, get_or, length, drop}
+use Rattle.std.specs.Prelude.{ℕ, zero, suc, ◌+◌, ◌≤◌, ◌-◌, Bool, cond, List, [], ◌∷◌, ◌++◌, ◌≡◌, ltb, eqb, get_or, length, drop, Result}
 use Rattle.queue_entries.specs.Told.{told}
-use Rattle.queue_entries.specs.declared.Told.{Told}
 use Rattle.bounded_words.specs.Words.{index_of}
 use Rattle.bounded_acts.specs.Acts.{count_of}
 use Rattle.bounded_machine.specs.declared.Ring.{Ring}
@@ -60,7 +59,7 @@ written m buffer = written_by (contents_refusal m (length buffer)) m.ring buffer
 unfoldable pub capacity_refusal : Machine → ℕ
 capacity_refusal m = cond (broken_of m) 6 0
 
-unfoldable pub capacity_of : Machine → Told
+unfoldable pub capacity_of : Machine → Result ℕ ℕ
 capacity_of m = told (capacity_refusal m) m.ring.capacity
 
 -- the count of an unbroken ring, and its bound

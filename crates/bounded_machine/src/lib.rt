@@ -29,6 +29,29 @@ pub struct Ring {
     pub slots: [Slot; bounded_words::SLOTS],
 }
 
+impl Ring {
+    // What it keeps unchanged.
+    pub fn fixed(&self) -> Fixed
+        ensures { result ≡ fixed_on self.now }
+    {
+        Fixed {
+            mark: self.mark,
+            lap: self.lap,
+            capacity: self.capacity,
+            edition: self.edition,
+        }
+    }
+
+    pub fn ends(&self) -> Ends
+        ensures { result ≡ ends_on self.now }
+    {
+        Ends {
+            head: self.head,
+            tail: self.tail,
+        }
+    }
+}
+
 #[derive(Clone, Copy)]
 pub struct Machine {
     pub ring: Ring,
@@ -71,6 +94,7 @@ pub struct Tally {
     pub reads: u64,
 }
 
+#[tactic(auto, unfolding(crate::specs::Machine::refused))]
 pub fn refuse(m: Machine, number: u64) -> Did
     ensures { result ≡ refused number m }
 {
@@ -80,6 +104,7 @@ pub fn refuse(m: Machine, number: u64) -> Did
     }
 }
 
+#[tactic(auto, unfolding(crate::specs::Machine::accepted))]
 pub fn accept(m: Machine) -> Did
     ensures { result ≡ accepted m }
 {
@@ -98,13 +123,11 @@ pub fn fresh_slots(capacity: u64) -> [Slot; bounded_words::SLOTS]
         stamp: Stamp(0),
         value: 0,
     }; bounded_words::SLOTS];
-    let mut i = 0;
-    while i < capacity {
+    for i in 0..capacity {
         slots[i as usize] = Slot {
             stamp: Stamp(i),
             value: 0,
         };
-        i += 1;
     }
     slots
 }
@@ -114,17 +137,15 @@ pub fn fresh(capacity: u64, workers: u64, edition: u64) -> Machine
     ensures { result ≡ fresh_of capacity workers edition }
 {
     let mark = bounded_words::mark_of(capacity);
-    let slots = fresh_slots(capacity);
-    let lap = 2 * mark;
     Machine {
         ring: Ring {
             head: Stamp(0),
             tail: Stamp(0),
-            mark: mark,
-            lap: lap,
-            capacity: capacity,
-            edition: edition,
-            slots: slots,
+            mark,
+            lap: 2 * mark,
+            capacity,
+            edition,
+            slots: fresh_slots(capacity),
         },
         workers: [Worker {
             place: Place::Idle(Answer::Nothing),
@@ -165,138 +186,89 @@ pub fn blank() -> Machine
 
 // Broken, part by part.
 
+#[tactic(auto, unfolding(crate::specs::Broken::by_rule))]
 fn by_rule(f: Fixed) -> bool
     requires { f.capacity ≤ slots_most }
     ensures { result ≡ by_rule f }
 {
     let mark = bounded_words::mark_of(f.capacity);
-    if f.mark == mark {
-        f.lap == 2 * mark
-    } else {
-        false
-    }
+    f.mark == mark && f.lap == 2 * mark
 }
 
+#[tactic(auto, unfolding(crate::specs::Broken::ends_fit))]
 fn ends_fit(f: Fixed, e: Ends) -> bool
     requires { Fair f }
     ensures { result ≡ ends_fit f e }
 {
-    let head = e.head;
-    let tail = e.tail;
-    if bounded_words::marked(f, head) {
-        return false;
-    }
-    if bounded_places::inside_of(f, head) {
-        bounded_places::inside_of(f, tail)
-    } else {
-        false
-    }
+    !bounded_words::marked(f, e.head)
+        && bounded_places::inside_of(f, e.head)
+        && bounded_places::inside_of(f, e.tail)
 }
 
 // Whether a ring is not broken, whatever its records.
+#[tactic(auto, unfolding(crate::specs::Broken::ring_fits))]
 pub fn ring_fits(f: Fixed, e: Ends) -> bool
     ensures { result ≡ ring_fits f e }
 {
-    if queue_entries::in_limits(f.edition, bounded_words::EDITIONS) {} else {
+    if !queue_entries::in_limits(f.edition, bounded_words::EDITIONS) {
         return false;
     }
-    if queue_entries::in_limits(f.capacity, bounded_words::SLOTS as u64) {} else {
+    if !queue_entries::in_limits(f.capacity, bounded_words::SLOTS as u64) {
         return false;
     }
-    if by_rule(f) {} else {
-        return false;
-    }
-    ends_fit(f, e)
+    by_rule(f) && ends_fit(f, e)
 }
 
+#[tactic(auto, unfolding(crate::specs::Broken::place_fits))]
 fn place_fits(f: Fixed, p: Place, counted: bool) -> bool
     requires { Fair f }
     ensures { result ≡ place_fits f p counted }
 {
     let v = bounded_places::view_of(p);
-    let held = v.held;
-    if v.busy {
-        if counted {
-            bounded_places::fits(f, held)
-        } else {
-            false
-        }
-    } else {
-        true
-    }
+    !v.busy || counted && bounded_places::fits(f, v.held)
 }
 
+#[tactic(auto, unfolding(crate::specs::Broken::record_fits))]
 pub fn record_fits(f: Fixed, meter: u64, r: Worker, counted: bool) -> bool
     requires { Fair f }
     ensures { result ≡ record_fits f meter r counted }
 {
-    let p = r.place;
-    if meter < r.differed {
-        return false;
-    }
-    if meter < r.failed {
-        return false;
-    }
-    place_fits(f, p, counted)
+    r.differed <= meter && r.failed <= meter && place_fits(f, r.place, counted)
 }
 
 fn records_fit(f: Fixed, count: u64, meter: u64, workers: [Worker; queue_entries::WORKERS]) -> bool
     requires { Fair f }
     ensures { result ≡ records_fit workers_most f count meter workers }
 {
-    let mut i = 0;
-    while i < queue_entries::WORKERS {
-        if record_fits(f, meter, workers[i], (i as u64) < count) {
-            i += 1;
-        } else {
+    for (i, record) in workers.iter().enumerate() {
+        if !record_fits(f, meter, *record, (i as u64) < count) {
             return false;
         }
     }
     true
 }
 
+#[tactic(auto, unfolding(crate::specs::Broken::broken_with))]
 pub fn broken(m: Machine) -> bool
     ensures { result ≡ broken_of m }
 {
-    let ring = m.ring;
-    let f = Fixed {
-        mark: ring.mark,
-        lap: ring.lap,
-        capacity: ring.capacity,
-        edition: ring.edition,
-    };
-    let head = ring.head;
-    let tail = ring.tail;
-    let e = Ends {
-        head: head,
-        tail: tail,
-    };
-    let workers = m.workers;
-    if ring_fits(f, e) {} else {
+    let f = m.ring.fixed();
+    if !ring_fits(f, m.ring.ends()) {
         return true;
     }
-    if queue_entries::in_limits(m.count, queue_entries::WORKERS as u64) {} else {
+    if !queue_entries::in_limits(m.count, queue_entries::WORKERS as u64) {
         return true;
     }
-    if records_fit(f, m.count, m.meter, workers) {
-        false
-    } else {
-        true
-    }
+    !records_fit(f, m.count, m.meter, m.workers)
 }
 
 pub fn all_idle(workers: [Worker; queue_entries::WORKERS]) -> bool
     ensures { result ≡ all_idle workers }
 {
-    let mut i = 0;
-    while i < queue_entries::WORKERS {
-        let worker = workers[i];
-        let p = worker.place;
-        let v = bounded_places::view_of(p);
-        if v.busy {
+    for worker in &workers {
+        if busy(worker.place) {
             return false;
         }
-        i += 1;
     }
     true
 }
@@ -306,16 +278,11 @@ pub fn count_in(ring: Ring) -> u64
     requires { ring_fits (fixed_on ring) (ends_on ring) ≡ true }
     ensures { Counted ring result }
 {
-    let f = Fixed {
-        mark: ring.mark,
-        lap: ring.lap,
-        capacity: ring.capacity,
-        edition: ring.edition,
-    };
-    bounded_acts::count(f, ring.tail, ring.head)
+    bounded_acts::count(ring.fixed(), ring.tail, ring.head)
 }
 
 // "wrapping at capacity"
+#[tactic(auto, unfolding(crate::specs::Contents::wrapped))]
 fn wrap(capacity: u64, i: u64) -> u64
     ensures { result ≡ wrapped capacity i }
 {
@@ -328,31 +295,21 @@ pub fn item_at(ring: Ring, k: u64) -> u64
     requires k_lt_slots_most { k < slots_most }
     ensures { result ≡ item_on ring k }
 {
-    let f = Fixed {
-        mark: ring.mark,
-        lap: ring.lap,
-        capacity: ring.capacity,
-        edition: ring.edition,
-    };
-    let slots = ring.slots;
-    let at = bounded_words::index(f, ring.head) + k;
-    let s = slots[wrap(f.capacity, at) as usize];
-    s.value
+    let at = bounded_words::index(ring.fixed(), ring.head) + k;
+    ring.slots[wrap(ring.capacity, at) as usize].value
 }
 
 // The two that a verdict asks of a place, each by itself: so compiled, an act that is not to lose asks for `weak` nowhere (docs/SPEED.md).
 fn busy(p: Place) -> bool
     ensures { result ≡ (view_of p).busy }
 {
-    let v = bounded_places::view_of(p);
-    v.busy
+    bounded_places::view_of(p).busy
 }
 
 fn weak(p: Place) -> bool
     ensures { result ≡ (view_of p).weak }
 {
-    let v = bounded_places::view_of(p);
-    v.weak
+    bounded_places::view_of(p).weak
 }
 
 // What becomes of a worker that stands at p.
@@ -368,33 +325,28 @@ pub fn spot(f: Fixed, held: Held) -> u64
     ensures { result ≡ spot_of f held }
 {
     match held {
-        Held::Nothing => 0,
         Held::End(w) => bounded_words::index(f, w),
-        Held::Tail(_) => 0,
-        Held::Both(_, _) => 0,
+        Held::Nothing | Held::Tail(_) | Held::Both(_, _) => 0,
     }
 }
 
 // The record after an act that leads to p. A count is at most the meter, so that one more fits.
+#[tactic(auto, unfolding(crate::specs::Turn::record_after))]
 pub fn record_after(r: Worker, p: Place, l: Loss) -> Worker
     requires { (r.differed < meter_most) × (r.failed < meter_most) }
     ensures { result ≡ record_after r p l }
 {
     match l {
-        Loss::Nothing => Worker {
-            place: p,
-            differed: r.differed,
-            failed: r.failed,
-        },
+        Loss::Nothing => Worker { place: p, ..r },
         Loss::ByWords => Worker {
             place: p,
             differed: r.differed + 1,
-            failed: r.failed,
+            ..r
         },
         Loss::BySchedule => Worker {
             place: p,
-            differed: r.differed,
             failed: r.failed + 1,
+            ..r
         },
     }
 }

@@ -59,12 +59,6 @@ pub struct Named {
     pub moment: Moment,
 }
 
-fn timing_of_no(far: u64) -> Timing
-    ensures { result ≡ timing_said far Answer.No }
-{
-    if far == 1 { Timing::Now } else { Timing::Stays }
-}
-
 fn timing_said(far: u64, a: Answer) -> Timing
     ensures { result ≡ timing_said far a }
 {
@@ -79,7 +73,8 @@ fn timing_said(far: u64, a: Answer) -> Timing
         Answer::PopClosed => Timing::Now,
         Answer::Len(_) => Timing::Stays,
         Answer::Yes => Timing::Now,
-        Answer::No => timing_of_no(far),
+        Answer::No if far == 1 => Timing::Now,
+        Answer::No => Timing::Stays,
     }
 }
 
@@ -152,8 +147,7 @@ fn heard(moved: Moved, place: u64, was: Moment) -> Moment
     ensures { result ≡ heard_of moved place was }
 {
     match was {
-        Moment::Before(k) => Moment::Before(k),
-        Moment::After(k) => Moment::After(k),
+        Moment::Before(_) | Moment::After(_) => was,
         Moment::AfterNextTail => {
             after_if(
                 bounded_causes::claims_tail(moved),
@@ -175,9 +169,6 @@ fn heard(moved: Moved, place: u64, was: Moment) -> Moment
 pub fn start(capacity: u64) -> Moments
     ensures { result ≡ start capacity }
 {
-    let each = [OfWorker {
-        moment: Moment::Before(0),
-    }; queue_entries::WORKERS];
     Moments {
         place: 0,
         tally: Tally {
@@ -185,8 +176,10 @@ pub fn start(capacity: u64) -> Moments
             head: Claim(0),
             reads: 0,
         },
-        capacity: capacity,
-        each: each,
+        capacity,
+        each: [OfWorker {
+            moment: Moment::Before(0),
+        }; queue_entries::WORKERS],
     }
 }
 
@@ -194,10 +187,10 @@ fn moment_in(xs: [OfWorker; queue_entries::WORKERS], w: u64) -> Moment
     ensures { result ≡ moment_in xs w }
 {
     if w < queue_entries::WORKERS as u64 {
-        let x = xs[w as usize];
-        return x.moment;
+        xs[w as usize].moment
+    } else {
+        Moment::Before(0)
     }
-    Moment::Before(0)
 }
 
 fn heard_by_all(
@@ -208,13 +201,10 @@ fn heard_by_all(
     ensures { result ≡ heard_by_all moved place xs }
 {
     let mut now = xs;
-    let mut i = 0;
-    while i < queue_entries::WORKERS {
-        let x = xs[i];
-        let was = x.moment;
-        let is = heard(moved, place, was);
-        now[i] = OfWorker { moment: is };
-        i += 1;
+    for (i, x) in xs.iter().enumerate() {
+        now[i] = OfWorker {
+            moment: heard(moved, place, x.moment),
+        };
     }
     now
 }
@@ -234,56 +224,51 @@ fn with_own(
 }
 
 // Tail claims less head claims.
+#[tactic(auto, unfolding(bounded_machine::specs::History::untaken_of))]
 fn waiting(t: Tally) -> u64
     ensures { result ≡ untaken_of t }
 {
-    let tail = t.tail;
-    let head = t.head;
-    if head.0 <= tail.0 { tail.0 - head.0 } else { 0 }
+    t.tail.0.saturating_sub(t.head.0)
 }
 
 // An accepted begin: what is then kept.
+#[tactic(auto, unfolding(crate::specs::Moments::begun_of, bounded_stock::specs::Stock::one_more_act))]
 pub fn begun(ms: Moments) -> Moments
     ensures { result ≡ begun_of ms }
 {
-    let tally = ms.tally;
-    let each = ms.each;
     Moments {
-        place: std::num::wrapping_add_u64(ms.place, 1),
-        tally: tally,
-        capacity: ms.capacity,
-        each: each,
+        place: ms.place.wrapping_add(1),
+        ..ms
     }
 }
 
 fn own_moment(ms: Moments, w: u64, before: Place, after: Place) -> Moment
     ensures { result ≡ own_of ms w before after }
 {
-    let each = ms.each;
-    let was = moment_in(each, w);
-    let waits = waiting(ms.tally);
-    timed(timing_of(before, after), ms.place, waits, ms.capacity, was)
+    timed(
+        timing_of(before, after),
+        ms.place,
+        waiting(ms.tally),
+        ms.capacity,
+        moment_in(ms.each, w),
+    )
 }
 
 // An accepted act of worker w that led from one place to the other: what is then kept, whether the act ends its call, and the moment of its answer.
+#[tactic(auto, unfolding(crate::specs::Moments::named_of, bounded_stock::specs::Stock::one_more_act))]
 pub fn name_moment(ms: Moments, w: u64, before: Place, after: Place) -> Named
     ensures { result ≡ named_of ms w before after }
 {
-    let tally = ms.tally;
-    let each = ms.each;
-    let own = own_moment(ms, w, before, after);
-    let others = heard_by_all(each, bounded_stock::moved_by(after), ms.place);
-    let all = with_own(others, w, own);
-    let tallied = bounded_stock::tally(tally, before, after);
-    let view = bounded_places::view_of(after);
+    let moment = own_moment(ms, w, before, after);
+    let others = heard_by_all(ms.each, bounded_stock::moved_by(after), ms.place);
     Named {
         moments: Moments {
-            place: std::num::wrapping_add_u64(ms.place, 1),
-            tally: tallied,
-            capacity: ms.capacity,
-            each: all,
+            place: ms.place.wrapping_add(1),
+            tally: bounded_stock::tally(ms.tally, before, after),
+            each: with_own(others, w, moment),
+            ..ms
         },
-        ends: !view.busy,
-        moment: own,
+        ends: !bounded_places::view_of(after).busy,
+        moment,
     }
 }

@@ -2,7 +2,7 @@
 use Prim.Native.Nat.{ℕ}
 use mathlib.Core.Path.{◌≡◌, sym, ap, subst, ◌∙◌}
 use mathlib.Core.List.{List}
-use Rattle.queue_entries.specs.declared.Told.{Told}
+use Rattle.std.specs.Prelude.{Result}
 use Rattle.queue_entries.specs.Told.{told}
 use Rattle.bounded_machine.specs.Contents.{count_in, contents_refusal, written}
 use Rattle.bounded_machine.specs.declared.Machine as machine
@@ -25,7 +25,7 @@ did_is by m w is d gave r e = e ∙ ap narrowed_did (gave ∙ ap by is)
 pub ran_is : (by : machine.Machine → ran.Ran) (m : Machine) (w : machine.Machine) → w ≡ widened m → (d : ran.Ran) → d ≡ by w → (r : Ran) → r ≡ narrowed_ran d → r ≡ narrowed_ran (by (widened m))
 ran_is by m w is d gave r e = e ∙ ap narrowed_ran (gave ∙ ap by is)
 
-pub contents_told : (w v : machine.Machine) → w ≡ v → (room : ℕ) (r : Told) → r ≡ told (contents_refusal w room) (count_in w) → r ≡ told (contents_refusal v room) (count_in v)
+pub contents_told : (w v : machine.Machine) → w ≡ v → (room : ℕ) (r : Result ℕ ℕ) → r ≡ told (contents_refusal w room) (count_in w) → r ≡ told (contents_refusal v room) (count_in v)
 contents_told w v is room r e = e ∙ ap (λ x. told (contents_refusal x room) (count_in x)) is
 
 pub contents_lent : (w v : machine.Machine) → w ≡ v → (buffer after : List ℕ) → after ≡ written w buffer → after ≡ written v buffer

@@ -9,8 +9,7 @@ use lib.Dec.{ltb, eqb}
 use lib.ListN.{length, get_or, replicate}
 use Rattle.queue_entries.specs.Limits.{workers_most, in_limits}
 use Rattle.queue_entries.specs.Schedules.{run_by, search_by, searched, schedule_by}
-use Rattle.queue_entries.specs.declared.Finding.{Finding}
-use Rattle.queue_entries.specs.declared.Finding.TheVariants.{AllRead, UnreadableAt}
+use Rattle.std.specs.Prelude.{Option, Some, None}
 use Rattle.queue_entries.specs.declared.Entry.{Entry}
 use Rattle.queue_entries.specs.declared.Entry.TheVariants.{Unreadable, Asks}
 use Rattle.queue_entries.specs.Entries.{entry_of}
@@ -179,9 +178,9 @@ run_short m o s =
     either (λ (r : Ran). Short r.machine) (broken_of m) (ran 6 0 m) _ (λ b. o)
     (λ b. either (λ (r : Ran). Short r.machine) (eqb (length s % 2) 1) (ran 11 0 m) _ (λ d. o) (λ d. found (search_by entry_of 0 s)))
   where
-    found : (f : Finding) → Short (searched (λ (d : Did). d.refusal) (λ (d : Did). d.machine) (turn_at Sixteen) ran m s f).machine
-    found AllRead = from_short s m 0 o
-    found (UnreadableAt k) = o
+    found : (f : Option ℕ) → Short (searched (λ (d : Did). d.refusal) (λ (d : Did). d.machine) (turn_at Sixteen) ran m s f).machine
+    found None = from_short s m 0 o
+    found (Some k) = o
 
 -- ---- a made machine
 

@@ -11,7 +11,6 @@ ghost use Rattle.bounded_narrow.specs.Narrow.{make_of, run_of, step_of, begin_st
 
 use bounded_sixteen_bits::{Did, Machine, Ran};
 use bounded_words::Width;
-use queue_entries::Told;
 
 // A fresh machine, or refusal 1, 2 or 18 with the blank one.
 pub fn make(capacity: u64, workers: u64, edition: u64) -> Did
@@ -26,14 +25,14 @@ pub fn broken(m: Machine) -> bool
     bounded::broken(bounded_sixteen_bits::widen(m))
 }
 
-pub fn capacity(m: Machine) -> Told
+pub fn capacity(m: Machine) -> Result<u64, u64>
     ensures { result ≡ capacity_of (widened m) }
 {
     bounded::capacity(bounded_sixteen_bits::widen(m))
 }
 
 // The items as `Drop` would meet them, written at the buffer's start. Nothing is removed.
-pub fn contents(m: Machine, buffer: &mut [u64]) -> Told
+pub fn contents(m: Machine, buffer: &mut [u64]) -> Result<u64, u64>
     ensures answer { result ≡ told (contents_refusal (widened m) (length buffer.old)) (count_in (widened m)) }
     ensures lent { buffer.new ≡ written (widened m) buffer.old }
 {

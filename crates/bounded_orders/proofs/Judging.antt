@@ -7,8 +7,7 @@ use native.Mathlib.Omega.{arith}
 use lib.Dec.{eqb}
 use lib.ListN.{length}
 use borrow.Author.Tests.{eqb-false}
-use Rattle.queue_entries.specs.declared.Finding.{Finding}
-use Rattle.queue_entries.specs.declared.Finding.TheVariants.{AllRead, UnreadableAt}
+use Rattle.std.specs.Prelude.{Option, Some, None}
 use Rattle.queue_entries.specs.Entries.{entry_of}
 use Rattle.queue_entries.specs.Schedules.{run_by, search_by, searched, schedule_by}
 use Rattle.bounded_orders.specs.declared.Report.{Report}
@@ -29,29 +28,29 @@ module _ {M D R : Type 0} (refusal : D → ℕ) (machine : D → M) (turn : M �
   judged whole e = go (broken m) refl (eqb (length s % 2) 1) refl (search_by entry_of 0 s) refl
     where
       -- what is reported and what is run, by the three tests
-      reports : Bool → Bool → Finding → Report
+      reports : Bool → Bool → Option ℕ → Report
       reports b o f = cond b (report 6 0) (cond o (report 11 0) (read_through s f))
 
-      leaves : Bool → Bool → Finding → R
+      leaves : Bool → Bool → Option ℕ → R
       leaves b o f = cond b (ran 6 0 m) (cond o (ran 11 0 m) (searched refusal machine turn ran m s f))
 
-      Met : Bool → Bool → Finding → Type 0
+      Met : Bool → Bool → Option ℕ → Type 0
       Met b o f = (whole ≡ reports b o f) × (leaves b o f ≡ scheduled)
 
-      met : (b : Bool) → broken m ≡ b → (o : Bool) → eqb (length s % 2) 1 ≡ o → (f : Finding) → search_by entry_of 0 s ≡ f → Met b o f
+      met : (b : Bool) → broken m ≡ b → (o : Bool) → eqb (length s % 2) 1 ≡ o → (f : Option ℕ) → search_by entry_of 0 s ≡ f → Met b o f
       met b eb o eo f ef =
-          subst (λ (z : Bool). Met z o f) eb (subst (λ (z : Bool). Met (broken m) z f) eo (subst (λ (z : Finding). Met (broken m) (eqb (length s % 2) 1) z) ef (e, refl)))
+          subst (λ (z : Bool). Met z o f) eb (subst (λ (z : Bool). Met (broken m) z f) eo (subst (λ (z : Option ℕ). Met (broken m) (eqb (length s % 2) 1) z) ef (e, refl)))
 
       stops : (number place : ℕ) → (number ≡ 0 → ⊥) → whole ≡ report number place → ran number place m ≡ scheduled → Judged whole
       stops number place ne is h =
           stopped (λ z. ne (sym (ap (λ (r : Report). r.refusal) is) ∙ z)) (ap (λ (r : Report). ran r.refusal r.place m) is ∙ h)
 
-      go : (b : Bool) → broken m ≡ b → (o : Bool) → eqb (length s % 2) 1 ≡ o → (f : Finding) → search_by entry_of 0 s ≡ f → Judged whole
+      go : (b : Bool) → broken m ≡ b → (o : Bool) → eqb (length s % 2) 1 ≡ o → (f : Option ℕ) → search_by entry_of 0 s ≡ f → Judged whole
       go true eb o eo f ef = let k = met true eb o eo f ef in stops 6 0 (λ z. absurd (omega arith)) k.0 k.1
       go false eb true eo f ef = let k = met false eb true eo f ef in stops 11 0 (λ z. absurd (omega arith)) k.0 k.1
-      go false eb false eo (UnreadableAt p) ef = let k = met false eb false eo (UnreadableAt p) ef in stops 9 p (λ z. absurd (omega arith)) k.0 k.1
-      go false eb false eo AllRead ef =
-          let k = met false eb false eo AllRead ef in
+      go false eb false eo (Some p) ef = let k = met false eb false eo (Some p) ef in stops 9 p (λ z. absurd (omega arith)) k.0 k.1
+      go false eb false eo None ef =
+          let k = met false eb false eo None ef in
           let through : whole ≡ report 0 (length s / 2) = k.0 ∙ sym (reads_through s) in
           let half : whole.place ≡ length s / 2 = ap (λ (r : Report). r.place) through in
           let odd = eqb-false (length s % 2) 1 eo in

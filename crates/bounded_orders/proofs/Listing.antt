@@ -9,8 +9,7 @@ use lib.ListN.{get_or, set, length, drop}
 use borrow.Author.Tests.{ne_eqb, not-false}
 use lib.Seq.{drop-cons, set_at}
 use Rattle.queue_entries.proofs.Pick.{on, off, below, above}
-use Rattle.queue_entries.specs.declared.Told.{Told}
-use Rattle.queue_entries.specs.declared.Told.TheVariants.{Number, Refused}
+use Rattle.std.specs.Prelude.{Result, Ok, Err}
 use Rattle.queue_entries.specs.Told.{told}
 use Rattle.bounded_words.specs.declared.Fixed.{Fixed}
 use Rattle.bounded_places.specs.declared.Ends.{Ends}
@@ -25,27 +24,27 @@ module _ (broken idle : Bool) (r : Ring) (buffer : List ℕ) where
   abbrev number : ℕ
   number = contents_refusal_by broken idle (count_on r) (length buffer)
 
-  turned : (n : ℕ) → 0 < n → n ≡ number → filled (Refused n) buffer ≡ contents_by broken idle r buffer
+  turned : (n : ℕ) → 0 < n → n ≡ number → filled (Err n) buffer ≡ contents_by broken idle r buffer
   unfolding told contents_by
   turned n pos e = rw (← e, ne_eqb n 0 (λ z. omega arith)) refl
 
-  pub turned_6 : broken ≡ true → filled (Refused 6) buffer ≡ contents_by broken idle r buffer
+  pub turned_6 : broken ≡ true → filled (Err 6) buffer ≡ contents_by broken idle r buffer
   turned_6 h = turned 6 (omega arith) (on broken _ _ _ h refl)
 
   module _ (hb : broken ≡ false) where
-    pub turned_4 : idle ≡ false → filled (Refused 4) buffer ≡ contents_by broken idle r buffer
+    pub turned_4 : idle ≡ false → filled (Err 4) buffer ≡ contents_by broken idle r buffer
     turned_4 h = turned 4 (omega arith) (off broken _ _ _ hb (off idle _ _ _ h refl))
 
     module _ (hd : idle ≡ true) (n : ℕ) (c : Counted r n) where
-      pub turned_10 : length buffer < n → filled (Refused 10) buffer ≡ contents_by broken idle r buffer
+      pub turned_10 : length buffer < n → filled (Err 10) buffer ≡ contents_by broken idle r buffer
       turned_10 h = turned 10 (omega arith) (off broken _ _ _ hb (on idle _ _ _ hd (below (length buffer) (count_on r) _ _ _ (omega (arith, c.is)) refl)))
 
-      pub listed : (after : List ℕ) (k : ℕ) → n ≤ length buffer → k ≡ n → after ≡ items_on r k 0 ++ drop k buffer → filled (Number n) after ≡ contents_by broken idle r buffer
+      pub listed : (after : List ℕ) (k : ℕ) → n ≤ length buffer → k ≡ n → after ≡ items_on r k 0 ++ drop k buffer → filled (Ok n) after ≡ contents_by broken idle r buffer
       unfolding told contents_by list_on
       listed after k h q e =
           let z : 0 ≡ number = off broken _ _ _ hb (on idle _ _ _ hd (above (length buffer) (count_on r) _ _ _ (omega (arith, c.is)) refl)) in
           let i : k ≡ count_on r = q ∙ c.is in
-          rw (← z) (ap (λ (x : ℕ). filled (Number x) after) c.is ∙ ap (filled (Number (count_on r))) (e ∙ ap (λ (x : ℕ). items_on r x 0 ++ drop x buffer) i))
+          rw (← z) (ap (λ (x : ℕ). filled (Ok x) after) c.is ∙ ap (filled (Ok (count_on r))) (e ∙ ap (λ (x : ℕ). items_on r x 0 ++ drop x buffer) i))
 
 -- ---- one item more
 items_length : (r : Ring) (k j : ℕ) → length (items_on r k j) ≡ k
@@ -83,7 +82,7 @@ sound_by broken r f h = f h
 pub sound_of : (f : Fixed) (e : Ends) (fits : Bool) → fits ≡ ring_fits f e → not fits ≡ false → ring_fits f e ≡ true
 sound_of f e fits k h = sym k ∙ not-false fits h
 
-pub judged_here : (idle : Bool) (r : Ring) (before after : List ℕ) (t : Told) (fits : Bool) → fits ≡ ring_fits (fixed_on r) (ends_on r)
+pub judged_here : (idle : Bool) (r : Ring) (before after : List ℕ) (t : Result ℕ ℕ) (fits : Bool) → fits ≡ ring_fits (fixed_on r) (ends_on r)
     → filled t after ≡ contents_by (not fits) idle r before → filled t after ≡ contents_on idle r before
 unfolding contents_on
 judged_here idle r before after t fits e h = h ∙ ap (λ (b : Bool). contents_by (not b) idle r before) e

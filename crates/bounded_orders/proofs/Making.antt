@@ -9,9 +9,7 @@ use lib.ListN.{length}
 use Rattle.queue_entries.specs.Limits.{in_limits}
 use Rattle.queue_entries.specs.Schedules.{run_by, search_by, schedule_by}
 use Rattle.queue_entries.specs.Entries.{entry_of}
-use Rattle.queue_entries.specs.declared.Finding.{Finding}
-use Rattle.queue_entries.specs.declared.Finding.TheVariants.{AllRead, UnreadableAt}
-use Rattle.queue_entries.specs.declared.Told.TheVariants.{Number, Refused}
+use Rattle.std.specs.Prelude.{Option, Some, None, Ok, Err}
 use Rattle.queue_entries.specs.Told.{told}
 use Rattle.queue_entries.proofs.Pick.{yes, no, equal, other}
 use Rattle.queue_entries.proofs.Limits.{limit_most}
@@ -93,7 +91,7 @@ runs_through (x ∷ []) place = let e : place + 1 / 2 ≡ place = omega arith in
 runs_through (x ∷ y ∷ rest) place =
     let e : place + suc (suc (length rest)) / 2 ≡ place + 1 + length rest / 2 = omega arith in ap (report 0) e ∙ runs_through rest (place + 1)
 
-pub reads_through : (s : List ℕ) → report 0 (length s / 2) ≡ read_through s AllRead
+pub reads_through : (s : List ℕ) → report 0 (length s / 2) ≡ read_through s None
 reads_through s = let e : length s / 2 ≡ 0 + length s / 2 = omega arith in ap (report 0) e ∙ runs_through s 0
 
 module _ (broken : Bool) (s : List ℕ) where
@@ -106,22 +104,22 @@ module _ (broken : Bool) (s : List ℕ) where
     unfolding judged_of schedule_by
     judged_11 k = no _ broken _ _ _ refl h (equal (length s % 2) 1 _ _ _ k refl)
 
-    module _ (k : length s % 2 ≡ 1 → ⊥) (f : Finding) (g : f ≡ search_by entry_of 0 s) where
+    module _ (k : length s % 2 ≡ 1 → ⊥) (f : Option ℕ) (g : f ≡ search_by entry_of 0 s) where
       found : read_through s f ≡ judged_of broken s
       unfolding judged_of schedule_by
       found = no _ broken _ _ _ refl h (other (length s % 2) 1 _ _ _ k (ap (read_through s) g))
 
-      pub judged_9 : (i : ℕ) → f ≡ UnreadableAt i → report 9 i ≡ judged_of broken s
+      pub judged_9 : (i : ℕ) → f ≡ Some i → report 9 i ≡ judged_of broken s
       judged_9 i z = ap (read_through s) (sym z) ∙ found
 
-      pub judged_read : f ≡ AllRead → report 0 (length s / 2) ≡ judged_of broken s
+      pub judged_read : f ≡ None → report 0 (length s / 2) ≡ judged_of broken s
       judged_read z = reads_through s ∙ ap (read_through s) (sym z) ∙ found
 
 module _ (broken : Bool) (capacity : ℕ) where
-  pub told_6 : broken ≡ true → Refused 6 ≡ capacity_told broken capacity
+  pub told_6 : broken ≡ true → Err 6 ≡ capacity_told broken capacity
   unfolding capacity_told told
   told_6 h = rw h refl
 
-  pub told_capacity : broken ≡ false → Number capacity ≡ capacity_told broken capacity
+  pub told_capacity : broken ≡ false → Ok capacity ≡ capacity_told broken capacity
   unfolding capacity_told told
   told_capacity h = rw h refl

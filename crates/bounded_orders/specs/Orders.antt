@@ -1,9 +1,7 @@
 -- What the faces share, whoever keeps ring and records: making, schedules and contents, but for the records.
-use Rattle.std.specs.Prelude.{ℕ, Bool, false, cond, not, List, eqb, length}
+use Rattle.std.specs.Prelude.{ℕ, Bool, false, cond, not, List, eqb, length, Option, Result}
 use Rattle.queue_entries.specs.Limits.{in_limits}
 use Rattle.queue_entries.specs.Entries.{entry_of}
-use Rattle.queue_entries.specs.declared.Finding.{Finding}
-use Rattle.queue_entries.specs.declared.Told.{Told}
 use Rattle.queue_entries.specs.Told.{told}
 use Rattle.queue_entries.specs.Schedules.{searched, schedule_by}
 use Rattle.bounded_words.specs.declared.Fixed.{Fixed}
@@ -64,23 +62,23 @@ abbrev pub report : ℕ → ℕ → Report
 report number place = record { refusal = number; place = place }
 
 -- What a schedule reports if no entry of it is refused, by every schedule's order (6, 11, 9): of no machine, whose entries do nothing.
-abbrev pub read_through : List ℕ → Finding → Report
+abbrev pub read_through : List ℕ → Option ℕ → Report
 read_through = searched (λ (none : Unit {0}). 0) (λ none. none) (λ none first second. none) (λ number place none. report number place) tt
 
 unfoldable pub judged_of : Bool → List ℕ → Report
 judged_of broken = schedule_by (λ (none : Unit {0}). 0) (λ none. none) (λ none first second. none) (λ number place none. report number place) (λ none. broken) entry_of tt
 
 -- ---- capacity
-unfoldable pub capacity_told : Bool → ℕ → Told
+unfoldable pub capacity_told : Bool → ℕ → Result ℕ ℕ
 capacity_told broken capacity = told (cond broken 6 0) capacity
 
 -- ---- contents
 -- what is answered, and the buffer after it
 pub record Filled : Type 0 where
-  pub answer : Told
+  pub answer : Result ℕ ℕ
   pub buffer : List ℕ
 
-abbrev pub filled : Told → List ℕ → Filled
+abbrev pub filled : Result ℕ ℕ → List ℕ → Filled
 filled t buffer = record { answer = t; buffer = buffer }
 
 -- of a ring that is broken or not, whose workers are all idle or not

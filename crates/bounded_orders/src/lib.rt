@@ -3,14 +3,12 @@
 
 ghost use Rattle.std.specs.Prelude.{◌≡◌, true, false};
 ghost use Rattle.bounded_orders.specs.Orders.{ring_fits_lent, make_refusal_with, made_from, made_of, unless_refused, judged_of, capacity_told, filled, contents_by, contents_on};
-ghost use Rattle.queue_entries.specs.declared.Told.TheVariants.{Refused};
 ghost use Rattle.bounded_machine.specs.Machine.{idler, fixed_on, ends_on};
 ghost use Rattle.bounded_machine.specs.Broken.{ring_fits};
 
 use bounded_machine::{Machine, Ring};
 use bounded_places::{Answer, Ends, Place, Worker};
 use bounded_words::Fixed;
-use queue_entries::{Finding, Told};
 
 // What a host keeps beside the records: the ring, and the accepted acts since it was made.
 #[derive(Clone, Copy)]
@@ -37,26 +35,25 @@ pub struct Report {
 pub const RECORDS: usize = 64;
 
 // Whether a ring is not broken, lent with so many records; the records are another matter.
+#[tactic(auto, unfolding(crate::specs::Orders::ring_fits_lent))]
 pub fn ring_fits(f: Fixed, e: Ends, count: usize) -> bool
     ensures { result ≡ ring_fits_lent f e count }
 {
-    if queue_entries::in_limits(count as u64, RECORDS as u64) {} else {
-        return false;
-    }
-    bounded_machine::ring_fits(f, e)
+    queue_entries::in_limits(count as u64, RECORDS as u64) && bounded_machine::ring_fits(f, e)
 }
 
 // The number of the refusal where there are at most so many records; 0 where making is not refused.
+#[tactic(auto, unfolding(crate::specs::Orders::make_refusal_with))]
 pub fn make_refusal(most: u64, capacity: u64, workers: u64, edition: u64) -> u64
     ensures { result ≡ make_refusal_with most capacity workers edition }
 {
-    if queue_entries::in_limits(capacity, bounded_words::SLOTS as u64) {} else {
+    if !queue_entries::in_limits(capacity, bounded_words::SLOTS as u64) {
         return 1;
     }
-    if queue_entries::in_limits(workers, most) {} else {
+    if !queue_entries::in_limits(workers, most) {
         return 2;
     }
-    if queue_entries::in_limits(edition, bounded_words::EDITIONS) {} else {
+    if !queue_entries::in_limits(edition, bounded_words::EDITIONS) {
         return 18;
     }
     0
@@ -65,11 +62,10 @@ pub fn make_refusal(most: u64, capacity: u64, workers: u64, edition: u64) -> u64
 fn made_from(number: u64, m: Machine) -> Made
     ensures { result ≡ made_from number m }
 {
-    let ring = m.ring;
     Made {
         refusal: number,
         ring: Metered {
-            ring: ring,
+            ring: m.ring,
             meter: m.meter,
         },
     }
@@ -119,11 +115,11 @@ pub fn judged(broken: bool, schedule: &[u64]) -> Report
         };
     }
     match queue_entries::search(schedule) {
-        Finding::UnreadableAt(place) => Report {
+        Some(place) => Report {
             refusal: 9,
             place: place as u64,
         },
-        Finding::AllRead => Report {
+        None => Report {
             refusal: 0,
             place: (schedule.len() / 2) as u64,
         },
@@ -137,60 +133,40 @@ pub fn entries_of(r: Report) -> usize
     unless_refused(r.refusal, r.place as usize)
 }
 
-pub fn capacity_told(broken: bool, capacity: u64) -> Told
+pub fn capacity_told(broken: bool, capacity: u64) -> Result<u64, u64>
     ensures { result ≡ capacity_told broken capacity }
 {
     if broken {
-        return Told::Refused(6);
+        return Err(6);
     }
-    Told::Number(capacity)
-}
-
-pub fn refused(number: u64) -> Told
-    ensures { result ≡ Refused number }
-{
-    Told::Refused(number)
+    Ok(capacity)
 }
 
 // The items between the ends, written at the buffer's start, of a ring that is broken or not, whose workers are all idle or not.
-pub fn contents_by(broken: bool, idle: bool, ring: Ring, buffer: &mut [u64]) -> Told
+pub fn contents_by(broken: bool, idle: bool, ring: Ring, buffer: &mut [u64]) -> Result<u64, u64>
     requires { broken ≡ false → ring_fits (fixed_on ring) (ends_on ring) ≡ true }
     ensures { filled result buffer.new ≡ contents_by broken idle ring buffer.old }
 {
     if broken {
-        return Told::Refused(6);
+        return Err(6);
     }
-    if idle {} else {
-        return Told::Refused(4);
+    if !idle {
+        return Err(4);
     }
     let n = bounded_machine::count_in(ring);
     if buffer.len() < (n as usize) {
-        return Told::Refused(10);
+        return Err(10);
     }
-    let mut k = 0;
-    while k < n {
+    for k in 0..n {
         buffer[k as usize] = bounded_machine::item_at(ring, k);
-        k += 1;
     }
-    Told::Number(n)
+    Ok(n)
 }
 
 // The same of a ring by itself.
-pub fn contents_on(idle: bool, ring: Ring, buffer: &mut [u64]) -> Told
+pub fn contents_on(idle: bool, ring: Ring, buffer: &mut [u64]) -> Result<u64, u64>
     ensures { filled result buffer.new ≡ contents_on idle ring buffer.old }
 {
-    let f = Fixed {
-        mark: ring.mark,
-        lap: ring.lap,
-        capacity: ring.capacity,
-        edition: ring.edition,
-    };
-    let head = ring.head;
-    let tail = ring.tail;
-    let e = Ends {
-        head: head,
-        tail: tail,
-    };
-    let fits = bounded_machine::ring_fits(f, e);
+    let fits = bounded_machine::ring_fits(ring.fixed(), ring.ends());
     contents_by(!fits, idle, ring, buffer)
 }

@@ -182,123 +182,106 @@ pub struct View {
 fn says_yes(a: Answer) -> bool
     ensures { result ≡ says_yes a }
 {
-    match a {
-        Answer::Nothing => false,
-        Answer::Pushed => false,
-        Answer::Full(_) => false,
-        Answer::Closed(_) => false,
-        Answer::Displaced(_) => false,
-        Answer::Popped(_) => false,
-        Answer::Empty => false,
-        Answer::PopClosed => false,
-        Answer::Len(_) => false,
-        Answer::Yes => true,
-        Answer::No => false,
-    }
+    matches!(a, Answer::Yes)
 }
 
 fn idle(a: Answer) -> View
     ensures { result ≡ idle a }
 {
-    let stand = Stand {
-        end: Moved::Neither,
-        stamps: false,
-        far: 0,
-        hand: false,
-        close: false,
-        yes: says_yes(a),
-    };
     View {
         busy: false,
         weak: false,
         held: Held::Nothing,
         moved: Moved::Neither,
         reads: false,
-        stand: stand,
+        stand: Stand {
+            end: Moved::Neither,
+            stamps: false,
+            far: 0,
+            hand: false,
+            close: false,
+            yes: says_yes(a),
+        },
     }
 }
 
 fn works(end: Moved, far: u64, weak: bool, held: Held) -> View
     ensures { result ≡ works end far weak held }
 {
-    let stand = Stand {
-        end: end,
-        stamps: true,
-        far: far,
-        hand: false,
-        close: false,
-        yes: false,
-    };
     View {
         busy: true,
-        weak: weak,
-        held: held,
+        weak,
+        held,
         moved: Moved::Neither,
         reads: false,
-        stand: stand,
+        stand: Stand {
+            end,
+            stamps: true,
+            far,
+            hand: false,
+            close: false,
+            yes: false,
+        },
     }
 }
 
 fn holds(end: Moved, far: u64, w: Stamp, moved: Moved, reads: bool) -> View
     ensures { result ≡ holds end far w moved reads }
 {
-    let stand = Stand {
-        end: end,
-        stamps: true,
-        far: far,
-        hand: true,
-        close: false,
-        yes: false,
-    };
     View {
         busy: true,
         weak: false,
         held: Held::End(w),
-        moved: moved,
-        reads: reads,
-        stand: stand,
+        moved,
+        reads,
+        stand: Stand {
+            end,
+            stamps: true,
+            far,
+            hand: true,
+            close: false,
+            yes: false,
+        },
     }
 }
 
 fn counts(far: u64, held: Held) -> View
     ensures { result ≡ counts far held }
 {
-    let stand = Stand {
-        end: Moved::Tail,
-        stamps: false,
-        far: far,
-        hand: false,
-        close: false,
-        yes: false,
-    };
     View {
         busy: true,
         weak: false,
-        held: held,
+        held,
         moved: Moved::Neither,
         reads: false,
-        stand: stand,
+        stand: Stand {
+            end: Moved::Tail,
+            stamps: false,
+            far,
+            hand: false,
+            close: false,
+            yes: false,
+        },
     }
 }
 
 fn looks(close: bool, far: u64) -> View
     ensures { result ≡ looks close far }
 {
-    let stand = Stand {
-        end: Moved::Neither,
-        stamps: false,
-        far: far,
-        hand: false,
-        close: close,
-        yes: false,
-    };
     View {
         busy: true,
         weak: false,
         held: Held::Nothing,
         moved: Moved::Neither,
         reads: false,
-        stand: stand,
+        stand: Stand {
+            end: Moved::Neither,
+            stamps: false,
+            far,
+            hand: false,
+            close,
+            yes: false,
+        },
     }
 }
 
@@ -349,21 +332,9 @@ pub fn fits(f: Fixed, held: Held) -> bool
 {
     match held {
         Held::Nothing => true,
-        Held::End(w) => {
-            if bounded_words::marked(f, w) {
-                false
-            } else {
-                inside_of(f, w)
-            }
-        }
+        Held::End(w) => !bounded_words::marked(f, w) && inside_of(f, w),
         Held::Tail(t) => inside_of(f, t),
-        Held::Both(t, h) => {
-            if inside_of(f, t) {
-                inside_of(f, h)
-            } else {
-                false
-            }
-        }
+        Held::Both(t, h) => inside_of(f, t) && inside_of(f, h),
     }
 }
 

@@ -9,25 +9,26 @@ use bounded_acts::Acted;
 use bounded_places::{Answer, Ends, Exchange, Loss, Place, Slot};
 use bounded_words::{Fixed, Stamp, Width};
 
+#[tactic(auto, unfolding(bounded_acts::specs::Acts::head_to))]
 fn head_to_next(bits: Width, f: Fixed, e: Ends, h: Stamp) -> Ends
     requires { Fair f }
     ensures { result ≡ head_to e (next_of bits f h) }
 {
-    let t = e.tail;
-    let w = bounded_words::next(bits, f, h);
-    Ends { head: w, tail: t }
+    Ends {
+        head: bounded_words::next(bits, f, h),
+        tail: e.tail,
+    }
 }
 
+#[tactic(auto, unfolding(bounded_words::specs::Words::same))]
 pub fn o2(bits: Width, e: Ends, s: Slot, h: Stamp) -> Acted
     ensures { result ≡ act_o2 bits e s h }
 {
-    let seen = s.stamp;
-    // "If the stamp is ahead of the head by 1, we may attempt to pop."
-    if bounded_words::one_past(bits, seen, h) {
-        return bounded_acts::goes(e, s, Place::O3(h));
-    }
-    // Not written on this lap: nothing is there, or a push has claimed it and not yet stamped it.
-    if bounded_words::same_word(seen, h) {
+    if bounded_words::one_past(bits, s.stamp, h) {
+        // "If the stamp is ahead of the head by 1, we may attempt to pop."
+        bounded_acts::goes(e, s, Place::O3(h))
+    } else if s.stamp == h {
+        // Not written on this lap: nothing is there, or a push has claimed it and not yet stamped it.
         bounded_acts::goes(e, s, Place::O6(h))
     } else {
         bounded_acts::goes(e, s, Place::O1)
@@ -59,16 +60,13 @@ pub fn o6(f: Fixed, e: Ends, s: Slot, h: Stamp) -> Acted
     requires { Fair f }
     ensures { result ≡ act_o6 f e s h }
 {
-    let t = e.tail;
-    let again = Place::O1;
     // "If the tail equals the head, that means the queue is empty."
-    if bounded_words::unmarked_is(f, t, h) {
-        if bounded_words::marked(f, t) {
-            bounded_acts::goes(e, s, Place::Idle(Answer::PopClosed))
-        } else {
-            bounded_acts::goes(e, s, Place::Idle(Answer::Empty))
-        }
+    if !bounded_words::unmarked_is(f, e.tail, h) {
+        return bounded_acts::goes(e, s, Place::O1);
+    }
+    if bounded_words::marked(f, e.tail) {
+        bounded_acts::goes(e, s, Place::Idle(Answer::PopClosed))
     } else {
-        bounded_acts::goes(e, s, again)
+        bounded_acts::goes(e, s, Place::Idle(Answer::Empty))
     }
 }

@@ -1,5 +1,5 @@
 -- The face of 64 bits with a slip at one point, all else as it is; and promises that leave the machine open.
-use Rattle.std.specs.Prelude.{ℕ, ◌+◌, cond, List, ◌≡◌, eqb}
+use Rattle.std.specs.Prelude.{ℕ, ◌+◌, cond, List, ◌≡◌, eqb, Result, Ok}
 use Rattle.bounded_machine.specs.declared.Machine.{Machine}
 use Rattle.bounded_machine.specs.declared.Did.{Did}
 use Rattle.bounded_machine.specs.declared.Ran.{Ran}
@@ -7,9 +7,7 @@ use Rattle.bounded_machine.specs.Machine.{machine_of, blank, fixed_on, ends_on}
 use Rattle.bounded_machine.specs.Run.{ran, run_from, run_of}
 use Rattle.bounded.specs.Bounded as bounded
 use Rattle.bounded_demands.specs.Notions.{Face, sixty_four, Promises, promises_of}
-use Rattle.queue_entries.specs.declared.Told.{Told}
-use Rattle.queue_entries.specs.declared.Told.TheVariants.{Number}
-use Rattle.bounded_walks.specs.declared.Sized.{Sized}
+use Rattle.queue_walks.specs.declared.Walked.{Walked}
 use Rattle.bounded_demands.specs.Answers.{sized_values}
 
 abbrev pub none : ℕ
@@ -117,13 +115,13 @@ promises_with n = record {
 }
 
 -- Answers that are enums, their numbers and values, with a slip: a refusal has number 0; a refusal's number is taken for a value; a walk's bytes are given for its sequences.
-abbrev pub unnumbered : Told → ℕ
+abbrev pub unnumbered : Result ℕ ℕ → ℕ
 unnumbered t = 0
 
-abbrev pub never_refused : ℕ → ℕ → Told
-never_refused number value = Number value
+abbrev pub never_refused : ℕ → ℕ → Result ℕ ℕ
+never_refused number value = Ok value
 
-abbrev pub bytes_twice : Sized → ℕ × ℕ
+abbrev pub bytes_twice : Result Walked ℕ → ℕ × ℕ
 bytes_twice s = ((sized_values s).1, (sized_values s).1)
 
 -- With none they are the face and its promises.

@@ -6,8 +6,7 @@ use mathlib.Core.List.{List, [], ◌∷◌}
 use lib.Dec.{eqb, ltb}
 use lib.ListN.{length}
 use Rattle.queue_entries.specs.Limits.{in_limits}
-use Rattle.queue_entries.specs.declared.Told.{Told}
-use Rattle.queue_entries.specs.declared.Told.TheVariants.{Number, Refused}
+use Rattle.std.specs.Prelude.{Result, Ok, Err}
 use Rattle.queue_numbers.specs.Numbers.{on, first_of}
 use Rattle.bounded_words.specs.Limits.{slots_most, editions_most}
 use Rattle.bounded_machine.specs.Broken.{all_idle}
@@ -24,9 +23,9 @@ use Rattle.bounded_demands.specs.Lending.{refusal_of}
 use Rattle.bounded_proof_lent.proofs.Exactly.{lent_refused_exactly}
 use Rattle.bounded_proof_host.specs.Hosted.{face, held_words, HostedRefusedExactly}
 
-replied : (t : Told) → (reply_of t).refusal ≡ refusal_of t
-replied (Number n) = refl
-replied (Refused k) = refl
+replied : (t : Result ℕ ℕ) → (reply_of t).refusal ≡ refusal_of t
+replied (Ok n) = refl
+replied (Err k) = refl
 
 made_answer : (w : Words) (x : Lent) → (made_from w x).answer ≡ x.answer
 made_answer w x = go (eqb x.answer 0)

@@ -10,8 +10,7 @@ use lib.ListN.{length, set, replicate, length-replicate, length-append, get_or-e
 use borrow.Author.Tests.{ltb-true, le-leb, eqb-true}
 use Rattle.queue_entries.specs.Limits.{workers_most, in_limits, all}
 use Rattle.queue_entries.proofs.Limits.{limit_some}
-use Rattle.queue_entries.specs.declared.Finding.{Finding}
-use Rattle.queue_entries.specs.declared.Finding.TheVariants.{AllRead, UnreadableAt}
+use Rattle.std.specs.Prelude.{Option, Some, None}
 use Rattle.queue_entries.specs.declared.Entry.{Entry}
 use Rattle.queue_entries.specs.declared.Entry.TheVariants.{Unreadable, Asks}
 use Rattle.queue_entries.specs.declared.Verdict.{Verdict}
@@ -225,18 +224,18 @@ module _ (l : Metered) (ys : List Worker) (few : length ys ≤ workers_most) whe
       ∙ go (broken_lent l ys) (eqb (length s % 2) 1) (search_by entry_of 0 s)
       ∙ ap (λ (b : Bool). cond b (ran 6 0 (holding l ys)) (cond (eqb (length s % 2) 1) (ran 11 0 (holding l ys)) (found (holding l ys) (search_by entry_of 0 s)))) broken_held
     where
-      found : Machine → Finding → Ran
+      found : Machine → Option ℕ → Ran
       found m f = searched (λ (d : Did). d.refusal) (λ (d : Did). d.machine) turn_of ran m s f
 
       whole : Ran
       whole = schedule_by (λ (d : Did). d.refusal) (λ (d : Did). d.machine) turn_of ran (λ (m : Machine). broken_lent l ys) entry_of (held l ys) s
 
-      go : (b o : Bool) (f : Finding) → padded_ran (workers_most - length ys) (cond b (ran 6 0 (held l ys)) (cond o (ran 11 0 (held l ys)) (found (held l ys) f)))
+      go : (b o : Bool) (f : Option ℕ) → padded_ran (workers_most - length ys) (cond b (ran 6 0 (held l ys)) (cond o (ran 11 0 (held l ys)) (found (held l ys) f)))
           ≡ cond b (ran 6 0 (holding l ys)) (cond o (ran 11 0 (holding l ys)) (found (holding l ys) f))
       go true o f = refl
       go false true f = refl
-      go false false AllRead = sym (run_padded s (held l ys) 0 (refl, refl))
-      go false false (UnreadableAt p) = refl
+      go false false None = sym (run_padded s (held l ys) 0 (refl, refl))
+      go false false (Some p) = refl
 
   capacity_held : capacity_lent l ys ≡ capacity_of (holding l ys)
   unfolding capacity_told capacity_of capacity_refusal

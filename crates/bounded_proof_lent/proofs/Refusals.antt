@@ -8,8 +8,7 @@ use lib.Dec.{eqb, ltb}
 use lib.ListN.{length, take}
 use borrow.Author.Tests.{ne_eqb, eqb-true}
 use Rattle.queue_entries.specs.Limits.{in_limits}
-use Rattle.queue_entries.specs.declared.Told.{Told}
-use Rattle.queue_entries.specs.declared.Told.TheVariants.{Number, Refused}
+use Rattle.std.specs.Prelude.{Result, Ok, Err}
 use Rattle.queue_entries.specs.Told.{told}
 use Rattle.queue_entries.specs.Schedules.{run_by}
 use Rattle.queue_schedules.proofs.Schedules.{schedule_first, schedule_read, schedule_kept, schedule_unread, schedule_keeps, schedule_in}
@@ -43,7 +42,7 @@ use Rattle.bounded_proof_lent.proofs.Throughout.{sound_of, sound_next, sound_fre
 -- the refusal that a number or a refusal was made of
 pub told_back : (k value : ℕ) → refusal_of (told k value) ≡ k
 unfolding told
-told_back k value = either (λ (t : Told). refusal_of t ≡ k) (eqb k 0) (Number value) (Refused k) (λ b. sym (eqb-true k 0 b)) (λ b. refl)
+told_back k value = either (λ (t : Result ℕ ℕ). refusal_of t ≡ k) (eqb k 0) (Ok value) (Err k) (λ b. sym (eqb-true k 0 b)) (λ b. refl)
 
 -- ---- refused
 refused_make : (ys : List Worker) (capacity edition : ℕ) → ((make_lent ys capacity edition).answer ≡ 0 → ⊥)

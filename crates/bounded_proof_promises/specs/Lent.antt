@@ -1,6 +1,6 @@
 -- The promises of the lent face (document 02, item 11), as its functions' own contracts say them: they are the ones that `OnlyOneLent` is said of. (The contracts are
 -- read as they stand, in any model of the logic; `fact` is a claim there.)
-use Rattle.std.specs.Prelude.{ℕ, Bool, List, ◌≡◌}
+use Rattle.std.specs.Prelude.{ℕ, Bool, List, ◌≡◌, Result}
 use seplogic.Ra.Ura.{Ura}
 use base.Logic.{SProp}
 use base.Fml.{Lft}
@@ -9,7 +9,6 @@ use prog.Routine.{Routine}
 use types.Logic.{Logic}
 use contract.Monad.{Fun, fact}
 use Rattle.std.specs.Borrow.{Bor, MutBor}
-use Rattle.queue_entries.specs.declared.Told.{Told}
 use Rattle.bounded_places.specs.declared.Worker.{Worker}
 use Rattle.bounded_orders.specs.declared.Metered.{Metered}
 use Rattle.bounded_orders.specs.declared.Report.{Report}
@@ -37,8 +36,8 @@ pub record LentAsWritten {M : Type 1} {𝓤 : Ura M} (𝓛 : Logic 𝓤) (mem : 
   pub of_run : (κ κ' κ'' : Lft) (ring left : MutBor Metered) (records after : MutBor (List Worker)) (schedule : Bor (List ℕ)) (x : Report)
       → (run.clauses 𝓛 mem runs (κ, (κ', (κ'', tt))) (ring, (records, (schedule, tt)))).ensures tt x (left, (after, (schedule, tt)))
       ≡ fact 𝓤 ((promised item11).run ring.now records.now schedule.now (gone x left.now after.now))
-  pub of_capacity : (κ κ' : Lft) (ring : Bor Metered) (records : Bor (List Worker)) (x : Told)
+  pub of_capacity : (κ κ' : Lft) (ring : Bor Metered) (records : Bor (List Worker)) (x : Result ℕ ℕ)
       → (capacity.clauses 𝓛 mem runs (κ, (κ', tt)) (ring, (records, tt))).ensures tt x (ring, (records, tt)) ≡ fact 𝓤 ((promised item11).capacity ring.now records.now x)
-  pub of_contents : (κ κ' κ'' : Lft) (ring : Bor Metered) (records : Bor (List Worker)) (buffer after : MutBor (List ℕ)) (x : Told)
+  pub of_contents : (κ κ' κ'' : Lft) (ring : Bor Metered) (records : Bor (List Worker)) (buffer after : MutBor (List ℕ)) (x : Result ℕ ℕ)
       → (contents.clauses 𝓛 mem runs (κ, (κ', (κ'', tt))) (ring, (records, (buffer, tt)))).ensures tt x (ring, (records, (after, tt)))
       ≡ fact 𝓤 ((promised item11).contents ring.now records.now buffer.now (filled x after.now))

@@ -1,9 +1,8 @@
 -- Which answers meet the promise of each function, as its `ensures` says it in its code, and that only one does. (`OnlyOne` of crates/bounded_demands/specs/Demands.antt writes these promises out
 -- anew; here they are read out of the functions' own contracts, so that one that says less is refused here.)
-use Rattle.std.specs.Prelude.{ℕ, Bool, List, ◌≡◌}
+use Rattle.std.specs.Prelude.{ℕ, Bool, List, ◌≡◌, Result}
 use base.Fml.{Lft, GName}
 use Rattle.std.specs.Borrow.{Bor, MutBor}
-use Rattle.queue_entries.specs.declared.Told.{Told}
 use Rattle.bounded_places.specs.declared.Loss.{Loss}
 use Rattle.bounded_places.specs.declared.Place.{Place}
 use Rattle.bounded_places.specs.declared.Moved.{Moved}
@@ -15,7 +14,7 @@ use Rattle.bounded_machine.specs.declared.Tally.{Tally}
 use Rattle.bounded_sixteen_bits.specs.declared.Machine as widths
 use Rattle.bounded_sixteen_bits.specs.declared.Did as widths_did
 use Rattle.bounded_sixteen_bits.specs.declared.Ran as widths_ran
-use Rattle.bounded_walks.specs.declared.Sized.{Sized}
+use Rattle.queue_walks.specs.declared.Walked.{Walked}
 use Rattle.bounded_causes.specs.declared.Watches.{Watches}
 use Rattle.bounded_causes.specs.declared.Named.{Named}
 use Rattle.bounded_moments.specs.declared.Moments.{Moments}
@@ -98,10 +97,10 @@ pub record AsWritten : Type 1 where
 pub record OnlyOneOwn : Type 0 where
   pub of_sixty_four : (κ : Lft) (ptr : ℕ × ℕ) (name : GName) → OnlyOneMeets (own_sixty_four κ ptr name)
   pub of_sixteen : (κ : Lft) (ptr : ℕ × ℕ) (name : GName) → OnlyOneMeets (own_sixteen κ ptr name)
-  pub of_walk : (κ : Lft) (ptr : ℕ × ℕ) (name : GName) (m : Machine) (depth : ℕ) (before : List ℕ) (x y : Told) (a b : List ℕ)
+  pub of_walk : (κ : Lft) (ptr : ℕ × ℕ) (name : GName) (m : Machine) (depth : ℕ) (before : List ℕ) (x y : Result ℕ ℕ) (a b : List ℕ)
       → walk.Post (κ, tt) (m, (depth, (slice κ ptr name before, tt))) x (m, (depth, (slice κ ptr name a, tt)))
       → walk.Post (κ, tt) (m, (depth, (slice κ ptr name before, tt))) y (m, (depth, (slice κ ptr name b, tt))) → (x ≡ y) × (a ≡ b)
-  pub of_size : (m : Machine) (depth : ℕ) (x y : Sized) → size.Post tt (m, (depth, tt)) x (m, (depth, tt)) → size.Post tt (m, (depth, tt)) y (m, (depth, tt)) → x ≡ y
+  pub of_size : (m : Machine) (depth : ℕ) (x y : Result Walked ℕ) → size.Post tt (m, (depth, tt)) x (m, (depth, tt)) → size.Post tt (m, (depth, tt)) y (m, (depth, tt)) → x ≡ y
   pub of_moved_by : (p : Place) (x y : Moved) → stock_moved_by.Post tt (p, tt) x (p, tt) → stock_moved_by.Post tt (p, tt) y (p, tt) → x ≡ y
   pub of_reads_at : (p : Place) (x y : Bool) → stock_reads_at.Post tt (p, tt) x (p, tt) → stock_reads_at.Post tt (p, tt) y (p, tt) → x ≡ y
   pub of_tally : (t : Tally) (p q : Place) (x y : Tally) → stock_tally.Post tt (t, (p, (q, tt))) x (t, (p, (q, tt))) → stock_tally.Post tt (t, (p, (q, tt))) y (t, (p, (q, tt))) → x ≡ y

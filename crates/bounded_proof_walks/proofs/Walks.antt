@@ -11,9 +11,9 @@ use borrow.Author.Tests.{eq-eqb, ne_eqb, eqb-true, eqb-false, ltb-true, ltb-fals
 use Rattle.queue_entries.specs.Limits.{workers_most}
 use Rattle.queue_entries.specs.Schedules.{run_by}
 use Rattle.queue_entries.specs.Told.{told}
-use Rattle.queue_entries.specs.declared.Told.TheVariants as answer
+use Rattle.std.specs.Prelude.{Ok, Err}
 use Rattle.queue_walks.specs.Walks.{act_byte, walk_by}
-use Rattle.queue_walks.specs.Listed.{bytes_of}
+use Rattle.queue_walks.specs.Listed.{bytes_of, walked}
 use Rattle.queue_walks.specs.Meaning.{none_left, none_busy, goes_on}
 use Rattle.queue_walks.proofs.Meaning.{walk_sound, walk_whole, walk_order, not_before}
 use Rattle.bounded_machine.specs.declared.Machine.{Machine}
@@ -25,7 +25,6 @@ use Rattle.bounded_machine.specs.Run.{ran, run_from}
 use Rattle.bounded_machine.proofs.Kept.{either, unbroken_of, few_workers}
 use Rattle.bounded_sequences.specs.Sequences.{walk_of}
 use Rattle.bounded_walks.specs.Walks.{all_busy, size_refusal, walk_refusal, listed, size_of}
-use Rattle.bounded_walks.specs.declared.Sized.TheVariants as sized
 use Rattle.bounded_walks.proofs.Facts.{turn_counts, told_fits}
 use Rattle.bounded_demands.specs.Notions.{Tried, entries_of, has}
 use Rattle.bounded_demands.specs.Demands.{WalksAll, WalkTold, WalkCounts}
@@ -110,20 +109,20 @@ walk_told = record {
 }
 
 -- ---- the number of sequences
-told_number : (number value : ℕ) → number ≡ 0 → told number value ≡ answer.Number value
+told_number : (number value : ℕ) → number ≡ 0 → told number value ≡ Ok value
 unfolding told
 told_number number value h = simp (eq-eqb number 0 h)
 
-told_refused : (number value : ℕ) → (number ≡ 0 → ⊥) → told number value ≡ answer.Refused number
+told_refused : (number value : ℕ) → (number ≡ 0 → ⊥) → told number value ≡ Err number
 unfolding told
 told_refused number value h = simp (ne_eqb number 0 h)
 
 -- a size that is not refused
-size_told : (m : Machine) (depth : ℕ) → size_refusal m depth ≡ 0 → size_of m depth ≡ sized.Sequences (length (walk_of depth m)) (length (bytes_of (walk_of depth m)))
+size_told : (m : Machine) (depth : ℕ) → size_refusal m depth ≡ 0 → size_of m depth ≡ Ok (walked (length (walk_of depth m)) (length (bytes_of (walk_of depth m))))
 unfolding size_of
 size_told m depth h = simp (eq-eqb (size_refusal m depth) 0 h)
 
-size_untold : (m : Machine) (depth : ℕ) → (size_refusal m depth ≡ 0 → ⊥) → size_of m depth ≡ sized.Refused (size_refusal m depth)
+size_untold : (m : Machine) (depth : ℕ) → (size_refusal m depth ≡ 0 → ⊥) → size_of m depth ≡ Err (size_refusal m depth)
 unfolding size_of
 size_untold m depth h = simp (ne_eqb (size_refusal m depth) 0 h)
 
@@ -156,7 +155,7 @@ walk_counts = record {
       walk_is _ m depth room (λ z l e. size_told m depth z) (λ z l e. let q : ◌≡◌ {A = ℕ} 22 0 = sym e ∙ h in absurd (omega (arith, q))) (λ z e. absurd (z (sym e ∙ h)));
   size_refused = λ m depth room number h some not_22.
       walk_is _ m depth room (λ z l e. absurd (some (sym h ∙ e))) (λ z l e. absurd (not_22 (sym h ∙ e)))
-      (λ z e. size_untold m depth z ∙ ap sized.Refused (sym e ∙ h));
+      (λ z e. size_untold m depth z ∙ ap Err (sym e ∙ h));
   short = λ m depth room h.
       walk_is _ m depth room (λ z l e. let q : ◌≡◌ {A = ℕ} 0 22 = sym e ∙ h in absurd (omega (arith, q))) (λ z l e. (size_told m depth z, l)) (λ z e. absurd (size_not_22 m depth (sym e ∙ h)));
 }

@@ -12,10 +12,8 @@ use Rattle.queue_entries.specs.Limits.{all, in_limits}
 use Rattle.queue_entries.specs.Schedules.{run_by}
 use Rattle.queue_entries.specs.Entries.{stray_of, order_of, entry_of}
 use Rattle.queue_entries.specs.Told.{told}
-use Rattle.queue_entries.specs.declared.Told.{Told}
-use Rattle.queue_entries.specs.declared.Told.TheVariants as answer
-use Rattle.bounded_walks.specs.declared.Sized.{Sized}
-use Rattle.bounded_walks.specs.declared.Sized.TheVariants as sized
+use Rattle.std.specs.Prelude.{Result, Ok, Err}
+use Rattle.queue_walks.specs.declared.Walked.{Walked}
 use Rattle.queue_walks.specs.Walks.{after, in_turn, choice_by, walk_by}
 use Rattle.queue_walks.specs.Meaning.{Before, lower, sooner, further, none_left, none_busy, goes_on}
 use Rattle.bounded_words.specs.Words.{doubled, mark_of, marked_of, unmarked_of, plus, minus, with_mark, next_of, same, one_past, lap_behind, lap_behind_one_past}
@@ -80,13 +78,13 @@ not_ended left m busy (none_busy e) = true≢false (sym e ∙ busy)
 idle_number : walk_refusal (fresh_in sixty_four) 0 8 ≡ 20
 idle_number = ap (λ (l : List ℕ). get_or l 3 0) walk_each_number
 
-value : Told → ℕ
-value (answer.Number n) = n
-value (answer.Refused n) = 0
+value : Result ℕ ℕ → ℕ
+value (Ok n) = n
+value (Err n) = 0
 
-bytes : Sized → ℕ
-bytes (sized.Sequences s b) = b
-bytes (sized.Refused n) = 0
+bytes : Result Walked ℕ → ℕ
+bytes (Ok found) = found.bytes
+bytes (Err n) = 0
 
 pub refuted : Refuted
 unfolding two alone value bytes told doubled mark_of marked_of unmarked_of plus minus with_mark next_of same one_past lap_behind lap_behind_one_past inside stray_of

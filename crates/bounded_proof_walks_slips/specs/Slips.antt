@@ -1,15 +1,14 @@
 -- The walk of item 10 with a slip at one point, all else as it is (crates/queue_walks/specs/Walks.antt); and what it answers and leaves in the buffer, with one.
-use Rattle.std.specs.Prelude.{ℕ, zero, suc, ◌+◌, ◌-◌, Bool, cond, not, List, [], ◌∷◌, ◌++◌, ◌≡◌, eqb, length, drop}
+use Rattle.std.specs.Prelude.{ℕ, zero, suc, ◌+◌, ◌-◌, Bool, cond, not, List, [], ◌∷◌, ◌++◌, ◌≡◌, eqb, length, drop, Result, Ok, Err}
 use Rattle.queue_entries.specs.Told.{told}
 use Rattle.queue_walks.specs.Walks.{choice_by}
-use Rattle.queue_walks.specs.Listed.{bytes_of}
+use Rattle.queue_walks.specs.Listed.{bytes_of, walked}
 use Rattle.bounded_machine.specs.declared.Machine.{Machine}
 use Rattle.bounded_machine.specs.declared.Did.{Did}
 use Rattle.bounded_machine.specs.Broken.{all_idle}
 use Rattle.bounded_machine.specs.Turn.{turn_of}
 use Rattle.bounded_sequences.specs.Sequences.{walk_of}
-use Rattle.bounded_walks.specs.declared.Sized.{Sized}
-use Rattle.bounded_walks.specs.declared.Sized.TheVariants.{Sequences, Refused}
+use Rattle.queue_walks.specs.declared.Walked.{Walked}
 use Rattle.bounded_walks.specs.Walks.{all_busy, walk_refusal, walk_told, listed, size_of}
 use Rattle.bounded_demands.specs.Walkings.{WalkFace, item10}
 use Rattle.bounded_demands.specs.Demands.{WalksAll}
@@ -75,9 +74,9 @@ sized_short = 8
 abbrev pub answers_none : ℕ
 answers_none = 9
 
-abbrev less_one : Sized → Sized
-less_one (Sequences sequences bytes) = Sequences sequences (bytes - 1)
-less_one (Refused number) = Refused number
+abbrev less_one : Result Walked ℕ → Result Walked ℕ
+less_one (Ok found) = Ok (walked found.sequences (found.bytes - 1))
+less_one (Err number) = Err number
 
 -- With slip number n.
 abbrev pub face_with : ℕ → WalkFace

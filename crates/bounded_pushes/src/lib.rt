@@ -9,16 +9,19 @@ use bounded_acts::Acted;
 use bounded_places::{Answer, Ends, Exchange, Kind, Loss, Place, Slot};
 use bounded_words::{Fixed, Stamp, Width};
 
+#[tactic(auto, unfolding(bounded_acts::specs::Acts::tail_to))]
 fn tail_to_next(bits: Width, f: Fixed, e: Ends, t: Stamp) -> Ends
     requires { Fair f }
     ensures { result ≡ tail_to e (next_of bits f t) }
 {
-    let h = e.head;
-    let w = bounded_words::next(bits, f, t);
-    Ends { head: h, tail: w }
+    Ends {
+        head: e.head,
+        tail: bounded_words::next(bits, f, t),
+    }
 }
 
 // Where push goes with a tail loaded or found: "marked: Closed, else P2".
+#[tactic(auto, unfolding(bounded_acts::specs::Acts::after_tail))]
 fn after_tail(f: Fixed, k: Kind, t: Stamp, item: u64) -> Place
     requires { Fair f }
     ensures { result ≡ after_tail f k t item }
@@ -46,16 +49,15 @@ fn full_at(k: Kind, t: Stamp, item: u64) -> Place
     }
 }
 
+#[tactic(auto, unfolding(bounded_words::specs::Words::same))]
 pub fn p2(bits: Width, f: Fixed, e: Ends, s: Slot, k: Kind, t: Stamp, item: u64) -> Acted
     ensures { result ≡ act_p2 bits f e s k t item }
 {
-    let seen = s.stamp;
-    // "If the tail and the stamp match, we may attempt to push."
-    if bounded_words::same_word(seen, t) {
-        return bounded_acts::goes(e, s, Place::P3(k, t, item));
-    }
-    // The last lap's item is still there: full, or a pop is about to take it.
-    if bounded_words::lap_behind_one_past(bits, f, seen, t) {
+    if s.stamp == t {
+        // "If the tail and the stamp match, we may attempt to push."
+        bounded_acts::goes(e, s, Place::P3(k, t, item))
+    } else if bounded_words::lap_behind_one_past(bits, f, s.stamp, t) {
+        // The last lap's item is still there: full, or a pop is about to take it.
         bounded_acts::goes(e, s, full_at(k, t, item))
     } else {
         bounded_acts::goes(e, s, Place::P1(k, item))
@@ -97,9 +99,8 @@ pub fn p5(bits: Width, e: Ends, s: Slot, t: Stamp) -> Acted
 pub fn p6(bits: Width, f: Fixed, e: Ends, s: Slot, t: Stamp, item: u64) -> Acted
     ensures { result ≡ act_p6 bits f e s t item }
 {
-    let h = e.head;
     // "If the head lags one lap behind the tail as well.. then the queue is full."
-    if bounded_words::lap_behind(bits, f, h, t) {
+    if bounded_words::lap_behind(bits, f, e.head, t) {
         bounded_acts::goes(e, s, Place::Idle(Answer::Full(item)))
     } else {
         bounded_acts::goes(e, s, Place::P1(Kind::Push, item))

@@ -38,10 +38,8 @@ pub fn put_head(head: &mut [u64], e: Ends, meter: u64)
     requires { length head.old ≡ 8 }
     ensures { head.new ≡ with_head head.old e meter }
 {
-    let h = e.head;
-    let t = e.tail;
-    head[4] = h.0;
-    head[5] = t.0;
+    head[4] = e.head.0;
+    head[5] = e.tail.0;
     head[6] = meter;
 }
 
@@ -62,8 +60,7 @@ pub fn put_record(records: &mut [u64], i: usize, r: Worker)
     requires { i * 5 + 4 < length records.old }
     ensures { records.new ≡ with_record records.old i r }
 {
-    let p = r.place;
-    let c = bounded_codes::code_of(p);
+    let c = bounded_codes::code_of(r.place);
     let at = i * 5;
     records[at] = c.code;
     records[at + 1] = c.first;
@@ -88,8 +85,7 @@ pub fn put_slot(slots: &mut [u64], k: usize, s: Slot)
     ensures { slots.new ≡ with_slot slots.old k s }
 {
     let at = k * 2;
-    let stamp = s.stamp;
-    slots[at] = stamp.0;
+    slots[at] = s.stamp.0;
     slots[at + 1] = s.value;
 }
 
@@ -141,7 +137,7 @@ fn verdict_in(meter: u64, code: u64, first: u64, second: u64, o: Order) -> Verdi
         Verdict::Refuse(number) => Verdict::Refuse(number),
         Verdict::Start(call) => Verdict::Start(call),
         Verdict::Move(lose) => {
-            if lose {} else {
+            if !lose {
                 return Verdict::Move(false);
             }
             if bounded_codes::weak_in(code, first, second) {

@@ -7,8 +7,7 @@ use lib.ListN.{length}
 use borrow.Author.Tests.{eq-eqb, ne_eqb}
 use Rattle.queue_entries.specs.declared.Entry.{Entry}
 use Rattle.queue_entries.specs.declared.Entry.TheVariants.{Unreadable}
-use Rattle.queue_entries.specs.declared.Finding.{Finding}
-use Rattle.queue_entries.specs.declared.Finding.TheVariants.{AllRead, UnreadableAt}
+use Rattle.std.specs.Prelude.{Option, Some, None}
 use Rattle.queue_entries.specs.Entries.{entry_of}
 use Rattle.queue_entries.specs.Schedules.{search_by, schedule_by}
 use Rattle.queue_entries.proofs.Pick.{yes, no}
@@ -34,12 +33,12 @@ module _ (bits : Width) (m : Machine) (s : List ℕ) (b : Bool) (e : b ≡ broke
     unfolding schedule_by
     odd_run k = no _ b _ _ _ e h (sym (simp (eq-eqb _ _ k)))
 
-    module _ (k : length s % 2 ≡ 1 → ⊥) (f : Finding) (g : f ≡ search_by entry_of 0 s) where
-      unread_run : (i : ℕ) → f ≡ UnreadableAt i → ran 9 i m ≡ run_of_by (act_of bits) m s
+    module _ (k : length s % 2 ≡ 1 → ⊥) (f : Option ℕ) (g : f ≡ search_by entry_of 0 s) where
+      unread_run : (i : ℕ) → f ≡ Some i → ran 9 i m ≡ run_of_by (act_of bits) m s
       unfolding schedule_by
       unread_run i z = no _ b _ _ _ e h (sym (simp (ne_eqb _ _ k, sym g ∙ z)))
 
-      read_run : f ≡ AllRead → run_at bits m 0 s ≡ run_of_by (act_of bits) m s
+      read_run : f ≡ None → run_at bits m 0 s ≡ run_of_by (act_of bits) m s
       unfolding schedule_by
       read_run z = no _ b _ _ _ e h (sym (simp (ne_eqb _ _ k, sym g ∙ z)))
 
@@ -47,17 +46,17 @@ module _ (bits : Width) (m : Machine) (s : List ℕ) (b : Bool) (e : b ≡ broke
     unfolding unless_unread
     searched_run k done d = go (search_by entry_of 0 s) refl
       where
-        go : (f : Finding) → f ≡ search_by entry_of 0 s → unless_unread m done f ≡ run_of_by (act_of bits) m s
-        go AllRead g = d ∙ read_run k AllRead g refl
-        go (UnreadableAt i) g = unread_run k (UnreadableAt i) g i refl
+        go : (f : Option ℕ) → f ≡ search_by entry_of 0 s → unless_unread m done f ≡ run_of_by (act_of bits) m s
+        go None g = d ∙ read_run k None g refl
+        go (Some i) g = unread_run k (Some i) g i refl
 
 -- one entry that can't be read, and none
-module _ (m : Machine) (done : Ran) (f : Finding) where
-  pub unread_told : (i : ℕ) → UnreadableAt i ≡ f → ran 9 i m ≡ unless_unread m done f
+module _ (m : Machine) (done : Ran) (f : Option ℕ) where
+  pub unread_told : (i : ℕ) → Some i ≡ f → ran 9 i m ≡ unless_unread m done f
   unfolding unless_unread
   unread_told i e = ap (unless_unread m done) e
 
-  pub read_told : AllRead ≡ f → done ≡ unless_unread m done f
+  pub read_told : None ≡ f → done ≡ unless_unread m done f
   unfolding unless_unread
   read_told e = ap (unless_unread m done) e
 

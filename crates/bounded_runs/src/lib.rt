@@ -27,24 +27,22 @@ fn ran(
 ) -> Ran
     ensures { result ≡ ran refusal place (machine_of f e slots workers count meter) }
 {
-    let head = e.head;
-    let tail = e.tail;
     Ran {
-        refusal: refusal,
+        refusal,
         place: place as u64,
         machine: Machine {
             ring: Ring {
-                head: head,
-                tail: tail,
+                head: e.head,
+                tail: e.tail,
                 mark: f.mark,
                 lap: f.lap,
                 capacity: f.capacity,
                 edition: f.edition,
-                slots: slots,
+                slots,
             },
-            workers: workers,
-            count: count,
-            meter: meter,
+            workers,
+            count,
+            meter,
         },
     }
 }
@@ -55,26 +53,14 @@ fn entries(bits: Width, m: Machine, schedule: &[u64]) -> Ran
     requires schedule_len { length schedule.now % 2 ≡ 0 }
     ensures { result ≡ run_at bits m 0 schedule.now }
 {
-    let ring = m.ring;
-    let f = Fixed {
-        mark: ring.mark,
-        lap: ring.lap,
-        capacity: ring.capacity,
-        edition: ring.edition,
-    };
-    let head = ring.head;
-    let tail = ring.tail;
-    let mut ends = Ends {
-        head: head,
-        tail: tail,
-    };
-    let mut slots = ring.slots;
+    let f = m.ring.fixed();
+    let mut ends = m.ring.ends();
+    let mut slots = m.ring.slots;
     let mut workers = m.workers;
     let count = m.count;
     let mut meter = m.meter;
     let n = schedule.len() / 2;
-    let mut i = 0;
-    while i < n {
+    for i in 0..n {
         let Entry::Asks(worker, order) = queue_entries::entry_of(
             schedule[2 * i],
             schedule[2 * i + 1],
@@ -87,8 +73,7 @@ fn entries(bits: Width, m: Machine, schedule: &[u64]) -> Ran
         let w = worker as usize;
         let record = workers[w];
         let p = record.place;
-        let verdict = bounded_machine::verdict_of(meter, p, order);
-        match verdict {
+        match bounded_machine::verdict_of(meter, p, order) {
             Verdict::Refuse(number) => {
                 return ran(number, i, f, ends, slots, workers, count, meter);
             }
@@ -98,33 +83,25 @@ fn entries(bits: Width, m: Machine, schedule: &[u64]) -> Ran
                     differed: 0,
                     failed: 0,
                 };
-                i += 1;
             }
             Verdict::Move(lose) => {
-                let view = bounded_places::view_of(p);
-                let held = view.held;
-                let k = bounded_machine::spot(f, held) as usize;
-                let slot = slots[k];
-                let a = bounded_table::act_at(bits, f, ends, slot, p, lose);
-                let slot_after = a.slot;
-                let place_after = a.place;
-                let loss = a.loss;
+                let k = bounded_machine::spot(f, bounded_places::view_of(p).held) as usize;
+                let a = bounded_table::act_at(bits, f, ends, slots[k], p, lose);
                 ends = a.ends;
-                slots[k] = slot_after;
-                workers[w] = bounded_machine::record_after(record, place_after, loss);
+                slots[k] = a.slot;
+                workers[w] = bounded_machine::record_after(record, a.place, a.loss);
                 meter += 1;
-                i += 1;
             }
         }
     }
-    ran(0, i, f, ends, slots, workers, count, meter)
+    ran(0, n, f, ends, slots, workers, count, meter)
 }
 
 fn unchanged(refusal: u64, place: usize, m: Machine) -> Ran
     ensures { result ≡ ran refusal place m }
 {
     Ran {
-        refusal: refusal,
+        refusal,
         place: place as u64,
         machine: m,
     }
@@ -135,15 +112,10 @@ fn unless_unread(m: Machine, done: Ran, schedule: &[u64]) -> Ran
     ensures { result ≡ unless_unread m done (search_by entry_of 0 schedule.now) }
 {
     let n = schedule.len() / 2;
-    let mut i = 0;
-    while i < n {
-        let Entry::Asks(worker, order) = queue_entries::entry_of(
-            schedule[2 * i],
-            schedule[2 * i + 1],
-        ) else {
+    for i in 0..n {
+        let Entry::Asks(_, _) = queue_entries::entry_of(schedule[2 * i], schedule[2 * i + 1]) else {
             return unchanged(9, i, m);
         };
-        i += 1;
     }
     done
 }

@@ -40,23 +40,15 @@ pub struct After {
 fn may_act(worker: Worker, lose: bool) -> bool
     ensures { result ≡ may_act worker lose }
 {
-    let p = worker.place;
-    let view = bounded_places::view_of(p);
-    if view.busy {
-        if lose { view.weak } else { true }
-    } else {
-        false
-    }
+    let view = bounded_places::view_of(worker.place);
+    view.busy && (!lose || view.weak)
 }
 
 fn spot_of(f: Fixed, worker: Worker) -> usize
     requires { Fair f }
     ensures { result ≡ spot_in f worker }
 {
-    let p = worker.place;
-    let view = bounded_places::view_of(p);
-    let held = view.held;
-    bounded_machine::spot(f, held) as usize
+    bounded_machine::spot(f, bounded_places::view_of(worker.place).held) as usize
 }
 
 fn act_on(s: State, worker: Worker, stamp: u64, value: u64, w: usize, lose: bool) -> After
@@ -64,30 +56,22 @@ fn act_on(s: State, worker: Worker, stamp: u64, value: u64, w: usize, lose: bool
     ensures { result ≡ after_of s stamp value w lose }
 {
     let mut workers = s.workers;
-    let p = worker.place;
-    let f = s.fixed;
-    let e = s.ends;
     let slot = Slot {
         stamp: Stamp(stamp),
-        value: value,
+        value,
     };
-    let a = bounded_table::act_at(Width::SixtyFour, f, e, slot, p, lose);
-    let place = a.place;
-    let loss = a.loss;
-    let ends = a.ends;
-    let slot_after = a.slot;
-    let stamp_after = slot_after.stamp;
-    workers[w] = bounded_machine::record_after(worker, place, loss);
+    let a = bounded_table::act_at(Width::SixtyFour, s.fixed, s.ends, slot, worker.place, lose);
+    workers[w] = bounded_machine::record_after(worker, a.place, a.loss);
     After {
         state: State {
-            fixed: f,
-            ends: ends,
-            workers: workers,
+            fixed: s.fixed,
+            ends: a.ends,
+            workers,
             count: s.count,
             meter: s.meter + 1,
         },
-        stamp: stamp_after.0,
-        value: slot_after.value,
+        stamp: a.slot.stamp.0,
+        value: a.slot.value,
     }
 }
 
@@ -114,27 +98,21 @@ fn act_byte(w: usize, lose: bool) -> u8
 fn none_busy(workers: [Worker; RECORDS]) -> bool
     ensures { result ≡ all_idle workers }
 {
-    if may_act(workers[0], false) {
-        return false;
-    }
-    if may_act(workers[1], false) {
-        return false;
-    }
-    !may_act(workers[2], false)
+    !may_act(workers[0], false) && !may_act(workers[1], false) && !may_act(workers[2], false)
 }
 
 fn ends_here(s: State, left: usize) -> bool
     ensures { result ≡ ends_here s left }
 {
     let workers = s.workers;
-    if left == 0 { true } else { none_busy(workers) }
+    left == 0 || none_busy(workers)
 }
 
 fn ends_soon(s: State, left: usize) -> bool
     ensures { result ≡ ends_soon s left }
 {
     let workers = s.workers;
-    if left < 2 { true } else { none_busy(workers) }
+    left < 2 || none_busy(workers)
 }
 
 // A sequence more, for a worker's last act; nothing where the act is refused.
@@ -152,7 +130,7 @@ fn last_act(
     ensures answer { result ≡ counted told (after (take n path) (last_act worker w lose)) }
     ensures lent { out.new ≡ sets out.old told.bytes (bytes_of (after (take n path) (last_act worker w lose))) }
 {
-    if may_act(worker, lose) {} else {
+    if !may_act(worker, lose) {
         return told;
     }
     let mut acts = path;
@@ -176,12 +154,9 @@ fn last_acts(
     let workers = s.workers;
     let count = s.count as usize;
     let mut r = told;
-    let mut w = 0;
-    while w < count {
-        let worker = workers[w];
-        r = last_act(out, r, path, n, worker, w, false);
-        r = last_act(out, r, path, n, worker, w, true);
-        w += 1;
+    for w in 0..count {
+        r = last_act(out, r, path, n, workers[w], w, false);
+        r = last_act(out, r, path, n, workers[w], w, true);
     }
     r
 }
@@ -230,8 +205,7 @@ pub fn walk_state(
     let count = s.count as usize;
     let workers = s.workers;
     let mut r = told;
-    let mut w = 0;
-    while w < count {
+    for w in 0..count {
         let worker = workers[w];
         r = choose(
             s,
@@ -259,7 +233,6 @@ pub fn walk_state(
             w,
             true,
         );
-        w += 1;
     }
     r
 }
@@ -287,19 +260,17 @@ fn choose(
     ensures lent { out.new ≡ sets out.old told.bytes (bytes_of (choice_from s stamps.old values.old path n left w lose)) }
     ensures same { (stamps.new ≡ stamps.old) × (values.new ≡ values.old) }
 {
-    if may_act(worker, lose) {} else {
+    if !may_act(worker, lose) {
         return told;
     }
-    let f = s.fixed;
-    let k = spot_of(f, worker);
+    let k = spot_of(s.fixed, worker);
     let stamp = stamps[k];
     let value = values[k];
     let a = act_on(s, worker, stamp, value, w, lose);
-    let next = a.state;
     let mut acts = path;
     acts[n] = act_byte(w, lose);
     put_slot(stamps, values, k, a.stamp, a.value);
-    let r = walk_state(next, stamps, values, left, acts, n + 1, out, told);
+    let r = walk_state(a.state, stamps, values, left, acts, n + 1, out, told);
     put_slot(stamps, values, k, stamp, value);
     r
 }

@@ -10,35 +10,12 @@
 
 use bounded_machine::Tally;
 use bounded_places::Place;
-use bounded_text_faces::STEP;
+use bounded_text_faces::Call;
 use bounded_text_words::WORDS;
 use bounded_words::Claim;
 use text_cases::nth;
+use text_output::Text;
 use text_system::System;
-
-// A machine under way, with what is counted from its history and the acts of the last call.
-#[derive(Clone, Copy)]
-struct Scene {
-    words: [u64; WORDS],
-    tally: Tally,
-    acts: u64,
-    refusal: u64,
-}
-
-fn opened(capacity: u64, workers: u64, edition: u64) -> Scene {
-    let made = bounded_text_faces::make(capacity, workers, edition);
-    let m = made.words;
-    Scene {
-        words: m,
-        tally: Tally {
-            tail: Claim(0),
-            head: Claim(0),
-            reads: 0,
-        },
-        acts: 0,
-        refusal: made.refusal,
-    }
-}
 
 fn place_of(m: [u64; WORDS], w: u64) -> Place {
     let code = bounded_text_words::record(m, w, 0);
@@ -54,110 +31,127 @@ fn counted(t: Tally, before: [u64; WORDS], after: [u64; WORDS], first: u64) -> T
     bounded_stock::tally(t, place_of(before, first / 16), place_of(after, first / 16))
 }
 
-fn entry(s: Scene, first: u64, second: u64, acts: u64) -> Scene {
-    let before = s.words;
-    let left = bounded_text_faces::enter(STEP, before, first, second);
-    let after = left.words;
-    let tally = counted(s.tally, before, after, first);
-    Scene {
-        words: after,
-        tally: tally,
-        acts: acts,
-        refusal: left.refusal,
-    }
-}
-
 fn word(worker: u64, code: u64) -> u64 {
     16 * (worker % 16) + code % 16
 }
 
-// As many acts of one worker.
-fn go_on(s: Scene, worker: u64, acts: u64) -> Scene {
-    let mut now = s;
-    let mut i = 0;
-    while i < acts {
-        now = entry(now, word(worker, 8), 0, i + 1);
-        i += 1;
-    }
-    now
+// A machine under way, with what is counted from its history and the acts of the last call.
+#[derive(Clone, Copy)]
+struct Scene {
+    words: [u64; WORDS],
+    tally: Tally,
+    acts: u64,
+    refusal: u64,
 }
 
-fn call(s: Scene, worker: u64, code: u64, item: u64, acts: u64) -> Scene {
-    if code == 8 {
-        return go_on(s, worker, acts);
+impl Scene {
+    fn open(capacity: u64, workers: u64, edition: u64) -> Scene {
+        let made = bounded_text_faces::make(capacity, workers, edition);
+        let words = made.words;
+        Scene {
+            words,
+            tally: Tally {
+                tail: Claim(0),
+                head: Claim(0),
+                reads: 0,
+            },
+            acts: 0,
+            refusal: made.refusal,
+        }
     }
-    go_on(entry(s, word(worker, code), item, 0), worker, acts)
+
+    fn entry(self, first: u64, second: u64, acts: u64) -> Scene {
+        let left = bounded_text_faces::enter(Call::Step, self.words, first, second);
+        let words = left.words;
+        Scene {
+            words,
+            tally: counted(self.tally, self.words, words, first),
+            acts,
+            refusal: left.refusal,
+        }
+    }
+
+    // As many acts of one worker.
+    fn go_on(self, worker: u64, acts: u64) -> Scene {
+        let mut now = self;
+        for i in 0..acts {
+            now = now.entry(word(worker, 8), 0, i + 1);
+        }
+        now
+    }
+
+    fn call(self, worker: u64, code: u64, item: u64, acts: u64) -> Scene {
+        if code == 8 {
+            return self.go_on(worker, acts);
+        }
+        self.entry(word(worker, code), item, 0).go_on(worker, acts)
+    }
 }
 
 // LABEL: ACTS acts, refusal R, h=H t=T m=M wN=PLACE
 fn say(system: &System, label: &[u8], s: Scene, worker: u64) {
-    let mut out = [0u8; 512];
-    let p = text_output::text(&mut out, 0, label);
-    let q = text_output::form(&mut out, p, b": # acts, refusal #, ", &[s.acts, s.refusal]);
-    let m = s.words;
-    let r = bounded_text_words::text::standing(&mut out, q, worker, m);
-    text_output::end(system, &mut out, r);
+    let mut room = [0u8; 512];
+    let mut text = Text::new(&mut room);
+    text.bytes(label);
+    text.form(": # acts, refusal #, ", &[s.acts, s.refusal]);
+    bounded_text_words::text::standing(&mut text, worker, s.words);
+    text.end_line(system);
 }
 
 fn say_claims(system: &System, t: Tally) {
-    let tail = t.tail;
-    let head = t.head;
-    let claims = [tail.0, head.0, bounded_stock::stock(t)];
-    text_output::say(system, b"tail claims=# head claims=# stock=#\n", &claims);
+    let claims = [t.tail.0, t.head.0, bounded_stock::stock(t)];
+    text_output::say(system, "tail claims=# head claims=# stock=#\n", &claims);
 }
 
 fn called(system: &System, s: Scene, n: &[u64], label: &[u8], all: bool) -> Scene {
-    let after = call(s, nth(n, 0), nth(n, 1), nth(n, 2), nth(n, 3));
+    let after = s.call(nth(n, 0), nth(n, 1), nth(n, 2), nth(n, 3));
     say(system, label, after, nth(n, 0));
     if all {
-        let m = after.words;
-        bounded_text_answers::entry::slots(system, m);
+        bounded_text_answers::entry::slots(system, after.words);
         say_claims(system, after.tally);
     }
     after
 }
 
 fn constants(system: &System, capacity: u64) {
-    let made = bounded_text_faces::make(capacity, 1, 1);
-    let m = made.words;
+    let m = bounded_text_faces::make(capacity, 1, 1).words;
     let numbers = [
         capacity,
         m[bounded_text_words::MARK],
         m[bounded_text_words::LAP],
     ];
-    text_output::say(system, b"A capacity #: mark and lap # #\n", &numbers);
+    text_output::say(system, "A capacity #: mark and lap # #\n", &numbers);
 }
 
 // By the document's own words, as one schedule; with lost=D,S, of worker 0 (document 02, item 8).
 fn whole(system: &System, schedule: &[u64]) {
-    let mut out = [0u8; 512];
-    let made = bounded_text_faces::make(2, 1, 1);
-    let fresh = made.words;
+    let mut room = [0u8; 512];
+    let mut text = Text::new(&mut room);
+    let fresh = bounded_text_faces::make(2, 1, 1).words;
     let left = bounded_text_faces::run(fresh, schedule);
     let m = left.words;
-    let p = text_output::text(&mut out, 0, b"B as one schedule: ");
-    let q = bounded_text_words::text::entry(&mut out, p, left.place, left.refusal, 0, m);
+    text.text("B as one schedule: ");
+    bounded_text_words::text::entry(&mut text, left.place, left.refusal, 0, m);
     let lost = [
         bounded_text_words::record(m, 0, 3),
         bounded_text_words::record(m, 0, 4),
     ];
-    let r = text_output::form(&mut out, q, b" lost=#,#", &lost);
-    text_output::end(system, &mut out, r);
+    text.form(" lost=#,#", &lost);
+    text.end_line(system);
     bounded_text_answers::entry::slots(system, m);
 }
 
 // H CAPACITY WORKERS: REFUSAL, and the numbers of workers and slots that came of it.
 fn making(system: &System, capacity: u64, workers: u64) {
     let made = bounded_text_faces::make(capacity, workers, 1);
-    let m = made.words;
     let numbers = [
         capacity,
         workers,
         made.refusal,
-        m[bounded_text_words::CAPACITY],
-        m[bounded_text_words::COUNT],
+        made.words[bounded_text_words::CAPACITY],
+        made.words[bounded_text_words::COUNT],
     ];
-    text_output::say(system, b"H make # #: # capacity=# workers=#\n", &numbers);
+    text_output::say(system, "H make # #: # capacity=# workers=#\n", &numbers);
 }
 
 // The rows that need no scene.
@@ -172,7 +166,7 @@ fn tell(system: &System, letter: u8, n: &[u64]) {
 
 fn after(system: &System, s: Scene, letter: u8, n: &[u64], label: &[u8]) -> Scene {
     match letter {
-        b'o' => opened(nth(n, 0), nth(n, 1), nth(n, 2)),
+        b'o' => Scene::open(nth(n, 0), nth(n, 1), nth(n, 2)),
         b'c' => called(system, s, n, label, true),
         b'd' => called(system, s, n, label, false),
         _ => s,
@@ -188,22 +182,24 @@ fn turn(system: &System, s: Scene, cases: &[u8], at: usize) -> Scene {
     after(system, s, letter, n, text_cases::label(cases, at))
 }
 
-fn play(system: &System, begin: Scene, cases: &[u8]) {
+fn play(system: &System, begin: Scene, rows: &str) {
+    let cases = rows.as_bytes();
     let mut s = begin;
     let mut at = 0;
-    let mut turns = cases.len();
-    while turns > 0 && at < cases.len() {
+    for _ in 0..cases.len() {
+        if cases.len() <= at {
+            break;
+        }
         s = turn(system, s, cases, at);
         at = text_cases::next(cases, at);
-        turns -= 1;
     }
 }
 
 fn run_f(system: &System, edition: u64) {
     play(
         system,
-        opened(1, 2, edition),
-        b"c 0 0 7 5 |F push 7\n\
+        Scene::open(1, 2, edition),
+        "c 0 0 7 5 |F push 7\n\
         c 0 1 8 2 |F force_push 8, P1 and P2\n\
         c 1 6 0 1 |F close\n\
         c 0 8 0 4 |F force_push 8, to its end\n\
@@ -213,11 +209,11 @@ fn run_f(system: &System, edition: u64) {
 
 fn main(rt: HostRuntime) {
     let system = text_system::of(rt);
-    let none = opened(0, 0, 0);
+    let none = Scene::open(0, 0, 0);
     play(
         &system,
         none,
-        b"A 1 |\n\
+        "A 1 |\n\
         A 2 |\n\
         A 3 |\n\
         A 4 |\n\
@@ -239,12 +235,12 @@ fn main(rt: HostRuntime) {
         c 0 2 0 3 |E pop\n",
     );
     run_f(&system, 1);
-    text_output::say(&system, b"F in edition 2:\n", &[]);
+    text_output::say(&system, "F in edition 2:\n", &[]);
     run_f(&system, 2);
     play(
         &system,
-        opened(1, 2, 1),
-        b"c 0 0 7 5 |G push 7\n\
+        Scene::open(1, 2, 1),
+        "c 0 0 7 5 |G push 7\n\
         c 0 1 8 3 |G force_push 8, before F7\n\
         c 1 3 0 3 |G len\n\
         c 1 4 0 2 |G is_empty\n\
@@ -255,7 +251,7 @@ fn main(rt: HostRuntime) {
     play(
         &system,
         none,
-        b"H 0 1 |\n\
+        "H 0 1 |\n\
         H 1025 1 |\n\
         H 1 1 |\n\
         H 1024 1 |\n\

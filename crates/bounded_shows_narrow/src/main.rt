@@ -2,7 +2,6 @@
 #![tactic(auto)]
 
 use bounded_sixteen_bits::{Did, Machine, Ran};
-use queue_entries::Told;
 use text_system::System;
 
 // A push of 5 and its five acts, a pop and its five.
@@ -12,15 +11,12 @@ const ROUND: [u64; 24] = [
 
 // ": REFUSAL at PLACE h=H t=T m=M"
 fn tell(system: &System, refusal: u64, place: u64, m: Machine) {
-    let ring = m.ring;
-    let head = ring.head;
-    let tail = ring.tail;
-    let h = head.0 as u64;
-    let t = tail.0 as u64;
+    let head = m.ring.head.0 as u64;
+    let tail = m.ring.tail.0 as u64;
     text_output::say(
         system,
-        b": # at # h=# t=# m=#\n",
-        &[refusal, place, h, t, m.meter],
+        ": # at # h=# t=# m=#\n",
+        &[refusal, place, head, tail, m.meter],
     );
 }
 
@@ -32,47 +28,31 @@ fn tell_ran(system: &System, r: Ran) {
     tell(system, r.refusal, r.place, r.machine);
 }
 
-fn tell_told(system: &System, told: Told) {
+fn tell_told(system: &System, told: Result<u64, u64>) {
     match told {
-        Told::Refused(n) => text_output::say(system, b": refused #\n", &[n]),
-        Told::Number(n) => text_output::say(system, b": #\n", &[n]),
+        Err(n) => text_output::say(system, ": refused #\n", &[n]),
+        Ok(n) => text_output::say(system, ": #\n", &[n]),
     }
 }
 
 // 64 rounds, one after another: a schedule costs a widening and a narrowing of the whole ring.
 fn many() -> [u64; 1536] {
-    let mut list = [0u64; 1536];
-    let mut i = 0;
-    while i < 1536 {
-        list[i] = ROUND[i % 24];
-        i += 1;
+    let mut list = [0; 1536];
+    for (i, word) in list.iter_mut().enumerate() {
+        *word = ROUND[i % 24];
     }
     list
 }
 
-// The first words of a schedule, where it has so many.
-fn first(m: Machine, list: &[u64], words: usize) -> Machine {
-    if list.len() < words {
-        return m;
-    }
-    let part = &list[..words];
-    let r = bounded_narrow::run(m, part);
-    r.machine
-}
-
 // So many rounds of worker 0 alone: as many claims at either end.
 fn rounds(capacity: u64, edition: u64, n: u64) -> Machine {
-    let made = bounded_narrow::make(capacity, 1, edition);
     let list = many();
-    let mut now = made.machine;
-    let mut k = 0;
-    while k < n / 64 {
-        let r = bounded_narrow::run(now, &list);
-        now = r.machine;
-        k += 1;
+    let mut now = bounded_narrow::make(capacity, 1, edition).machine;
+    for _ in 0..n / 64 {
+        now = bounded_narrow::run(now, &list).machine;
     }
     let rest = (n % 64) as usize;
-    first(now, &list, 24 * rest)
+    bounded_narrow::run(now, &list[..24 * rest]).machine
 }
 
 // The words of the ends after so many rounds, and after one more.
@@ -80,16 +60,16 @@ fn come_round(system: &System, capacity: u64, edition: u64, n: u64) {
     let m = rounds(capacity, edition, n);
     text_output::say(
         system,
-        b"capacity # edition # rounds #",
+        "capacity # edition # rounds #",
         &[capacity, edition, n],
     );
     tell_ran(system, bounded_narrow::run(m, &ROUND[..0]));
-    text_output::say(system, b"one more", &[]);
+    text_output::say(system, "one more", &[]);
     tell_ran(system, bounded_narrow::run(m, &ROUND));
 }
 
 fn making(system: &System, capacity: u64, workers: u64, edition: u64) {
-    text_output::say(system, b"make # # #", &[capacity, workers, edition]);
+    text_output::say(system, "make # # #", &[capacity, workers, edition]);
     tell_did(system, bounded_narrow::make(capacity, workers, edition));
 }
 
@@ -103,30 +83,30 @@ fn makings(system: &System) {
 
 fn looks(system: &System, m: Machine) {
     let mut items = [0u64; 2];
-    text_output::say(system, b"capacity", &[]);
+    text_output::say(system, "capacity", &[]);
     tell_told(system, bounded_narrow::capacity(m));
-    text_output::say(system, b"contents", &[]);
+    text_output::say(system, "contents", &[]);
     tell_told(system, bounded_narrow::contents(m, &mut items));
-    text_output::say(system, b"items: # #\n", &items);
-    text_output::say(system, b"contents in no buffer", &[]);
+    text_output::say(system, "items: # #\n", &items);
+    text_output::say(system, "contents in no buffer", &[]);
     tell_told(system, bounded_narrow::contents(m, &mut items[..0]));
 }
 
 fn entries(system: &System, m: Machine) {
-    text_output::say(system, b"begin 6 0", &[]);
+    text_output::say(system, "begin 6 0", &[]);
     tell_did(system, bounded_narrow::begin(m, 6, 0));
-    text_output::say(system, b"begin 8 0", &[]);
+    text_output::say(system, "begin 8 0", &[]);
     tell_did(system, bounded_narrow::begin(m, 8, 0));
-    text_output::say(system, b"act 8 0", &[]);
+    text_output::say(system, "act 8 0", &[]);
     tell_did(system, bounded_narrow::act(m, 8, 0));
-    text_output::say(system, b"step 16 0", &[]);
+    text_output::say(system, "step 16 0", &[]);
     tell_did(system, bounded_narrow::step(m, 16, 0));
 }
 
 fn schedules(system: &System, m: Machine) {
-    text_output::say(system, b"run 6 0 8 0", &[]);
+    text_output::say(system, "run 6 0 8 0", &[]);
     tell_ran(system, bounded_narrow::run(m, &[6, 0, 8, 0]));
-    text_output::say(system, b"run 6", &[]);
+    text_output::say(system, "run 6", &[]);
     tell_ran(system, bounded_narrow::run(m, &[6]));
 }
 
@@ -134,7 +114,7 @@ fn schedules(system: &System, m: Machine) {
 fn where_they_begin_anew(system: &System) {
     let m = rounds(1, 1, 16383);
     let pushed = bounded_narrow::run(m, &ROUND[..12]);
-    text_output::say(system, b"pushed", &[]);
+    text_output::say(system, "pushed", &[]);
     tell_ran(system, pushed);
     let full = pushed.machine;
     looks(system, full);

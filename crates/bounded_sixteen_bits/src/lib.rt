@@ -57,15 +57,11 @@ fn widen_slots(slots: [Slot; bounded_words::SLOTS]) -> [bounded_places::Slot; bo
         stamp: bounded_words::Stamp(0),
         value: 0,
     }; bounded_words::SLOTS];
-    let mut i = 0;
-    while i < bounded_words::SLOTS {
-        let s = slots[i];
-        let w = s.stamp;
+    for (i, s) in slots.iter().enumerate() {
         wide[i] = bounded_places::Slot {
-            stamp: bounded_words::Stamp(w.0 as u64),
+            stamp: bounded_words::Stamp(u64::from(s.stamp.0)),
             value: s.value,
         };
-        i += 1;
     }
     wide
 }
@@ -75,22 +71,20 @@ pub fn widen(m: Machine) -> bounded_machine::Machine
     ensures short { Short result }
 {
     let ring = m.ring;
-    let head = ring.head;
-    let tail = ring.tail;
-    let short = ring.slots;
-    let slots = widen_slots(short);
+    let slots = ring.slots;
+    let slots = widen_slots(slots);
     let workers = m.workers;
     bounded_machine::Machine {
         ring: bounded_machine::Ring {
-            head: bounded_words::Stamp(head.0 as u64),
-            tail: bounded_words::Stamp(tail.0 as u64),
+            head: bounded_words::Stamp(u64::from(ring.head.0)),
+            tail: bounded_words::Stamp(u64::from(ring.tail.0)),
             mark: ring.mark,
             lap: ring.lap,
             capacity: ring.capacity,
             edition: ring.edition,
-            slots: slots,
+            slots,
         },
-        workers: workers,
+        workers,
         count: m.count,
         meter: m.meter,
     }
@@ -104,15 +98,11 @@ fn narrow_slots(slots: [bounded_places::Slot; bounded_words::SLOTS]) -> [Slot; b
         stamp: Stamp(0),
         value: 0,
     }; bounded_words::SLOTS];
-    let mut i = 0;
-    while i < bounded_words::SLOTS {
-        let s = slots[i];
-        let w = s.stamp;
+    for (i, s) in slots.iter().enumerate() {
         short[i] = Slot {
-            stamp: Stamp(w.0 as u16),
+            stamp: Stamp(s.stamp.0 as u16),
             value: s.value,
         };
-        i += 1;
     }
     short
 }
@@ -122,22 +112,20 @@ fn narrow(m: bounded_machine::Machine) -> Machine
     ensures { result ≡ narrowed m }
 {
     let ring = m.ring;
-    let head = ring.head;
-    let tail = ring.tail;
-    let wide = ring.slots;
-    let slots = narrow_slots(wide);
+    let slots = ring.slots;
+    let slots = narrow_slots(slots);
     let workers = m.workers;
     Machine {
         ring: Ring {
-            head: Stamp(head.0 as u16),
-            tail: Stamp(tail.0 as u16),
+            head: Stamp(ring.head.0 as u16),
+            tail: Stamp(ring.tail.0 as u16),
             mark: ring.mark,
             lap: ring.lap,
             capacity: ring.capacity,
             edition: ring.edition,
-            slots: slots,
+            slots,
         },
-        workers: workers,
+        workers,
         count: m.count,
         meter: m.meter,
     }
@@ -147,10 +135,9 @@ pub fn narrow_did(d: bounded_machine::Did) -> Did
     requires { Short d.machine }
     ensures { result ≡ narrowed_did d }
 {
-    let m = d.machine;
     Did {
         refusal: d.refusal,
-        machine: narrow(m),
+        machine: narrow(d.machine),
     }
 }
 
@@ -158,10 +145,9 @@ pub fn narrow_ran(a: bounded_machine::Ran) -> Ran
     requires { Short a.machine }
     ensures { result ≡ narrowed_ran a }
 {
-    let m = a.machine;
     Ran {
         refusal: a.refusal,
         place: a.place,
-        machine: narrow(m),
+        machine: narrow(a.machine),
     }
 }

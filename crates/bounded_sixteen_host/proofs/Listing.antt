@@ -8,8 +8,7 @@ use lib.ListN.{length, get_or, drop}
 use borrow.Author.Tests.{lt-ltb, le-ltb}
 use mir.Val.{Fits}
 use mir.Syntax.{w64}
-use Rattle.queue_entries.specs.declared.Told.{Told}
-use Rattle.queue_entries.specs.declared.Told.TheVariants.{Number, Refused}
+use Rattle.std.specs.Prelude.{Result, Ok, Err}
 use Rattle.bounded_orders.proofs.Listing as orders
 use Rattle.bounded_words.specs.declared.Fixed.{Fixed}
 use Rattle.bounded_words.specs.Limits.{slots_most}
@@ -35,7 +34,7 @@ use Rattle.bounded_sixteen_rows.proofs.Fitting as fitting
 use Rattle.bounded_sixteen_host.specs.declared.Reply.{Reply}
 use Rattle.bounded_sixteen_host.specs.SixteenHost.{reply, reply_of, listed, listed_of, contents_shorts}
 
-pub along_told : (t u : Told) (r : Reply) → t ≡ u → r ≡ reply_of u → r ≡ reply_of t
+pub along_told : (t u : Result ℕ ℕ) (r : Reply) → t ≡ u → r ≡ reply_of u → r ≡ reply_of t
 along_told t u r h e = e ∙ ap reply_of (sym h)
 
 -- ---- one item
@@ -64,15 +63,15 @@ module _ (f : Fixed) (e : Ends) (ss vs : List ℕ) (h : ring_fits f e ≡ true) 
   counted_of n q = items.counted_at (ring_of_parts f e (slots_in ss vs)) h n q
 
   module _ (idle : Bool) (buffer : List ℕ) where
-    pub four : idle ≡ false → filled (Refused 4) buffer ≡ contents_by false idle (ring_of_parts f e (slots_in ss vs)) buffer
+    pub four : idle ≡ false → filled (Err 4) buffer ≡ contents_by false idle (ring_of_parts f e (slots_in ss vs)) buffer
     four d = orders.turned_4 false idle (ring_of_parts f e (slots_in ss vs)) buffer refl d
 
     module _ (d : idle ≡ true) (n : ℕ) (q : n ≡ count_of f e.tail e.head) where
-      pub ten : length buffer < n → filled (Refused 10) buffer ≡ contents_by false idle (ring_of_parts f e (slots_in ss vs)) buffer
+      pub ten : length buffer < n → filled (Err 10) buffer ≡ contents_by false idle (ring_of_parts f e (slots_in ss vs)) buffer
       ten z = orders.turned_10 false idle (ring_of_parts f e (slots_in ss vs)) buffer refl d n (counted_of n q) z
 
       pub all_listed : (after : List ℕ) (k : ℕ) → n ≤ length buffer → k ≤ n → n ≤ k → after ≡ items_on (ring_of_parts f e (slots_in ss vs)) k 0 ++ drop k buffer
-          → filled (Number n) after ≡ contents_by false idle (ring_of_parts f e (slots_in ss vs)) buffer
+          → filled (Ok n) after ≡ contents_by false idle (ring_of_parts f e (slots_in ss vs)) buffer
       all_listed after k room low high is = orders.listed false idle (ring_of_parts f e (slots_in ss vs)) buffer refl d n (counted_of n q) after k room (omega (arith, low, high)) is
 
   module _ (ls : length ss ≡ f.capacity) (lv : length vs ≡ f.capacity) (i k : ℕ) (l : k < f.capacity) (x : Indexed f e.head i) where
@@ -151,7 +150,7 @@ module _ (h : List ℕ) (m : ℕ) (ss vs rs : List ℕ) (b : Bool) (eb : b ≡ b
         pub ring_fits_lem : ring_fits f e ≡ true
         ring_fits_lem = (λ i. ring_fits (ef i) (ee i)) ∙ ring_in (held (metered_in w) (records_in rs)) (unbroken_lent (metered_in w) (records_in rs) sound)
 
-        pub contents_listed : (idle : Bool) → idle ≡ cond (placed rs) (each_fits f m false (records_in rs)) false → (buffer : List ℕ) (t : Told) (buffer' : List ℕ)
+        pub contents_listed : (idle : Bool) → idle ≡ cond (placed rs) (each_fits f m false (records_in rs)) false → (buffer : List ℕ) (t : Result ℕ ℕ) (buffer' : List ℕ)
             → filled t buffer' ≡ contents_by false idle (ring_of_parts f e (slots_in ss vs)) buffer → (r : Reply) → r ≡ reply_of t → listed r buffer' ≡ contents_shorts (shorts h m ss vs rs) buffer
         unfolding contents_shorts contents_on
         contents_listed idle ei buffer t buffer' et r er =

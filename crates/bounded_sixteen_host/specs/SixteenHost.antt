@@ -1,9 +1,7 @@
 -- What each function of the sixteen-bit host's face answers, and the words as they are then. Words that stand for no ring and records are refusal 6; a refused call changes no word.
-use Rattle.std.specs.Prelude.{ℕ, zero, suc, ◌+◌, ◌/◌, cond, List, [], ◌∷◌, eqb, length, get_or, replicate}
+use Rattle.std.specs.Prelude.{ℕ, zero, suc, ◌+◌, ◌/◌, cond, List, [], ◌∷◌, eqb, length, get_or, replicate, Result, Ok, Err}
 use Rattle.queue_entries.specs.Entries.{entry_of}
 use Rattle.queue_entries.specs.Schedules.{schedule_by}
-use Rattle.queue_entries.specs.declared.Told.{Told}
-use Rattle.queue_entries.specs.declared.Told.TheVariants.{Number, Refused}
 use Rattle.bounded_words.specs.Words.{mark_of, lap_of}
 use Rattle.bounded_orders.specs.Orders.{make_refusal, Filled}
 use Rattle.bounded_lent.specs.Lent.{contents_lent}
@@ -60,9 +58,9 @@ run_shorts = schedule_by (λ (x : After). x.answer) (λ (x : After). x.words) tu
 
 -- ---- looking
 -- a number, or a refusal and 0
-abbrev pub reply_of : Told → Reply
-reply_of (Number n) = reply 0 n
-reply_of (Refused k) = reply k 0
+abbrev pub reply_of : Result ℕ ℕ → Reply
+reply_of (Ok n) = reply 0 n
+reply_of (Err k) = reply k 0
 
 unfoldable pub capacity_shorts : Shorts → Reply
 capacity_shorts w = cond (broken_shorts w) (reply 6 0) (reply 0 (get_or w.head 2 0))

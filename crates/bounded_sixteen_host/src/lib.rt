@@ -13,7 +13,6 @@ ghost use Rattle.bounded_sixteen_host.specs.SixteenHost.{reply_of, broken_refusa
 
 use bounded_places::Ends;
 use bounded_words::Fixed;
-use queue_entries::Told;
 
 // The number of a refusal, 0 where there is none; and what the call is asked for: an entry's place, a count, a capacity.
 #[repr(C)]
@@ -46,10 +45,8 @@ fn put_stamps(stamps: &mut [u16])
     ensures { stamps.new ≡ numbers (length stamps.old) 0 }
 {
     let n = stamps.len();
-    let mut i = 0;
-    while i < n {
+    for i in 0..n {
         stamps[i] = i as u16;
-        i += 1;
     }
 }
 
@@ -67,7 +64,7 @@ pub extern "C" fn fern_ring16_make(
     ensures { after result (shorts head.new meter.new stamps.new values.new records.new) ≡ make_shorts (shorts head.old meter.old stamps.old values.old records.old) capacity edition }
 {
     let count = records.len() / bounded_sixteen_rows::RECORD;
-    if bounded_sixteen_rows::shaped_for(capacity, head, *meter, stamps, values, records) {} else {
+    if !bounded_sixteen_rows::shaped_for(capacity, head, *meter, stamps, values, records) {
         return 6;
     }
     let refusal = bounded_orders::make_refusal(
@@ -76,7 +73,7 @@ pub extern "C" fn fern_ring16_make(
         count as u64,
         edition,
     );
-    if refusal == 0 {} else {
+    if refusal != 0 {
         return refusal;
     }
     put_fresh(head, capacity, edition);
@@ -128,8 +125,7 @@ pub extern "C" fn fern_ring16_run(
     }
     let whole = bounded_orders::judged(false, schedule);
     let n = bounded_orders::entries_of(whole);
-    let mut i = 0;
-    while i < n {
+    for i in 0..n {
         let refusal = bounded_sixteen_rows::turn(
             head,
             meter,
@@ -141,11 +137,10 @@ pub extern "C" fn fern_ring16_run(
         );
         if refusal != 0 {
             return Reply {
-                refusal: refusal,
+                refusal,
                 number: i as u64,
             };
         }
-        i += 1;
     }
     Reply {
         refusal: whole.refusal,
@@ -196,15 +191,15 @@ pub extern "C" fn fern_ring16_capacity(
     }
 }
 
-fn reply_of(t: Told) -> Reply
+fn reply_of(t: Result<u64, u64>) -> Reply
     ensures { result ≡ reply_of t }
 {
     match t {
-        Told::Number(n) => Reply {
+        Ok(n) => Reply {
             refusal: 0,
             number: n,
         },
-        Told::Refused(k) => Reply {
+        Err(k) => Reply {
             refusal: k,
             number: 0,
         },
@@ -219,38 +214,38 @@ fn item_at(f: Fixed, e: Ends, stamps: &[u16], values: &[u64], k: u64) -> u64
     requires k_lt_capacity { k < f.capacity }
     ensures { result ≡ item_on (ring_of_parts f e (slots_in stamps.now values.now)) k }
 {
-    let head = e.head;
-    let at = bounded_words::index(f, head) + k;
+    let at = bounded_words::index(f, e.head) + k;
     if at < f.capacity {
-        let s = bounded_sixteen_rows::slot_at(stamps, values, at as usize);
-        return s.value;
+        return bounded_sixteen_rows::slot_at(stamps, values, at as usize).value;
     }
-    let s = bounded_sixteen_rows::slot_at(stamps, values, (at - f.capacity) as usize);
-    s.value
+    bounded_sixteen_rows::slot_at(stamps, values, (at - f.capacity) as usize).value
 }
 
 // The items between the ends of a ring that fits, written at the buffer's start.
-fn list(idle: bool, f: Fixed, e: Ends, stamps: &[u16], values: &[u64], buffer: &mut [u64]) -> Told
+fn list(
+    idle: bool,
+    f: Fixed,
+    e: Ends,
+    stamps: &[u16],
+    values: &[u64],
+    buffer: &mut [u64],
+) -> Result<u64, u64>
     requires e_value { ring_fits f e ≡ true }
     requires stamps_len { length stamps.now ≡ f.capacity }
     requires values_len { length values.now ≡ f.capacity }
     ensures { filled result buffer.new ≡ contents_by false idle (ring_of_parts f e (slots_in stamps.now values.now)) buffer.old }
 {
-    if idle {} else {
-        return Told::Refused(4);
+    if !idle {
+        return Err(4);
     }
-    let head = e.head;
-    let tail = e.tail;
-    let n = bounded_acts::count(f, tail, head);
+    let n = bounded_acts::count(f, e.tail, e.head);
     if buffer.len() < (n as usize) {
-        return Told::Refused(10);
+        return Err(10);
     }
-    let mut k = 0;
-    while k < n {
+    for k in 0..n {
         buffer[k as usize] = item_at(f, e, stamps, values, k);
-        k += 1;
     }
-    Told::Number(n)
+    Ok(n)
 }
 
 // The items as `Drop` would meet them, written at the buffer's start; how many. Nothing is removed.

@@ -24,7 +24,7 @@ fn wide(x: u16) -> u64
     ensures same { result ≡ x }
     ensures short { result < narrow }
 {
-    x as u64
+    u64::from(x)
 }
 
 pub fn fixed_in(head: &[u16]) -> Fixed
@@ -57,10 +57,8 @@ fn put_ends(head: &mut [u16], e: Ends)
     requires tail_lt_narrow { e.tail.0 < narrow }
     ensures { head.new ≡ with_ends head.old e }
 {
-    let h = e.head;
-    let t = e.tail;
-    head[4] = h.0 as u16;
-    head[5] = t.0 as u16;
+    head[4] = e.head.0 as u16;
+    head[5] = e.tail.0 as u16;
 }
 
 pub fn slot_at(stamps: &[u16], values: &[u64], k: usize) -> Slot
@@ -82,8 +80,7 @@ fn put_slot(stamps: &mut [u16], values: &mut [u64], k: usize, s: Slot)
     ensures stamps { stamps.new ≡ set stamps.old k s.stamp.0 }
     ensures values { values.new ≡ set values.old k s.value }
 {
-    let w = s.stamp;
-    stamps[k] = w.0 as u16;
+    stamps[k] = s.stamp.0 as u16;
     values[k] = s.value;
 }
 
@@ -97,13 +94,13 @@ pub fn shaped_for(
 ) -> bool
     ensures { result ≡ shaped_for capacity (shorts head.now meter stamps.now values.now records.now) }
 {
-    if head.len() == HEAD {} else {
+    if head.len() != HEAD {
         return false;
     }
-    if stamps.len() as u64 == capacity {} else {
+    if stamps.len() as u64 != capacity {
         return false;
     }
-    if values.len() as u64 == capacity {} else {
+    if values.len() as u64 != capacity {
         return false;
     }
     records.len() % RECORD == 0
@@ -112,18 +109,18 @@ pub fn shaped_for(
 pub fn broken(head: &[u16], meter: u64, stamps: &[u16], values: &[u64], records: &[u64]) -> bool
     ensures { result ≡ broken_shorts (shorts head.now meter stamps.now values.now records.now) }
 {
-    if head.len() == HEAD {} else {
+    if head.len() != HEAD {
         return true;
     }
     let f = fixed_in(head);
     let e = ends_in(head);
-    if shaped_for(f.capacity, head, meter, stamps, values, records) {} else {
+    if !shaped_for(f.capacity, head, meter, stamps, values, records) {
         return true;
     }
-    if head[6] == LAYOUT {} else {
+    if head[6] != LAYOUT {
         return true;
     }
-    if bounded_orders::ring_fits(f, e, records.len() / RECORD) {} else {
+    if !bounded_orders::ring_fits(f, e, records.len() / RECORD) {
         return true;
     }
     !bounded_slices::records_fit(records, f, meter, true)
@@ -153,12 +150,9 @@ pub fn turn(
     let k = bounded_step_record::slot_of(f, r);
     let s = slot_at(stamps, values, k);
     let t = bounded_step_record::turn_on(Width::Sixteen, f, e, s, r, *meter, count, first, second);
-    let ends = t.ends;
-    let slot = t.slot;
-    let worker = t.worker;
-    put_ends(head, ends);
-    put_slot(stamps, values, k, slot);
-    bounded_rows::put_record(records, w, worker);
+    put_ends(head, t.ends);
+    put_slot(stamps, values, k, t.slot);
+    bounded_rows::put_record(records, w, t.worker);
     *meter = t.meter;
     t.refusal
 }

@@ -27,10 +27,10 @@ pub const LAYOUT: u64 = 1;
 pub fn shaped(head: &[u64], slots: &[u64], records: &[u64]) -> bool
     ensures { result ≡ shaped (words head.now slots.now records.now) }
 {
-    if head.len() == HEAD {} else {
+    if head.len() != HEAD {
         return false;
     }
-    if slots.len() == SLOTS {} else {
+    if slots.len() != SLOTS {
         return false;
     }
     records.len() % RECORD == 0
@@ -43,19 +43,13 @@ fn end_fits(f: Fixed, code: u64, first: u64, second: u64) -> bool
     requires code_value { within code 15 33 ≡ true }
     ensures { result ≡ fitting f code first second }
 {
-    if bounded_places::inside_of(f, Stamp(first)) {} else {
+    if !bounded_places::inside_of(f, Stamp(first)) {
         return false;
     }
-    if bounded_codes::may_be(second, 22 <= code) {} else {
-        if code == 21 {} else {
-            return false;
-        }
-        return bounded_places::inside_of(f, Stamp(second));
+    if !bounded_codes::may_be(second, 22 <= code) {
+        return code == 21 && bounded_places::inside_of(f, Stamp(second));
     }
-    if bounded_words::marked(f, Stamp(first)) {} else {
-        return true;
-    }
-    bounded_codes::within(code, 20, 22)
+    !bounded_words::marked(f, Stamp(first)) || bounded_codes::within(code, 20, 22)
 }
 
 // Of any other code: no second word, and no loaded word.
@@ -63,10 +57,10 @@ fn other_stands(code: u64, first: u64, second: u64) -> bool
     requires { within code 15 33 ≡ false }
     ensures { result ≡ stands_for code first second }
 {
-    if second == 0 {} else {
+    if second != 0 {
         return false;
     }
-    if bounded_codes::may_be(first, bounded_codes::within(code, 6, 15)) {} else {
+    if !bounded_codes::may_be(first, bounded_codes::within(code, 6, 15)) {
         return false;
     }
     code < 39
@@ -75,7 +69,7 @@ fn other_stands(code: u64, first: u64, second: u64) -> bool
 fn allowed(code: u64, counted: bool) -> bool
     ensures { result ≡ cond (ltb code 11) true counted }
 {
-    if code < 11 { true } else { counted }
+    code < 11 || counted
 }
 
 // Whether the i-th record stands for a place and fits the ring, by its words; as `bounded_machine::record_fits` of the record that they
@@ -93,7 +87,7 @@ fn fits_at(records: &[u64], i: usize, f: Fixed, meter: u64, counted: bool) -> bo
     if meter < records[at + 4] {
         return false;
     }
-    if allowed(code, counted) {} else {
+    if !allowed(code, counted) {
         return false;
     }
     if bounded_codes::within(code, 15, 33) {
@@ -109,12 +103,10 @@ pub fn records_fit(records: &[u64], f: Fixed, meter: u64, counted: bool) -> bool
     ensures { result ≡ cond (placed records.now) (each_fits f meter counted (records_in records.now)) false }
 {
     let n = records.len() / RECORD;
-    let mut i = 0;
-    while i < n {
-        if fits_at(records, i, f, meter, counted) {} else {
+    for i in 0..n {
+        if !fits_at(records, i, f, meter, counted) {
             return false;
         }
-        i += 1;
     }
     true
 }
@@ -122,15 +114,15 @@ pub fn records_fit(records: &[u64], f: Fixed, meter: u64, counted: bool) -> bool
 pub fn broken(head: &[u64], slots: &[u64], records: &[u64]) -> bool
     ensures { result ≡ broken_words (words head.now slots.now records.now) }
 {
-    if shaped(head, slots, records) {} else {
+    if !shaped(head, slots, records) {
         return true;
     }
-    if head[7] == LAYOUT {} else {
+    if head[7] != LAYOUT {
         return true;
     }
     let f = bounded_rows::fixed_in(head);
     let e = bounded_rows::ends_in(head);
-    if bounded_orders::ring_fits(f, e, records.len() / RECORD) {} else {
+    if !bounded_orders::ring_fits(f, e, records.len() / RECORD) {
         return true;
     }
     !records_fit(records, f, head[6], true)
@@ -151,15 +143,8 @@ pub fn put_ring(head: &mut [u64], l: Metered)
     ensures { head.new ≡ head_of l }
 {
     let ring = l.ring;
-    let f = Fixed {
-        mark: ring.mark,
-        lap: ring.lap,
-        capacity: ring.capacity,
-        edition: ring.edition,
-    };
-    let h = ring.head;
-    let t = ring.tail;
-    let e = Ends { head: h, tail: t };
+    let f = ring.fixed();
+    let e = ring.ends();
     put_fixed(head, f);
     bounded_rows::put_head(head, e, l.meter);
     head[7] = LAYOUT;
@@ -169,22 +154,15 @@ pub fn put_slots(slots: &mut [u64], all: [Slot; bounded_words::SLOTS])
     requires { length slots.old ≡ slots_most * 2 }
     ensures { slots.new ≡ slots_of all }
 {
-    let mut i = 0;
-    while i < bounded_words::SLOTS {
+    for i in 0..bounded_words::SLOTS {
         bounded_rows::put_slot(slots, i, all[i]);
-        i += 1;
     }
 }
 
 pub fn put_zeros(records: &mut [u64])
     ensures { records.new ≡ replicate (length records.old) 0 }
 {
-    let n = records.len();
-    let mut i = 0;
-    while i < n {
-        records[i] = 0;
-        i += 1;
-    }
+    records.fill(0);
 }
 
 pub fn slots_in(slots: &[u64]) -> [Slot; bounded_words::SLOTS]
@@ -195,10 +173,8 @@ pub fn slots_in(slots: &[u64]) -> [Slot; bounded_words::SLOTS]
         stamp: Stamp(0),
         value: 0,
     }; bounded_words::SLOTS];
-    let mut i = 0;
-    while i < bounded_words::SLOTS {
+    for i in 0..bounded_words::SLOTS {
         all[i] = bounded_rows::slot_at(slots, i);
-        i += 1;
     }
     all
 }

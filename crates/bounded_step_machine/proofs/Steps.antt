@@ -5,7 +5,7 @@ use mathlib.Core.Bool.{Bool, true, false, cond, true≢false}
 use mathlib.Core.List.{[], ◌∷◌}
 use lib.Dec.{ltb, eqb}
 use borrow.Author.Tests.{eqb-true}
-use Rattle.queue_entries.specs.declared.Finding.TheVariants.{AllRead}
+use Rattle.std.specs.Prelude.{None}
 use Rattle.queue_entries.specs.Schedules.{run_by, stops_at, search_by, searched, schedule_by}
 use Rattle.queue_entries.proofs.Pick.{yes, no, below, above}
 use Rattle.queue_entries.specs.declared.Entry.{Entry}
@@ -66,7 +66,7 @@ unfolding schedule_by search_by run_by step_of_by refused turn_of_by ran
 one_entry table m first second r e = ap whole e ∙ go (broken_of m)
   where
     after_search : Entry → Ran
-    after_search x = searched (λ (d : Did). d.refusal) (λ (d : Did). d.machine) (turn_of_by table) ran m (first ∷ second ∷ []) (stops_at 0 x AllRead)
+    after_search x = searched (λ (d : Did). d.refusal) (λ (d : Did). d.machine) (turn_of_by table) ran m (first ∷ second ∷ []) (stops_at 0 x None)
 
     read : (x : Entry) → entry_of first second ≡ x → whole (after_search x) ≡ turn_of_by table m first second
     read Unreadable h = sym (ap (turn_by table m) h)

@@ -14,10 +14,9 @@ pub fn step(bits: Width, m: Machine, first: u64, second: u64) -> Did
 {
     let entry = [first, second];
     let r = bounded_runs::run(bits, m, &entry);
-    let after = r.machine;
     Did {
         refusal: r.refusal,
-        machine: after,
+        machine: r.machine,
     }
 }
 

@@ -32,11 +32,9 @@ pub fn slot_of(f: Fixed, r: Worker) -> usize
     requires { Fair f }
     ensures { result ≡ slot_of_ring f r }
 {
-    let p = r.place;
-    let v = bounded_places::view_of(p);
-    let held = v.held;
+    let v = bounded_places::view_of(r.place);
     if v.busy {
-        bounded_machine::spot(f, held) as usize
+        bounded_machine::spot(f, v.held) as usize
     } else {
         0
     }
@@ -50,7 +48,7 @@ fn with(number: u64, e: Ends, s: Slot, r: Worker, meter: u64) -> Turned
         ends: e,
         slot: s,
         worker: r,
-        meter: meter,
+        meter,
     }
 }
 
@@ -75,9 +73,7 @@ pub fn turn_on(
     if count as u64 <= worker {
         return with(3, e, s, r, meter);
     }
-    let p = r.place;
-    let verdict = bounded_machine::verdict_of(meter, p, order);
-    match verdict {
+    match bounded_machine::verdict_of(meter, r.place, order) {
         Verdict::Refuse(number) => with(number, e, s, r, meter),
         Verdict::Start(call) => {
             let begun = Worker {
@@ -88,13 +84,9 @@ pub fn turn_on(
             with(0, e, s, begun, meter)
         }
         Verdict::Move(lose) => {
-            let a = bounded_table::act_at(bits, f, e, s, p, lose);
-            let ends = a.ends;
-            let slot = a.slot;
-            let place = a.place;
-            let loss = a.loss;
-            let after = bounded_machine::record_after(r, place, loss);
-            with(0, ends, slot, after, meter + 1)
+            let a = bounded_table::act_at(bits, f, e, s, r.place, lose);
+            let after = bounded_machine::record_after(r, a.place, a.loss);
+            with(0, a.ends, a.slot, after, meter + 1)
         }
     }
 }

@@ -13,24 +13,24 @@ use bounded_words::Claim;
 pub fn moved_by(after: Place) -> Moved
     ensures { result ≡ moved_of after }
 {
-    let view = bounded_places::view_of(after);
-    view.moved
+    bounded_places::view_of(after).moved
 }
 
 // Whether the act at this place reads a value out.
 pub fn reads_at(before: Place) -> bool
     ensures { result ≡ reads_at before }
 {
-    let view = bounded_places::view_of(before);
-    view.reads
+    bounded_places::view_of(before).reads
 }
 
+#[tactic(auto, unfolding(crate::specs::Stock::one_more_act))]
 fn one_more(n: u64) -> u64
     ensures { result ≡ one_more_act n }
 {
-    std::num::wrapping_add_u64(n, 1)
+    n.wrapping_add(1)
 }
 
+#[tactic(auto, unfolding(crate::specs::Stock::next_claim))]
 fn next_claim(k: Claim) -> Claim
     ensures { result ≡ next_claim k }
 {
@@ -40,20 +40,15 @@ fn next_claim(k: Claim) -> Claim
 fn with_claim(t: Tally, after: Place) -> Tally
     ensures { result ≡ with_claim t (moved_of after) }
 {
-    let tail = t.tail;
-    let head = t.head;
-    let moved = moved_by(after);
-    match moved {
+    match moved_by(after) {
         Moved::Neither => t,
         Moved::Tail => Tally {
-            tail: next_claim(tail),
-            head: head,
-            reads: t.reads,
+            tail: next_claim(t.tail),
+            ..t
         },
         Moved::Head => Tally {
-            tail: tail,
-            head: next_claim(head),
-            reads: t.reads,
+            head: next_claim(t.head),
+            ..t
         },
     }
 }
@@ -61,16 +56,14 @@ fn with_claim(t: Tally, after: Place) -> Tally
 fn with_read(t: Tally, before: Place) -> Tally
     ensures { result ≡ with_read t (reads_at before) }
 {
-    let tail = t.tail;
-    let head = t.head;
     if reads_at(before) {
-        return Tally {
-            tail: tail,
-            head: head,
+        Tally {
             reads: one_more(t.reads),
-        };
+            ..t
+        }
+    } else {
+        t
     }
-    t
 }
 
 // The claims at both ends and the values read, counted on by the act that led from one place to the other.
@@ -81,10 +74,9 @@ pub fn tally(t: Tally, before: Place, after: Place) -> Tally
 }
 
 // "An item is in stock from its tail claim until its value is read out"
+#[tactic(auto, unfolding(bounded_machine::specs::History::stock_of))]
 pub fn stock(t: Tally) -> u64
     ensures { result ≡ stock_of t }
 {
-    let tail = t.tail;
-    let reads = t.reads;
-    if reads <= tail.0 { tail.0 - reads } else { 0 }
+    t.tail.0.saturating_sub(t.reads)
 }

@@ -1,24 +1,17 @@
--- What `search` is given at the arms of the tables: the row of a place that is known, and what a row asks.
+-- What a row of the tables asks.
 use mathlib.Core.Path.{◌≡◌, subst}
-use mathlib.Core.Bool.{Bool, true, false, cond}
+use mathlib.Core.Bool.{true, false, cond}
 use borrow.Author.Tests.{ltb-true}
-use Rattle.queue_entries.proofs.Pick.{along, both_left, both_right}
+use Rattle.queue_entries.proofs.Pick.{both_left, both_right}
 use Rattle.bounded_words.specs.declared.Stamp.{Stamp}
 use Rattle.bounded_words.specs.declared.Fixed.{Fixed}
-use Rattle.bounded_words.specs.declared.Width.{Width}
 use Rattle.bounded_words.specs.Words.{index_of}
-use Rattle.bounded_places.specs.declared.Slot.{Slot}
-use Rattle.bounded_places.specs.declared.Ends.{Ends}
 use Rattle.bounded_places.specs.declared.Place.{Place}
 use Rattle.bounded_places.specs.declared.Place.TheVariants.{Len3}
 use Rattle.bounded_places.specs.Places.{inside, fits_of, view_of}
-use Rattle.bounded_acts.specs.declared.Acted.{Acted}
-use Rattle.bounded_acts.specs.Acts.{act_of, Fits, Within}
+use Rattle.bounded_acts.specs.Acts.{Fits, Within}
 
-pub along_act : (bits : Width) (f : Fixed) (e : Ends) (s : Slot) (p q : Place) (lose : Bool) (r : Acted) → p ≡ q → r ≡ act_of bits f e s q lose → r ≡ act_of bits f e s p lose
-along_act bits f e s p q lose = along (λ (x : Place). act_of bits f e s x lose) p q
-
--- what `count` asks, of the words that len holds
+-- what `count` asks of the words that len holds
 pub within : (f : Fixed) (p : Place) (t h : Stamp) → Fits f p → p ≡ Len3 t h → Within f t h
 unfolding inside
 within f p t h x e = go (subst (λ (q : Place). fits_of f (view_of q).held ≡ true) e x.held)

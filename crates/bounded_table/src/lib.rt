@@ -14,8 +14,6 @@ pub fn act_at(bits: Width, f: Fixed, e: Ends, s: Slot, p: Place, lose: bool) -> 
     requires { Fits f p }
     ensures { result ≡ act_of bits f e s p lose }
 {
-    let head = e.head;
-    let tail = e.tail;
     match p {
         Place::Idle(a) => bounded_acts::goes(e, s, Place::Idle(a)),
         Place::P1(k, item) => bounded_pushes::p1(f, e, s, k, item),
@@ -28,18 +26,18 @@ pub fn act_at(bits: Width, f: Fixed, e: Ends, s: Slot, p: Place, lose: bool) -> 
         Place::F7(t, item) => bounded_forces::f7(bits, f, e, s, t, item),
         Place::F8(t, item) => bounded_forces::f8(e, s, t, item),
         Place::F9(t, old) => bounded_forces::f9(bits, e, s, t, old),
-        Place::O1 => bounded_acts::goes(e, s, Place::O2(head)),
+        Place::O1 => bounded_acts::goes(e, s, Place::O2(e.head)),
         Place::O2(h) => bounded_pops::o2(bits, e, s, h),
         Place::O3(h) => bounded_pops::o3(bits, f, e, s, h, lose),
         Place::O4(h) => bounded_acts::goes(e, s, Place::O5(h, s.value)),
         Place::O5(h, value) => bounded_pops::o5(bits, f, e, s, h, value),
         Place::O6(h) => bounded_pops::o6(f, e, s, h),
-        Place::Len1 => bounded_acts::goes(e, s, Place::Len2(tail)),
-        Place::Len2(t) => bounded_acts::goes(e, s, Place::Len3(t, head)),
+        Place::Len1 => bounded_acts::goes(e, s, Place::Len2(e.tail)),
+        Place::Len2(t) => bounded_acts::goes(e, s, Place::Len3(t, e.head)),
         Place::Len3(t, h) => bounded_lookers::len3(f, e, s, t, h),
-        Place::Empty1 => bounded_acts::goes(e, s, Place::Empty2(head)),
+        Place::Empty1 => bounded_acts::goes(e, s, Place::Empty2(e.head)),
         Place::Empty2(h) => bounded_lookers::empty2(f, e, s, h),
-        Place::Full1 => bounded_acts::goes(e, s, Place::Full2(tail)),
+        Place::Full1 => bounded_acts::goes(e, s, Place::Full2(e.tail)),
         Place::Full2(t) => bounded_lookers::full2(bits, f, e, s, t),
         Place::Close1 => bounded_lookers::close1(bits, f, e, s),
         Place::IsClosed1 => bounded_lookers::is_closed1(f, e, s),

@@ -25,61 +25,38 @@ pub mod entry;
 pub mod judge;
 pub mod making;
 
-use bounded_text_words::WORDS;
+use bounded_text_faces::Call;
+use bounded_text_words::{RECORDS, SLOTS, WORDS};
 use text_cases::nth;
 use text_system::System;
 
-// The machine in hand, row after row.
-#[derive(Clone, Copy)]
-struct Hand {
-    words: [u64; WORDS],
-}
-
 pub fn set(m: [u64; WORDS], pairs: &[u64]) -> [u64; WORDS] {
     let mut after = m;
-    let mut i = 0;
-    while i < pairs.len() / 2 {
+    for i in 0..pairs.len() / 2 {
         let at = pairs[2 * i] as usize;
         if at < WORDS {
             after[at] = pairs[2 * i + 1];
         }
-        i += 1;
     }
     after
 }
 
 pub fn stood(m: [u64; WORDS], i: u64, code: u64, first: u64, second: u64) -> [u64; WORDS] {
+    let mut after = m;
     if i < 16 {
-        let at = bounded_text_words::RECORDS + 5 * (i as usize);
-        let coded = bounded_text_words::with(m, at, code);
-        return bounded_text_words::with(
-            bounded_text_words::with(coded, at + 1, first),
-            at + 2,
-            second,
-        );
+        let at = RECORDS + 5 * (i as usize);
+        after[at] = code;
+        after[at + 1] = first;
+        after[at + 2] = second;
     }
-    m
-}
-
-fn made(capacity: u64, workers: u64, edition: u64) -> [u64; WORDS] {
-    let l = bounded_text_faces::make(capacity, workers, edition);
-    let m = l.words;
-    m
-}
-
-fn gone(m: [u64; WORDS], schedule: &[u64]) -> [u64; WORDS] {
-    let l = bounded_text_faces::run(m, schedule);
-    let after = l.words;
     after
 }
 
 fn filled(m: [u64; WORDS]) -> [u64; WORDS] {
     let mut after = m;
-    let mut i = 0;
-    while i < 1024 {
-        after[bounded_text_words::SLOTS + 2 * i] = i as u64 + 1;
-        after[bounded_text_words::SLOTS + 2 * i + 1] = i as u64 + 1000;
-        i += 1;
+    for i in 0..1024 {
+        after[SLOTS + 2 * i] = i as u64 + 1;
+        after[SLOTS + 2 * i + 1] = i as u64 + 1000;
     }
     after
 }
@@ -89,9 +66,9 @@ pub fn after(letter: u8, m: [u64; WORDS], n: &[u64]) -> [u64; WORDS] {
     match letter {
         b'=' => set(m, n),
         b'w' => stood(m, nth(n, 0), nth(n, 1), nth(n, 2), nth(n, 3)),
-        b'm' => made(nth(n, 0), nth(n, 1), nth(n, 2)),
+        b'm' => bounded_text_faces::make(nth(n, 0), nth(n, 1), nth(n, 2)).words,
         b'f' => filled(m),
-        b'g' | b'R' => gone(m, n),
+        b'g' | b'R' => bounded_text_faces::run(m, n).words,
         _ => m,
     }
 }
@@ -110,66 +87,42 @@ fn tell_more(system: &System, letter: u8, m: [u64; WORDS], n: &[u64], label: &[u
 // What a row writes.
 fn tell(system: &System, letter: u8, m: [u64; WORDS], n: &[u64], label: &[u8]) {
     match letter {
-        b'b' => entry::one(
-            system,
-            label,
-            bounded_text_faces::BEGIN,
-            m,
-            nth(n, 0),
-            nth(n, 1),
-        ),
-        b'a' => entry::one(
-            system,
-            label,
-            bounded_text_faces::ACT,
-            m,
-            nth(n, 0),
-            nth(n, 1),
-        ),
-        b's' => entry::one(
-            system,
-            label,
-            bounded_text_faces::STEP,
-            m,
-            nth(n, 0),
-            nth(n, 1),
-        ),
+        b'b' => entry::one(system, label, Call::Begin, m, nth(n, 0), nth(n, 1)),
+        b'a' => entry::one(system, label, Call::Act, m, nth(n, 0), nth(n, 1)),
+        b's' => entry::one(system, label, Call::Step, m, nth(n, 0), nth(n, 1)),
         b'r' => entry::run(system, label, m, n, false),
         b'R' | b'S' => entry::run(system, label, m, n, true),
         _ => tell_more(system, letter, m, n, label),
     }
 }
 
-fn turn(system: &System, h: Hand, cases: &[u8], at: usize) -> Hand {
-    let m = h.words;
+// One row, by the machine in hand.
+fn turn(system: &System, m: &mut [u64; WORDS], cases: &[u8], at: usize) {
     let mut list = [0u64; text_cases::NUMBERS];
     let count = text_cases::numbers(cases, at, &mut list);
     let letter = text_cases::letter(cases, at);
     let n = text_cases::first(&list, count);
-    tell(system, letter, m, n, text_cases::label(cases, at));
-    Hand {
-        words: after(letter, m, n),
-    }
+    tell(system, letter, *m, n, text_cases::label(cases, at));
+    *m = after(letter, *m, n);
 }
 
 // Row after row; answers the machine that is then in hand.
 pub fn play(system: &System, begin: [u64; WORDS], cases: &[u8]) -> [u64; WORDS] {
-    let mut h = Hand { words: begin };
+    let mut m = begin;
     let mut at = 0;
-    let mut turns = cases.len();
-    while turns > 0 && at < cases.len() {
-        h = turn(system, h, cases, at);
+    for _ in 0..cases.len() {
+        if cases.len() <= at {
+            break;
+        }
+        turn(system, &mut m, cases, at);
         at = text_cases::next(cases, at);
-        turns -= 1;
     }
-    let last = h.words;
-    last
+    m
 }
 
 // The rows on standard input, from a machine of zeros on.
 pub fn play_input(system: &System) {
     let mut text = [0u8; 65536];
     let n = text_system::streams::read_full(system, &mut text);
-    let none = [0; WORDS];
-    play(system, none, &text[..n]);
+    play(system, [0; WORDS], &text[..n]);
 }

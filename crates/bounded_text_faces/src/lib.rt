@@ -6,13 +6,14 @@ pub mod machine;
 
 use bounded_machine::{Did, Machine, Ran};
 use bounded_text_words::WORDS;
-use queue_entries::Told;
 
-pub const BEGIN: u64 = 0;
-
-pub const ACT: u64 = 1;
-
-pub const STEP: u64 = 2;
+// What an entry is handed to.
+#[derive(Clone, Copy, PartialEq, Eq)]
+pub enum Call {
+    Begin,
+    Act,
+    Step,
+}
 
 // What a call leaves: the refusal, of a schedule the entry's place, and the machine.
 #[derive(Clone, Copy)]
@@ -42,17 +43,17 @@ pub fn make(capacity: u64, workers: u64, edition: u64) -> Left {
     of_did(bounded::make(capacity, workers, edition))
 }
 
-fn done(which: u64, m: Machine, first: u64, second: u64) -> Did {
-    match which {
-        BEGIN => bounded::begin(m, first, second),
-        ACT => bounded::act(m, first, second),
-        _ => bounded::step(m, first, second),
+fn done(call: Call, m: Machine, first: u64, second: u64) -> Did {
+    match call {
+        Call::Begin => bounded::begin(m, first, second),
+        Call::Act => bounded::act(m, first, second),
+        Call::Step => bounded::step(m, first, second),
     }
 }
 
 // One entry, handed to `begin`, `act` or `step`.
-pub fn enter(which: u64, m: [u64; WORDS], first: u64, second: u64) -> Left {
-    of_did(done(which, machine::read(m), first, second))
+pub fn enter(call: Call, m: [u64; WORDS], first: u64, second: u64) -> Left {
+    of_did(done(call, machine::read(m), first, second))
 }
 
 pub fn run(m: [u64; WORDS], schedule: &[u64]) -> Left {
@@ -63,10 +64,10 @@ pub fn broken(m: [u64; WORDS]) -> bool {
     bounded::broken(machine::read(m))
 }
 
-pub fn capacity(m: [u64; WORDS]) -> Told {
+pub fn capacity(m: [u64; WORDS]) -> Result<u64, u64> {
     bounded::capacity(machine::read(m))
 }
 
-pub fn contents(m: [u64; WORDS], buffer: &mut [u64]) -> Told {
+pub fn contents(m: [u64; WORDS], buffer: &mut [u64]) -> Result<u64, u64> {
     bounded::contents(machine::read(m), buffer)
 }

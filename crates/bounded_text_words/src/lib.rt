@@ -39,22 +39,13 @@ pub fn with(m: [u64; WORDS], i: usize, n: u64) -> [u64; WORDS] {
 
 // Whether two are the same in every word: what a refused call must leave.
 pub fn same(a: [u64; WORDS], b: [u64; WORDS]) -> bool {
-    let mut i = 0;
-    while i < WORDS {
-        if a[i] != b[i] {
-            return false;
-        }
-        i += 1;
-    }
-    true
+    a == b
 }
 
 // A word of a worker's record; 0 where there is no such record.
 pub fn record(m: [u64; WORDS], worker: u64, which: usize) -> u64 {
-    if worker < 16 {
-        if which < 5 {
-            return m[RECORDS + 5 * (worker as usize) + which];
-        }
+    if worker < 16 && which < 5 {
+        return m[RECORDS + 5 * (worker as usize) + which];
     }
     0
 }

@@ -1,64 +1,50 @@
-// What a machine holds, as text in a buffer that the caller lends, as `text_output` has it.
+// What a machine holds, as text, as `text_output` has it.
 use crate::WORDS;
-use queue_entries::Told;
+use text_output::Text;
 use text_system::System;
 
 // Where a worker stands.
-pub fn place(out: &mut [u8], at: usize, w: u64, m: [u64; WORDS]) -> usize {
+pub fn place(text: &mut Text, w: u64, m: [u64; WORDS]) {
     bounded_text_codes::place(
-        out,
-        at,
+        text,
         crate::record(m, w, 0),
         crate::record(m, w, 1),
         crate::record(m, w, 2),
-    )
+    );
 }
 
 // wN=PLACE; "-" where there is no such worker
-pub fn worker(out: &mut [u8], at: usize, w: u64, m: [u64; WORDS]) -> usize {
-    let p = text_output::form(out, at, b"w#=", &[w]);
+pub fn worker(text: &mut Text, w: u64, m: [u64; WORDS]) {
+    text.form("w#=", &[w]);
     if w < m[crate::COUNT] {
-        return place(out, p, w, m);
+        place(text, w, m);
+    } else {
+        text.byte(b'-');
     }
-    text_output::byte(out, p, b'-')
 }
 
 // h=H t=T m=M wN=PLACE
-pub fn standing(out: &mut [u8], at: usize, w: u64, m: [u64; WORDS]) -> usize {
-    let p = text_output::form(out, at, b"h=# t=# m=# ", &m);
-    worker(out, p, w, m)
+pub fn standing(text: &mut Text, w: u64, m: [u64; WORDS]) {
+    text.form("h=# t=# m=# ", &m);
+    worker(text, w, m);
 }
 
 // PLACE R h=H t=T m=M wN=PLACE
-pub fn entry(
-    out: &mut [u8],
-    at: usize,
-    place: u64,
-    refusal: u64,
-    w: u64,
-    m: [u64; WORDS],
-) -> usize {
-    let p = text_output::form(out, at, b"# # ", &[place, refusal]);
-    standing(out, p, w, m)
+pub fn entry(text: &mut Text, place: u64, refusal: u64, w: u64, m: [u64; WORDS]) {
+    text.form("# # ", &[place, refusal]);
+    standing(text, w, m);
 }
 
 // slots (stamp,value) ...
-pub fn slots(system: &System, out: &mut [u8], at: usize, m: [u64; WORDS]) -> usize {
-    let capacity = m[crate::CAPACITY];
-    bounded_text_codes::slots(system, out, at, &m[crate::SLOTS..crate::RECORDS], capacity)
+pub fn slots(system: &System, text: &mut Text, m: [u64; WORDS]) {
+    let slots = &m[crate::SLOTS..crate::RECORDS];
+    bounded_text_codes::slots(system, text, slots, m[crate::CAPACITY]);
 }
 
 // NAME x y ..., or: NAME refused N
-pub fn told(
-    system: &System,
-    out: &mut [u8],
-    at: usize,
-    name: &[u8],
-    list: &[u64],
-    t: Told,
-) -> usize {
+pub fn told(system: &System, text: &mut Text, name: &str, list: &[u64], t: Result<u64, u64>) {
     match t {
-        Told::Number(n) => bounded_text_codes::told(system, out, at, name, list, 0, n),
-        Told::Refused(refusal) => bounded_text_codes::told(system, out, at, name, list, refusal, 0),
+        Ok(n) => bounded_text_codes::told(system, text, name, list, 0, n),
+        Err(refusal) => bounded_text_codes::told(system, text, name, list, refusal, 0),
     }
 }

@@ -12,7 +12,7 @@ use borrow.Author.Tests.{ltb-true, ltb-false, eqb-true, eq-eqb, ne_eqb, lt-ltb, 
 use Rattle.queue_entries.specs.Limits.{workers_most, meter_most, all}
 use Rattle.queue_entries.proofs.Pick.{yes, no, below, above}
 use Rattle.queue_entries.specs.Told.{told}
-use Rattle.queue_entries.specs.declared.Told.TheVariants as told
+use Rattle.std.specs.Prelude.{Ok, Err, Result}
 use Rattle.queue_entries.specs.declared.Entry.{Entry}
 use Rattle.queue_entries.specs.declared.Entry.TheVariants.{Unreadable, Asks}
 use Rattle.queue_entries.specs.declared.Verdict.{Verdict}
@@ -36,8 +36,6 @@ use Rattle.bounded_machine.proofs.Kept.{either, every, Unbroken, unbroken_of, of
 use Rattle.bounded_sequences.specs.declared.State.{State}
 use Rattle.bounded_sequences.specs.Sequences.{walk_of, slots_of, machine_in, walk_from, Sound}
 use Rattle.bounded_walks.proofs.Cutting.{walk_cut, cut_fits}
-use Rattle.bounded_walks.specs.declared.Sized.{Sized}
-use Rattle.bounded_walks.specs.declared.Sized.TheVariants as sized
 use Rattle.bounded_walks.specs.Walks.{all_busy, size_refusal, walk_refusal, walk_told, listed, size_of, number_of, row_of}
 
 -- ---- no entry changes the number of workers
@@ -202,58 +200,58 @@ module _ (slots : List Slot) (value : Bool) (many : length slots ≡ slots_most)
 -- ---- the face
 module _ (m : Machine) (depth : ℕ) where
   module _ (k : ℕ) (e : k ≡ size_refusal m depth) where
-    pub size_refused : (k ≡ 0 → ⊥) → sized.Refused k ≡ size_of m depth
+    pub size_refused : (k ≡ 0 → ⊥) → Err k ≡ size_of m depth
     unfolding size_of
-    size_refused h = ap sized.Refused e ∙ sym (simp (ne_eqb (size_refusal m depth) 0 (λ z. h (e ∙ z))))
+    size_refused h = ap Err e ∙ sym (simp (ne_eqb (size_refusal m depth) 0 (λ z. h (e ∙ z))))
 
-    pub size_told : k ≡ 0 → (r : Walked) → r ≡ counted (walked 0 0) (walk_of depth m) → sized.Sequences r.sequences r.bytes ≡ size_of m depth
+    pub size_told : k ≡ 0 → (r : Walked) → r ≡ counted (walked 0 0) (walk_of depth m) → Ok r ≡ size_of m depth
     unfolding size_of counted
     size_told h r q =
-        ap (λ (x : Walked). sized.Sequences x.sequences x.bytes) q
-        ∙ ap (λ (x : ℕ). sized.Sequences x (0 + length (bytes_of (walk_of depth m)))) (plain (length (walk_of depth m)))
-        ∙ ap (λ (x : ℕ). sized.Sequences (length (walk_of depth m)) x) (plain (length (bytes_of (walk_of depth m))))
+        ap Ok q
+        ∙ ap (λ (x : ℕ). Ok (walked x (0 + length (bytes_of (walk_of depth m))))) (plain (length (walk_of depth m)))
+        ∙ ap (λ (x : ℕ). Ok (walked (length (walk_of depth m)) x)) (plain (length (bytes_of (walk_of depth m))))
         ∙ sym (simp (eq-eqb (size_refusal m depth) 0 (sym e ∙ h)))
       where
         plain : (x : ℕ) → 0 + x ≡ x
         plain x = omega arith
 
   -- what a size tells
-  abbrev Tells : Sized → Type 0
-  Tells (sized.Sequences sequences bytes) = (size_refusal m depth ≡ 0) × ((sequences ≡ length (walk_of depth m)) × (bytes ≡ length (bytes_of (walk_of depth m))))
-  Tells (sized.Refused k) = (k ≡ size_refusal m depth) × (k ≡ 0 → ⊥)
+  abbrev Tells : Result Walked ℕ → Type 0
+  Tells (Ok x) = (size_refusal m depth ≡ 0) × ((x.sequences ≡ length (walk_of depth m)) × (x.bytes ≡ length (bytes_of (walk_of depth m))))
+  Tells (Err k) = (k ≡ size_refusal m depth) × (k ≡ 0 → ⊥)
 
   tells : Tells (size_of m depth)
   unfolding size_of
   tells = by (eqb (size_refusal m depth) 0) refl
     where
-      by : (b : Bool) → eqb (size_refusal m depth) 0 ≡ b → Tells (cond b (sized.Sequences (length (walk_of depth m)) (length (bytes_of (walk_of depth m)))) (sized.Refused (size_refusal m depth)))
+      by : (b : Bool) → eqb (size_refusal m depth) 0 ≡ b → Tells (cond b (Ok (walked (length (walk_of depth m)) (length (bytes_of (walk_of depth m))))) (Err (size_refusal m depth)))
       by true e = (eqb-true (size_refusal m depth) 0 e, (refl, refl))
       by false e = (refl, λ z. true≢false (sym (eq-eqb (size_refusal m depth) 0 z) ∙ e))
 
   -- a buffer of as many bytes is long enough
-  pub told_fits : (sequences bytes : ℕ) → size_of m depth ≡ sized.Sequences sequences bytes → walk_refusal m depth bytes ≡ 0
+  pub told_fits : (sequences bytes : ℕ) → size_of m depth ≡ Ok (walked sequences bytes) → walk_refusal m depth bytes ≡ 0
   unfolding walk_refusal
   told_fits sequences bytes h =
       let t = subst Tells h tells in
       let enough : length (bytes_of (walk_of depth m)) ≤ bytes = omega (arith, t.1.1) in
       simp (eq-eqb (size_refusal m depth) 0 t.0, le-ltb bytes (length (bytes_of (walk_of depth m))) enough)
 
-  module _ (r : Sized) (e : r ≡ size_of m depth) where
-    pub told_refused : (k : ℕ) → r ≡ sized.Refused k → (buffer : List ℕ) → (told.Refused k ≡ walk_told m depth buffer) × (buffer ≡ listed m depth buffer)
+  module _ (r : Result Walked ℕ) (e : r ≡ size_of m depth) where
+    pub told_refused : (k : ℕ) → r ≡ Err k → (buffer : List ℕ) → (Err k ≡ walk_told m depth buffer) × (buffer ≡ listed m depth buffer)
     unfolding walk_refusal told listed
     told_refused k h buffer =
         let t = subst Tells (sym e ∙ h) tells in
         let off = ne_eqb (size_refusal m depth) 0 (λ z. t.1 (t.0 ∙ z)) in
-        (ap told.Refused t.0 ∙ sym (simp off), sym (simp off))
+        (ap Err t.0 ∙ sym (simp off), sym (simp off))
 
-    module _ (sequences bytes : ℕ) (h : r ≡ sized.Sequences sequences bytes) where
-      known : Tells (sized.Sequences sequences bytes)
+    module _ (found : Walked) (h : r ≡ Ok found) where
+      known : Tells (Ok found)
       known = subst Tells (sym e ∙ h) tells
 
       pub told_ok : size_refusal m depth ≡ 0
       told_ok = known.0
 
-      pub told_short : (buffer : List ℕ) → length buffer < bytes → (told.Refused 22 ≡ walk_told m depth buffer) × (buffer ≡ listed m depth buffer)
+      pub told_short : (buffer : List ℕ) → length buffer < found.bytes → (Err 22 ≡ walk_told m depth buffer) × (buffer ≡ listed m depth buffer)
       unfolding walk_refusal told listed
       told_short buffer l =
           let less : length buffer < length (bytes_of (walk_of depth m)) = subst (λ (x : ℕ). length buffer < x) known.1.1 l in (
@@ -261,14 +259,14 @@ module _ (m : Machine) (depth : ℕ) where
             sym (simp (eq-eqb (size_refusal m depth) 0 known.0, lt-ltb (length buffer) (length (bytes_of (walk_of depth m))) less)),
           )
 
-      pub told_listed : (buffer after-it : List ℕ) (x : Walked) → bytes ≤ length buffer → x ≡ counted (walked 0 0) (walk_of depth m) → after-it ≡ sets buffer 0 (bytes_of (walk_of depth m))
-          → (told.Number x.sequences ≡ walk_told m depth buffer) × (after-it ≡ listed m depth buffer)
+      pub told_listed : (buffer after-it : List ℕ) (x : Walked) → found.bytes ≤ length buffer → x ≡ counted (walked 0 0) (walk_of depth m) → after-it ≡ sets buffer 0 (bytes_of (walk_of depth m))
+          → (Ok x.sequences ≡ walk_told m depth buffer) × (after-it ≡ listed m depth buffer)
       unfolding walk_refusal told listed counted
       told_listed buffer after-it x l q w =
           let enough : length (bytes_of (walk_of depth m)) ≤ length buffer = subst (λ (y : ℕ). y ≤ length buffer) known.1.1 l in
           let on = eq-eqb (size_refusal m depth) 0 known.0 in
           let off = le-ltb (length buffer) (length (bytes_of (walk_of depth m))) enough in (
-            ap (λ (y : Walked). told.Number y.sequences) q ∙ ap told.Number (plain (length (walk_of depth m))) ∙ sym (simp (on, off)),
+            ap (λ (y : Walked). Ok y.sequences) q ∙ ap Ok (plain (length (walk_of depth m))) ∙ sym (simp (on, off)),
             w ∙ sets-eq (bytes_of (walk_of depth m)) buffer 0 (omega arith)
                 ∙ ap (λ (y : ℕ). bytes_of (walk_of depth m) ++ drop y buffer) (plain (length (bytes_of (walk_of depth m)))) ∙ sym (simp (on, off)),
           )

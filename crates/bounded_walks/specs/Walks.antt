@@ -1,18 +1,16 @@
 -- "Walk them all", item 10 of document 02: when a walk is refused, what it answers and what it leaves in the buffer.
-use Rattle.std.specs.Prelude.{ℕ, ◌-◌, Bool, cond, List, ◌++◌, map, ltb, eqb, length, drop}
+use Rattle.std.specs.Prelude.{ℕ, ◌-◌, Bool, cond, List, ◌++◌, map, ltb, eqb, length, drop, Result, Ok, Err}
 use Rattle.queue_entries.specs.Limits.{meter_most, all}
 use Rattle.queue_entries.specs.Told.{told}
-use Rattle.queue_entries.specs.declared.Told.{Told}
 use Rattle.queue_walks.specs.Walks.{walkers_most, depth_most}
-use Rattle.queue_walks.specs.Listed.{bytes_of}
+use Rattle.queue_walks.specs.declared.Walked.{Walked}
+use Rattle.queue_walks.specs.Listed.{bytes_of, walked}
 use Rattle.bounded_places.specs.declared.Slot.{Slot}
 use Rattle.bounded_places.specs.Places.{view_of}
 use Rattle.bounded_machine.specs.declared.Machine.{Machine}
 use Rattle.bounded_machine.specs.Machine.{place_of}
 use Rattle.bounded_machine.specs.Broken.{broken_of}
 use Rattle.bounded_sequences.specs.Sequences.{walk_of}
-use Rattle.bounded_walks.specs.declared.Sized.{Sized}
-use Rattle.bounded_walks.specs.declared.Sized.TheVariants as sized
 
 -- each with its call under way
 unfoldable pub all_busy : Machine → Bool
@@ -32,7 +30,7 @@ walk_refusal m depth room =
     cond (eqb (size_refusal m depth) 0) (cond (ltb room (length (bytes_of (walk_of depth m)))) 22 0) (size_refusal m depth)
 
 -- The number of sequences is the answer; the rest of the buffer is untouched.
-abbrev pub walk_told : Machine → ℕ → List ℕ → Told
+abbrev pub walk_told : Machine → ℕ → List ℕ → Result ℕ ℕ
 walk_told m depth buffer = told (walk_refusal m depth (length buffer)) (length (walk_of depth m))
 
 unfoldable pub listed : Machine → ℕ → List ℕ → List ℕ
@@ -40,9 +38,9 @@ listed m depth buffer =
     cond (eqb (walk_refusal m depth (length buffer)) 0) (bytes_of (walk_of depth m) ++ drop (length (bytes_of (walk_of depth m))) buffer) buffer
 
 -- Beside it, without a buffer: how many sequences, and in how many bytes.
-unfoldable pub size_of : Machine → ℕ → Sized
+unfoldable pub size_of : Machine → ℕ → Result Walked ℕ
 size_of m depth =
-    cond (eqb (size_refusal m depth) 0) (sized.Sequences (length (walk_of depth m)) (length (bytes_of (walk_of depth m)))) (sized.Refused (size_refusal m depth))
+    cond (eqb (size_refusal m depth) 0) (Ok (walked (length (walk_of depth m)) (length (bytes_of (walk_of depth m))))) (Err (size_refusal m depth))
 
 -- The slots as two rows of numbers: their values, and their stamps.
 abbrev pub number_of : Bool → Slot → ℕ

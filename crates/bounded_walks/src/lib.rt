@@ -14,15 +14,7 @@ use bounded_machine::Machine;
 use bounded_places::{Ends, Slot, Worker};
 use bounded_sequences::State;
 use bounded_words::Fixed;
-use queue_entries::Told;
 use queue_walks::Walked;
-
-// How many sequences in how many bytes, or the number of the refusal.
-#[derive(Clone, Copy)]
-pub enum Sized {
-    Sequences(u64, u64),
-    Refused(u64),
-}
 
 fn all_busy(m: Machine) -> bool
     requires { m.count ≤ workers_most }
@@ -30,14 +22,10 @@ fn all_busy(m: Machine) -> bool
 {
     let workers = m.workers;
     let count = m.count as usize;
-    let mut i = 0;
-    while i < count {
+    for i in 0..count {
         let worker = workers[i];
-        let p = worker.place;
-        let view = bounded_places::view_of(p);
-        if view.busy {
-            i += 1;
-        } else {
+        let view = bounded_places::view_of(worker.place);
+        if !view.busy {
             return false;
         }
     }
@@ -54,7 +42,7 @@ fn acts_left(meter: u64) -> u64
     }
 }
 
-// Order: 6, 19, 20, 21; 0 where it is not refused.
+// Order: 6, 19, 20, 21; 0 where it is not refused, as `size_refusal` of specs/Walks.antt has it.
 fn refusal_of(m: Machine, depth: u64) -> u64
     ensures { result ≡ size_refusal m depth }
 {
@@ -67,7 +55,7 @@ fn refusal_of(m: Machine, depth: u64) -> u64
     if (queue_walks::DEPTH as u64) < depth {
         return 19;
     }
-    if all_busy(m) {} else {
+    if !all_busy(m) {
         return 20;
     }
     if acts_left(m.meter) < depth {
@@ -79,8 +67,7 @@ fn refusal_of(m: Machine, depth: u64) -> u64
 fn number_of(slot: Slot, value: bool) -> u64
     ensures { result ≡ number_of value slot }
 {
-    let stamp = slot.stamp;
-    if value { slot.value } else { stamp.0 }
+    if value { slot.value } else { slot.stamp.0 }
 }
 
 // One row of the slots' numbers: their values, or their stamps.
@@ -88,10 +75,8 @@ fn row_of(slots: [Slot; bounded_words::SLOTS], value: bool) -> [u64; bounded_wor
     ensures { result ≡ row_of value slots }
 {
     let mut row = [0; bounded_words::SLOTS];
-    let mut i = 0;
-    while i < bounded_words::SLOTS {
+    for i in 0..bounded_words::SLOTS {
         row[i] = number_of(slots[i], value);
-        i += 1;
     }
     row
 }
@@ -115,18 +100,8 @@ fn walk_into(m: Machine, depth: u64, out: &mut [u8]) -> Walked
     ensures lent { out.new ≡ sets out.old 0 (bytes_of (walk_of depth m)) }
 {
     let ring = m.ring;
-    let f = Fixed {
-        mark: ring.mark,
-        lap: ring.lap,
-        capacity: ring.capacity,
-        edition: ring.edition,
-    };
-    let head = ring.head;
-    let tail = ring.tail;
-    let e = Ends {
-        head: head,
-        tail: tail,
-    };
+    let f = ring.fixed();
+    let e = ring.ends();
     let slots = ring.slots;
     let records = m.workers;
     let workers = first_records(records);
@@ -136,7 +111,7 @@ fn walk_into(m: Machine, depth: u64, out: &mut [u8]) -> Walked
         State {
             fixed: f,
             ends: e,
-            workers: workers,
+            workers,
             count: m.count,
             meter: m.meter,
         },
@@ -154,32 +129,27 @@ fn walk_into(m: Machine, depth: u64, out: &mut [u8]) -> Walked
 }
 
 // The number of sequences and of bytes, for a host that lends a buffer that fits.
-pub fn size(m: Machine, depth: u64) -> Sized
+pub fn size(m: Machine, depth: u64) -> Result<Walked, u64>
     ensures { result ≡ size_of m depth }
 {
     let refusal = refusal_of(m, depth);
     if refusal == 0 {
         let mut none = [0u8; 1];
-        let told = walk_into(m, depth, &mut none);
-        Sized::Sequences(told.sequences, told.bytes as u64)
+        Ok(walk_into(m, depth, &mut none))
     } else {
-        Sized::Refused(refusal)
+        Err(refusal)
     }
 }
 
 // The list, written at the buffer's start.
-pub fn walk(m: Machine, depth: u64, buffer: &mut [u8]) -> Told
+pub fn walk(m: Machine, depth: u64, buffer: &mut [u8]) -> Result<u64, u64>
     ensures answer { result ≡ walk_told m depth buffer.old }
     ensures lent { buffer.new ≡ listed m depth buffer.old }
 {
-    match size(m, depth) {
-        Sized::Refused(refusal) => Told::Refused(refusal),
-        Sized::Sequences(sequences, bytes) => {
-            if (buffer.len() as u64) < bytes {
-                return Told::Refused(22);
-            }
-            let told = walk_into(m, depth, buffer);
-            Told::Number(told.sequences)
-        }
+    let sized = size(m, depth)?;
+    if buffer.len() < sized.bytes {
+        return Err(22);
     }
+    let told = walk_into(m, depth, buffer);
+    Ok(told.sequences)
 }

@@ -81,10 +81,10 @@ pub later_is : (bits : Width) (w r : Stamp) (by sum : ℕ) → sum ≡ (w.0 + by
 unfolding plus
 later_is bits w r by sum s e = e ∙ ap stamp (rw s (narrow_sum bits w.0 by))
 
-narrow_less : (bits : Width) (r a b : ℕ) → (r + b) % wide ≡ a → r % width_of bits ≡ (a + (width_of bits - b % width_of bits)) % width_of bits
-narrow_less Sixteen r a b e = omega arith
-narrow_less SixtyFour r a b e = omega arith
+narrow_less : (bits : Width) (r a b : ℕ) → b < wide → r ≡ (a + (wide - b)) % wide → r % width_of bits ≡ (a + (width_of bits - b % width_of bits)) % width_of bits
+narrow_less Sixteen r a b l e = omega arith
+narrow_less SixtyFour r a b l e = omega arith
 
-pub earlier_is : (bits : Width) (w r : Stamp) (by left : ℕ) → (left + by) % wide ≡ w.0 → r ≡ stamp (left % width_of bits) → r ≡ minus bits w by
+pub earlier_is : (bits : Width) (w r : Stamp) (by left : ℕ) → by < wide → left ≡ (w.0 + (wide - by)) % wide → r ≡ stamp (left % width_of bits) → r ≡ minus bits w by
 unfolding minus
-earlier_is bits w r by left s e = e ∙ ap stamp (narrow_less bits left w.0 by s)
+earlier_is bits w r by left l s e = e ∙ ap stamp (narrow_less bits left w.0 by l s)

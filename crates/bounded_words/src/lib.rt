@@ -6,15 +6,15 @@ ghost use Rattle.bounded_words.specs.Limits.{slots_most};
 ghost use Rattle.bounded_words.specs.Words.{Fair, Indexed, stamp, width_of, lap_of, mark_of, marked_of, next_of, plus, minus, unmarked_of, with_mark, same, one_past, lap_behind, lap_behind_one_past};
 
 // A word of head, of tail or of a slot: a lap, the mark and an index in one number.
-#[derive(Clone, Copy)]
+#[derive(Clone, Copy, PartialEq, Eq)]
 pub struct Stamp(pub u64);
 
 // The number of a claim: the k-th move of tail, or of head, since the machine was made.
-#[derive(Clone, Copy)]
+#[derive(Clone, Copy, PartialEq, Eq)]
 pub struct Claim(pub u64);
 
 // How wide the words of a ring are. It is no part of a machine: which face is called says it.
-#[derive(Clone, Copy)]
+#[derive(Clone, Copy, PartialEq, Eq)]
 pub enum Width {
     Sixteen,
     SixtyFour,
@@ -46,7 +46,7 @@ pub fn mark_of(capacity: u64) -> u64
     ensures { result ≡ mark_of capacity }
 {
     let least = capacity + 1;
-    1 << (64 - u64::leading_zeros(least - 1))
+    1 << (64 - (least - 1).leading_zeros())
 }
 
 // "its part below mark"
@@ -71,13 +71,13 @@ fn cut(bits: Width, sum: u64) -> Stamp
 pub fn later(bits: Width, w: Stamp, by: u64) -> Stamp
     ensures { result ≡ plus bits w by }
 {
-    cut(bits, std::num::wrapping_add_u64(w.0, by))
+    cut(bits, w.0.wrapping_add(by))
 }
 
 pub fn earlier(bits: Width, w: Stamp, by: u64) -> Stamp
     ensures { result ≡ minus bits w by }
 {
-    cut(bits, std::num::wrapping_sub_u64(w.0, by))
+    cut(bits, w.0.wrapping_sub(by))
 }
 
 pub fn next(bits: Width, f: Fixed, w: Stamp) -> Stamp
@@ -119,29 +119,24 @@ pub fn with_mark(bits: Width, f: Fixed, w: Stamp) -> Stamp
     }
 }
 
-pub fn same_word(a: Stamp, b: Stamp) -> bool
-    ensures { result ≡ same a b }
-{
-    a.0 == b.0
-}
-
 // s = h + 1
+#[tactic(auto, unfolding(crate::specs::Words::one_past, crate::specs::Words::same))]
 pub fn one_past(bits: Width, s: Stamp, h: Stamp) -> bool
     ensures { result ≡ one_past bits s h }
 {
-    let n = later(bits, h, 1);
-    s.0 == n.0
+    s == later(bits, h, 1)
 }
 
 // h + lap = t
+#[tactic(auto, unfolding(crate::specs::Words::lap_behind, crate::specs::Words::same))]
 pub fn lap_behind(bits: Width, f: Fixed, h: Stamp, t: Stamp) -> bool
     ensures { result ≡ lap_behind bits f h t }
 {
-    let m = later(bits, h, f.lap);
-    m.0 == t.0
+    later(bits, h, f.lap) == t
 }
 
 // s + lap = t + 1
+#[tactic(auto, unfolding(crate::specs::Words::lap_behind_one_past))]
 pub fn lap_behind_one_past(bits: Width, f: Fixed, s: Stamp, t: Stamp) -> bool
     ensures { result ≡ lap_behind_one_past bits f s t }
 {
@@ -149,11 +144,12 @@ pub fn lap_behind_one_past(bits: Width, f: Fixed, s: Stamp, t: Stamp) -> bool
 }
 
 // The unmarked part of t is h.
+#[tactic(auto, unfolding(crate::specs::Words::same))]
 pub fn unmarked_is(f: Fixed, t: Stamp, h: Stamp) -> bool
     requires { Fair f }
     ensures { result ≡ same (unmarked_of f t) h }
 {
-    same_word(unmarked(f, t), h)
+    unmarked(f, t) == h
 }
 
 // h + lap is the unmarked part of t.

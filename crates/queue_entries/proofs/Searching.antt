@@ -10,8 +10,7 @@ use borrow.Author.Tests.{eq-eqb, ne_eqb}
 use Rattle.queue_entries.specs.declared.Order.{Order}
 use Rattle.queue_entries.specs.declared.Entry.{Entry}
 use Rattle.queue_entries.specs.declared.Entry.TheVariants.{Unreadable, Asks}
-use Rattle.queue_entries.specs.declared.Finding.{Finding}
-use Rattle.queue_entries.specs.declared.Finding.TheVariants.{AllRead, UnreadableAt}
+use Rattle.std.specs.Prelude.{Option, Some, None}
 use Rattle.queue_entries.specs.Entries.{entry_of, entry_but}
 use Rattle.queue_entries.specs.Schedules.{stops_at, search_by}
 
@@ -24,25 +23,25 @@ two_words s i l =
     ∙ ap (λ (r : List ℕ). get_or s (2 * i) 0 ∷ r)
     (ap (λ (k : ℕ). drop k s) a ∙ drop-cons s (2 * i + 1) 0 l ∙ ap (λ (k : ℕ). get_or s (2 * i + 1) 0 ∷ drop k s) b)
 
-module _ (reading : ℕ → ℕ → Entry) (s : List ℕ) (n i : ℕ) (whole : Finding) (back : search_by reading i (drop (2 * i) s) ≡ whole) (half : n ≡ length s / 2) where
+module _ (reading : ℕ → ℕ → Entry) (s : List ℕ) (n i : ℕ) (whole : Option ℕ) (back : search_by reading i (drop (2 * i) s) ≡ whole) (half : n ≡ length s / 2) where
   module _ (lt : i < n) (x : Entry) (ex : x ≡ reading (get_or s (2 * i) 0) (get_or s (2 * i + 1) 0)) where
     here : stops_at i x (search_by reading (i + 1) (drop (2 * (i + 1)) s)) ≡ whole
     unfolding search_by
     here = ap (λ (z : Entry). stops_at i z (search_by reading (i + 1) (drop (2 * (i + 1)) s))) ex ∙ sym (ap (search_by reading i) (two_words s i (omega arith))) ∙ back
 
-    pub search_stops : x ≡ Unreadable → UnreadableAt i ≡ whole
+    pub search_stops : x ≡ Unreadable → Some i ≡ whole
     search_stops h = sym (ap (λ (z : Entry). stops_at i z (search_by reading (i + 1) (drop (2 * (i + 1)) s))) h) ∙ here
 
     pub search_goes : (w : ℕ) (o : Order) → x ≡ Asks w o → search_by reading (i + 1) (drop (2 * (i + 1)) s) ≡ whole
     search_goes w o h = sym (ap (λ (z : Entry). stops_at i z (search_by reading (i + 1) (drop (2 * (i + 1)) s))) h) ∙ here
 
-  short : (l : List ℕ) → length l ≤ 1 → search_by reading i l ≡ AllRead
+  short : (l : List ℕ) → length l ≤ 1 → search_by reading i l ≡ None
   unfolding search_by
   short [] e = refl
   short (a ∷ []) e = refl
   short (a ∷ b ∷ l) e = absurd (omega arith)
 
-  pub search_ends : n ≤ i → AllRead ≡ whole
+  pub search_ends : n ≤ i → None ≡ whole
   search_ends ge = sym (short (drop (2 * i) s) (omega (arith, length-drop (2 * i) s))) ∙ back
 
 pub is_barred : (barred first second : ℕ) → first % 16 ≡ barred → Unreadable ≡ entry_but barred first second

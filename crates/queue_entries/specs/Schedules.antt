@@ -1,21 +1,19 @@
 -- "Schedules" of document 01, over any queue's machine: entries one after another, stopping at the first refusal; and the search of item 7
 -- of document 02, which comes before the first entry.
-use Rattle.std.specs.Prelude.{ℕ, ◌+◌, ◌%◌, Bool, cond, List, [], ◌∷◌, ◌++◌, eqb, length}
+use Rattle.std.specs.Prelude.{ℕ, ◌+◌, ◌%◌, Bool, cond, List, [], ◌∷◌, ◌++◌, eqb, length, Option, Some, None}
 use Rattle.queue_entries.specs.declared.Entry.{Entry}
 use Rattle.queue_entries.specs.declared.Entry.TheVariants.{Unreadable, Asks}
-use Rattle.queue_entries.specs.declared.Finding.{Finding}
-use Rattle.queue_entries.specs.declared.Finding.TheVariants.{AllRead, UnreadableAt}
 use Rattle.queue_entries.specs.Entries.{entry_of}
 
 -- Where a search stops: at an entry that can't be read.
-abbrev pub stops_at : ℕ → Entry → Finding → Finding
-stops_at place Unreadable later = UnreadableAt place
+abbrev pub stops_at : ℕ → Entry → Option ℕ → Option ℕ
+stops_at place Unreadable later = Some place
 stops_at place (Asks worker order) later = later
 
 -- The search for refusal 9, by a queue's reading of two words: the first such place, the first of these entries being at this place.
-unfoldable pub search_by : (ℕ → ℕ → Entry) → ℕ → List ℕ → Finding
-search_by reading place [] = AllRead
-search_by reading place (first ∷ []) = AllRead
+unfoldable pub search_by : (ℕ → ℕ → Entry) → ℕ → List ℕ → Option ℕ
+search_by reading place [] = None
+search_by reading place (first ∷ []) = None
 search_by reading place (first ∷ second ∷ rest) = stops_at place (reading first second) (search_by reading (place + 1) rest)
 
 -- A machine M; what an entry gives, D, with its refusal (0 is none) and the machine after it; what an entry of two words makes of a machine.
@@ -32,9 +30,9 @@ module _ {M D : Type 0} (refusal : D → ℕ) (machine : D → M) (turn : M → 
         (ran (refusal (turn m first second)) place m)
 
     -- If the search finds one, nothing is run.
-    abbrev pub searched : M → List ℕ → Finding → R
-    searched m s AllRead = run_by m 0 s
-    searched m s (UnreadableAt place) = ran 9 place m
+    abbrev pub searched : M → List ℕ → Option ℕ → R
+    searched m s None = run_by m 0 s
+    searched m s (Some place) = ran 9 place m
 
     -- Order: schedule 6, 11, 9, then entry by entry (6 and 11 of the whole: place 0).
     unfoldable pub schedule_by : (M → Bool) → (ℕ → ℕ → Entry) → M → List ℕ → R

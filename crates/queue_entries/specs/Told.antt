@@ -1,8 +1,6 @@
 -- Where an answer is a number or a refusal.
-use Rattle.std.specs.Prelude.{ℕ, cond, eqb}
-use Rattle.queue_entries.specs.declared.Told.{Told}
-use Rattle.queue_entries.specs.declared.Told.TheVariants.{Number, Refused}
+use Rattle.std.specs.Prelude.{ℕ, cond, eqb, Result, Ok, Err}
 
 -- The answer that this paper's number and value stand for: refusal 0 is none.
-unfoldable pub told : ℕ → ℕ → Told
-told number value = cond (eqb number 0) (Number value) (Refused number)
+unfoldable pub told : ℕ → ℕ → Result ℕ ℕ
+told number value = cond (eqb number 0) (Ok value) (Err number)

@@ -11,17 +11,11 @@ pub const WORKERS: usize = 16;
 
 pub const METER: u64 = 4294967295;
 
+#[tactic(auto, unfolding(crate::specs::Limits::in_limits))]
 pub fn in_limits(n: u64, most: u64) -> bool
     ensures { result ≡ in_limits n most }
 {
-    if n == 0 { false } else { n <= most }
-}
-
-// A number that was asked for, or the number of the refusal.
-#[derive(Clone, Copy)]
-pub enum Told {
-    Number(u64),
-    Refused(u64),
+    n != 0 && n <= most
 }
 
 // The eight calls, with the item of the two that have one.
@@ -68,10 +62,11 @@ fn call_of(code: u64, item: u64) -> Call
 }
 
 // An item where none may be.
+#[tactic(auto, unfolding(crate::specs::Entries::stray_of))]
 fn stray(code: u64, item: u64) -> bool
     ensures { result ≡ stray_of code item }
 {
-    if 1 < code { item != 0 } else { false }
+    1 < code && item != 0
 }
 
 // "First = 16 × worker + code; second = item."
@@ -90,14 +85,6 @@ pub fn entry_of(first: u64, second: u64) -> Entry
     }
 }
 
-// What the search of a schedule for refusal 9 finds.
-#[derive(Clone, Copy)]
-pub enum Finding {
-    AllRead,
-    // the place of the first entry that can't be read
-    UnreadableAt(usize),
-}
-
 // As a queue reads them that has no call of this code.
 pub fn entry_but(barred: u64, first: u64, second: u64) -> Entry
     ensures { result ≡ entry_but barred first second }
@@ -108,23 +95,21 @@ pub fn entry_but(barred: u64, first: u64, second: u64) -> Entry
     entry_of(first, second)
 }
 
-pub fn search_but(barred: u64, schedule: &[u64]) -> Finding
+// The search of a schedule for refusal 9: the place of the first entry that can't be read.
+pub fn search_but(barred: u64, schedule: &[u64]) -> Option<usize>
     ensures { result ≡ search_by (entry_but barred) 0 schedule.now }
 {
     let n = schedule.len() / 2;
-    let mut i = 0;
-    while i < n {
-        let Entry::Asks(worker, order) = entry_but(barred, schedule[2 * i], schedule[2 * i + 1])
-        else {
-            return Finding::UnreadableAt(i);
+    for i in 0..n {
+        let Entry::Asks(_, _) = entry_but(barred, schedule[2 * i], schedule[2 * i + 1]) else {
+            return Some(i);
         };
-        i += 1;
     }
-    Finding::AllRead
+    None
 }
 
 // No code is 16: every call is there.
-pub fn search(schedule: &[u64]) -> Finding
+pub fn search(schedule: &[u64]) -> Option<usize>
     ensures { result ≡ search_by entry_of 0 schedule.now }
 {
     search_but(16, schedule)
@@ -143,29 +128,12 @@ pub fn verdict_for(meter: u64, busy: bool, weak: bool, o: Order) -> Verdict
     ensures { result ≡ verdict_for meter busy weak o }
 {
     match o {
-        Order::Begin(c) => {
-            if busy {
-                Verdict::Refuse(4)
-            } else {
-                Verdict::Start(c)
-            }
-        }
-        Order::Act(lose) => {
-            if busy {} else {
-                return Verdict::Refuse(5);
-            }
-            if METER <= meter {
-                return Verdict::Refuse(7);
-            }
-            if lose {
-                if weak {
-                    Verdict::Move(true)
-                } else {
-                    Verdict::Refuse(8)
-                }
-            } else {
-                Verdict::Move(false)
-            }
-        }
+        Order::Begin(_) if busy => Verdict::Refuse(4),
+        Order::Begin(c) => Verdict::Start(c),
+        Order::Act(_) if !busy => Verdict::Refuse(5),
+        Order::Act(_) if METER <= meter => Verdict::Refuse(7),
+        Order::Act(false) => Verdict::Move(false),
+        Order::Act(true) if weak => Verdict::Move(true),
+        Order::Act(true) => Verdict::Refuse(8),
     }
 }

@@ -5,8 +5,7 @@ use mathlib.Core.Bool.{cond}
 use lib.Dec.{eqb}
 use borrow.Author.Tests.{eqb-true, ne_eqb}
 use native.Mathlib.Decide.{ℕ_discrete}
-use Rattle.queue_entries.specs.declared.Told.{Told}
-use Rattle.queue_entries.specs.declared.Told.TheVariants.{Number, Refused}
+use Rattle.std.specs.Prelude.{Result, Ok, Err}
 use Rattle.queue_entries.specs.Told.{told}
 use Rattle.queue_schedules.proofs.Schedules.{either}
 use Rattle.queue_numbers.specs.Answers.{BothWays, number_in, value_in}
@@ -26,14 +25,14 @@ module _ {A B : Type 0} (refused : ℕ → A) (plain : B → A) (number : A → 
         refused_only = λ n v ne. simp (ne_eqb n 0 ne);
       }
 
-pub told_both_ways : BothWays Refused number_in value_in told
+pub told_both_ways : BothWays Err number_in value_in told
 unfolding told
-told_both_ways = both_ways Refused Number number_in value_in (λ v. refl) (λ v. refl) (λ n. refl) answer
+told_both_ways = both_ways Err Ok number_in value_in (λ v. refl) (λ v. refl) (λ n. refl) answer
   where
-    answer : (a : Told) → (a ≡ Refused 0 → ⊥) → cond (eqb (number_in a) 0) (Number (value_in a)) (Refused (number_in a)) ≡ a
-    answer (Number value) ne = refl
-    answer (Refused n) ne = go (ℕ_discrete n 0)
+    answer : (a : Result ℕ ℕ) → (a ≡ Err 0 → ⊥) → cond (eqb (number_in a) 0) (Ok (value_in a)) (Err (number_in a)) ≡ a
+    answer (Ok value) ne = refl
+    answer (Err n) ne = go (ℕ_discrete n 0)
       where
-        go : Dec (n ≡ 0) → cond (eqb n 0) (Number 0) (Refused n) ≡ Refused n
-        go (yes e) = absurd (ne (ap Refused e))
+        go : Dec (n ≡ 0) → cond (eqb n 0) (Ok (value_in (Err n))) (Err n) ≡ Err n
+        go (yes e) = absurd (ne (ap Err e))
         go (no ne') = simp (ne_eqb n 0 ne')

@@ -1,16 +1,14 @@
 -- Where an answer is an enum: document 01's number of each case, 0 where it is no refusal, and its values; and the case of a number and values.
-use Rattle.std.specs.Prelude.{ℕ, ◌≡◌}
-use Rattle.queue_entries.specs.declared.Told.{Told}
-use Rattle.queue_entries.specs.declared.Told.TheVariants.{Number, Refused}
+use Rattle.std.specs.Prelude.{ℕ, ◌≡◌, Result, Ok, Err}
 
 -- Of an answer that is a number or a refusal. The way back, which the promises use, is `told` of crate queue_entries.
-abbrev pub number_in : Told → ℕ
-number_in (Number value) = 0
-number_in (Refused number) = number
+abbrev pub number_in : Result ℕ ℕ → ℕ
+number_in (Ok value) = 0
+number_in (Err number) = number
 
-abbrev pub value_in : Told → ℕ
-value_in (Number value) = value
-value_in (Refused number) = 0
+abbrev pub value_in : Result ℕ ℕ → ℕ
+value_in (Ok value) = value
+value_in (Err number) = 0
 
 -- Both ways, of answers A with values B: they are inverse to each other. A refusal by 0 is none, and no function gives it.
 pub record BothWays {A B : Type 0} (refused : ℕ → A) (number : A → ℕ) (values : A → B) (back : ℕ → B → A) : Type 0 where

@@ -10,8 +10,7 @@ use lib.ListN.{length, take, length-take}
 use borrow.Author.Tests.{ne_eqb, eq-eqb, eqb-true, eqb-false}
 use Rattle.queue_entries.specs.declared.Entry.{Entry}
 use Rattle.queue_entries.specs.declared.Entry.TheVariants.{Unreadable}
-use Rattle.queue_entries.specs.declared.Finding.{Finding}
-use Rattle.queue_entries.specs.declared.Finding.TheVariants.{AllRead, UnreadableAt}
+use Rattle.std.specs.Prelude.{Option, Some, None}
 use Rattle.queue_entries.specs.Schedules.{run_by, search_by, searched, schedule_by}
 use Rattle.queue_schedules.specs.Reading.{Readable}
 use Rattle.queue_schedules.proofs.Searching.{search_read, search_first, read_search, readable_part, found_one}
@@ -159,15 +158,15 @@ module _ {M D R : Type 0} (q : Queue M D R) where
         schedule_odd o = simp (e, eq-eqb _ _ o)
 
         module _ (o : length s % 2 ≡ 1 → ⊥) where
-          schedule_searched : (f : Finding) → search_by q.reading 0 s ≡ f → schedule_in m s ≡ searched q.refusal q.machine q.turn q.ran m s f
+          schedule_searched : (f : Option ℕ) → search_by q.reading 0 s ≡ f → schedule_in m s ≡ searched q.refusal q.machine q.turn q.ran m s f
           unfolding schedule_by
           schedule_searched f h = simp (e, ne_eqb _ _ o, h)
 
-          pub schedule_found : (k : ℕ) → search_by q.reading 0 s ≡ UnreadableAt k → schedule_in m s ≡ q.ran 9 k m
-          schedule_found k = schedule_searched (UnreadableAt k)
+          pub schedule_found : (k : ℕ) → search_by q.reading 0 s ≡ Some k → schedule_in m s ≡ q.ran 9 k m
+          schedule_found k = schedule_searched (Some k)
 
-          pub schedule_none : search_by q.reading 0 s ≡ AllRead → schedule_in m s ≡ run_in m 0 s
-          schedule_none = schedule_searched AllRead
+          pub schedule_none : search_by q.reading 0 s ≡ None → schedule_in m s ≡ run_in m 0 s
+          schedule_none = schedule_searched None
 
           pub schedule_read : Readable q.reading s → schedule_in m s ≡ run_in m 0 s
           schedule_read h = schedule_none (search_read q.reading s 0 h)
@@ -176,23 +175,23 @@ module _ {M D R : Type 0} (q : Queue M D R) where
         → length before ≡ 2 * k → Readable q.reading before → q.reading a b ≡ Unreadable → schedule_in m (before ++ a ∷ b ∷ rest) ≡ q.ran 9 k m
     schedule_first m before k a b rest e even l h u =
         let z : 0 + k ≡ k = omega arith in
-        schedule_found m (before ++ a ∷ b ∷ rest) e (λ z. omega arith) k (search_first q.reading before 0 k a b rest l h u ∙ ap UnreadableAt z)
+        schedule_found m (before ++ a ∷ b ∷ rest) e (λ z. omega arith) k (search_first q.reading before 0 k a b rest l h u ∙ ap Some z)
 
     -- which of the four it is
     pub data Ways (m : M) (s : List ℕ) : Type 0 where
       is_broken : broken m ≡ true → Ways m s
       is_odd : broken m ≡ false → length s % 2 ≡ 1 → Ways m s
-      is_unread : broken m ≡ false → (length s % 2 ≡ 1 → ⊥) → (k : ℕ) → search_by q.reading 0 s ≡ UnreadableAt k → Ways m s
-      is_read : broken m ≡ false → (length s % 2 ≡ 1 → ⊥) → search_by q.reading 0 s ≡ AllRead → Ways m s
+      is_unread : broken m ≡ false → (length s % 2 ≡ 1 → ⊥) → (k : ℕ) → search_by q.reading 0 s ≡ Some k → Ways m s
+      is_read : broken m ≡ false → (length s % 2 ≡ 1 → ⊥) → search_by q.reading 0 s ≡ None → Ways m s
 
     pub way : (m : M) (s : List ℕ) → Ways m s
     way m s = go (broken m) refl (dec_lt 0 (length s % 2)) (search_by q.reading 0 s) refl
       where
-        go : (b : Bool) → broken m ≡ b → Dec (0 < length s % 2) → (f : Finding) → search_by q.reading 0 s ≡ f → Ways m s
+        go : (b : Bool) → broken m ≡ b → Dec (0 < length s % 2) → (f : Option ℕ) → search_by q.reading 0 s ≡ f → Ways m s
         go true e d f h = is_broken e
         go false e (yes l) f h = is_odd e (omega arith)
-        go false e (no l) AllRead h = is_read e (λ o. omega arith) h
-        go false e (no l) (UnreadableAt k) h = is_unread e (λ o. omega arith) k h
+        go false e (no l) None h = is_read e (λ o. omega arith) h
+        go false e (no l) (Some k) h = is_unread e (λ o. omega arith) k h
 
     -- what holds of a machine as it was, whatever the refusal and place, and of the entries' run, holds of the schedule
     by_way : (P : R → Type 0) (m : M) (s : List ℕ) → ((n k : ℕ) → n ≤ 11 → P (q.ran n k m)) → P (run_in m 0 s) → P (schedule_in m s)
@@ -269,6 +268,6 @@ module _ {M D R : Type 0} (q : Queue M D R) where
             let w = run_halt m 0 a b [] t in
             (ap q.refusal_in w ∙ q.refusal_is _ 0 m, ap q.machine_in w ∙ q.machine_is _ 0 m ∙ sym (q.kept m a b (eqb-false _ 0 t)))
 
-        find : (f : Finding) → search_by q.reading 0 (a ∷ b ∷ []) ≡ f → One (schedule_in m (a ∷ b ∷ []))
-        find AllRead h = subst One (sym (schedule_none m (a ∷ b ∷ []) e (λ z. omega arith) h)) (go (taken m a b) refl)
-        find (UnreadableAt k) h = subst One (sym (schedule_found m (a ∷ b ∷ []) e (λ z. omega arith) k h)) (by_9 k (found_one q.reading a b k h))
+        find : (f : Option ℕ) → search_by q.reading 0 (a ∷ b ∷ []) ≡ f → One (schedule_in m (a ∷ b ∷ []))
+        find None h = subst One (sym (schedule_none m (a ∷ b ∷ []) e (λ z. omega arith) h)) (go (taken m a b) refl)
+        find (Some k) h = subst One (sym (schedule_found m (a ∷ b ∷ []) e (λ z. omega arith) k h)) (by_9 k (found_one q.reading a b k h))

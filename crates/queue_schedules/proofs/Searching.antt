@@ -6,17 +6,16 @@ use native.Mathlib.Omega.{arith}
 use lib.ListN.{length, take}
 use Rattle.queue_entries.specs.declared.Entry.{Entry}
 use Rattle.queue_entries.specs.declared.Entry.TheVariants.{Unreadable, Asks}
-use Rattle.queue_entries.specs.declared.Finding.{Finding}
-use Rattle.queue_entries.specs.declared.Finding.TheVariants.{AllRead, UnreadableAt}
+use Rattle.std.specs.Prelude.{Option, Some, None}
 use Rattle.queue_entries.specs.Schedules.{stops_at, search_by}
 use Rattle.queue_schedules.specs.Reading.{Readable}
 
 module _ (reading : ℕ → ℕ → Entry) where
-  goes_on : (i : ℕ) (x : Entry) (later : Finding) → (x ≡ Unreadable → ⊥) → stops_at i x later ≡ later
+  goes_on : (i : ℕ) (x : Entry) (later : Option ℕ) → (x ≡ Unreadable → ⊥) → stops_at i x later ≡ later
   goes_on i Unreadable later h = absurd (h refl)
   goes_on i (Asks w o) later h = refl
 
-  pub search_read : (s : List ℕ) (i : ℕ) → Readable reading s → search_by reading i s ≡ AllRead
+  pub search_read : (s : List ℕ) (i : ℕ) → Readable reading s → search_by reading i s ≡ None
   unfolding search_by
   search_read [] i h = refl
   search_read (a ∷ []) i h = refl
@@ -24,23 +23,23 @@ module _ (reading : ℕ → ℕ → Entry) where
 
   -- the first that can't be read is found, and its place
   pub search_first : (before : List ℕ) (i k a b : ℕ) (rest : List ℕ) → length before ≡ 2 * k → Readable reading before → reading a b ≡ Unreadable
-      → search_by reading i (before ++ a ∷ b ∷ rest) ≡ UnreadableAt (i + k)
+      → search_by reading i (before ++ a ∷ b ∷ rest) ≡ Some (i + k)
   unfolding search_by
   search_first [] i k a b rest l h u =
       let z : i ≡ i + k = omega arith in
-      ap (λ (x : Entry). stops_at i x (search_by reading (i + 1) rest)) u ∙ ap UnreadableAt z
+      ap (λ (x : Entry). stops_at i x (search_by reading (i + 1) rest)) u ∙ ap Some z
   search_first (c ∷ []) i k a b rest l h u = absurd (omega arith)
   search_first (c ∷ d ∷ before) i zero a b rest l h u = absurd (omega arith)
   search_first (c ∷ d ∷ before) i (suc k) a b rest l h u =
       let z : i + 1 + k ≡ i + suc k = omega arith in
       goes_on i (reading c d) (search_by reading (i + 1) (before ++ a ∷ b ∷ rest)) h.0
-      ∙ search_first before (i + 1) k a b rest (omega arith) h.1 u ∙ ap UnreadableAt z
+      ∙ search_first before (i + 1) k a b rest (omega arith) h.1 u ∙ ap Some z
 
-  never : {k : ℕ} → UnreadableAt k ≡ AllRead → ⊥
+  never : {k : ℕ} → Some k ≡ None → ⊥
   never e = let q : ◌≡◌ {A = ℕ} 0 1 = cc in omega arith
 
   -- nothing found: all can be read
-  pub read_search : (s : List ℕ) (i : ℕ) → search_by reading i s ≡ AllRead → Readable reading s
+  pub read_search : (s : List ℕ) (i : ℕ) → search_by reading i s ≡ None → Readable reading s
   unfolding search_by
   read_search [] i e = tt
   read_search (a ∷ []) i e = tt
@@ -56,10 +55,10 @@ module _ (reading : ℕ → ℕ → Entry) where
   readable_part (a ∷ b ∷ s) (suc k) h = let z : suc (suc (2 * k)) ≡ 2 * suc k = omega arith in rw (← z) (h.0, readable_part s k h.1)
 
   -- of one entry: it can't be read
-  pub found_one : (a b k : ℕ) → search_by reading 0 (a ∷ b ∷ []) ≡ UnreadableAt k → reading a b ≡ Unreadable
+  pub found_one : (a b k : ℕ) → search_by reading 0 (a ∷ b ∷ []) ≡ Some k → reading a b ≡ Unreadable
   unfolding search_by
   found_one a b k e = go (reading a b) e
     where
-      go : (x : Entry) → stops_at 0 x AllRead ≡ UnreadableAt k → x ≡ Unreadable
+      go : (x : Entry) → stops_at 0 x None ≡ Some k → x ≡ Unreadable
       go Unreadable h = refl
       go (Asks w o) h = absurd (never (sym h))

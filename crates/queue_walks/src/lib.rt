@@ -38,10 +38,8 @@ fn put(out: &mut [u8], at: usize, path: [u8; DEPTH], n: usize)
         return;
     }
     store(out, at, n as u8);
-    let mut i = 0;
-    while i < n {
+    for i in 0..n {
         store(out, at + 1 + i, path[i]);
-        i += 1;
     }
 }
 
@@ -52,10 +50,9 @@ pub fn list(out: &mut [u8], told: Walked, path: [u8; DEPTH], n: usize) -> Walked
     ensures answer { result ≡ counted told (take n path ∷ []) }
     ensures lent { out.new ≡ sets out.old told.bytes (bytes_of (take n path ∷ [])) }
 {
-    let at = told.bytes;
-    put(out, at, path, n);
+    put(out, told.bytes, path, n);
     Walked {
         sequences: told.sequences + 1,
-        bytes: at + 1 + n,
+        bytes: told.bytes + 1 + n,
     }
 }

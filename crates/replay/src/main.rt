@@ -11,10 +11,10 @@ use text_system::files::Flow;
 
 // Each answers the status of the program.
 
-// The file that the argument names.
-fn run_file(system: &System, o: Options) -> u8 {
+// The file that this argument names.
+fn run_file(system: &System, o: Options, argument: usize) -> u8 {
     let mut path = [0u8; 4096];
-    let n = text_system::arguments::read(system, o.file, &mut path);
+    let n = text_system::arguments::read(system, argument, &mut path);
     if text_system::why(system) != 0 {
         text_system::fail(system, b"replay");
         return replay_many::UNREADABLE;
@@ -22,14 +22,14 @@ fn run_file(system: &System, o: Options) -> u8 {
     match text_system::files::open(system, &path[..n]) {
         Some(file) => run_from(system, o, Flow::Of(file), &path[..n]),
         None => {
-            replay_input::say::fail(system, b"replay", &path[..n]);
+            replay_input::say::fail(system, "replay", &path[..n]);
             replay_many::UNREADABLE
         }
     }
 }
 
 fn run_from(system: &System, o: Options, from: Flow, name: &[u8]) -> u8 {
-    match replay_input::source::kept(system, b"replay", from, name) {
+    match replay_input::source::kept(system, "replay", from, name) {
         Some(kept) => {
             let status = many::run_all(system, o, &kept, name);
             replay_input::source::release(kept);
@@ -39,30 +39,24 @@ fn run_from(system: &System, o: Options, from: Flow, name: &[u8]) -> u8 {
     }
 }
 
+fn told(system: &System, is_whole: bool) -> u8 {
+    replay_many::status_of(system, "replay", replay_many::DONE, is_whole)
+}
+
 fn run(system: &System, o: Options) -> u8 {
     if o.help {
-        return replay_many::status_of(
-            system,
-            b"replay",
-            replay_many::DONE,
-            replay_options::help(system),
-        );
+        return told(system, replay_options::help(system));
     }
     if o.version {
-        return replay_many::status_of(
-            system,
-            b"replay",
-            replay_many::DONE,
-            text_options::version(system, b"replay"),
-        );
+        return told(system, text_options::version(system, "replay"));
     }
     if o.wrong {
         return replay_many::UNREADABLE;
     }
-    if o.file != 0 {
-        return run_file(system, o);
+    match o.file {
+        Some(argument) => run_file(system, o, argument),
+        None => run_from(system, o, Flow::Standard, b"standard input"),
     }
-    run_from(system, o, Flow::Standard, b"standard input")
 }
 
 fn main(rt: HostRuntime) -> ExitCode {

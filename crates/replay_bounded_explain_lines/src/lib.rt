@@ -4,4 +4,3 @@
 
 pub mod lines;
 pub mod notes;
-pub mod words;

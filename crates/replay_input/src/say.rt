@@ -1,182 +1,147 @@
 // What goes wrong with the input or the output, as one line on standard error that begins with the program's name.
-use crate::source::Reading;
+use crate::source::{Ended, Reading, to_offset};
+use std::fmt::Write;
 use std::fs::File;
+use text_numbers::Stop;
+use text_output::{Loss, Text, put};
 use text_system::System;
-use text_words::line::Words;
-
-fn out(system: &System, text: &[u8], n: usize) {
-    if n <= text.len() {
-        text_system::streams::put_error(system, &text[..n]);
-    }
-}
 
 // The room of a line that has a name.
 pub const LINE: usize = text_names::ROOM + 512;
 
-fn with_reason(system: &System, text: &[u8], n: usize) {
-    if n <= text.len() {
-        text_system::fail(system, &text[..n]);
-    }
-}
-
 // PROGRAM: NAME
-fn named(text: &mut [u8], program: &[u8], name: &[u8]) -> usize {
-    let o = text_output::text(text, 0, program);
-    let p = text_output::text(text, o, b": ");
-    text_names::shown(text, p, name)
+fn named(text: &mut Text, program: &str, name: &[u8]) {
+    put!(text, "{program}: ");
+    text_names::shown(text, name);
 }
 
 // PROGRAM: WHAT: and the system's words for it; just after the call that failed
-pub fn fail(system: &System, program: &[u8], what: &[u8]) {
-    let mut text = [0u8; LINE];
-    let n = named(&mut text, program, what);
-    with_reason(system, &text, n);
+pub fn fail(system: &System, program: &str, what: &[u8]) {
+    let mut room = [0u8; LINE];
+    let mut text = Text::new(&mut room);
+    named(&mut text, program, what);
+    text_system::fail(system, text.as_bytes());
 }
 
 // PROGRAM: NAME and what is said of it
-pub fn of_name(system: &System, program: &[u8], name: &[u8], what: &[u8]) {
-    let mut text = [0u8; LINE];
-    let n = named(&mut text, program, name);
-    let p = text_output::text(&mut text, n, what);
-    out(system, &text, p);
+pub fn of_name(system: &System, program: &str, name: &[u8], what: &str) {
+    let mut room = [0u8; LINE];
+    let mut text = Text::new(&mut room);
+    named(&mut text, program, name);
+    text.text(what);
+    text_system::streams::put_error(system, text.as_bytes());
 }
 
 // Says that a write to this file has failed; nobody is left to be told of a pipe that was closed.
-pub fn unwritten(system: &System, program: &[u8], what: &[u8]) {
+pub fn unwritten(system: &System, program: &str, what: &[u8]) {
     if text_system::why(system) != text_system::CLOSED_PIPE {
         fail(system, program, what);
     }
 }
 
 // Of what went to standard output, just after it: says so where not all of it did, and answers whether all did.
-pub fn is_written(system: &System, program: &[u8], whole: bool) -> bool {
-    if whole {
-        return true;
+pub fn is_written(system: &System, program: &str, whole: bool) -> bool {
+    if !whole {
+        unwritten(system, program, b"standard output");
     }
-    unwritten(system, program, b"standard output");
-    false
+    whole
 }
 
-// Of an input that was read again, as a place of text says it (source::checked): says so where it could not be, or was not what it was, and answers whether all is well.
-pub fn is_read(system: &System, program: &[u8], name: &[u8], at: usize) -> bool {
-    match at {
-        crate::source::UNREAD => {
+// Of an input that was read again for this text: says so where it could not be, or was not what it was, and answers whether all is well.
+pub fn is_read(system: &System, program: &str, name: &[u8], text: &Text) -> bool {
+    match text.loss() {
+        Some(Loss::Unread) => {
             fail(system, program, name);
             false
         }
-        crate::source::CHANGED => {
+        Some(Loss::Changed) => {
             changed(system, program, name);
             false
         }
-        _ => true,
+        Some(Loss::Unwritten) | None => true,
     }
 }
 
-pub fn changed(system: &System, program: &[u8], name: &[u8]) {
-    of_name(system, program, name, b": changed while it was read\n");
+pub fn changed(system: &System, program: &str, name: &[u8]) {
+    of_name(system, program, name, ": changed while it was read\n");
 }
 
-// PROGRAM: NAME: line L, column C:
-fn place(text: &mut [u8], program: &[u8], name: &[u8], line: u64, column: u64) -> usize {
-    let q = named(text, program, name);
-    text_output::form(text, q, b": line #, column #: ", &[line, column])
-}
-
+// PROGRAM: NAME: line L, column C: what is wrong there, and what else is said of it
 fn fault(
     system: &System,
-    program: &[u8],
+    program: &str,
     name: &[u8],
     line: u64,
     column: u64,
-    what: &[u8],
-    h: &[u8],
-    k: usize,
+    what: &str,
+    hint: &str,
 ) {
-    let mut text = [0u8; LINE];
-    let r = place(&mut text, program, name, line, column);
-    let s = text_output::text(&mut text, r, what);
-    let t = text_output::nth(&mut text, s, h, k, &[]);
-    let u = text_output::byte(&mut text, t, b'\n');
-    out(system, &text, u);
+    let mut room = [0u8; LINE];
+    let mut text = Text::new(&mut room);
+    named(&mut text, program, name);
+    put!(text, ": line {line}, column {column}: {what}{hint}\n");
+    text_system::streams::put_error(system, text.as_bytes());
 }
 
-// Of a word that is none of those that may stand there, or is missing.
-fn unexpected(system: &System, program: &[u8], name: &[u8], r: Reading, h: &[u8], k: usize) {
-    let mut text = [0u8; LINE];
-    let scan = r.scan;
-    let p = place(&mut text, program, name, scan.line, scan.start);
-    let s = text_words::line::expected(&mut text, p, r.words);
-    let t = text_output::nth(&mut text, s, h, k, &[]);
-    let u = text_output::byte(&mut text, t, b'\n');
-    out(system, &text, u);
+// What a program may say besides: of a mark where none is read, of a tape, of a schedule without a capacity.
+#[derive(Clone, Copy)]
+pub struct Hints {
+    pub mark: &'static str,
+    pub tape: &'static str,
+    pub no_capacity: &'static str,
 }
 
-// What a program may say besides, by their places in a list of its own: nothing; of a mark; of a tape; of a schedule without a capacity.
-const NO_HINT: usize = 0;
-
-const MARK: usize = 1;
-
-const TAPE: usize = 2;
-
-const NO_CAPACITY: usize = 3;
-
-// The byte that the word at fault begins with; 0: there is none, or the input's end is at fault.
-fn first_byte(system: &System, file: &File, r: Reading) -> u8 {
-    let scan = r.scan;
+// The byte that the word at fault begins with; none where the input's end is at fault.
+fn first_byte(system: &System, file: &File, r: &Reading) -> Option<u8> {
+    let scan = r.words.scan;
     let mut byte = [0u8; 1];
-    let long = std::num::wrapping_sub_u64(scan.column, scan.start);
-    let at = std::num::wrapping_sub_u64(std::num::wrapping_sub_u64(r.offset, 1), long);
-    text_system::files::read_at(system, file, &mut byte, crate::source::to_offset(at));
-    byte[0]
+    let long = scan.column.wrapping_sub(scan.start);
+    let at = r.offset.wrapping_sub(1).wrapping_sub(long);
+    match text_system::files::read_at(system, file, &mut byte, to_offset(at)) {
+        Ok(1) => Some(byte[0]),
+        _ => None,
+    }
 }
 
 // A mark where none is read, a tape's first tag, or workers where the capacity should be.
-fn hint(system: &System, file: &File, many: bool, r: Reading, numbers: u64) -> usize {
-    let scan = r.scan;
-    let b = first_byte(system, file, r);
-    let is_tag = b == 1 || b == 129;
+fn hint(
+    system: &System,
+    file: &File,
+    many: bool,
+    r: &Reading,
+    numbers: u64,
+    hints: Hints,
+) -> &'static str {
+    let scan = r.words.scan;
+    let first = first_byte(system, file, r);
     if scan.start != 1 {
-        return NO_HINT;
+        return "";
     }
-    if b == b'%' && !many {
-        return MARK;
+    match first {
+        Some(b'%') if !many => hints.mark,
+        Some(1 | 129) if scan.line == 1 => hints.tape,
+        Some(b'w') if numbers == 0 => hints.no_capacity,
+        _ => "",
     }
-    if is_tag && scan.line == 1 {
-        return TAPE;
-    }
-    if b == b'w' && numbers == 0 {
-        return NO_CAPACITY;
-    }
-    NO_HINT
 }
 
 // What is missing, where the text ends.
-fn missing(system: &System, program: &[u8], name: &[u8], r: Reading, what: &[u8]) -> bool {
-    let scan = r.scan;
-    fault(
-        system,
-        program,
-        name,
-        scan.line,
-        scan.column,
-        what,
-        b"",
-        NO_HINT,
-    );
-    false
+fn missing(numbers: u64) -> Option<&'static str> {
+    match numbers {
+        0 => Some("the capacity is missing"),
+        1 => Some("the number of workers is missing"),
+        _ => None,
+    }
 }
 
-fn is_whole(system: &System, program: &[u8], name: &[u8], r: Reading, numbers: u64) -> bool {
-    match numbers {
-        0 => missing(system, program, name, r, b"the capacity is missing"),
-        1 => missing(
-            system,
-            program,
-            name,
-            r,
-            b"the number of workers is missing",
-        ),
-        _ => true,
+fn is_whole(system: &System, program: &str, name: &[u8], r: &Reading, numbers: u64) -> bool {
+    match missing(numbers) {
+        Some(what) => {
+            let scan = r.words.scan;
+            fault(system, program, name, scan.line, scan.column, what, "");
+            false
+        }
+        None => true,
     }
 }
 
@@ -184,62 +149,46 @@ fn is_whole(system: &System, program: &[u8], name: &[u8], r: Reading, numbers: u
 // the program's hints.
 pub fn is_sound(
     system: &System,
-    program: &[u8],
+    program: &str,
     name: &[u8],
     file: &File,
     many: bool,
-    r: Reading,
+    r: &Reading,
     numbers: u64,
-    h: &[u8],
+    hints: Hints,
 ) -> bool {
-    let scan = r.scan;
-    let event = r.event;
-    match event {
-        crate::source::FAILED => {
+    let what = match r.ended {
+        Some(Ended::Failed) => {
             fail(system, program, name);
-            false
+            return false;
         }
-        text_numbers::NO_NUMBER => {
-            let k = hint(system, file, many, r, numbers);
-            let what = b"not an unsigned decimal number";
-            fault(system, program, name, scan.line, scan.start, what, h, k);
-            false
-        }
-        text_words::line::UNEXPECTED => {
-            unexpected(
-                system,
-                program,
-                name,
-                r,
-                h,
-                hint(system, file, many, r, numbers),
-            );
-            false
-        }
-        text_numbers::TOO_LARGE => {
-            let what = b"a number that does not fit 64 bits";
-            fault(
-                system, program, name, scan.line, scan.start, what, h, NO_HINT,
-            );
-            false
-        }
-        _ => is_whole(system, program, name, r, numbers),
-    }
+        Some(Ended::Stop(Stop::NoNumber)) => "not an unsigned decimal number",
+        Some(Ended::Stop(Stop::Unexpected)) => r.words.expected(),
+        Some(Ended::Stop(Stop::TooLarge)) => "a number that does not fit 64 bits",
+        _ => return is_whole(system, program, name, r, numbers),
+    };
+    let besides = if r.ended == Some(Ended::Stop(Stop::TooLarge)) {
+        ""
+    } else {
+        hint(system, file, many, r, numbers, hints)
+    };
+    let scan = r.words.scan;
+    fault(system, program, name, scan.line, scan.start, what, besides);
+    false
 }
 
 const STRIDE: u64 = 1000000;
 
 // Entries run before a piece and after it: told to a terminal, now and then. Where the text is lost nothing is asked of the system, so
 // that it still says why at the end.
-pub fn progress(system: &System, before: u64, after: u64, at: usize) {
-    if crate::source::is_lost(at) {
-        return;
-    }
-    if before / STRIDE != after / STRIDE {
-        if text_system::streams::is_error_terminal(system) {
-            let mut text = [0u8; 64];
-            let p = text_output::form(&mut text, 0, b"# entries\n", &[after]);
-            out(system, &text, p);
-        }
+pub fn progress(system: &System, before: u64, after: u64, text: &Text) {
+    if !text.is_lost()
+        && before / STRIDE != after / STRIDE
+        && text_system::streams::is_error_terminal(system)
+    {
+        let mut room = [0u8; 64];
+        let mut line = Text::new(&mut room);
+        put!(line, "{after} entries\n");
+        text_system::streams::put_error(system, line.as_bytes());
     }
 }

@@ -9,40 +9,35 @@ pub const FILENO: u64 = 3;
 // As a program that the system's signal for a pipe that nobody reads has ended: 128, and the signal's number.
 const UNREAD: u8 = 141;
 
-// Who asks: the process that started this one, and on which descriptor; 0: nobody.
+// Who asks: the process that started this one, and on which descriptor, if one asks.
 #[derive(Clone, Copy)]
 pub struct Starter {
     pub process: u32,
-    pub descriptor: u64,
+    pub descriptor: Option<u64>,
     // what is opened later and has that number is no starter's
     hears: bool,
 }
 
-fn as_descriptor(number: u64) -> u64 {
-    if number < 1048576 { number } else { 0 }
-}
-
 // Asked on this descriptor, or by nobody: 0.
 pub fn asking(system: &System, descriptor: u64) -> Starter {
-    let number = as_descriptor(descriptor);
+    let asks = 0 < descriptor && descriptor < 1048576;
     Starter {
         process: text_system::process::parent(system),
-        descriptor: number,
-        hears: number != 0 && text_system::descriptors::may_write(system, number),
+        descriptor: if asks { Some(descriptor) } else { None },
+        hears: asks && text_system::descriptors::may_write(system, descriptor),
     }
 }
 
 // Whether a starter that asked has ended meanwhile.
 pub fn is_gone(system: &System, starter: Starter) -> bool {
-    if starter.descriptor == 0 {
-        return false;
-    }
-    text_system::process::parent(system) != starter.process
+    starter.descriptor.is_some() && text_system::process::parent(system) != starter.process
 }
 
 fn hears(system: &System, starter: Starter, bytes: &[u8]) {
-    if starter.hears {
-        text_system::descriptors::write(system, starter.descriptor, bytes);
+    if let Some(descriptor) = starter.descriptor {
+        if starter.hears {
+            text_system::descriptors::write(system, descriptor, bytes);
+        }
     }
 }
 
@@ -65,12 +60,4 @@ pub fn ending(system: &System, starter: Starter, status: u8) -> ExitCode {
         return ExitCode::from(UNREAD);
     }
     ExitCode::SUCCESS
-}
-
-// The number of a descriptor in an argument, read as the numbers of a schedule are; 0: it is none.
-pub fn number_in(word: &[u8]) -> u64 {
-    let mut numbers = [0u64; 2];
-    let piece = text_numbers::read_piece(text_numbers::start(1), false, word, &mut numbers, 0);
-    let end = text_numbers::read_piece(piece.scan, false, b"\n", &mut numbers, piece.count);
-    if end.count == 1 { numbers[0] } else { 0 }
 }

@@ -1,60 +1,46 @@
 // The arguments of replay.
 #![tactic(auto)]
 
-use text_options::{Arguments, MOST};
+use text_options::{Arguments, Known, Wanted};
 use text_system::System;
 
 // The queues that replay knows, as --queue has them.
-pub const BOUNDED: u64 = 0;
+#[derive(Clone, Copy, PartialEq, Eq)]
+pub enum Queue {
+    Bounded,
+    Single,
+    Unbounded,
+}
 
-pub const SINGLE: u64 = 1;
-
-pub const UNBOUNDED: u64 = 2;
-
-// The options in the order of the table.
-const QUEUE: usize = 0;
-
-const EDITION: usize = 1;
-
-const BITS: usize = 2;
-
-const FOLLOW: usize = 3;
-
-const LENT: usize = 4;
-
-const QUIET: usize = 5;
-
-const CAUSES: usize = 6;
-
-const MOMENTS: usize = 7;
-
-const LOSSES: usize = 8;
-
-const STOCK: usize = 9;
-
-const SUMMARY: usize = 10;
-
-const MANY: usize = 11;
-
-const WORDS: usize = 12;
-
-const EXPLAIN: usize = 13;
-
-const TAPE: usize = 14;
-
-const HELP: usize = 15;
-
-const TELLS: usize = 16;
-
-const SHORT_HELP: usize = 17;
-
-const VERSION: usize = 18;
-
-const TELLS_ON: usize = 19;
+const TABLE: &[Known] = &[
+    (
+        "--queue",
+        Wanted::OneOf(&["bounded", "single", "unbounded"]),
+    ),
+    ("--edition", Wanted::Number),
+    ("--bits", Wanted::OneOf(&["64", "16"])),
+    ("--follow", Wanted::Number),
+    ("--lent", Wanted::Nothing),
+    ("--quiet", Wanted::Nothing),
+    ("--causes", Wanted::Nothing),
+    ("--moments", Wanted::Nothing),
+    ("--losses", Wanted::Nothing),
+    ("--stock", Wanted::Nothing),
+    ("--summary", Wanted::Nothing),
+    ("--many", Wanted::Nothing),
+    ("--words-of", Wanted::Nothing),
+    ("--explain", Wanted::Nothing),
+    ("--tape", Wanted::Nothing),
+    ("--help", Wanted::Nothing),
+    ("--tell-status", Wanted::Nothing),
+    ("-h", Wanted::Nothing),
+    ("--version", Wanted::Nothing),
+    ("--tell-status-on", Wanted::Number),
+];
 
 #[derive(Clone, Copy)]
 pub struct Options {
-    pub queue: u64,
+    pub queue: Queue,
     // handed to making as it stands
     pub edition: u64,
     // head, tail and stamps have sixteen bits, and not 64
@@ -81,95 +67,108 @@ pub struct Options {
     pub version: bool,
     // the starter asks for the status on this descriptor; 0: nobody asks
     pub tells_on: u64,
-    // the number of the argument that names the file; 0: standard input
-    pub file: usize,
+    // the number of the argument that names the file; None: standard input
+    pub file: Option<usize>,
     // an argument is wrong, and that was said
     pub wrong: bool,
 }
 
-// An edition, a width, lent records, causes, moments, losses or a stock are of no use to a queue that has none. Lent records are of 64 bits; moments are kept for sixteen
-// workers.
-fn of_queue(a: Arguments) -> Arguments {
-    let values = a.values;
-    let queue = values[QUEUE];
-    let ring = [EDITION, BITS, LENT, CAUSES, MOMENTS, LOSSES, STOCK];
-    let b = text_options::clashes(a, QUEUE, &ring, queue != BOUNDED);
-    let c = text_options::clashes(b, QUEUE, &[SUMMARY], queue == UNBOUNDED);
-    let d = text_options::clashes(c, BITS, &[LENT], values[BITS] == 1);
-    text_options::clashes(d, LENT, &[MOMENTS], text_options::is_given(d, LENT))
-}
-
-// Where a schedule is only told in words there is no run, and where a run is told in plain words there are no lines in numbers.
-fn of_words(a: Arguments) -> Arguments {
-    let run = [EDITION, BITS, LENT, EXPLAIN];
-    let lines = [QUIET, CAUSES, MOMENTS, LOSSES, STOCK, SUMMARY];
-    let words = text_options::is_given(a, WORDS);
-    let b = text_options::clashes(a, WORDS, &run, words);
-    let c = text_options::clashes(b, WORDS, &lines, words);
-    let d = text_options::clashes(c, EXPLAIN, &lines, text_options::is_given(c, EXPLAIN));
-    text_options::needs(d, FOLLOW, EXPLAIN)
-}
-
-// Without a line for each entry, what is asked of them is counted at the end, or nowhere.
-fn of_quiet(a: Arguments) -> Arguments {
-    let b = text_options::clashes(a, QUIET, &[MOMENTS], text_options::is_given(a, QUIET));
-    let c = text_options::needs_beside(b, CAUSES, QUIET, SUMMARY);
-    let d = text_options::needs_beside(c, LOSSES, QUIET, SUMMARY);
-    text_options::needs_beside(d, STOCK, QUIET, SUMMARY)
-}
-
-// Standard input is read where no file is named.
-fn judged(a: Arguments) -> Arguments {
-    of_quiet(of_words(of_queue(text_options::useless(a, a.dash, a.dash != 0))))
-}
-
-fn edition_of(at: usize, value: u64) -> u64 {
-    if at == 0 { 1 } else { value }
-}
-
-fn is_wrong(a: Arguments) -> bool {
-    let w = a.wrong;
-    w.kind != 0
-}
-
-fn options_of(a: Arguments) -> Options {
-    let at = a.at;
-    let values = a.values;
-    let names = a.names;
-    Options {
-        queue: values[QUEUE],
-        edition: edition_of(at[EDITION], values[EDITION]),
-        narrow: values[BITS] == 1,
-        lent: at[LENT] != 0,
-        quiet: at[QUIET] != 0,
-        causes: at[CAUSES] != 0,
-        moments: at[MOMENTS] != 0,
-        losses: at[LOSSES] != 0,
-        stock: at[STOCK] != 0,
-        summary: at[SUMMARY] != 0,
-        many: at[MANY] != 0,
-        words: at[WORDS] != 0,
-        explain: at[EXPLAIN] != 0,
-        follow: at[FOLLOW] != 0,
-        item: values[FOLLOW],
-        tape: at[TAPE] != 0,
-        help: at[HELP] != 0 || at[SHORT_HELP] != 0,
-        version: at[VERSION] != 0,
-        tells_on: if at[TELLS] != 0 { 3 } else { values[TELLS_ON] },
-        file: names[0],
-        wrong: is_wrong(a),
+fn queue_of(a: &Arguments) -> Queue {
+    match a.value("--queue") {
+        Some(1) => Queue::Single,
+        Some(2) => Queue::Unbounded,
+        _ => Queue::Bounded,
     }
 }
 
-// Says what is wrong, unless help or the version is asked for.
+fn is_narrow(a: &Arguments) -> bool {
+    a.value("--bits") == Some(1)
+}
+
+// An edition, a width, lent records, causes, moments, losses or a stock are of no use to a queue that has none. Lent records are of 64 bits; moments are kept for sixteen
+// workers.
+fn judge_queue(a: &mut Arguments) {
+    let queue = queue_of(a);
+    let ring = [
+        "--edition",
+        "--bits",
+        "--lent",
+        "--causes",
+        "--moments",
+        "--losses",
+        "--stock",
+    ];
+    a.clashes("--queue", &ring, queue != Queue::Bounded);
+    a.clashes("--queue", &["--summary"], queue == Queue::Unbounded);
+    a.clashes("--bits", &["--lent"], is_narrow(a));
+    a.clashes("--lent", &["--moments"], a.is_given("--lent"));
+}
+
+// Where a schedule is only told in words there is no run, and where a run is told in plain words there are no lines in numbers.
+fn judge_words(a: &mut Arguments) {
+    let run = ["--edition", "--bits", "--lent", "--explain"];
+    let lines = [
+        "--quiet",
+        "--causes",
+        "--moments",
+        "--losses",
+        "--stock",
+        "--summary",
+    ];
+    a.clashes("--words-of", &run, a.is_given("--words-of"));
+    a.clashes("--words-of", &lines, a.is_given("--words-of"));
+    a.clashes("--explain", &lines, a.is_given("--explain"));
+    a.needs("--follow", "--explain");
+}
+
+// Without a line for each entry, what is asked of them is counted at the end, or nowhere.
+fn judge_quiet(a: &mut Arguments) {
+    a.clashes("--quiet", &["--moments"], a.is_given("--quiet"));
+    a.needs_beside("--causes", "--quiet", "--summary");
+    a.needs_beside("--losses", "--quiet", "--summary");
+    a.needs_beside("--stock", "--quiet", "--summary");
+}
+
+fn options_of(a: &Arguments) -> Options {
+    Options {
+        queue: queue_of(a),
+        edition: a.value("--edition").unwrap_or(1),
+        narrow: is_narrow(a),
+        lent: a.is_given("--lent"),
+        quiet: a.is_given("--quiet"),
+        causes: a.is_given("--causes"),
+        moments: a.is_given("--moments"),
+        losses: a.is_given("--losses"),
+        stock: a.is_given("--stock"),
+        summary: a.is_given("--summary"),
+        many: a.is_given("--many"),
+        words: a.is_given("--words-of"),
+        explain: a.is_given("--explain"),
+        follow: a.is_given("--follow"),
+        item: a.value("--follow").unwrap_or(0),
+        tape: a.is_given("--tape"),
+        help: a.is_given("--help") || a.is_given("-h"),
+        version: a.is_given("--version"),
+        tells_on: if a.is_given("--tell-status") {
+            3
+        } else {
+            a.value("--tell-status-on").unwrap_or(0)
+        },
+        file: a.name(0),
+        wrong: a.is_wrong(),
+    }
+}
+
+// Says what is wrong, unless help or the version is asked for. Standard input is read where no file is named.
 pub fn read(system: &System) -> Options {
-    let table =
-        b"--queue=bounded,single,unbounded|--edition=#|--bits=64,16|--follow=#|--lent|--quiet|--causes|--moments|--losses|--stock|--summary|--many|\
-        --words-of|--explain|--tape|--help|--tell-status|-h|--version|--tell-status-on=#|";
-    let a = judged(text_options::read(system, table, 1));
-    let o = options_of(a);
+    let mut a = text_options::read(system, TABLE, 1);
+    a.refuse_dash();
+    judge_queue(&mut a);
+    judge_words(&mut a);
+    judge_quiet(&mut a);
+    let o = options_of(&a);
     if o.wrong && !o.help && !o.version {
-        text_options::complain(system, b"replay", table, a, b"");
+        a.complain(system, "replay", "");
     }
     o
 }

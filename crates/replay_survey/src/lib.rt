@@ -2,25 +2,25 @@
 #![tactic(auto)]
 
 pub mod answers;
+pub mod counts;
 pub mod pieces;
+pub mod runs;
 
-use queue_entries::Finding;
-use replay_input::source::Reading;
+use replay_input::say::Hints;
+use replay_input::source::{Input, Reading, Start};
 use std::fs::File;
-use text_sums::Sum;
 use text_system::System;
 
 #[derive(Clone, Copy)]
 pub struct Survey {
     pub reading: Reading,
     // the code of a call that the queue has not; 16: it has all
-    pub barred: u64,
+    barred: u64,
     // the pairs so far, of which the first makes the machine, and whether a number is left over: 1 or 0
     pub pairs: u64,
     pub left: usize,
     // the place of the first entry that can't be read, once there is one
-    pub unread: bool,
-    pub place: u64,
+    unread: Option<u64>,
     // the first pair
     pub capacity: u64,
     pub workers: u64,
@@ -35,24 +35,24 @@ pub struct Whole {
     pub workers: u64,
 }
 
-// A schedule that was run: where the text to be written goes on, and whether it was refused; by which number, and at which place; what each worker answered last.
+// A schedule that was run: whether it was refused; by which number, and at which place; what each worker answered last.
 #[derive(Clone, Copy)]
 pub struct Played {
-    pub at: usize,
     pub refused: bool,
     pub refusal: u64,
     pub place: u64,
     pub answers: [u64; answers::WORDS],
 }
 
-// Of which no entry was refused; the whole may be.
-pub fn told(at: usize, refused: bool) -> Played {
-    Played {
-        at: at,
-        refused: refused,
-        refusal: 0,
-        place: 0,
-        answers: answers::none(),
+impl Played {
+    // Of which no entry was refused; the whole may be.
+    pub fn told(refused: bool) -> Played {
+        Played {
+            refused,
+            refusal: 0,
+            place: 0,
+            answers: answers::none(),
+        }
     }
 }
 
@@ -61,101 +61,102 @@ fn place_of(pairs: u64, k: u64) -> u64 {
     if pairs == 0 {
         return k;
     }
-    std::num::wrapping_add_u64(pairs - 1, k)
-}
-
-// So many pairs more. Of words there can be more than a number holds (`act N` is N entries): it stays at the largest then, since 0 says that none is read yet.
-fn more(pairs: u64, count: u64) -> u64 {
-    if u64::MAX - pairs < count {
-        return u64::MAX;
-    }
-    pairs + count
+    k.wrapping_add(pairs - 1)
 }
 
 // Of a list of pairs that follow so many.
 fn entries_of(pairs: u64, list: &[u64]) -> &[u64] {
-    if pairs == 0 {
-        if 2 <= list.len() {
-            return &list[2..];
-        }
+    if pairs == 0 && 2 <= list.len() {
+        return &list[2..];
     }
     list
 }
 
-fn with_first(s: Survey, list: &[u64]) -> Survey {
-    let mut after = s;
-    if s.pairs == 0 {
-        if 2 <= list.len() {
-            after.capacity = list[0];
-            after.workers = list[1];
+const HINTS: Hints = Hints {
+    mark: "; several schedules are read with --many",
+    tape: "; a tape is read with --tape",
+    no_capacity: "; a schedule without one is of another --queue",
+};
+
+impl Survey {
+    // So many pairs more. Of words there can be more than a number holds (`act N` is N entries): it stays at the largest then, since 0 says that none is read yet.
+    fn add(&mut self, count: u64) {
+        self.pairs = self.pairs.saturating_add(count);
+    }
+
+    fn with_first(&mut self, list: &[u64]) {
+        if self.pairs == 0 && 2 <= list.len() {
+            self.capacity = list[0];
+            self.workers = list[1];
         }
     }
-    after
-}
 
-fn searched(s: Survey, list: &[u64]) -> Survey {
-    let mut after = with_first(s, list);
-    after.pairs = more(s.pairs, (list.len() / 2) as u64);
-    if s.unread {
-        return after;
-    }
-    match queue_entries::search_but(s.barred, entries_of(s.pairs, list)) {
-        Finding::UnreadableAt(k) => {
-            after.unread = true;
-            after.place = place_of(s.pairs, k as u64);
+    fn search(&mut self, list: &[u64]) {
+        if self.unread.is_some() {
+            return;
         }
-        Finding::AllRead => {}
+        if let Some(k) = queue_entries::search_but(self.barred, entries_of(self.pairs, list)) {
+            self.unread = Some(place_of(self.pairs, k as u64));
+        }
     }
-    after
-}
 
-// The pairs among the first n numbers of the list.
-fn with_pairs(s: Survey, list: &[u64], n: usize) -> Survey {
-    let even = n - n % 2;
-    if list.len() < even {
-        return s;
+    // The whole pairs of the list.
+    fn with_pairs(&mut self, list: &[u64]) {
+        let count = list.len() / 2;
+        let pairs = &list[..2 * count];
+        self.with_first(pairs);
+        self.search(pairs);
+        self.add(count as u64);
     }
-    let pairs = &list[..even];
-    searched(s, pairs)
-}
 
-fn turn(
-    system: &System,
-    file: &File,
-    many: bool,
-    s: Survey,
-    bytes: &mut [u8],
-    list: &mut [u64],
-) -> Survey {
-    let r = replay_input::source::turn(system, file, many, s.reading, bytes, list, s.left);
-    let mut after = with_pairs(s, list, r.count);
-    after.pairs = more(after.pairs, replay_input::source::owing(r));
-    after.reading = replay_input::source::owing_none(r);
-    after.left = replay_input::source::carry(list, r.count);
-    after
-}
-
-fn survey_in(
-    system: &System,
-    file: &File,
-    many: bool,
-    begin: Survey,
-    bytes: &mut [u8],
-    list: &mut [u64],
-) -> Survey {
-    let mut s = begin;
-    let mut event = text_numbers::NOTHING;
-    let mut turns = u64::MAX;
-    while turns > 0 && event == text_numbers::NOTHING {
-        s = turn(system, file, many, s, bytes, list);
-        let r = s.reading;
-        event = r.event;
-        turns -= 1;
+    fn turn(&mut self, input: &mut Input) {
+        self.reading.turn(input, self.left);
+        let count = self.reading.count;
+        let list = &mut *input.list;
+        if count <= list.len() {
+            self.with_pairs(&list[..count]);
+        }
+        let owing = self.reading.owing();
+        self.add(owing);
+        self.reading.owing_none();
+        self.left = replay_input::source::carry(list, count);
     }
-    s
+
+    pub fn numbers(&self) -> u64 {
+        if self.pairs == 0 { self.left as u64 } else { 2 }
+    }
+
+    // Says what is wrong, and answers whether nothing is.
+    pub fn is_sound(&self, system: &System, file: &File, many: bool, name: &[u8]) -> bool {
+        replay_input::say::is_sound(
+            system,
+            "replay",
+            name,
+            file,
+            many,
+            &self.reading,
+            self.numbers(),
+            HINTS,
+        )
+    }
+
+    // "11, 9, then entry by entry"
+    pub fn refused_whole(&self) -> Whole {
+        let (refusal, place) = match self.unread {
+            _ if self.left == 1 => (11, 0),
+            Some(place) => (9, place),
+            None => (0, 0),
+        };
+        Whole {
+            refusal,
+            place,
+            capacity: self.capacity,
+            workers: self.workers,
+        }
+    }
 }
 
-// Of the schedule that begins at this offset and line, before which the bytes have this sum; so many numbers, each 1, are put before it: none or one.
+// Of the schedule that begins here; so many numbers, each 1, are put before it: none or one.
 pub fn surveyed(
     system: &System,
     file: &File,
@@ -163,61 +164,31 @@ pub fn surveyed(
     before: usize,
     barred: u64,
     is_tape: bool,
-    offset: u64,
-    line: u64,
-    sum: Sum,
+    from: Start,
 ) -> Survey {
     let mut bytes = [0u8; replay_input::source::BYTES];
     let mut list = [1u64; replay_input::source::NUMBERS];
-    let begin = Survey {
-        reading: replay_input::source::start(is_tape, offset, line, before, sum),
-        barred: barred,
+    let mut input = Input {
+        system,
+        file,
+        many,
+        bytes: &mut bytes,
+        list: &mut list,
+    };
+    let mut survey = Survey {
+        reading: Reading::start(is_tape, from, before),
+        barred,
         pairs: 0,
         left: before,
-        unread: false,
-        place: 0,
+        unread: None,
         capacity: 0,
         workers: 0,
     };
-    survey_in(system, file, many, begin, &mut bytes, &mut list)
-}
-
-fn numbers(s: Survey) -> u64 {
-    if s.pairs == 0 { s.left as u64 } else { 2 }
-}
-
-// Says what is wrong, and answers whether nothing is.
-pub fn is_sound(system: &System, s: Survey, file: &File, many: bool, name: &[u8]) -> bool {
-    let hints =
-        b"|; several schedules are read with --many|; a tape is read with --tape|; a schedule without one is of another --queue|";
-    replay_input::say::is_sound(
-        system,
-        b"replay",
-        name,
-        file,
-        many,
-        s.reading,
-        numbers(s),
-        hints,
-    )
-}
-
-fn of_whole(s: Survey, refusal: u64, place: u64) -> Whole {
-    Whole {
-        refusal: refusal,
-        place: place,
-        capacity: s.capacity,
-        workers: s.workers,
+    for _ in 0..u64::MAX {
+        if survey.reading.ended.is_some() {
+            break;
+        }
+        survey.turn(&mut input);
     }
-}
-
-// "11, 9, then entry by entry"
-pub fn refused_whole(s: Survey) -> Whole {
-    if s.left == 1 {
-        return of_whole(s, 11, 0);
-    }
-    if s.unread {
-        return of_whole(s, 9, s.place);
-    }
-    of_whole(s, 0, 0)
+    survey
 }

@@ -1,52 +1,29 @@
 // What stands at the end of a run: who is busy, what waits, what was lost.
-use replay_survey::pieces::Run;
+use crate::{Told, seen};
+use replay_explain::Ended;
+use text_output::Text;
 use text_system::System;
-use unbounded_machine::Machine;
-use unbounded_text_explain::notes::Notes;
+use unbounded_places::Place;
+use unbounded_text::machine;
+use unbounded_text_explain::ends;
 
-fn busy_of(system: &System, out: &mut [u8], at: usize, m: Machine, w: u64) -> usize {
-    let s = crate::seen(m, w);
-    let stood = s.stood;
-    unbounded_text_explain::ends::busy(system, out, at, w, stood)
-}
-
-fn busy(system: &System, out: &mut [u8], at: usize, m: Machine) -> usize {
-    let mut p = at;
-    let mut w = 0;
-    while w < 16 {
-        p = busy_of(system, out, p, m, w);
-        w += 1;
+impl Ended for Told {
+    fn is_met(&self) -> bool {
+        self.notes.met
     }
-    p
-}
 
-fn standing(system: &System, out: &mut [u8], at: usize, m: Machine, n: Notes) -> usize {
-    let mut items = [0u64; unbounded_words::POOL];
-    let t = unbounded::contents(m, &mut items);
-    let p = busy(system, out, at, m);
-    let q = text_explain::words::nobody_if(out, p, p == at);
-    unbounded_text_explain::ends::rest(system, out, q, &items, t, n)
-}
-
-// Of a run that is over. Of one that was refused as a whole only that is told, and of a refused making nothing more.
-pub fn tell(
-    system: &System,
-    out: &mut [u8],
-    o: crate::Asked,
-    r: Run,
-    m: Machine,
-    n: Notes,
-) -> usize {
-    if r.whole {
-        return refused(system, out, o.colours, r);
+    fn workers(&self) -> u64 {
+        queue_entries::WORKERS as u64
     }
-    let p = text_explain::words::unmet_if(out, r.at, o.follows && !n.met, o.item);
-    standing(system, out, p, m, n)
-}
 
-fn refused(system: &System, out: &mut [u8], colours: bool, r: Run) -> usize {
-    if r.refusal == 6 {
-        return r.at;
+    fn busy(&self, system: &System, w: u64, text: &mut Text) -> bool {
+        ends::busy(system, text, w, seen(self.machine, w).stood);
+        !matches!(machine::place_of(self.machine, w), Place::Idle(_))
     }
-    text_explain::words::refused(system, out, r.at, colours, r.place, r.refusal, 0)
+
+    fn rest(&self, system: &System, text: &mut Text) {
+        let mut items = [0u64; unbounded_words::POOL];
+        let t = unbounded::contents(self.machine, &mut items);
+        ends::rest(system, text, &items, t, self.notes);
+    }
 }

@@ -8,8 +8,7 @@ use lib.ListN.{length, set, drop}
 use borrow.Author.Tests.{lt-ltb, le-ltb}
 use Rattle.queue_entries.proofs.Pick.{yes, no, below, above}
 use Rattle.queue_entries.specs.Limits.{workers_most, in_limits}
-use Rattle.queue_entries.specs.declared.Told.{Told}
-use Rattle.queue_entries.specs.declared.Told.TheVariants.{Number, Refused}
+use Rattle.std.specs.Prelude.{Result, Ok, Err}
 use Rattle.queue_entries.specs.Told.{told}
 use Rattle.queue_schedules.proofs.Schedules.{schedule_broken, schedule_one}
 use Rattle.single_words.specs.Words.{pushed_in}
@@ -36,30 +35,30 @@ module _ (workers : ℕ) (b : Bool) (e : b ≡ in_limits workers workers_most) (
 
 -- ---- capacity
 module _ (m : Machine) (b : Bool) (e : b ≡ broken_of m) where
-  pub capacity_6 : b ≡ true → Refused 6 ≡ capacity_of m
+  pub capacity_6 : b ≡ true → Err 6 ≡ capacity_of m
   unfolding capacity_of told
   capacity_6 h = rw (sym e ∙ h) refl
 
-  pub capacity_1 : b ≡ false → Number 1 ≡ capacity_of m
+  pub capacity_1 : b ≡ false → Ok 1 ≡ capacity_of m
   unfolding capacity_of told
   capacity_1 h = rw (sym e ∙ h) refl
 
 -- ---- contents: the answer and the buffer
-abbrev Answers : Machine → List ℕ → List ℕ → Told → Type 0
+abbrev Answers : Machine → List ℕ → List ℕ → Result ℕ ℕ → Type 0
 Answers m before after r = (r ≡ told (contents_refusal m (length before)) (count_in m)) × (after ≡ written m before)
 
 module _ (m : Machine) (buffer : List ℕ) (b : Bool) (eb : b ≡ broken_of m) where
-  pub contents_6 : b ≡ true → Answers m buffer buffer (Refused 6)
+  pub contents_6 : b ≡ true → Answers m buffer buffer (Err 6)
   unfolding told written contents_refusal
   contents_6 h = let q = sym eb ∙ h in (rw q refl, rw q refl)
 
   module _ (hb : b ≡ false) (d : Bool) (ed : d ≡ idle_from 0 m.workers) where
-    pub contents_4 : d ≡ false → Answers m buffer buffer (Refused 4)
+    pub contents_4 : d ≡ false → Answers m buffer buffer (Err 4)
     unfolding told written contents_refusal
     contents_4 h = let q = sym eb ∙ hb in let k = sym ed ∙ h in (rw (q, k) refl, rw (q, k) refl)
 
     module _ (hd : d ≡ true) (p : Bool) (ep : p ≡ pushed_in m.single.state) where
-      pub contents_none : p ≡ false → Answers m buffer buffer (Number 0)
+      pub contents_none : p ≡ false → Answers m buffer buffer (Ok 0)
       unfolding told written contents_refusal contents_of
       contents_none h =
           let q = sym eb ∙ hb in let k = sym ed ∙ hd in let u = sym ep ∙ h in
@@ -67,13 +66,13 @@ module _ (m : Machine) (buffer : List ℕ) (b : Bool) (eb : b ≡ broken_of m) w
           (rw (q, k, u, z) refl, rw (q, k, u, z) refl)
 
       module _ (hp : p ≡ true) where
-        pub contents_10 : length buffer < 1 → Answers m buffer buffer (Refused 10)
+        pub contents_10 : length buffer < 1 → Answers m buffer buffer (Err 10)
         unfolding told written contents_refusal
         contents_10 h =
             let q = sym eb ∙ hb in let k = sym ed ∙ hd in let u = sym ep ∙ hp in let z = lt-ltb (length buffer) 1 h in
             (rw (q, k, u, z) refl, rw (q, k, u, z) refl)
 
-        pub contents_one : 1 ≤ length buffer → Answers m buffer (set buffer 0 m.single.value) (Number 1)
+        pub contents_one : 1 ≤ length buffer → Answers m buffer (set buffer 0 m.single.value) (Ok 1)
         unfolding told written contents_refusal contents_of
         contents_one h =
             let q = sym eb ∙ hb in let k = sym ed ∙ hd in let u = sym ep ∙ hp in let z = le-ltb (length buffer) 1 h in

@@ -8,7 +8,6 @@ ghost use Rattle.single_machine.specs.Contents.{count_in, contents_refusal, writ
 ghost use Rattle.single_machine.specs.Run.{run_of};
 ghost use Rattle.single.specs.Single.{make_of, step_of, begin_step_of, act_step_of};
 
-use queue_entries::Told;
 use single_machine::{Did, Machine, Ran};
 
 // A fresh machine, or refusal 2 with the blank one.
@@ -28,38 +27,35 @@ pub fn broken(m: Machine) -> bool
     single_machine::broken(m)
 }
 
-pub fn capacity(m: Machine) -> Told
+pub fn capacity(m: Machine) -> Result<u64, u64>
     ensures { result ≡ capacity_of m }
 {
     if single_machine::broken(m) {
-        Told::Refused(6)
+        Err(6)
     } else {
-        Told::Number(1)
+        Ok(1)
     }
 }
 
 // The item as `Drop` would meet it, if there is one, written at the buffer's start. Nothing is removed.
-pub fn contents(m: Machine, buffer: &mut [u64]) -> Told
+pub fn contents(m: Machine, buffer: &mut [u64]) -> Result<u64, u64>
     ensures answer { result ≡ told (contents_refusal m (length buffer.old)) (count_in m) }
     ensures lent { buffer.new ≡ written m buffer.old }
 {
     if single_machine::broken(m) {
-        return Told::Refused(6);
+        return Err(6);
     }
-    let workers = m.workers;
-    if single_machine::idle_from(0, workers) {} else {
-        return Told::Refused(4);
+    if !single_machine::idle_from(0, m.workers) {
+        return Err(4);
     }
-    let single = m.single;
-    let found = single.state;
-    if single_words::pushed(found) {} else {
-        return Told::Number(0);
+    if !single_words::pushed(m.single.state) {
+        return Ok(0);
     }
     if buffer.len() < 1 {
-        return Told::Refused(10);
+        return Err(10);
     }
-    buffer[0] = single.value;
-    Told::Number(1)
+    buffer[0] = m.single.value;
+    Ok(1)
 }
 
 // A schedule, entry by entry, to its end or to the first refusal.
@@ -73,12 +69,10 @@ pub fn run(m: Machine, schedule: &[u64]) -> Ran
 pub fn step(m: Machine, first: u64, second: u64) -> Did
     ensures { result ≡ step_of m first second }
 {
-    let entry = [first, second];
-    let r = run(m, &entry);
-    let after = r.machine;
+    let r = run(m, &[first, second]);
     Did {
         refusal: r.refusal,
-        machine: after,
+        machine: r.machine,
     }
 }
 

@@ -30,36 +30,26 @@ pub fn goes(s: Single, p: Place) -> Acted
 fn state_to(s: Single, w: State) -> Single
     ensures { result ≡ state_to s w }
 {
-    Single {
-        state: w,
-        value: s.value,
-    }
+    Single { state: w, ..s }
 }
 
 fn value_to(s: Single, v: u64) -> Single
     ensures { result ≡ value_to s v }
 {
-    let w = s.state;
-    Single { state: w, value: v }
+    Single { value: v, ..s }
 }
 
 // A strong exchange of e for w.
 fn exchange(s: Single, e: State, w: State) -> Single
     ensures { result ≡ exchanged s e w }
 {
-    let found = s.state;
-    if single_words::same(found, e) {
-        state_to(s, w)
-    } else {
-        s
-    }
+    if s.state == e { state_to(s, w) } else { s }
 }
 
 fn unlock(s: Single) -> Single
     ensures { result ≡ unlocked_in s }
 {
-    let found = s.state;
-    state_to(s, single_words::unlocked(found))
+    state_to(s, single_words::unlocked(s.state))
 }
 
 // What pop exchanges e for.
@@ -72,8 +62,7 @@ fn take(s: Single, e: State) -> Single
 fn shut(s: Single) -> Single
     ensures { result ≡ state_to s (closed_of_word s.state) }
 {
-    let found = s.state;
-    state_to(s, single_words::with_closed(found))
+    state_to(s, single_words::with_closed(s.state))
 }
 
 // push
@@ -81,16 +70,15 @@ fn shut(s: Single) -> Single
 pub fn a1(s: Single, item: u64) -> Acted
     ensures { result ≡ act_a1 s item }
 {
-    let found = s.state;
     let after = exchange(
         s,
         State(0),
         State(single_words::LOCKED | single_words::PUSHED),
     );
-    if single_words::same(found, State(0)) {
+    if s.state == State(0) {
         return goes(after, Place::A2(item));
     }
-    if single_words::closed(found) {
+    if single_words::closed(s.state) {
         goes(after, Place::Idle(Answer::Closed(item)))
     } else {
         goes(after, Place::Idle(Answer::Full(item)))
@@ -114,20 +102,18 @@ pub fn a3(s: Single) -> Acted
 pub fn b1(s: Single, e: State, item: u64) -> Acted
     ensures { result ≡ act_b1 s e item }
 {
-    let found = s.state;
     let after = exchange(s, e, State(single_words::LOCKED | single_words::PUSHED));
-    if single_words::closed(found) {
+    if single_words::closed(s.state) {
         return goes(after, Place::Idle(Answer::Closed(item)));
     }
-    if single_words::same(found, e) {
-        if single_words::pushed(found) {
+    if s.state == e {
+        if single_words::pushed(s.state) {
             goes(after, Place::B4(item))
         } else {
             goes(after, Place::B2(item))
         }
     } else {
-        let again = single_words::unlocked(found);
-        goes(after, Place::B1(again, item))
+        goes(after, Place::B1(single_words::unlocked(s.state), item))
     }
 }
 
@@ -146,8 +132,7 @@ pub fn b3(s: Single) -> Acted
 pub fn b4(s: Single, item: u64) -> Acted
     ensures { result ≡ act_b4 s item }
 {
-    let old = s.value;
-    goes(value_to(s, item), Place::B5(old))
+    goes(value_to(s, item), Place::B5(s.value))
 }
 
 pub fn b5(s: Single, old: u64) -> Acted
@@ -159,16 +144,14 @@ pub fn b5(s: Single, old: u64) -> Acted
 pub fn c1(s: Single, e: State) -> Acted
     ensures { result ≡ act_c1 s e }
 {
-    let found = s.state;
     let after = take(s, e);
-    if single_words::same(found, e) {
+    if s.state == e {
         return goes(after, Place::C2);
     }
-    if single_words::pushed(found) {
-        let again = single_words::unlocked(found);
-        return goes(after, Place::C1(again));
+    if single_words::pushed(s.state) {
+        return goes(after, Place::C1(single_words::unlocked(s.state)));
     }
-    if single_words::closed(found) {
+    if single_words::closed(s.state) {
         goes(after, Place::Idle(Answer::PopClosed))
     } else {
         goes(after, Place::Idle(Answer::Empty))
@@ -178,8 +161,7 @@ pub fn c1(s: Single, e: State) -> Acted
 pub fn c2(s: Single) -> Acted
     ensures { result ≡ act_c2 s }
 {
-    let value = s.value;
-    goes(s, Place::C3(value))
+    goes(s, Place::C3(s.value))
 }
 
 pub fn c3(s: Single, value: u64) -> Acted
@@ -199,15 +181,13 @@ fn len_of(w: State) -> u64
 pub fn len1(s: Single) -> Acted
     ensures { result ≡ act_len1 s }
 {
-    let found = s.state;
-    goes(s, Place::Idle(Answer::Len(len_of(found))))
+    goes(s, Place::Idle(Answer::Len(len_of(s.state))))
 }
 
 pub fn empty1(s: Single) -> Acted
     ensures { result ≡ act_empty1 s }
 {
-    let found = s.state;
-    if single_words::pushed(found) {
+    if single_words::pushed(s.state) {
         goes(s, Place::Idle(Answer::No))
     } else {
         goes(s, Place::Idle(Answer::Yes))
@@ -217,8 +197,7 @@ pub fn empty1(s: Single) -> Acted
 pub fn full1(s: Single) -> Acted
     ensures { result ≡ act_full1 s }
 {
-    let found = s.state;
-    if single_words::pushed(found) {
+    if single_words::pushed(s.state) {
         goes(s, Place::Idle(Answer::Yes))
     } else {
         goes(s, Place::Idle(Answer::No))
@@ -228,9 +207,8 @@ pub fn full1(s: Single) -> Acted
 pub fn close1(s: Single) -> Acted
     ensures { result ≡ act_close1 s }
 {
-    let found = s.state;
     let after = shut(s);
-    if single_words::closed(found) {
+    if single_words::closed(s.state) {
         goes(after, Place::Idle(Answer::No))
     } else {
         goes(after, Place::Idle(Answer::Yes))
@@ -240,8 +218,7 @@ pub fn close1(s: Single) -> Acted
 pub fn is_closed1(s: Single) -> Acted
     ensures { result ≡ act_is_closed1 s }
 {
-    let found = s.state;
-    if single_words::closed(found) {
+    if single_words::closed(s.state) {
         goes(s, Place::Idle(Answer::Yes))
     } else {
         goes(s, Place::Idle(Answer::No))

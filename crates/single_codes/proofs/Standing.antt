@@ -1,9 +1,9 @@
 -- Words and places are one to one: beside `read_back`.
 use Prim.Native.Nat.{ℕ}
-use mathlib.Core.Path.{◌≡◌, refl, sym, ap, ◌∙◌}
-use mathlib.Core.Bool.{Bool, true, false}
+use mathlib.Core.Path.{◌≡◌, refl, ap, ◌∙◌}
+use mathlib.Core.Bool.{◌&&◌, Bool, true, false, cond}
 use lib.Dec.{eqb}
-use borrow.Author.Tests.{eq-eqb, ne_eqb, eqb-true}
+use borrow.Author.Tests.{eq-eqb, eqb-true}
 use Rattle.queue_entries.proofs.Pick.{both_left, both_right}
 use Rattle.single_places.specs.declared.Place.{Place}
 use Rattle.single_codes.specs.declared.Coded.{Coded}
@@ -35,11 +35,12 @@ module _ (n a b : ℕ) (p : Place) (x : Coded) (is : p ≡ place_in n a b) (e : 
   unfolding stands_for
   asked = ap (λ (y : Coded). same_as y n a b) (e ∙ ap code_of is)
 
-  pub other_code : (x.code ≡ n → ⊥) → false ≡ stands_for n a b
-  other_code h = sym (rw (ne_eqb x.code n h) refl) ∙ asked
-
-  pub other_first : x.code ≡ n → (x.first ≡ a → ⊥) → false ≡ stands_for n a b
-  other_first c h = sym (rw (eq-eqb x.code n c, ne_eqb x.first a h) refl) ∙ asked
-
-  pub by_second : x.code ≡ n → x.first ≡ a → (r : Bool) → r ≡ eqb x.second b → r ≡ stands_for n a b
-  by_second c f r h = h ∙ sym (rw (eq-eqb x.code n c, eq-eqb x.first a f) refl) ∙ asked
+  pub by_words : (t : Coded) → t ≡ triple n a b → (r : Bool) → r ≡ (eqb x.code t.code && (eqb x.first t.first && eqb x.second t.second)) → r ≡ stands_for n a b
+  unfolding triple
+  by_words t u r h =
+      h ∙ ap (λ (y : Coded). eqb x.code y.code && (eqb x.first y.first && eqb x.second y.second)) u
+      ∙ ap (λ (d : Bool). eqb x.code n && d) (both (eqb x.first a) _) ∙ both (eqb x.code n) _ ∙ asked
+    where
+      both : (d q : Bool) → (d && q) ≡ cond d q false
+      both true q = refl
+      both false q = refl

@@ -7,7 +7,7 @@ ghost use Rattle.single_codes.specs.Codes.{triple, answer_code, code_of, answer_
 use single_places::{Answer, Place};
 use single_words::State;
 
-#[derive(Clone, Copy)]
+#[derive(Clone, Copy, PartialEq, Eq)]
 pub struct Coded {
     pub code: u64,
     pub first: u64,
@@ -18,9 +18,9 @@ fn triple(code: u64, first: u64, second: u64) -> Coded
     ensures { result ≡ triple code first second }
 {
     Coded {
-        code: code,
-        first: first,
-        second: second,
+        code,
+        first,
+        second,
     }
 }
 
@@ -121,12 +121,5 @@ pub fn place_in(code: u64, a: u64, b: u64) -> Place
 pub fn stands(code: u64, first: u64, second: u64) -> bool
     ensures { result ≡ stands_for code first second }
 {
-    let c = code_of(place_in(code, first, second));
-    if c.code == code {} else {
-        return false;
-    }
-    if c.first == first {} else {
-        return false;
-    }
-    c.second == second
+    code_of(place_in(code, first, second)) == triple(code, first, second)
 }

@@ -1,12 +1,10 @@
 -- The demands on the one-slot queue, all of them, in the words of request 1 and of document 01. The notions (history, write, read, hand ..)
 -- are defined in Notions.antt. The proofs are gathered in crates/single_proof_all_demands/proofs/Headlines.antt; docs/PROMISES.md says in
 -- plain words what each says and what not.
-use Rattle.std.specs.Prelude.{ℕ, suc, ◌+◌, ◌*◌, ◌%◌, ◌≤◌, ◌<◌, Bool, true, false, not, List, [], ◌∷◌, ◌++◌, map, ◌≡◌, ◌↔◌, ◌≢◌, ◌⊎◌, ltb, length, take}
+use Rattle.std.specs.Prelude.{ℕ, suc, ◌+◌, ◌*◌, ◌%◌, ◌≤◌, ◌<◌, Bool, true, false, not, List, [], ◌∷◌, ◌++◌, map, ◌≡◌, ◌↔◌, ◌≢◌, ◌⊎◌, ltb, length, take, Result, Err}
 use Rattle.queue_entries.specs.Limits.{workers_most, meter_most, in_limits}
 use Rattle.queue_entries.specs.declared.Call.{Call}
 use Rattle.queue_entries.specs.declared.Call.TheVariants.{Push, Close}
-use Rattle.queue_entries.specs.declared.Told.{Told}
-use Rattle.queue_entries.specs.declared.Told.TheVariants as answer
 use Rattle.queue_entries.specs.Told.{told}
 use Rattle.queue_entries.specs.declared.Order.TheVariants.{Begin, Act}
 use Rattle.queue_entries.specs.declared.Entry.{Entry}
@@ -228,7 +226,7 @@ StaysUnbroken = StaysUnbrokenBy functions
 
 -- "Where an answer is an enum, a definition gives this paper's number and values for each of the enum's cases": there and back, inverse to each other, of what `contents` and `capacity` answer.
 abbrev pub EnumsBothWays : Type 0
-EnumsBothWays = BothWays answer.Refused number_in value_in told
+EnumsBothWays = BothWays Err number_in value_in told
 
 -- Only one answer meets a promise: of the whole answer, the machine and the lent buffer.
 pub record OnlyOne : Type 0 where
@@ -237,10 +235,10 @@ pub record OnlyOne : Type 0 where
   pub begin : (m : Machine) (first second : ℕ) (x y : Did) → x ≡ begin_step_of m first second → y ≡ begin_step_of m first second → x ≡ y
   pub act : (m : Machine) (first second : ℕ) (x y : Did) → x ≡ act_step_of m first second → y ≡ act_step_of m first second → x ≡ y
   pub run : (m : Machine) (s : List ℕ) (x y : Ran) → x ≡ run_of m s → y ≡ run_of m s → x ≡ y
-  pub contents : (m : Machine) (before : List ℕ) (x y : Told) (a b : List ℕ)
+  pub contents : (m : Machine) (before : List ℕ) (x y : Result ℕ ℕ) (a b : List ℕ)
       → (x ≡ told (contents_refusal m (length before)) (count_in m)) × (a ≡ written m before)
       → (y ≡ told (contents_refusal m (length before)) (count_in m)) × (b ≡ written m before) → (x ≡ y) × (a ≡ b)
-  pub capacity : (m : Machine) (x y : Told) → x ≡ capacity_of m → y ≡ capacity_of m → x ≡ y
+  pub capacity : (m : Machine) (x y : Result ℕ ℕ) → x ≡ capacity_of m → y ≡ capacity_of m → x ≡ y
   pub broken : (m : Machine) (x y : Bool) → x ≡ broken_of m → y ≡ broken_of m → x ≡ y
 
 -- ==== 2. Under every schedule from a fresh machine. Said of the machine m that entries reach, and of the acts h behind it.

@@ -1,8 +1,6 @@
 -- Runs of the one-slot queue, as one table: push, pop, push, Full, force_push Displaced, close, Closed; what the source does and a plain
 -- queue does not; what is foretold and then answered; makings.
-use Rattle.std.specs.Prelude.{ℕ, ◌+◌, ◌*◌, Bool, true, false, ◌≡◌, List, [], ◌∷◌, ◌++◌, map}
-use Rattle.queue_entries.specs.declared.Told.{Told}
-use Rattle.queue_entries.specs.declared.Told.TheVariants.{Number}
+use Rattle.std.specs.Prelude.{ℕ, ◌+◌, ◌*◌, Bool, true, false, ◌≡◌, List, [], ◌∷◌, ◌++◌, map, Result, Ok}
 use Rattle.queue_schedules.specs.Alone.{acts}
 use Rattle.single_words.specs.Words.{state}
 use Rattle.single_places.specs.declared.Place.{Place}
@@ -33,7 +31,7 @@ pub data Fact : Type 0 where
   -- worker, the answer foretold
   foretells : ℕ → Answer → Fact
   contents : List ℕ → Fact
-  capacity : Told → Fact
+  capacity : Result ℕ ℕ → Fact
   -- of the history: the item that waits, and whether a close was made
   waits : List ℕ → Fact
   shut : Bool → Fact
@@ -108,7 +106,7 @@ pushing = does 0 0 5 1
 
 unfoldable pub table : List Row
 table =
-    row [] (ended 0 0 ∷ word 0 ∷ value 0 ∷ meter 0 ∷ contents [] ∷ capacity (Number 1) ∷ waits [] ∷ shut false ∷ [])
+    row [] (ended 0 0 ∷ word 0 ∷ value 0 ∷ meter 0 ∷ contents [] ∷ capacity (Ok 1) ∷ waits [] ∷ shut false ∷ [])
     ∷ row run₁ (ended 0 4 ∷ stands 0 (Idle Pushed) ∷ word 2 ∷ value 5 ∷ meter 3 ∷ contents (5 ∷ []) ∷ waits (5 ∷ []) ∷ [])
     ∷ row run₂ (stands 0 (Idle (Popped 5)) ∷ word 0 ∷ value 5 ∷ meter 6 ∷ contents [] ∷ waits [] ∷ [])
     ∷ row run₃ (stands 0 (Idle Pushed) ∷ word 2 ∷ contents (6 ∷ []) ∷ [])

@@ -6,7 +6,7 @@ use mathlib.Core.List.{List}
 use lib.Dec.{eqb}
 use lib.ListN.{length}
 use borrow.Author.Tests.{eq-eqb, ne_eqb, eqb-true}
-use Rattle.queue_entries.specs.declared.Told.{Told}
+use Rattle.std.specs.Prelude.{Result}
 use Rattle.queue_entries.specs.Told.{told}
 use Rattle.queue_entries.proofs.Pick.{along, both_left, both_right}
 use Rattle.single_machine.specs.declared.Machine.{Machine}
@@ -21,7 +21,7 @@ use Rattle.single_rows.proofs.Standing.{standing}
 use Rattle.single_host.specs.declared.Reply.{Reply}
 use Rattle.single_host.specs.Host.{reply, broken_refusal, broken_words, after, after_of, make_words, step_words_of, ended, ended_of, run_words, reply_of, listed, contents_in, contents_words}
 
-pub along_reply : (p q : Told) (r : Reply) → p ≡ q → r ≡ reply_of q → r ≡ reply_of p
+pub along_reply : (p q : Result ℕ ℕ) (r : Reply) → p ≡ q → r ≡ reply_of q → r ≡ reply_of p
 along_reply = along reply_of
 
 -- ---- words that stand for nothing
@@ -76,7 +76,7 @@ module _ (h rs : List ℕ) (b : Bool) (eb : b ≡ stand (words h rs)) where
       pub is_sound : (t : Bool) → t ≡ broken_of m → t ≡ false → 0 ≡ broken_refusal (words h rs)
       is_sound t et e = ap (λ (x : Bool). cond x 6 0) (sym e) ∙ looked t et
 
-      pub contents_listed : (buffer buffer' : List ℕ) (t : Told) (r : Reply) → t ≡ told (contents_refusal m (length buffer)) (count_in m) → buffer' ≡ written m buffer → r ≡ reply_of t
+      pub contents_listed : (buffer buffer' : List ℕ) (t : Result ℕ ℕ) (r : Reply) → t ≡ told (contents_refusal m (length buffer)) (count_in m) → buffer' ≡ written m buffer → r ≡ reply_of t
           → listed r buffer' ≡ contents_words (words h rs) buffer
       unfolding contents_words
       contents_listed buffer buffer' t r et eu er =

@@ -6,8 +6,6 @@ ghost use Rattle.std.specs.Prelude.{◌≡◌};
 ghost use Rattle.single_rows.specs.Rows.{words};
 ghost use Rattle.single_host.specs.Host.{reply_of, broken_refusal, after, make_words, step_words_of, ended, run_words, listed, contents_words};
 
-use queue_entries::Told;
-
 // The number of a refusal, 0 where there is none; and what the call is asked for: an entry's place or a count.
 #[repr(C)]
 #[derive(Clone, Copy)]
@@ -21,16 +19,14 @@ pub struct Reply {
 pub extern "C" fn fern_slot_make(head: &mut [u64], records: &mut [u64], workers: u64) -> u64
     ensures { after result (words head.new records.new) ≡ make_words (words head.old records.old) workers }
 {
-    if single_rows::shaped(head, records) {} else {
+    if !single_rows::shaped(head, records) {
         return 6;
     }
     let made = single::make(workers);
-    let refusal = made.refusal;
-    if refusal == 0 {} else {
-        return refusal;
+    if made.refusal != 0 {
+        return made.refusal;
     }
-    let m = made.machine;
-    single_rows::put_machine(head, records, m);
+    single_rows::put_machine(head, records, made.machine);
     0
 }
 
@@ -46,14 +42,12 @@ pub extern "C" fn fern_slot_step(
 ) -> u64
     ensures { after result (words head.new records.new) ≡ step_words_of (words head.old records.old) first second }
 {
-    if single_rows::stands(head, records) {} else {
+    if !single_rows::stands(head, records) {
         return 6;
     }
     let did = single::step(single_rows::machine_in(head, records), first, second);
-    let refusal = did.refusal;
-    let m = did.machine;
-    single_rows::put_machine(head, records, m);
-    refusal
+    single_rows::put_machine(head, records, did.machine);
+    did.refusal
 }
 
 // A schedule, entry by entry, to its end or to the first refusal.
@@ -61,20 +55,17 @@ pub extern "C" fn fern_slot_step(
 pub extern "C" fn fern_slot_run(head: &mut [u64], records: &mut [u64], schedule: &[u64]) -> Reply
     ensures { ended result (words head.new records.new) ≡ run_words (words head.old records.old) schedule.now }
 {
-    if single_rows::stands(head, records) {} else {
+    if !single_rows::stands(head, records) {
         return Reply {
             refusal: 6,
             number: 0,
         };
     }
     let ran = single::run(single_rows::machine_in(head, records), schedule);
-    let refusal = ran.refusal;
-    let place = ran.place;
-    let m = ran.machine;
-    single_rows::put_machine(head, records, m);
+    single_rows::put_machine(head, records, ran.machine);
     Reply {
-        refusal: refusal,
-        number: place,
+        refusal: ran.refusal,
+        number: ran.place,
     }
 }
 
@@ -85,7 +76,7 @@ pub extern "C" fn fern_slot_run(head: &mut [u64], records: &mut [u64], schedule:
 pub extern "C" fn fern_slot_broken(head: &[u64], records: &[u64]) -> u64
     ensures { result ≡ broken_refusal (words head.now records.now) }
 {
-    if single_rows::stands(head, records) {} else {
+    if !single_rows::stands(head, records) {
         return 6;
     }
     if single::broken(single_rows::machine_in(head, records)) {
@@ -95,15 +86,15 @@ pub extern "C" fn fern_slot_broken(head: &[u64], records: &[u64]) -> u64
     }
 }
 
-fn reply_of(t: Told) -> Reply
+fn reply_of(t: Result<u64, u64>) -> Reply
     ensures { result ≡ reply_of t }
 {
     match t {
-        Told::Number(n) => Reply {
+        Ok(n) => Reply {
             refusal: 0,
             number: n,
         },
-        Told::Refused(k) => Reply {
+        Err(k) => Reply {
             refusal: k,
             number: 0,
         },
@@ -115,7 +106,7 @@ fn reply_of(t: Told) -> Reply
 pub extern "C" fn fern_slot_contents(head: &[u64], records: &[u64], buffer: &mut [u64]) -> Reply
     ensures { listed result buffer.new ≡ contents_words (words head.now records.now) buffer.old }
 {
-    if single_rows::stands(head, records) {} else {
+    if !single_rows::stands(head, records) {
         return Reply {
             refusal: 6,
             number: 0,

@@ -1,6 +1,6 @@
 -- What the machine's functions rest on.
 use Prim.Native.Nat.{◌<◌, ◌≤◌}
-use mathlib.Core.Path.{◌≡◌, refl, sym, ap, ◌∙◌}
+use mathlib.Core.Path.{◌≡◌, refl, ap}
 use mathlib.Core.Bool.{Bool, true, false, not}
 use lib.Dec.{leb}
 use borrow.Author.Tests.{le-leb, lt-leb}
@@ -35,12 +35,6 @@ module _ (m : Machine) where
     broken_count q = on (leb m.single.state.0 state_most) _ _ _ (le-leb _ _ h) (no _ b _ _ _ e q refl)
 
     module _ (q : b ≡ true) (d : Bool) (g : d ≡ idle_from m.count m.workers) where
-      broken_records : not d ≡ broken_of m
+      pub broken_records : not d ≡ broken_of m
       unfolding broken_of
       broken_records = on (leb m.single.state.0 state_most) _ _ _ (le-leb _ _ h) (yes _ b _ _ _ e q (ap not g))
-
-      pub broken_record : d ≡ false → true ≡ broken_of m
-      broken_record k = sym (ap not k) ∙ broken_records
-
-      pub unbroken : d ≡ true → false ≡ broken_of m
-      unbroken k = sym (ap not k) ∙ broken_records

@@ -1,7 +1,6 @@
 -- "Contents" of document 01, as `Drop` of src/single.rs looks (if *state & PUSHED != 0), and `capacity`.
-use Rattle.std.specs.Prelude.{ℕ, cond, List, [], ◌∷◌, ◌++◌, ltb, eqb, length, drop}
+use Rattle.std.specs.Prelude.{ℕ, cond, List, [], ◌∷◌, ◌++◌, ltb, eqb, length, drop, Result}
 use Rattle.queue_entries.specs.Told.{told}
-use Rattle.queue_entries.specs.declared.Told.{Told}
 use Rattle.single_words.specs.Words.{pushed_in}
 use Rattle.single_acts.specs.Acts.{len_of}
 use Rattle.single_machine.specs.declared.Machine.{Machine}
@@ -26,5 +25,5 @@ written m buffer =
     cond (eqb (contents_refusal m (length buffer)) 0) (contents_of m ++ drop (count_in m) buffer) buffer
 
 -- `capacity`: 6, else 1 (the crate's dispatch: `Inner::Single(_) => Some(1)`)
-unfoldable pub capacity_of : Machine → Told
+unfoldable pub capacity_of : Machine → Result ℕ ℕ
 capacity_of m = told (cond (broken_of m) 6 0) 1

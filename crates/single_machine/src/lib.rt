@@ -82,21 +82,15 @@ pub fn fresh(workers: u64) -> Machine
 fn record_fits(p: Place, among: bool) -> bool
     ensures { result ≡ record_fits p among }
 {
-    let v = single_places::view_of(p);
-    if v.busy { among } else { true }
+    !single_places::view_of(p).busy || among
 }
 
 // No record from this number on is busy.
 pub fn idle_from(n: u64, workers: [Worker; queue_entries::WORKERS]) -> bool
     ensures { result ≡ idle_from n workers }
 {
-    let mut i = 0;
-    while i < queue_entries::WORKERS {
-        let worker = workers[i];
-        let p = worker.place;
-        if record_fits(p, (i as u64) < n) {
-            i += 1;
-        } else {
+    for (i, worker) in workers.iter().enumerate() {
+        if !record_fits(worker.place, (i as u64) < n) {
             return false;
         }
     }
@@ -107,26 +101,18 @@ pub fn idle_from(n: u64, workers: [Worker; queue_entries::WORKERS]) -> bool
 pub fn broken(m: Machine) -> bool
     ensures { result ≡ broken_of m }
 {
-    let single = m.single;
-    let found = single.state;
-    let workers = m.workers;
-    if single_words::STATES < found.0 {
+    if single_words::STATES < m.single.state.0 {
         return true;
     }
-    if queue_entries::in_limits(m.count, queue_entries::WORKERS as u64) {} else {
+    if !queue_entries::in_limits(m.count, queue_entries::WORKERS as u64) {
         return true;
     }
-    if idle_from(m.count, workers) {
-        false
-    } else {
-        true
-    }
+    !idle_from(m.count, m.workers)
 }
 
 // What becomes of a worker that stands at p. No exchange is weak.
 pub fn verdict_of(meter: u64, p: Place, o: Order) -> Verdict
     ensures { result ≡ verdict_of meter p o }
 {
-    let v = single_places::view_of(p);
-    queue_entries::verdict_for(meter, v.busy, false, o)
+    queue_entries::verdict_for(meter, single_places::view_of(p).busy, false, o)
 }

@@ -79,10 +79,7 @@ pub struct View {
 fn at(hand: bool) -> View
     ensures { result ≡ at hand }
 {
-    View {
-        busy: true,
-        hand: hand,
-    }
+    View { busy: true, hand }
 }
 
 pub fn view_of(p: Place) -> View

@@ -9,7 +9,7 @@ use borrow.Author.Tests.{eqb-true}
 use Rattle.queue_entries.specs.Limits.{workers_most, in_limits}
 use Rattle.queue_entries.specs.Entries.{entry_of}
 use Rattle.queue_entries.specs.Told.{told}
-use Rattle.queue_entries.specs.declared.Told.TheVariants.{Number, Refused}
+use Rattle.std.specs.Prelude.{Ok, Err}
 use Rattle.queue_numbers.specs.Numbers.{on, first_of}
 use Rattle.single_machine.specs.declared.Did.{Did}
 use Rattle.single_machine.specs.Broken.{broken_of, idle_from}
@@ -27,7 +27,7 @@ told_back : (number value : ℕ) → (reply_of (told number value)).refusal ≡ 
 unfolding told
 told_back number value = go (eqb number 0) refl
   where
-    go : (b : Bool) → eqb number 0 ≡ b → (reply_of (cond b (Number value) (Refused number))).refusal ≡ number
+    go : (b : Bool) → eqb number 0 ≡ b → (reply_of (cond b (Ok value) (Err number))).refusal ≡ number
     go true h = sym (eqb-true number 0 h)
     go false h = refl
 

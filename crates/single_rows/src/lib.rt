@@ -21,10 +21,7 @@ pub const LAYOUT: u64 = 2;
 pub fn shaped(head: &[u64], records: &[u64]) -> bool
     ensures { result ≡ shaped (words head.now records.now) }
 {
-    if head.len() == HEAD {} else {
-        return false;
-    }
-    records.len() == RECORDS
+    head.len() == HEAD && records.len() == RECORDS
 }
 
 fn record_at(records: &[u64], i: usize) -> Worker
@@ -49,8 +46,7 @@ fn put_record(records: &mut [u64], i: usize, r: Worker)
     requires { i * 3 + 2 < length records.old }
     ensures { records.new ≡ with_record records.old i r }
 {
-    let p = r.place;
-    let c = single_codes::code_of(p);
+    let c = single_codes::code_of(r.place);
     let at = i * RECORD;
     records[at] = c.code;
     records[at + 1] = c.first;
@@ -61,11 +57,8 @@ fn all_placed(records: &[u64]) -> bool
     requires { length records.now ≡ 48 }
     ensures { result ≡ placed records.now }
 {
-    let mut i = 0;
-    while i < queue_entries::WORKERS {
-        if placed_at(records, i) {
-            i += 1;
-        } else {
+    for i in 0..queue_entries::WORKERS {
+        if !placed_at(records, i) {
             return false;
         }
     }
@@ -76,13 +69,10 @@ fn all_placed(records: &[u64]) -> bool
 pub fn stands(head: &[u64], records: &[u64]) -> bool
     ensures { result ≡ stand (words head.now records.now) }
 {
-    if shaped(head, records) {} else {
+    if !shaped(head, records) {
         return false;
     }
-    if head[4] == LAYOUT {} else {
-        return false;
-    }
-    all_placed(records)
+    head[4] == LAYOUT && all_placed(records)
 }
 
 fn records_in(records: &[u64]) -> [Worker; queue_entries::WORKERS]
@@ -92,10 +82,8 @@ fn records_in(records: &[u64]) -> [Worker; queue_entries::WORKERS]
     let mut all = [Worker {
         place: Place::Idle(Answer::Nothing),
     }; queue_entries::WORKERS];
-    let mut i = 0;
-    while i < queue_entries::WORKERS {
+    for i in 0..queue_entries::WORKERS {
         all[i] = record_at(records, i);
-        i += 1;
     }
     all
 }
@@ -105,13 +93,12 @@ pub fn machine_in(head: &[u64], records: &[u64]) -> Machine
     requires records_len { length records.now ≡ 48 }
     ensures { result ≡ machine_in (words head.now records.now) }
 {
-    let all = records_in(records);
     Machine {
         single: Single {
             state: State(head[0]),
             value: head[1],
         },
-        workers: all,
+        workers: records_in(records),
         count: head[2],
         meter: head[3],
     }
@@ -121,10 +108,8 @@ fn put_records(records: &mut [u64], all: [Worker; queue_entries::WORKERS])
     requires { length records.old ≡ 48 }
     ensures { records.new ≡ records_of all }
 {
-    let mut i = 0;
-    while i < queue_entries::WORKERS {
-        put_record(records, i, all[i]);
-        i += 1;
+    for (i, worker) in all.iter().enumerate() {
+        put_record(records, i, *worker);
     }
 }
 
@@ -132,10 +117,8 @@ fn put_head(head: &mut [u64], m: Machine)
     requires { length head.old ≡ 5 }
     ensures { head.new ≡ head_of m }
 {
-    let single = m.single;
-    let state = single.state;
-    head[0] = state.0;
-    head[1] = single.value;
+    head[0] = m.single.state.0;
+    head[1] = m.single.value;
     head[2] = m.count;
     head[3] = m.meter;
     head[4] = LAYOUT;
@@ -148,6 +131,5 @@ pub fn put_machine(head: &mut [u64], records: &mut [u64], m: Machine)
     ensures records_after { records.new ≡ records_of m.workers }
 {
     put_head(head, m);
-    let all = m.workers;
-    put_records(records, all);
+    put_records(records, m.workers);
 }

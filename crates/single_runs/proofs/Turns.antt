@@ -13,8 +13,7 @@ use Rattle.queue_entries.specs.declared.Entry.TheVariants.{Unreadable, Asks}
 use Rattle.queue_entries.specs.Entries.{entry_of}
 use Rattle.queue_entries.specs.declared.Verdict.{Verdict}
 use Rattle.queue_entries.specs.declared.Verdict.TheVariants.{Refuse, Start, Move}
-use Rattle.queue_entries.specs.declared.Finding.{Finding}
-use Rattle.queue_entries.specs.declared.Finding.TheVariants.{AllRead, UnreadableAt}
+use Rattle.std.specs.Prelude.{Option, Some, None}
 use Rattle.queue_entries.specs.Schedules.{search_by}
 use Rattle.queue_schedules.proofs.Schedules.{schedule_broken, schedule_odd, schedule_found, schedule_none}
 use Rattle.queue_schedules.proofs.Ended.{not_refused}
@@ -50,11 +49,11 @@ module _ (m : Machine) (s : List ℕ) (b : Bool) (e : b ≡ broken_of m) where
     pub odd_run : length s % 2 ≡ 1 → ran 11 0 m ≡ run_of m s
     odd_run k = sym (schedule_odd single_queue broken_of m s (sym e ∙ h) k)
 
-    module _ (o : length s % 2 ≡ 1 → ⊥) (f : Finding) (g : f ≡ search_by entry_of 0 s) where
-      pub unread_run : (i : ℕ) → f ≡ UnreadableAt i → ran 9 i m ≡ run_of m s
+    module _ (o : length s % 2 ≡ 1 → ⊥) (f : Option ℕ) (g : f ≡ search_by entry_of 0 s) where
+      pub unread_run : (i : ℕ) → f ≡ Some i → ran 9 i m ≡ run_of m s
       unread_run i z = sym (schedule_found single_queue broken_of m s (sym e ∙ h) o i (sym g ∙ z))
 
-      pub read_run : f ≡ AllRead → run_from m 0 s ≡ run_of m s
+      pub read_run : f ≡ None → run_from m 0 s ≡ run_of m s
       read_run z = sym (schedule_none single_queue broken_of m s (sym e ∙ h) o (sym g ∙ z))
 
 module _ (m : Machine) (s : List ℕ) (whole : broken_of m ≡ false) where
@@ -66,8 +65,10 @@ module _ (m : Machine) (s : List ℕ) (whole : broken_of m ≡ false) where
   first_stand n k = record { within = omega arith; pairs = k; unbroken = unbroken_of m whole; left = refl }
 
 module _ (s : List ℕ) (n i : ℕ) (m : Machine) (whole : Ran) (at : Stand s n i m whole) where
-  pub ended : n ≤ i → ran 0 i m ≡ whole
-  ended ge = loop_ended single_queue s n i m whole at.left at.pairs ge
+  pub ended : n ≤ i → ran 0 n m ≡ whole
+  ended ge =
+      let e : n ≡ i = omega (arith, at.within) in
+      ap (λ (k : ℕ). ran 0 k m) e ∙ loop_ended single_queue s n i m whole at.left at.pairs ge
 
   -- ---- one turn
   module _ (lt : i < n) (x : Entry) (ex : x ≡ entry_of (get_or s (2 * i) 0) (get_or s (2 * i + 1) 0)) where

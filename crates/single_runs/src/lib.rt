@@ -6,7 +6,7 @@ ghost use Rattle.single_machine.specs.Broken.{broken_of};
 ghost use Rattle.single_machine.specs.Machine.{machine_of};
 ghost use Rattle.single_machine.specs.Run.{ran, run_from, run_of};
 
-use queue_entries::{Entry, Finding, Verdict};
+use queue_entries::{Entry, Verdict};
 use single_machine::{Machine, Ran};
 use single_places::{Single, Worker};
 
@@ -21,13 +21,13 @@ fn ran(
     ensures { result ≡ ran refusal place (machine_of single workers count meter) }
 {
     Ran {
-        refusal: refusal,
+        refusal,
         place: place as u64,
         machine: Machine {
-            single: single,
-            workers: workers,
-            count: count,
-            meter: meter,
+            single,
+            workers,
+            count,
+            meter,
         },
     }
 }
@@ -43,8 +43,7 @@ fn entries(m: Machine, schedule: &[u64]) -> Ran
     let count = m.count;
     let mut meter = m.meter;
     let n = schedule.len() / 2;
-    let mut i = 0;
-    while i < n {
+    for i in 0..n {
         let Entry::Asks(worker, order) = queue_entries::entry_of(
             schedule[2 * i],
             schedule[2 * i + 1],
@@ -55,10 +54,8 @@ fn entries(m: Machine, schedule: &[u64]) -> Ran
             return ran(3, i, single, workers, count, meter);
         }
         let w = worker as usize;
-        let record = workers[w];
-        let p = record.place;
-        let verdict = single_machine::verdict_of(meter, p, order);
-        match verdict {
+        let p = workers[w].place;
+        match single_machine::verdict_of(meter, p, order) {
             Verdict::Refuse(number) => {
                 return ran(number, i, single, workers, count, meter);
             }
@@ -66,26 +63,23 @@ fn entries(m: Machine, schedule: &[u64]) -> Ran
                 workers[w] = Worker {
                     place: single_places::first_place(call),
                 };
-                i += 1;
             }
             Verdict::Move(_) => {
                 let a = single_table::act_at(single, p);
-                let after = a.place;
                 single = a.single;
-                workers[w] = Worker { place: after };
+                workers[w] = Worker { place: a.place };
                 meter += 1;
-                i += 1;
             }
         }
     }
-    ran(0, i, single, workers, count, meter)
+    ran(0, n, single, workers, count, meter)
 }
 
 fn unchanged(refusal: u64, place: usize, m: Machine) -> Ran
     ensures { result ≡ ran refusal place m }
 {
     Ran {
-        refusal: refusal,
+        refusal,
         place: place as u64,
         machine: m,
     }
@@ -106,7 +100,7 @@ pub fn run(m: Machine, schedule: &[u64]) -> Ran
         return done;
     }
     match queue_entries::search(schedule) {
-        Finding::UnreadableAt(place) => unchanged(9, place, m),
-        Finding::AllRead => done,
+        Some(place) => unchanged(9, place, m),
+        None => done,
     }
 }

@@ -4,39 +4,23 @@ use single_places::{Place, Single, Worker};
 use single_words::State;
 
 pub fn with_single(m: Machine, state: u64, value: u64) -> Machine {
-    let workers = m.workers;
     Machine {
         single: Single {
             state: State(state),
-            value: value,
+            value,
         },
-        workers: workers,
-        count: m.count,
-        meter: m.meter,
+        ..m
     }
 }
 
-pub fn with_place(m: Machine, i: usize, p: Place) -> Machine {
-    let single = m.single;
-    let mut workers = m.workers;
+pub fn with_place(m: Machine, i: usize, place: Place) -> Machine {
+    let mut after = m;
     if i < queue_entries::WORKERS {
-        workers[i] = Worker { place: p };
+        after.workers[i] = Worker { place };
     }
-    Machine {
-        single: single,
-        workers: workers,
-        count: m.count,
-        meter: m.meter,
-    }
+    after
 }
 
 pub fn with_numbers(m: Machine, count: u64, meter: u64) -> Machine {
-    let single = m.single;
-    let workers = m.workers;
-    Machine {
-        single: single,
-        workers: workers,
-        count: count,
-        meter: meter,
-    }
+    Machine { count, meter, ..m }
 }

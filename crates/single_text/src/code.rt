@@ -1,75 +1,90 @@
-// A place by numbers.
+// A place by its name, and what it holds.
 use single_places::{Answer, Place};
 
-#[derive(Clone, Copy)]
+// Which place it is.
+#[derive(Clone, Copy, PartialEq, Eq)]
+pub enum Case {
+    Idle,
+    A1,
+    A2,
+    A3,
+    B1,
+    B2,
+    B3,
+    B4,
+    B5,
+    C1,
+    C2,
+    C3,
+    Len1,
+    Empty1,
+    Full1,
+    Close1,
+    IsClosed1,
+}
+
+#[derive(Clone, Copy, PartialEq, Eq)]
 pub struct Coded {
-    // which place it is; idle is 0
-    pub case: usize,
-    // which numbers or answer it has: a row of the table of `text`
+    pub case: Case,
+    // how many numbers it has, or ANSWERS and its answer's number in the order of the enum
     pub more: usize,
     pub a: u64,
     pub b: u64,
 }
 
-// The two exchanges that can be tried again.
-pub const B1: usize = 4;
-
-pub const C1: usize = 9;
-
-// The row of the first answer; the others follow in their order.
+// The first answer; the others follow in their order.
 pub const ANSWERS: usize = 3;
 
-fn code(case: usize, more: usize, a: u64, b: u64) -> Coded {
-    Coded {
-        case: case,
-        more: more,
-        a: a,
-        b: b,
-    }
+fn held(case: Case, more: usize, a: u64, b: u64) -> Coded {
+    Coded { case, more, a, b }
 }
 
-fn none(case: usize) -> Coded {
-    code(case, 0, 0, 0)
+fn none(case: Case) -> Coded {
+    held(case, 0, 0, 0)
 }
 
-fn one(case: usize, a: u64) -> Coded {
-    code(case, 1, a, 0)
+fn one(case: Case, a: u64) -> Coded {
+    held(case, 1, a, 0)
 }
 
-fn idle(a: Answer) -> Coded {
+fn idle(answer: usize, a: u64) -> Coded {
+    held(Case::Idle, ANSWERS + answer % 16, a, 0)
+}
+
+fn answered(a: Answer) -> Coded {
     match a {
-        Answer::Nothing => code(0, 3, 0, 0),
-        Answer::Pushed => code(0, 4, 0, 0),
-        Answer::Full(item) => code(0, 5, item, 0),
-        Answer::Closed(item) => code(0, 6, item, 0),
-        Answer::Displaced(old) => code(0, 7, old, 0),
-        Answer::Popped(value) => code(0, 8, value, 0),
-        Answer::Empty => code(0, 9, 0, 0),
-        Answer::PopClosed => code(0, 10, 0, 0),
-        Answer::Len(n) => code(0, 11, n, 0),
-        Answer::Yes => code(0, 12, 0, 0),
-        Answer::No => code(0, 13, 0, 0),
+        Answer::Nothing => idle(0, 0),
+        Answer::Pushed => idle(1, 0),
+        Answer::Full(item) => idle(2, item),
+        Answer::Closed(item) => idle(3, item),
+        Answer::Displaced(old) => idle(4, old),
+        Answer::Popped(value) => idle(5, value),
+        Answer::Empty => idle(6, 0),
+        Answer::PopClosed => idle(7, 0),
+        Answer::Len(n) => idle(8, n),
+        Answer::Yes => idle(9, 0),
+        Answer::No => idle(10, 0),
     }
 }
 
 pub fn of(p: Place) -> Coded {
     match p {
-        Place::Idle(a) => idle(a),
-        Place::A1(item) => one(1, item),
-        Place::A2(item) => one(2, item),
-        Place::A3 => none(3),
-        Place::B1(e, item) => code(B1, 2, e.0, item),
-        Place::B2(item) => one(5, item),
-        Place::B3 => none(6),
-        Place::B4(item) => one(7, item),
-        Place::B5(old) => one(8, old),
-        Place::C1(e) => one(C1, e.0),
-        Place::C2 => none(10),
-        Place::C3(value) => one(11, value),
-        Place::Len1 => none(12),
-        Place::Empty1 => none(13),
-        Place::Full1 => none(14),
-        Place::Close1 => none(15),
-        Place::IsClosed1 => none(16),
+        Place::Idle(a) => answered(a),
+        Place::A1(item) => one(Case::A1, item),
+        Place::A2(item) => one(Case::A2, item),
+        Place::A3 => none(Case::A3),
+        Place::B1(e, item) => held(Case::B1, 2, e.0, item),
+        Place::B2(item) => one(Case::B2, item),
+        Place::B3 => none(Case::B3),
+        Place::B4(item) => one(Case::B4, item),
+        Place::B5(old) => one(Case::B5, old),
+        Place::C1(e) => one(Case::C1, e.0),
+        Place::C2 => none(Case::C2),
+        Place::C3(value) => one(Case::C3, value),
+        Place::Len1 => none(Case::Len1),
+        Place::Empty1 => none(Case::Empty1),
+        Place::Full1 => none(Case::Full1),
+        Place::Close1 => none(Case::Close1),
+        Place::IsClosed1 => none(Case::IsClosed1),
     }
 }

@@ -15,9 +15,9 @@ pub fn with_place(n: [u64; NUMBERS], w: u64, code: u64, a: u64, b: u64) -> [u64;
     [n[0], n[1], n[2], n[3], w, code, a, b]
 }
 
-// The numbers are those of single_text::code; an idle worker's answer is Popped.
-pub fn place_in(code: u64, a: u64, b: u64) -> Place {
-    match code {
+// By its place in the order of single_text::code::Case; an idle worker's answer is Popped.
+pub fn place_in(case: u64, a: u64, b: u64) -> Place {
+    match case {
         0 => Place::Idle(Answer::Popped(a)),
         1 => Place::A1(a),
         2 => Place::A2(a),
@@ -38,12 +38,9 @@ pub fn place_in(code: u64, a: u64, b: u64) -> Place {
     }
 }
 
-fn stood(m: Machine, n: [u64; NUMBERS]) -> Machine {
-    single_text::build::with_place(m, n[4] as usize, place_in(n[5], n[6], n[7]))
-}
-
 pub fn machine(n: [u64; NUMBERS]) -> Machine {
-    let made = single::make(2);
-    let m = single_text::build::with_single(stood(made.machine, n), n[0], n[1]);
+    let made = single::make(2).machine;
+    let stood = single_text::build::with_place(made, n[4] as usize, place_in(n[5], n[6], n[7]));
+    let m = single_text::build::with_single(stood, n[0], n[1]);
     single_text::build::with_numbers(m, n[2], n[3])
 }

@@ -1,98 +1,73 @@
 // One machine handed to every function, and one line of what they said.
 use crate::build::NUMBERS;
-use queue_entries::Told;
-use single_machine::{Did, Machine};
+use crate::entry;
+use crate::entry::Call;
+use single_machine::Machine;
+use text_output::Text;
 use text_system::System;
 
 // Worker 0 begins a push, acts, acts with code 9, and takes two of these steps.
-fn tried(k: usize, m: Machine) -> Did {
-    match k {
-        0 => single::begin(m, 0, 5),
-        1 => single::act(m, 8, 0),
-        2 => single::act(m, 9, 0),
-        3 => single::step(m, 0, 5),
-        _ => single::step(m, 8, 0),
-    }
-}
+const TRIED: [(&str, Call, u64, u64); 5] = [
+    (" begin #", Call::Begin, 0, 5),
+    (" act #", Call::Act, 8, 0),
+    (" lose #", Call::Act, 9, 0),
+    (" step 0 #", Call::Step, 0, 5),
+    (" step 8 #", Call::Step, 8, 0),
+];
 
 // Whether a refused call left the machine; of an accepted one this says nothing.
-fn unless_left(out: &mut [u8], at: usize, refusal: u64, before: Machine, after: Machine) -> usize {
-    if refusal == 0 {
-        return at;
+fn unless_left(text: &mut Text, refusal: u64, before: Machine, after: Machine) {
+    if refusal != 0 && !single_text::alike::machines(before, after) {
+        text.text(" CHANGED");
     }
-    if single_text::alike::machines(before, after) {
-        return at;
+}
+
+fn entries(text: &mut Text, m: Machine) {
+    for (form, call, first, second) in TRIED {
+        let d = entry::done(call, m, first, second);
+        text.form(form, &[d.refusal]);
+        unless_left(text, d.refusal, m, d.machine);
     }
-    text_output::text(out, at, b" CHANGED")
 }
 
-fn say_did(out: &mut [u8], at: usize, k: usize, m: Machine) -> usize {
-    let d = tried(k, m);
-    let names = b" begin #| act #| lose #| step 0 #| step 8 #|";
-    let p = text_output::nth(out, at, names, k, &[d.refusal]);
-    unless_left(out, p, d.refusal, m, d.machine)
-}
-
-fn entries(out: &mut [u8], at: usize, m: Machine) -> usize {
-    let mut p = at;
-    let mut k = 0;
-    while k < 5 {
-        p = say_did(out, p, k, m);
-        k += 1;
-    }
-    p
-}
-
-// Schedules: one act, an odd one, an empty one.
-fn say_ran(out: &mut [u8], at: usize, k: usize, m: Machine) -> usize {
-    let act = [8, 0];
-    let r = single::run(m, text_cases::first(&act, k));
-    let names = b" none # at #| odd # at #| run # at #|";
-    let p = text_output::nth(out, at, names, k, &[r.refusal, r.place]);
-    unless_left(out, p, r.refusal, m, r.machine)
-}
-
-fn schedules(out: &mut [u8], at: usize, m: Machine) -> usize {
-    let p = say_ran(out, at, 2, m);
-    let q = say_ran(out, p, 1, m);
-    say_ran(out, q, 0, m)
+fn say_ran(text: &mut Text, form: &str, m: Machine, schedule: &[u64]) {
+    let r = single::run(m, schedule);
+    text.form(form, &[r.refusal, r.place]);
+    unless_left(text, r.refusal, m, r.machine);
 }
 
 // REFUSAL, or ok NUMBER
-fn say_told(out: &mut [u8], at: usize, t: Told) -> usize {
+fn say_told(text: &mut Text, t: Result<u64, u64>) {
     match t {
-        Told::Number(n) => text_output::form(out, at, b"ok #", &[n]),
-        Told::Refused(r) => text_output::number(out, at, r),
+        Ok(n) => text.form("ok #", &[n]),
+        Err(r) => text.number(r),
     }
 }
 
 // The rest, on a buffer of one word, which 77 marks.
-fn looks(out: &mut [u8], at: usize, m: Machine) -> usize {
+fn looks(text: &mut Text, m: Machine) {
     let mut buffer = [77u64];
     let t = single::contents(m, &mut buffer);
-    let p = text_output::text(out, at, b" contents ");
-    let q = say_told(out, p, t);
-    let r = text_output::form(out, q, b"/# capacity ", &buffer);
-    say_told(out, r, single::capacity(m))
-}
-
-fn say_sound(out: &mut [u8], at: usize, broken: bool) -> usize {
-    if broken {
-        return text_output::text(out, at, b": broken,");
-    }
-    text_output::text(out, at, b": sound,")
-}
-
-fn line(out: &mut [u8], at: usize, m: Machine) -> usize {
-    let p = say_sound(out, at, single::broken(m));
-    let q = entries(out, p, m);
-    let r = schedules(out, q, m);
-    looks(out, r, m)
+    text.text(" contents ");
+    say_told(text, t);
+    text.form("/# capacity ", &buffer);
+    say_told(text, single::capacity(m));
 }
 
 pub fn machine(system: &System, label: &[u8], n: [u64; NUMBERS]) {
-    let mut out = [0u8; 1024];
-    let p = text_output::text(&mut out, 0, label);
-    let q = line(&mut out, p, crate::build::machine(n));
-    text_output::end(system, &mut out, q);
+    let mut room = [0u8; 1024];
+    let mut text = Text::new(&mut room);
+    let m = crate::build::machine(n);
+    text.bytes(label);
+    text.text(if single::broken(m) {
+        ": broken,"
+    } else {
+        ": sound,"
+    });
+    entries(&mut text, m);
+    say_ran(&mut text, " run # at #", m, &[8, 0]);
+    say_ran(&mut text, " odd # at #", m, &[8]);
+    say_ran(&mut text, " none # at #", m, &[]);
+    looks(&mut text, m);
+    text.end_line(system);
 }

@@ -19,14 +19,9 @@ mod judge;
 mod making;
 
 use build::NUMBERS;
+use entry::Call;
 use text_cases::nth;
 use text_system::System;
-
-// The numbers in hand, row after row.
-#[derive(Clone, Copy)]
-struct Hand {
-    numbers: [u64; NUMBERS],
-}
 
 fn in_hand(n: &[u64]) -> [u64; NUMBERS] {
     [
@@ -41,20 +36,21 @@ fn in_hand(n: &[u64]) -> [u64; NUMBERS] {
     ]
 }
 
-fn after(letter: u8, h: [u64; NUMBERS], n: &[u64]) -> [u64; NUMBERS] {
-    if letter == b'=' {
-        return in_hand(n);
+fn call_of(n: u64) -> Call {
+    match n {
+        0 => Call::Begin,
+        1 => Call::Act,
+        _ => Call::Step,
     }
-    h
 }
 
 // What a row writes.
 fn tell(system: &System, letter: u8, h: [u64; NUMBERS], n: &[u64], label: &[u8]) {
     match letter {
-        b'e' => entry::codes(system, nth(n, 0), h),
-        b'b' => entry::one(system, label, entry::BEGIN, h, nth(n, 0), nth(n, 1)),
-        b'a' => entry::one(system, label, entry::ACT, h, nth(n, 0), nth(n, 1)),
-        b's' => entry::one(system, label, entry::STEP, h, nth(n, 0), nth(n, 1)),
+        b'e' => entry::codes(system, call_of(nth(n, 0)), h),
+        b'b' => entry::one(system, label, Call::Begin, h, nth(n, 0), nth(n, 1)),
+        b'a' => entry::one(system, label, Call::Act, h, nth(n, 0), nth(n, 1)),
+        b's' => entry::one(system, label, Call::Step, h, nth(n, 0), nth(n, 1)),
         b'r' => entry::run(system, label, h, n),
         b'm' => making::make(system, nth(n, 0)),
         b'c' => making::contents(system, label, h, nth(n, 0)),
@@ -67,27 +63,28 @@ fn tell(system: &System, letter: u8, h: [u64; NUMBERS], n: &[u64], label: &[u8])
     }
 }
 
-fn turn(system: &System, h: Hand, cases: &[u8], at: usize) -> Hand {
-    let numbers = h.numbers;
+// One row, by the numbers in hand.
+fn turn(system: &System, h: &mut [u64; NUMBERS], cases: &[u8], at: usize) {
     let mut list = [0u64; text_cases::NUMBERS];
     let count = text_cases::numbers(cases, at, &mut list);
     let letter = text_cases::letter(cases, at);
     let n = text_cases::first(&list, count);
-    tell(system, letter, numbers, n, text_cases::label(cases, at));
-    Hand {
-        numbers: after(letter, numbers, n),
+    tell(system, letter, *h, n, text_cases::label(cases, at));
+    if letter == b'=' {
+        *h = in_hand(n);
     }
 }
 
 // Row after row, from these numbers on.
 fn play(system: &System, begin: [u64; NUMBERS], cases: &[u8]) {
-    let mut h = Hand { numbers: begin };
+    let mut h = begin;
     let mut at = 0;
-    let mut turns = cases.len();
-    while turns > 0 && at < cases.len() {
-        h = turn(system, h, cases, at);
+    for _ in 0..cases.len() {
+        if cases.len() <= at {
+            break;
+        }
+        turn(system, &mut h, cases, at);
         at = text_cases::next(cases, at);
-        turns -= 1;
     }
 }
 

@@ -1,4 +1,4 @@
-// The lines of the one-slot queue in plain words, by numbers: no machine in hand. docs/GUIDE.md has the table of the sentences.
+// The lines of the one-slot queue in plain words, by names and numbers: no machine in hand. docs/GUIDE.md has the table of the sentences.
 #![tactic(auto)]
 
 pub mod acts;
@@ -27,15 +27,13 @@ pub struct Entered {
 }
 
 pub fn entry(place: u64, first: u64, second: u64, before: Seen, after: Seen) -> Entered {
-    let stood = before.stood;
-    let stands = after.stood;
     Entered {
-        place: place,
-        first: first,
-        second: second,
+        place,
+        first,
+        second,
         was: before.state,
         state: after.state,
-        before: stood,
-        after: stands,
+        before: before.stood,
+        after: after.stood,
     }
 }

@@ -1,78 +1,70 @@
 // The lines of a run: of its making, and of each entry.
 use crate::notes::Notes;
 use crate::{Entered, acts, notes};
+use single_text::code::Case;
 use text_explain::columns;
+use text_explain::columns::Tells;
+use text_output::Text;
 use text_system::System;
 
-fn causes(out: &mut [u8], e: Entered) -> usize {
-    let p = text_output::byte(out, 0, b'(');
+fn with_causes(line: &mut Text, e: Entered) {
+    if !notes::is_back(e) {
+        return;
+    }
+    let mut room = [0u8; 64];
+    let mut causes = Text::new(&mut room);
     let found = e.was - e.was % 2;
-    let differs = found != acts::expected(e.before);
-    let q = columns::cause_if(out, p, differs, b"state differs");
-    let r = columns::cause_if(out, q, e.was % 2 == 1, b"slot in hand");
-    text_output::byte(out, r, b')')
+    causes.byte(b'(');
+    columns::cause_if(
+        &mut causes,
+        found != acts::expected(e.before),
+        "state differs",
+    );
+    columns::cause_if(&mut causes, e.was % 2 == 1, "slot in hand");
+    causes.byte(b')');
+    columns::at_right(line, &causes);
 }
 
-fn with_causes(line: &mut [u8], at: usize, e: Entered) -> usize {
-    if notes::is_back(e) {
-        let mut text = [0u8; 64];
-        let n = causes(&mut text, e);
-        return columns::at_right(line, at, &text, n);
+fn entry_line(line: &mut Text, e: Entered, n: Notes) {
+    columns::number(line, e.place);
+    columns::worker(line, e.first / 16);
+    let from = line.len();
+    acts::name(line, e.before.case);
+    columns::behind_place(line, from);
+    if e.before.case == Case::Idle {
+        return text_explain::words::begin(line, e.first, e.second);
     }
-    at
+    acts::act(line, e, n);
+    with_causes(line, e);
 }
 
-fn entry_line(line: &mut [u8], e: Entered, n: Notes) -> usize {
-    let before = e.before;
-    let p = columns::number(line, e.place);
-    let q = columns::worker(line, p, e.first / 16);
-    let r = acts::name(line, q, before.case);
-    let s = columns::behind_place(line, r, q);
-    if before.case == acts::IDLE {
-        return text_explain::words::begin(line, s, e.first, e.second);
-    }
-    let t = acts::act(line, s, e, n);
-    with_causes(line, t, e)
-}
-
-fn colour_of(e: Entered) -> u8 {
-    let after = e.after;
+fn tells(e: Entered) -> Tells {
     if notes::is_back(e) {
-        return columns::AGAIN;
+        return Tells::Again;
     }
     if notes::is_put(e) || notes::is_taken(e) {
-        return columns::CLAIM;
+        return Tells::Claim;
     }
-    if after.case == acts::IDLE {
-        return columns::ANSWER;
+    if e.after.case == Case::Idle {
+        return Tells::Answer;
     }
-    columns::PLAIN
+    Tells::Plain
 }
 
 // Of an entry that was accepted, by what was noted before it.
-pub fn told(
-    system: &System,
-    out: &mut [u8],
-    at: usize,
-    colours: bool,
-    e: Entered,
-    n: Notes,
-) -> usize {
-    let mut line = [0u8; columns::WIDE];
-    let k = entry_line(&mut line, e, n);
-    columns::put(system, out, at, &line, k, colours, colour_of(e))
+pub fn told(system: &System, text: &mut Text, colours: bool, e: Entered, n: Notes) {
+    let mut room = [0u8; columns::WIDE];
+    let mut line = Text::new(&mut room);
+    entry_line(&mut line, e, n);
+    columns::put(system, text, &line, colours, tells(e));
 }
 
+const MAKINGS: &[(u64, &str)] = &[
+    (0, "made: a one-slot queue, #a workers"),
+    (2, "refused 2: the number of workers, #a, is not 1 to 16"),
+];
+
 // Of the making with so many workers.
-pub fn made(
-    system: &System,
-    out: &mut [u8],
-    at: usize,
-    colours: bool,
-    refusal: u64,
-    workers: u64,
-) -> usize {
-    let table = b"0 made: a one-slot queue, #a workers|\
-        2 refused 2: the number of workers, #a, is not 1 to 16|";
-    text_explain::words::made(system, out, at, colours, table, refusal, &[workers])
+pub fn made(system: &System, text: &mut Text, colours: bool, refusal: u64, workers: u64) {
+    text_explain::words::made(system, text, colours, MAKINGS, refusal, &[workers]);
 }

@@ -1,7 +1,6 @@
 // What is noted along a run: claims, counted, exchanges lost, and who has the item that is followed.
 use crate::Entered;
-use crate::acts::{A1, A2, B1, B2, B4, C1, C2, IDLE};
-use single_text::code::Coded;
+use single_text::code::{Case, Coded};
 
 #[derive(Clone, Copy)]
 pub struct Notes {
@@ -13,8 +12,8 @@ pub struct Notes {
     pub held: bool,
     // and was met at all
     pub met: bool,
-    // of each worker 1 where its call is of that item's life
-    pub workers: [u64; queue_entries::WORKERS],
+    // of each worker whether its call is of that item's life
+    pub workers: [bool; queue_entries::WORKERS],
 }
 
 pub fn none() -> Notes {
@@ -24,62 +23,45 @@ pub fn none() -> Notes {
         lost: 0,
         held: false,
         met: false,
-        workers: [0; queue_entries::WORKERS],
+        workers: [false; queue_entries::WORKERS],
     }
 }
 
 pub fn is_put(e: Entered) -> bool {
-    let before = e.before;
-    let after = e.after;
-    let case = before.case;
-    match case {
-        A1 => after.case == A2,
-        B1 => after.case == B2 || after.case == B4,
-        _ => false,
-    }
+    matches!(
+        (e.before.case, e.after.case),
+        (Case::A1, Case::A2) | (Case::B1, Case::B2 | Case::B4)
+    )
 }
 
 pub fn is_taken(e: Entered) -> bool {
-    let before = e.before;
-    let after = e.after;
-    let case = before.case;
-    match case {
-        B1 => after.case == B4,
-        C1 => after.case == C2,
-        _ => false,
-    }
+    matches!(
+        (e.before.case, e.after.case),
+        (Case::B1, Case::B4) | (Case::C1, Case::C2)
+    )
 }
 
 // An exchange that was not won.
 pub fn is_lost(e: Entered) -> bool {
-    let before = e.before;
-    let case = before.case;
-    match case {
-        A1 | B1 | C1 => !is_put(e) && !is_taken(e),
-        _ => false,
-    }
+    matches!(e.before.case, Case::A1 | Case::B1 | Case::C1) && !is_put(e) && !is_taken(e)
 }
 
 // The act leads to the same exchange again.
 pub fn is_back(e: Entered) -> bool {
-    let after = e.after;
-    is_lost(e) && after.case != IDLE
+    is_lost(e) && e.after.case != Case::Idle
 }
 
 // The item that a push's claim takes in.
 fn item_of(before: Coded) -> u64 {
-    if before.case == B1 {
-        return before.b;
+    if before.case == Case::B1 {
+        before.b
+    } else {
+        before.a
     }
-    before.a
 }
 
 fn is_worker(n: Notes, i: usize) -> bool {
-    let workers = n.workers;
-    if i < queue_entries::WORKERS {
-        return workers[i] != 0;
-    }
-    false
+    i < queue_entries::WORKERS && n.workers[i]
 }
 
 // The entry begins the life of this item, or claims it to hand it out.
@@ -92,17 +74,11 @@ fn takes_up(n: Notes, e: Entered, item: u64) -> bool {
 
 // Whether an entry belongs to the life of this item.
 pub fn is_of(n: Notes, e: Entered, item: u64) -> bool {
-    if is_worker(n, (e.first / 16) as usize) {
-        return true;
-    }
-    takes_up(n, e, item)
+    is_worker(n, (e.first / 16) as usize) || takes_up(n, e, item)
 }
 
 fn up_if(n: u64, it: bool) -> u64 {
-    if it {
-        return std::num::wrapping_add_u64(n, 1);
-    }
-    n
+    if it { n.wrapping_add(1) } else { n }
 }
 
 fn held_after(n: Notes, e: Entered, item: u64) -> bool {
@@ -112,12 +88,11 @@ fn held_after(n: Notes, e: Entered, item: u64) -> bool {
     n.held
 }
 
-fn workers_after(n: Notes, e: Entered, item: u64) -> [u64; queue_entries::WORKERS] {
-    let after = e.after;
+fn workers_after(n: Notes, e: Entered, item: u64) -> [bool; queue_entries::WORKERS] {
     let mut workers = n.workers;
     let i = (e.first / 16) as usize;
     if i < queue_entries::WORKERS {
-        workers[i] = up_if(0, after.case != IDLE && is_of(n, e, item));
+        workers[i] = e.after.case != Case::Idle && is_of(n, e, item);
     }
     workers
 }

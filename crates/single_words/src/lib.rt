@@ -2,10 +2,10 @@
 #![tactic(auto)]
 
 ghost use Rattle.std.specs.Prelude.{◌≡◌};
-ghost use Rattle.single_words.specs.Words.{same, pushed_in, closed_in, unlocked, taken_of, closed_of_word};
+ghost use Rattle.single_words.specs.Words.{pushed_in, closed_in, unlocked, taken_of, closed_of_word};
 
 // A word of `state`. An item is another kind of number.
-#[derive(Clone, Copy)]
+#[derive(Clone, Copy, PartialEq, Eq)]
 pub struct State(pub u64);
 
 // A worker has the slot in hand.
@@ -19,13 +19,6 @@ pub const CLOSED: u64 = 4;
 
 // The highest word of the three bits and no other.
 pub const STATES: u64 = 7;
-
-// An exchange finds the word that it expects.
-pub fn same(a: State, b: State) -> bool
-    ensures { result ≡ same a b }
-{
-    a.0 == b.0
-}
 
 // `w & PUSHED != 0`
 pub fn pushed(w: State) -> bool

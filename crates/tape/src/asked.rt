@@ -1,27 +1,23 @@
 // The arguments of tape.
-use text_options::Arguments;
+use text_options::{Arguments, Known, Wanted};
 use text_system::System;
 
-pub const NOTHING: u64 = 0;
+// What is to be done.
+#[derive(Clone, Copy, PartialEq, Eq)]
+pub enum Act {
+    Write,
+    Read,
+}
 
-pub const WRITE: u64 = 1;
-
-pub const READ: u64 = 2;
-
-// The options in the order of the table.
-const LITTLE: usize = 0;
-
-const WORDS: usize = 1;
-
-const HELP: usize = 2;
-
-const SHORT_HELP: usize = 3;
-
-const VERSION: usize = 4;
-
-const TELLS: usize = 5;
-
-const TELLS_ON: usize = 6;
+const TABLE: &[Known] = &[
+    ("--little", Wanted::Nothing),
+    ("--words", Wanted::Nothing),
+    ("--help", Wanted::Nothing),
+    ("-h", Wanted::Nothing),
+    ("--version", Wanted::Nothing),
+    ("--tell-status", Wanted::Nothing),
+    ("--tell-status-on", Wanted::Number),
+];
 
 #[derive(Clone, Copy)]
 pub struct Asked {
@@ -29,111 +25,85 @@ pub struct Asked {
     pub tells_on: u64,
     pub help: bool,
     pub version: bool,
-    pub act: u64,
+    // None: an argument is wrong or missing, and that was said
+    pub act: Option<Act>,
     pub little: bool,
     // the schedule is printed in words, and not in numbers
     pub words: bool,
-    // the numbers of the arguments that name the files; 0: none
-    pub from: usize,
-    pub to: usize,
-    // an argument is wrong or missing, and that was said
-    pub wrong: bool,
-}
-
-fn act_of(word: &[u8]) -> u64 {
-    if word == b"write".as_slice() {
-        return WRITE;
-    }
-    if word == b"read".as_slice() {
-        return READ;
-    }
-    NOTHING
+    // the numbers of the arguments that name the files
+    pub from: Option<usize>,
+    pub to: Option<usize>,
 }
 
 // The first name says what is to be done.
-fn act_at(system: &System, i: usize) -> u64 {
+fn act_of(system: &System, a: &Arguments) -> Option<Act> {
     let mut word = [0u8; 4096];
-    let n = text_system::arguments::read(system, i, &mut word);
-    act_of(&word[..n])
-}
-
-// write names a schedule and a tape, read a tape alone.
-fn are_named(act: u64, count: usize) -> bool {
-    match act {
-        WRITE => count == 3,
-        READ => count == 2,
-        _ => false,
+    let n = text_system::arguments::read(system, a.name(0)?, &mut word);
+    match &word[..n] {
+        b"write" => Some(Act::Write),
+        b"read" => Some(Act::Read),
+        _ => None,
     }
 }
 
-fn asked_of(a: Arguments, act: u64, wrong: bool) -> Asked {
-    let at = a.at;
-    let names = a.names;
-    let values = a.values;
+fn asked_of(a: &Arguments, act: Option<Act>) -> Asked {
     Asked {
-        tells_on: if at[TELLS] != 0 {
+        tells_on: if a.is_given("--tell-status") {
             replay_input::starter::FILENO
         } else {
-            values[TELLS_ON]
+            a.value("--tell-status-on").unwrap_or(0)
         },
-        help: at[HELP] != 0 || at[SHORT_HELP] != 0,
-        version: at[VERSION] != 0,
-        act: act,
-        little: at[LITTLE] != 0,
-        words: at[WORDS] != 0,
-        from: names[1],
-        to: names[2],
-        wrong: wrong,
+        help: a.is_given("--help") || a.is_given("-h"),
+        version: a.is_given("--version"),
+        act,
+        little: a.is_given("--little"),
+        words: a.is_given("--words"),
+        from: a.name(1),
+        to: a.name(2),
     }
 }
 
-fn say(system: &System, text: &[u8]) {
-    text_system::streams::put_error(system, text);
+fn say(system: &System, text: &str) {
+    text_system::streams::put_error(system, text.as_bytes());
 }
 
-// What is said where the options and the number of names are right; an option of the other act is not.
-fn of_act(system: &System, a: Arguments, act: u64) -> bool {
-    if act == READ && text_options::is_given(a, LITTLE) {
-        say(
-            system,
-            b"tape: --little goes with write alone (see --help)\n",
-        );
-        return true;
+// What is to be done; None: something is wrong, and that is said.
+fn judged(system: &System, a: &Arguments) -> Option<Act> {
+    if a.is_wrong() {
+        a.complain(system, "tape", "");
+        return None;
     }
-    if act == WRITE && text_options::is_given(a, WORDS) {
-        say(system, b"tape: --words goes with read alone (see --help)\n");
-        return true;
+    match (act_of(system, a), a.count()) {
+        (Some(Act::Read), 2) if a.is_given("--little") => {
+            say(
+                system,
+                "tape: --little goes with write alone (see --help)\n",
+            );
+            None
+        }
+        (Some(Act::Write), 3) if a.is_given("--words") => {
+            say(system, "tape: --words goes with read alone (see --help)\n");
+            None
+        }
+        (Some(Act::Read), 2) => Some(Act::Read),
+        (Some(Act::Write), 3) => Some(Act::Write),
+        _ => {
+            say(
+                system,
+                "tape: usage: tape write [--little] SCHEDULE TAPE, or tape read [--words] TAPE (see --help)\n",
+            );
+            None
+        }
     }
-    false
-}
-
-// Says what is wrong, and answers whether something is.
-fn is_wrong(system: &System, a: Arguments, table: &[u8], act: u64) -> bool {
-    let w = a.wrong;
-    if w.kind != 0 {
-        text_options::complain(system, b"tape", table, a, b"");
-        return true;
-    }
-    if are_named(act, a.count) {
-        return of_act(system, a, act);
-    }
-    say(
-        system,
-        b"tape: usage: tape write [--little] SCHEDULE TAPE, or tape read [--words] TAPE (see --help)\n",
-    );
-    true
 }
 
 pub fn read(system: &System) -> Asked {
-    let table = b"--little|--words|--help|-h|--version|--tell-status|--tell-status-on=#|";
-    let a = text_options::read(system, table, 3);
-    let names = a.names;
-    let act = act_at(system, names[0]);
-    let o = asked_of(a, act, false);
+    let a = text_options::read(system, TABLE, 3);
+    let o = asked_of(&a, None);
     if o.help || o.version {
         return o;
     }
-    asked_of(a, act, is_wrong(system, a, table, act))
+    asked_of(&a, judged(system, &a))
 }
 
 // Answers whether all of it was written.

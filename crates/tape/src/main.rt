@@ -3,50 +3,44 @@
 
 mod asked;
 
-use asked::Asked;
+use asked::{Act, Asked};
 use replay_input::starter::Starter;
 use std::process::ExitCode;
 use tapes_numbers::Variant;
 use text_system::System;
 use text_system::files::Flow;
 
-fn variant_of(a: Asked) -> Variant {
-    if a.little {
-        Variant::LittleEndian
-    } else {
-        Variant::BigEndian
+fn run_from(system: &System, starter: Starter, a: Asked, act: Act, from: Flow, name: &[u8]) -> u8 {
+    match act {
+        Act::Write => {
+            let variant = if a.little {
+                Variant::LittleEndian
+            } else {
+                Variant::BigEndian
+            };
+            let mut tape = [0u8; 4096];
+            let n = text_system::arguments::read(system, a.to.unwrap_or(0), &mut tape);
+            tape_writes::run(system, starter, from, name, variant, &tape[..n])
+        }
+        Act::Read => tape_reads::run(system, from, name, a.words),
     }
 }
 
-fn write(system: &System, starter: Starter, a: Asked, from: Flow, name: &[u8]) -> u8 {
-    let mut tape = [0u8; 4096];
-    let n = text_system::arguments::read(system, a.to, &mut tape);
-    tape_writes::run(system, starter, from, name, variant_of(a), &tape[..n])
-}
-
-fn run_from(system: &System, starter: Starter, a: Asked, from: Flow, name: &[u8]) -> u8 {
-    if a.act == asked::WRITE {
-        write(system, starter, a, from, name)
-    } else {
-        tape_reads::run(system, from, name, a.words)
-    }
-}
-
-fn run_file(system: &System, starter: Starter, a: Asked, name: &[u8]) -> u8 {
+fn run_file(system: &System, starter: Starter, a: Asked, act: Act, name: &[u8]) -> u8 {
     if tape_files::files::is_standard(name) {
-        return run_from(system, starter, a, Flow::Standard, b"standard input");
+        return run_from(system, starter, a, act, Flow::Standard, b"standard input");
     }
     match text_system::files::open(system, name) {
-        Some(file) => run_from(system, starter, a, Flow::Of(file), name),
+        Some(file) => run_from(system, starter, a, act, Flow::Of(file), name),
         None => {
-            replay_input::say::fail(system, b"tape", name);
+            replay_input::say::fail(system, "tape", name);
             2
         }
     }
 }
 
 fn told(system: &System, whole: bool) -> u8 {
-    if replay_input::say::is_written(system, b"tape", whole) {
+    if replay_input::say::is_written(system, "tape", whole) {
         return 0;
     }
     2
@@ -58,14 +52,16 @@ fn status_of(system: &System, starter: Starter, a: Asked) -> u8 {
         return told(system, asked::help(system));
     }
     if a.version {
-        return told(system, text_options::version(system, b"tape"));
+        return told(system, text_options::version(system, "tape"));
     }
-    if a.wrong {
-        return 2;
+    match a.act {
+        Some(act) => {
+            let mut name = [0u8; 4096];
+            let n = text_system::arguments::read(system, a.from.unwrap_or(0), &mut name);
+            run_file(system, starter, a, act, &name[..n])
+        }
+        None => 2,
     }
-    let mut name = [0u8; 4096];
-    let n = text_system::arguments::read(system, a.from, &mut name);
-    run_file(system, starter, a, &name[..n])
 }
 
 fn main(rt: HostRuntime) -> ExitCode {

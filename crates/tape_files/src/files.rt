@@ -2,6 +2,7 @@
 // all of it is there.
 use replay_input::starter::Starter;
 use std::fs::File;
+use text_output::Text;
 use text_system::System;
 use text_system::files::Flow;
 
@@ -19,25 +20,22 @@ fn is_device(system: &System, name: &[u8]) -> bool {
 
 // A device or a link would be replaced by a file.
 fn is_special(system: &System, name: &[u8]) -> bool {
-    if text_system::files::is_link(system, name) {
-        return true;
-    }
-    is_device(system, name)
+    text_system::files::is_link(system, name) || is_device(system, name)
 }
 
 // NAME.LETTERS
-pub fn beside(system: &System, name: &[u8], path: &mut [u8]) -> usize {
+pub fn beside(system: &System, name: &[u8], path: &mut Text) {
     let mut letters = [0u8; 4];
     text_system::files::put_letters(system, &mut letters);
-    let p = text_output::text(path, 0, name);
-    let q = text_output::byte(path, p, b'.');
-    text_output::text(path, q, &letters)
+    path.bytes(name);
+    path.byte(b'.');
+    path.bytes(&letters);
 }
 
 // A file to write to; None: there is none, and that is said, or the starter was ended and hears nothing.
 pub fn sink(system: &System, starter: Starter, name: &[u8], path: &[u8]) -> Option<File> {
     if is_standard(name) {
-        return replay_input::spare::nameless(system, b"tape");
+        return replay_input::spare::nameless(system, "tape");
     }
     if is_special(system, name) {
         crate::say::special(system, name);
@@ -50,7 +48,7 @@ pub fn sink(system: &System, starter: Starter, name: &[u8], path: &[u8]) -> Opti
     }
     let file = text_system::files::create(system, path);
     if file.is_none() {
-        replay_input::say::fail(system, b"tape", name);
+        replay_input::say::fail(system, "tape", name);
     }
     file
 }
@@ -59,7 +57,7 @@ pub fn put(system: &System, file: &File, bytes: &[u8]) -> bool {
     if text_system::files::put(system, file, bytes) {
         return true;
     }
-    replay_input::say::fail(system, b"tape", b"keeping what is written");
+    replay_input::say::fail(system, "tape", b"keeping what is written");
     false
 }
 
@@ -68,7 +66,7 @@ fn to_output(system: &System, file: File) -> bool {
     text_system::files::rewind(system, &file);
     replay_input::source::copy_all(
         system,
-        b"tape",
+        "tape",
         &Flow::Of(file),
         &Flow::Standard,
         b"what is written",
@@ -85,14 +83,14 @@ fn replaced(system: &System, starter: Starter, name: &[u8], path: &[u8]) -> bool
     if text_system::files::rename(system, path, name) {
         return true;
     }
-    replay_input::say::fail(system, b"tape", name);
+    replay_input::say::fail(system, "tape", name);
     false
 }
 
 fn renamed(system: &System, starter: Starter, name: &[u8], path: &[u8], file: File) -> bool {
     let lasts = text_system::files::keep(system, &file);
-    if lasts {} else {
-        replay_input::say::fail(system, b"tape", name);
+    if !lasts {
+        replay_input::say::fail(system, "tape", name);
     }
     std::mem::drop(file);
     if lasts && replaced(system, starter, name, path) {
@@ -112,10 +110,9 @@ fn commit(system: &System, starter: Starter, name: &[u8], path: &[u8], file: Fil
 
 fn discard(system: &System, name: &[u8], path: &[u8], file: File) {
     std::mem::drop(file);
-    if is_standard(name) {
-        return;
+    if !is_standard(name) {
+        text_system::files::remove(system, path);
     }
-    text_system::files::remove(system, path);
 }
 
 // Where the status is 0, what was written becomes the file; otherwise it is gone. Answers the status, or 2.
@@ -127,12 +124,12 @@ pub fn finish(
     path: &[u8],
     file: File,
 ) -> u8 {
-    if status == 0 {
-        if commit(system, starter, name, path, file) {
-            return 0;
-        }
-        return 2;
+    if status != 0 {
+        discard(system, name, path, file);
+        return status;
     }
-    discard(system, name, path, file);
-    status
+    if commit(system, starter, name, path, file) {
+        return 0;
+    }
+    2
 }

@@ -1,7 +1,7 @@
 // A tape piece by piece, in a fixed amount of memory: the fields that stand whole in a window, and then what is left of it with the bytes that follow.
 #![tactic(auto)]
 
-ghost use Rattle.std.specs.Prelude.{◌≡◌, ◌-◌, ◌/◌, ◌≤◌, false, length, take, drop};
+ghost use Rattle.std.specs.Prelude.{◌≡◌, ◌-◌, ◌/◌, ◌≤◌, IfOk, IfSome, length, take, drop};
 ghost use Rattle.tapes_fields.specs.Judged.{field_in};
 ghost use Rattle.tapes.specs.Heard.{hear_from};
 ghost use Rattle.tape_pieces.specs.Stretches.{passed};
@@ -11,6 +11,7 @@ use tapes_fields::{Field, Head};
 use tapes_numbers::Variant;
 use text_sums::Sum;
 use text_system::System;
+use text_system::streams::Failed;
 
 // A window, and the words of as many entries as it can have.
 pub const WINDOW: usize = 65536;
@@ -18,19 +19,18 @@ pub const WINDOW: usize = 65536;
 pub const WORDS: usize = 32768;
 
 // Nothing was read; more is to come; the tape has ended; it is refused; its bytes can't be had.
-pub const NEW: u64 = 0;
-
-pub const GOING: u64 = 1;
-
-pub const DONE: u64 = 2;
-
-pub const REFUSED: u64 = 3;
-
-pub const FAILED: u64 = 4;
+#[derive(Clone, Copy, PartialEq, Eq)]
+pub enum State {
+    New,
+    Going,
+    Done,
+    Refused,
+    Failed,
+}
 
 #[derive(Clone, Copy)]
 pub struct Piece {
-    pub state: u64,
+    pub state: State,
     // of the first field
     pub variant: Variant,
     pub capacity: u64,
@@ -41,119 +41,63 @@ pub struct Piece {
     pub number: u64,
     pub byte: u64,
     // how many bytes are left in the window, and which byte of the tape its first one is
-    pub have: usize,
-    pub base: u64,
+    have: usize,
+    base: u64,
     // of all bytes that were read
     pub sum: Sum,
 }
 
-fn begun(v: Variant, capacity: u64, workers: u64, sum: Sum) -> Piece {
-    Piece {
-        state: NEW,
-        variant: v,
-        capacity: capacity,
-        workers: workers,
-        count: 0,
-        number: 0,
-        byte: 0,
-        have: 0,
-        base: 0,
-        sum: sum,
-    }
-}
-
-pub fn start() -> Piece {
-    begun(Variant::BigEndian, 0, 0, text_sums::start())
-}
-
-pub fn goes_on(p: Piece) -> bool {
-    p.state <= GOING
-}
-
-fn failed(before: Piece) -> Piece {
-    let mut p = before;
-    p.state = FAILED;
-    p.count = 0;
-    p
-}
-
-fn refused(before: Piece, number: u64, at: usize) -> Piece {
-    let mut p = before;
-    p.state = REFUSED;
-    p.count = 0;
-    p.number = number;
-    p.byte = std::num::wrapping_add_u64(p.base, at as u64);
-    p
-}
-
-// How many bytes are in the window, and whether the input ended or could not be read.
+// How many bytes are in the window, and whether the input ended.
 #[derive(Clone, Copy)]
 struct Filled {
     have: usize,
     ended: bool,
-    failed: bool,
-}
-
-// Reads once.
-fn some(system: &System, file: &File, buffer: &mut [u8]) -> Filled
-    ensures { result.have ≤ length buffer.old }
-{
-    let got = text_system::files::read(system, file, buffer);
-    Filled {
-        have: got.n,
-        ended: got.n == 0,
-        failed: got.failed,
-    }
 }
 
 // Reads until the window is full or the input ends.
-fn fill(system: &System, file: &File, window: &mut [u8], have: usize) -> Filled
+fn fill(system: &System, file: &File, window: &mut [u8], have: usize) -> Result<Filled, Failed>
     requires { have ≤ length window.old }
-    ensures { result.have ≤ length window.old }
+    ensures { IfOk result (λ f. f.have ≤ length window.new) }
 {
     let mut n = have;
     while n < window.len() {
-        let more = some(system, file, &mut window[n..]);
-        if more.have == 0 {
-            return Filled {
+        let more = text_system::files::read(system, file, &mut window[n..])?;
+        if more == 0 {
+            return Ok(Filled {
                 have: n,
                 ended: true,
-                failed: more.failed,
-            };
+            });
         }
-        n += more.have;
+        n += more;
     }
-    Filled {
+    Ok(Filled {
         have: n,
         ended: false,
-        failed: false,
-    }
+    })
 }
 
-// The entries that stand one after another: where they end, how many words they are, and whether the words found no room.
+// The entries that stand one after another: where they end, and how many words they are.
 #[derive(Clone, Copy)]
 struct Stretch {
     at: usize,
     count: usize,
-    full: bool,
-    // what stands there, which is no entry
-    next: Field,
+    // what stands there, which is no entry; none, where the words found no room
+    next: Option<Field>,
 }
 
 // The whole is heard as these entries, and then as what stands behind them is.
 fn entries(bytes: &[u8], v: Variant, from: usize, words: &mut [u64]) -> Stretch
     ensures heard { passed (take result.count words.new) (hear_from (length bytes.now - result.count / 2) v result.at (drop result.at bytes.now)) ≡ hear_from (length bytes.now) v from (drop from bytes.now) }
-    ensures next { result.full ≡ false → result.next ≡ field_in v (drop result.at bytes.now) }
+    ensures next { IfSome result.next (λ f. f ≡ field_in v (drop result.at bytes.now)) }
 {
     let mut at = from;
     let mut n = 0;
     while n + 1 < words.len() {
         if bytes.len() < at {
             return Stretch {
-                at: at,
+                at,
                 count: n,
-                full: false,
-                next: Field::Fault(12),
+                next: Some(Field::Fault(12)),
             };
         }
         let f = tapes_fields::field_in(&bytes[at..], v);
@@ -164,188 +108,148 @@ fn entries(bytes: &[u8], v: Variant, from: usize, words: &mut [u64]) -> Stretch
                 at += tapes_fields::size(first);
                 n += 2;
             }
-            Field::Fault(number) => {
+            Field::Fault(_) | Field::End => {
                 return Stretch {
-                    at: at,
+                    at,
                     count: n,
-                    full: false,
-                    next: Field::Fault(number),
-                };
-            }
-            Field::End => {
-                return Stretch {
-                    at: at,
-                    count: n,
-                    full: false,
-                    next: Field::End,
+                    next: Some(f),
                 };
             }
         }
     }
     Stretch {
-        at: at,
+        at,
         count: n,
-        full: true,
-        next: Field::Fault(12),
+        next: None,
     }
 }
 
-fn move_one(window: &mut [u8], from: usize, i: usize) {
-    if from < window.len() {
-        if i < window.len() - from {
-            window[i] = window[from + i];
+impl Piece {
+    fn begun(variant: Variant, capacity: u64, workers: u64, sum: Sum) -> Piece {
+        Piece {
+            state: State::New,
+            variant,
+            capacity,
+            workers,
+            count: 0,
+            number: 0,
+            byte: 0,
+            have: 0,
+            base: 0,
+            sum,
         }
     }
-}
 
-// So many bytes from this place on go to the window's start.
-fn move_down(window: &mut [u8], from: usize, many: usize) {
-    let mut i = 0;
-    while i < many {
-        move_one(window, from, i);
-        i += 1;
+    pub fn start() -> Piece {
+        Piece::begun(Variant::BigEndian, 0, 0, Sum::start())
     }
-}
 
-// The window's bytes from here on are not a whole field yet, and go to its start.
-fn kept(before: Piece, window: &mut [u8], at: usize, have: usize, count: usize) -> Piece {
-    let mut p = before;
-    if have < at {
-        return failed(p);
+    pub fn goes_on(&self) -> bool {
+        matches!(self.state, State::New | State::Going)
     }
-    move_down(window, at, have - at);
-    p.state = GOING;
-    p.count = count;
-    p.have = have - at;
-    p.base = std::num::wrapping_add_u64(p.base, at as u64);
-    p
-}
 
-// A tape whose end was met; what follows it is not in a full window.
-fn ended(system: &System, file: &File, before: Piece, at: usize, f: Filled, count: usize) -> Piece {
-    let mut p = before;
-    let mut byte = [0u8; 1];
-    let end = std::num::wrapping_add_usize(at, 3);
-    if end != f.have {
-        return refused(p, 15, end);
+    fn fail(&mut self) {
+        self.state = State::Failed;
+        self.count = 0;
     }
-    let more = some(system, file, &mut byte);
-    if more.failed {
-        return failed(p);
-    }
-    if !more.ended {
-        return refused(p, 15, end);
-    }
-    p.state = DONE;
-    p.count = count;
-    p
-}
 
-// A field that is cut where the input goes on has more to come.
-fn after(
-    system: &System,
-    file: &File,
-    p: Piece,
-    f: Filled,
-    window: &mut [u8],
-    e: Stretch,
-) -> Piece {
-    let next = e.next;
-    match next {
-        Field::Fault(number) => {
-            if e.full {
-                return kept(p, window, e.at, f.have, e.count);
+    fn refuse(&mut self, number: u64, at: usize) {
+        self.state = State::Refused;
+        self.count = 0;
+        self.number = number;
+        self.byte = self.base.wrapping_add(at as u64);
+    }
+
+    // The window's bytes behind these entries are not a whole field yet, and go to its start.
+    fn keep(&mut self, window: &mut [u8], have: usize, e: Stretch) {
+        if have < e.at || window.len() < have {
+            return self.fail();
+        }
+        window.copy_within(e.at..have, 0);
+        self.state = State::Going;
+        self.count = e.count;
+        self.have = have - e.at;
+        self.base = self.base.wrapping_add(e.at as u64);
+    }
+
+    // A tape whose end was met; what follows it is not in a full window.
+    fn end(&mut self, system: &System, file: &File, have: usize, e: Stretch) {
+        let mut byte = [0u8; 1];
+        let end = e.at.wrapping_add(3);
+        if end != have {
+            return self.refuse(15, end);
+        }
+        match text_system::files::read(system, file, &mut byte) {
+            Err(Failed) => self.fail(),
+            Ok(0) => {
+                self.state = State::Done;
+                self.count = e.count;
             }
-            if f.ended || number != 12 {
-                refused(p, number, e.at)
-            } else {
-                kept(p, window, e.at, f.have, e.count)
+            Ok(_) => self.refuse(15, end),
+        }
+    }
+
+    // From this byte of the window on. A field that is cut where the input goes on has more to come.
+    fn later(
+        &mut self,
+        system: &System,
+        file: &File,
+        f: Filled,
+        window: &mut [u8],
+        from: usize,
+        words: &mut [u64],
+    ) {
+        let have = f.have.min(window.len());
+        let e = entries(&window[..have], self.variant, from, words);
+        match e.next {
+            None => self.keep(window, have, e),
+            Some(Field::Fault(12)) if !f.ended => self.keep(window, have, e),
+            Some(Field::Fault(number)) => self.refuse(number, e.at),
+            Some(Field::End) => self.end(system, file, have, e),
+            Some(Field::Entry(_, _)) => self.fail(),
+        }
+    }
+
+    fn first(
+        &mut self,
+        system: &System,
+        file: &File,
+        f: Filled,
+        window: &mut [u8],
+        words: &mut [u64],
+    ) {
+        let have = f.have.min(window.len());
+        match tapes_fields::head_in(&window[..have]) {
+            Head::Fault(number) => self.refuse(number, 0),
+            Head::Makes(v, capacity, workers) => {
+                *self = Piece::begun(v, capacity, workers, self.sum);
+                self.later(system, file, f, window, 7, words);
             }
         }
-        Field::End => ended(system, file, p, e.at, f, e.count),
-        Field::Entry(_, _) => failed(p),
     }
-}
 
-fn entries_in(window: &[u8], have: usize, v: Variant, from: usize, words: &mut [u64]) -> Stretch {
-    if have <= window.len() {
-        return entries(&window[..have], v, from, words);
-    }
-    entries(window, v, from, words)
-}
-
-fn later(
-    system: &System,
-    file: &File,
-    p: Piece,
-    f: Filled,
-    window: &mut [u8],
-    from: usize,
-    words: &mut [u64],
-) -> Piece {
-    let v = p.variant;
-    let e = entries_in(window, f.have, v, from, words);
-    after(system, file, p, f, window, e)
-}
-
-fn head_in(window: &[u8], have: usize) -> Head {
-    if have <= window.len() {
-        return tapes_fields::head_in(&window[..have]);
-    }
-    Head::Fault(12)
-}
-
-fn first(
-    system: &System,
-    file: &File,
-    before: Piece,
-    f: Filled,
-    window: &mut [u8],
-    words: &mut [u64],
-) -> Piece {
-    let h = head_in(window, f.have);
-    match h {
-        Head::Fault(number) => refused(before, number, 0),
-        Head::Makes(v, capacity, workers) => {
-            later(
-                system,
-                file,
-                begun(v, capacity, workers, before.sum),
-                f,
-                window,
-                7,
-                words,
-            )
+    // With the bytes that are new in the window.
+    fn add(&mut self, window: &[u8], have: usize) {
+        if self.have <= have && have <= window.len() {
+            self.sum.add(&window[self.have..have]);
         }
     }
-}
 
-// With the bytes that are new in the window.
-fn summed(before: Piece, window: &[u8], have: usize) -> Piece {
-    let mut p = before;
-    let from = p.have;
-    if from <= have {
-        if have <= window.len() {
-            let sum = text_sums::with_bytes(p.sum, &window[from..have]);
-            p.sum = sum;
+    // The next piece: its words stand in the buffer; both buffers are as long as said above, or longer.
+    pub fn next(&mut self, system: &System, file: &File, window: &mut [u8], words: &mut [u64]) {
+        if window.len() < self.have || words.len() < 2 {
+            return self.fail();
         }
-    }
-    p
-}
-
-// The next piece: its words stand in the buffer; both buffers are as long as said above, or longer.
-pub fn next(system: &System, file: &File, p: Piece, window: &mut [u8], words: &mut [u64]) -> Piece {
-    if window.len() < p.have || words.len() < 2 {
-        return failed(p);
-    }
-    let f = fill(system, file, window, p.have);
-    if f.failed {
-        return failed(p);
-    }
-    let q = summed(p, window, f.have);
-    if q.state == NEW {
-        first(system, file, q, f, window, words)
-    } else {
-        later(system, file, q, f, window, 0, words)
+        match fill(system, file, window, self.have) {
+            Err(Failed) => self.fail(),
+            Ok(f) => {
+                self.add(window, f.have);
+                if self.state == State::New {
+                    self.first(system, file, f, window, words);
+                } else {
+                    self.later(system, file, f, window, 0, words);
+                }
+            }
+        }
     }
 }

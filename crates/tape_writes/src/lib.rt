@@ -1,11 +1,13 @@
 // The numbers of a schedule, read piece by piece as replay reads them, and their tape.
 #![tactic(auto)]
 
-use replay_input::source::Reading;
+use replay_input::say::Hints;
+use replay_input::source::{Input, Reading, Start};
 use replay_input::starter::Starter;
 use std::fs::File;
 use tapes::Writing;
 use tapes_numbers::Variant;
+use text_output::Text;
 use text_system::System;
 use text_system::files::Flow;
 
@@ -14,324 +16,229 @@ const BYTES: usize = 16384;
 
 const NUMBERS: usize = 8200;
 
+// Where a tape goes, and the memory that a piece of it has.
+#[derive(Drop)]
+struct Sink<'a> {
+    system: &'a System,
+    variant: Variant,
+    to: &'a File,
+    tape: &'a mut [u8],
+}
+
+#[derive(Clone, Copy)]
+struct Head {
+    capacity: u64,
+    workers: u64,
+}
+
+#[derive(Clone, Copy)]
+struct Refusal {
+    number: u64,
+    place: u64,
+}
+
 // Where the reading of the numbers stands, and what it has brought.
 #[derive(Clone, Copy)]
 struct Work {
     reading: Reading,
     // the numbers that are left for the next piece: 1 or 0
     left: usize,
-    // capacity and workers, once they are there
-    begun: bool,
-    capacity: u64,
-    workers: u64,
+    // once it is there
+    head: Option<Head>,
     // the entries so far
     entries: u64,
-    // the first refusal and its place; 0: none
-    number: u64,
-    place: u64,
+    // the first
+    refusal: Option<Refusal>,
     // the tape can't be kept, and that was said
     stuck: bool,
 }
 
-fn start() -> Work {
-    Work {
-        reading: replay_input::source::start(false, 0, 1, 0, text_sums::start()),
-        left: 0,
-        begun: false,
-        capacity: 0,
-        workers: 0,
-        entries: 0,
-        number: 0,
-        place: 0,
-        stuck: false,
-    }
-}
+const HINTS: Hints = Hints {
+    mark: "; a tape has one schedule",
+    tape: "; this is a tape, and tape read prints it",
+    no_capacity: "; a tape has one, which other queues do not use: capacity 1",
+};
 
-fn stuck(before: Work) -> Work {
-    let mut w = before;
-    w.stuck = true;
-    w
-}
+impl Work {
+    fn start() -> Work {
+        Work {
+            reading: Reading::start(false, Start::of_file(), 0),
+            left: 0,
+            head: None,
+            entries: 0,
+            refusal: None,
+            stuck: false,
+        }
+    }
 
-fn refused(before: Work, number: u64, place: u64) -> Work {
-    let mut w = before;
-    if w.number == 0 {
-        w.number = number;
-        w.place = place;
+    fn refuse(&mut self, number: u64, place: u64) {
+        if self.refusal.is_none() {
+            self.refusal = Some(Refusal { number, place });
+        }
     }
-    w
-}
 
-// What a tape has between two of its bytes goes to the file.
-fn put_part(system: &System, w: Work, to: &File, tape: &[u8], from: usize, end: usize) -> Work {
-    if w.stuck || w.number != 0 {
-        return w;
+    // What a tape has between two of its bytes goes to the file.
+    fn put_part(&mut self, sink: &Sink, from: usize, end: usize) {
+        if self.stuck || self.refusal.is_some() {
+            return;
+        }
+        self.stuck = end < from
+            || sink.tape.len() < end
+            || !tape_files::files::put(sink.system, sink.to, &sink.tape[from..end]);
     }
-    if tape.len() < end {
-        return stuck(w);
-    }
-    if end < from {
-        return stuck(w);
-    }
-    if tape_files::files::put(system, to, &tape[from..end]) {
-        return w;
-    }
-    stuck(w)
-}
 
-// The tape of these entries alone; what of it the whole tape has is that without its first 7 bytes and its last 3.
-fn put_entries(
-    system: &System,
-    w: Work,
-    v: Variant,
-    to: &File,
-    words: &[u64],
-    tape: &mut [u8],
-) -> Work {
-    let r = tapes::write(v, 0, 0, words, tape);
-    match r {
-        Writing::Refused(number, place) => refused(
-            w,
-            number,
-            std::num::wrapping_add_u64(w.entries, place as u64),
-        ),
-        Writing::Tape(n) => {
-            if n < 10 {
-                return stuck(w);
+    // The tape of these entries alone; what of it the whole tape has is that without its first 7 bytes and its last 3.
+    fn put_entries(&mut self, sink: &mut Sink, words: &[u64]) {
+        match tapes::write(sink.variant, 0, 0, words, sink.tape) {
+            Writing::Refused(number, place) => {
+                self.refuse(number, self.entries.wrapping_add(place as u64));
             }
-            put_part(system, w, to, tape, 7, n - 3)
+            Writing::Tape(n) => {
+                if n < 10 {
+                    self.stuck = true;
+                    return;
+                }
+                self.put_part(sink, 7, n - 3);
+            }
+        }
+    }
+
+    // How the machine is made; 0 of what is not there.
+    fn made(&self) -> Head {
+        self.head.unwrap_or(Head {
+            capacity: 0,
+            workers: 0,
+        })
+    }
+
+    // Some bytes of a tape that has no entries: its first 7, or its last 3.
+    fn put_frame(&mut self, sink: &mut Sink, from: usize, end: usize) {
+        let head = self.made();
+        match tapes::write(sink.variant, head.capacity, head.workers, &[], sink.tape) {
+            Writing::Refused(number, _) => self.refuse(number, 0),
+            Writing::Tape(_) => self.put_part(sink, from, end),
+        }
+    }
+
+    // Whole entries alone.
+    fn with_entries(&mut self, sink: &mut Sink, list: &[u64]) {
+        let n = list.len() / 2;
+        self.put_entries(sink, &list[..2 * n]);
+        self.entries = self.entries.wrapping_add(n as u64);
+    }
+
+    // The first two are the first field, where it is not written yet.
+    fn with_numbers(&mut self, sink: &mut Sink, list: &[u64]) {
+        if self.head.is_some() {
+            return self.with_entries(sink, list);
+        }
+        if list.len() < 2 {
+            return;
+        }
+        self.head = Some(Head {
+            capacity: list[0],
+            workers: list[1],
+        });
+        self.put_frame(sink, 0, 7);
+        self.with_entries(sink, &list[2..]);
+    }
+
+    fn turn(&mut self, input: &mut Input, sink: &mut Sink) {
+        self.reading.turn(input, self.left);
+        let count = self.reading.count;
+        let list = &mut *input.list;
+        if count <= list.len() {
+            self.with_numbers(sink, &list[..count]);
+        } else {
+            self.stuck = true;
+        }
+        self.left = replay_input::source::carry(list, count);
+    }
+
+    // Whether there are no numbers, or one, or as many as a schedule needs.
+    fn numbers(&self) -> u64 {
+        if self.head.is_some() {
+            2
+        } else {
+            self.left as u64
+        }
+    }
+
+    // Says what is wrong with the text, or what is refused.
+    fn is_sound(&self, system: &System, from: &File, name: &[u8]) -> bool {
+        replay_input::say::is_sound(
+            system,
+            "tape",
+            name,
+            from,
+            false,
+            &self.reading,
+            self.numbers(),
+            HINTS,
+        )
+    }
+
+    fn tell_entry(&self, system: &System, r: Refusal, from: &File, name: &[u8]) {
+        let mut room = [0u8; 512];
+        let mut why = Text::new(&mut room);
+        tape_files::say::put_entry(&mut why, r.number, r.place);
+        let begun = Reading::begun(false, Start::of_file(), 0, self.reading.sum_of());
+        replay_refusals::tell_of(system, name, from, begun, r.place, why.as_bytes());
+    }
+
+    // An entry with its line in the file, or how the machine is made.
+    fn tell_refused(&self, system: &System, r: Refusal, from: &File, name: &[u8]) {
+        let head = self.made();
+        if head.capacity < 65536 && head.workers < 65536 {
+            return self.tell_entry(system, r, from, name);
+        }
+        tape_files::say::refused_schedule(system, r.number, r.place, head.capacity, head.workers)
+    }
+
+    fn status_of(&self, system: &System, from: &File, name: &[u8]) -> u8 {
+        if self.stuck || !self.is_sound(system, from, name) {
+            return 2;
+        }
+        if self.left == 1 {
+            tape_files::say::refused_odd(system);
+            return 1;
+        }
+        match self.refusal {
+            Some(r) => {
+                self.tell_refused(system, r, from, name);
+                1
+            }
+            None => 0,
         }
     }
 }
 
-// Some bytes of a tape that has no entries: its first 7, or its last 3.
-fn put_frame(
-    system: &System,
-    w: Work,
-    v: Variant,
-    to: &File,
-    tape: &mut [u8],
-    from: usize,
-    end: usize,
-) -> Work {
-    let none = [0u64; 0];
-    let r = tapes::write(v, w.capacity, w.workers, &none, tape);
-    match r {
-        Writing::Refused(number, _) => refused(w, number, 0),
-        Writing::Tape(_) => put_part(system, w, to, tape, from, end),
-    }
-}
-
-// The first field, where it is not written yet and its numbers are there.
-fn begin(
-    system: &System,
-    before: Work,
-    v: Variant,
-    to: &File,
-    list: &[u64],
-    tape: &mut [u8],
-) -> Work {
-    let mut w = before;
-    if list.len() < 2 {
-        return w;
-    }
-    w.begun = true;
-    w.capacity = list[0];
-    w.workers = list[1];
-    put_frame(system, w, v, to, tape, 0, 7)
-}
-
-fn counted(before: Work, entries: usize) -> Work {
-    let mut w = before;
-    w.entries = std::num::wrapping_add_u64(w.entries, entries as u64);
-    w
-}
-
-// The entries among these numbers, from this one on.
-fn with_entries(
-    system: &System,
-    w: Work,
-    v: Variant,
-    to: &File,
-    list: &[u64],
-    from: usize,
-    tape: &mut [u8],
-) -> Work {
-    if list.len() < from {
-        return w;
-    }
-    let n = (list.len() - from) / 2;
-    let end = from + 2 * n;
-    let after = put_entries(system, w, v, to, &list[from..end], tape);
-    counted(after, n)
-}
-
-fn with_numbers(
-    system: &System,
-    w: Work,
-    v: Variant,
-    to: &File,
-    list: &[u64],
-    tape: &mut [u8],
-) -> Work {
-    if w.begun {
-        return with_entries(system, w, v, to, list, 0, tape);
-    }
-    let b = begin(system, w, v, to, list, tape);
-    with_entries(system, b, v, to, list, 2, tape)
-}
-
-fn with_some(
-    system: &System,
-    w: Work,
-    v: Variant,
-    to: &File,
-    list: &[u64],
-    n: usize,
-    tape: &mut [u8],
-) -> Work {
-    if n <= list.len() {
-        return with_numbers(system, w, v, to, &list[..n], tape);
-    }
-    stuck(w)
-}
-
-fn read_on(before: Work, reading: Reading, left: usize) -> Work {
-    let mut w = before;
-    w.reading = reading;
-    w.left = left;
-    w
-}
-
-// The numbers of a reading.
-fn taken_in(
-    system: &System,
-    w: Work,
-    r: Reading,
-    v: Variant,
-    to: &File,
-    list: &mut [u64],
-    tape: &mut [u8],
-) -> Work {
-    let after = with_some(system, w, v, to, list, r.count, tape);
-    let left = replay_input::source::carry(list, r.count);
-    read_on(after, r, left)
-}
-
-fn turn(
-    system: &System,
-    from: &File,
-    w: Work,
-    v: Variant,
-    to: &File,
-    bytes: &mut [u8],
-    list: &mut [u64],
-    tape: &mut [u8],
-) -> Work {
-    let before = w.reading;
-    let r = replay_input::source::turn(system, from, false, before, bytes, list, w.left);
-    taken_in(system, w, r, v, to, list, tape)
-}
-
-fn goes_on(w: Work) -> bool {
-    let r = w.reading;
-    if w.stuck {
-        false
-    } else {
-        r.event == text_numbers::NOTHING
-    }
-}
-
-fn all(
-    system: &System,
-    from: &File,
-    v: Variant,
-    to: &File,
-    bytes: &mut [u8],
-    list: &mut [u64],
-    tape: &mut [u8],
-) -> Work {
-    let mut w = start();
-    let mut turns = u64::MAX;
-    while turns > 0 && goes_on(w) {
-        turns -= 1;
-        w = turn(system, from, w, v, to, bytes, list, tape);
-    }
-    put_frame(system, w, v, to, tape, 7, 10)
-}
-
-fn worked(system: &System, from: &File, v: Variant, to: &File) -> Work {
+fn worked(system: &System, from: &File, variant: Variant, to: &File) -> Work {
     let mut bytes = [0u8; BYTES];
     let mut list = [0u64; NUMBERS];
     let mut tape = [0u8; 65536];
-    all(system, from, v, to, &mut bytes, &mut list, &mut tape)
-}
-
-// Whether there are no numbers, or one, or as many as a schedule needs.
-fn numbers_of(w: Work) -> u64 {
-    if w.begun { 2 } else { w.left as u64 }
-}
-
-// Says what is wrong with the text, or what is refused.
-fn is_sound(system: &System, w: Work, from: &File, name: &[u8]) -> bool {
-    let hints =
-        b"|; a tape has one schedule|; this is a tape, and tape read prints it|; a tape has one, which other queues do not use: capacity 1|";
-    replay_input::say::is_sound(
+    let mut input = Input {
         system,
-        b"tape",
-        name,
-        from,
-        false,
-        w.reading,
-        numbers_of(w),
-        hints,
-    )
-}
-
-// Whether what is refused is an entry, and not how the machine is made.
-fn is_of_entry(w: Work) -> bool {
-    w.capacity < 65536 && w.workers < 65536
-}
-
-fn first(text: &[u8], n: usize) -> &[u8] {
-    if n <= text.len() {
-        return &text[..n];
+        file: from,
+        many: false,
+        bytes: &mut bytes,
+        list: &mut list,
+    };
+    let mut sink = Sink {
+        system,
+        variant,
+        to,
+        tape: &mut tape,
+    };
+    let mut w = Work::start();
+    for _ in 0..u64::MAX {
+        if w.stuck || w.reading.ended.is_some() {
+            break;
+        }
+        w.turn(&mut input, &mut sink);
     }
-    text
-}
-
-fn tell_entry(system: &System, w: Work, from: &File, name: &[u8], why: &[u8]) {
-    let due = replay_input::source::sum_of(w.reading);
-    let begun = replay_input::source::begun(false, 0, 1, 0, text_sums::start(), due);
-    replay_refusals::tell_of(system, name, from, begun, w.place, why)
-}
-
-// An entry with its line in the file.
-fn tell_refused(system: &System, w: Work, from: &File, name: &[u8]) {
-    if is_of_entry(w) {
-        let mut text = [0u8; 512];
-        let n = tape_files::say::put_entry(&mut text, w.number, w.place);
-        return tell_entry(system, w, from, name, first(&text, n));
-    }
-    tape_files::say::refused_schedule(system, w.number, w.place, w.capacity, w.workers)
-}
-
-fn status_of(system: &System, w: Work, from: &File, name: &[u8]) -> u8 {
-    if w.stuck {
-        return 2;
-    }
-    if is_sound(system, w, from, name) {} else {
-        return 2;
-    }
-    if w.left == 1 {
-        tape_files::say::refused_odd(system);
-        return 1;
-    }
-    if w.number != 0 {
-        tell_refused(system, w, from, name);
-        return 1;
-    }
-    0
+    w.put_frame(&mut sink, 7, 10);
+    w
 }
 
 fn write_to(
@@ -346,33 +253,11 @@ fn write_to(
     match tape_files::files::sink(system, starter, tape, path) {
         Some(to) => {
             let w = worked(system, from, v, &to);
-            tape_files::files::finish(
-                system,
-                starter,
-                status_of(system, w, from, name),
-                tape,
-                path,
-                to,
-            )
+            let status = w.status_of(system, from, name);
+            tape_files::files::finish(system, starter, status, tape, path, to)
         }
         None => 2,
     }
-}
-
-fn write_from(
-    system: &System,
-    starter: Starter,
-    from: &File,
-    name: &[u8],
-    v: Variant,
-    tape: &[u8],
-    path: &[u8],
-    n: usize,
-) -> u8 {
-    if n <= path.len() {
-        return write_to(system, starter, from, name, v, tape, &path[..n]);
-    }
-    2
 }
 
 fn run_kept(
@@ -383,9 +268,10 @@ fn run_kept(
     v: Variant,
     tape: &[u8],
 ) -> u8 {
-    let mut path = [0u8; 4608];
-    let n = tape_files::files::beside(system, tape, &mut path);
-    let status = write_from(system, starter, &kept, name, v, tape, &path, n);
+    let mut room = [0u8; 4608];
+    let mut path = Text::new(&mut room);
+    tape_files::files::beside(system, tape, &mut path);
+    let status = write_to(system, starter, &kept, name, v, tape, path.as_bytes());
     replay_input::source::release(kept);
     status
 }
@@ -399,7 +285,7 @@ pub fn run(
     v: Variant,
     tape: &[u8],
 ) -> u8 {
-    match replay_input::source::kept(system, b"tape", from, name) {
+    match replay_input::source::kept(system, "tape", from, name) {
         Some(kept) => run_kept(system, starter, kept, name, v, tape),
         None => 2,
     }

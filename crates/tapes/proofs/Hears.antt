@@ -1,5 +1,5 @@
 -- A tape field by field: what is heard, and what is left of it.
-use Prim.Native.Nat.{ℕ, zero, suc, ◌+◌, ◌*◌, ◌/◌, ◌-◌, ◌<◌, ◌≤◌}
+use Prim.Native.Nat.{ℕ, zero, suc, ◌+◌, ◌*◌, ◌/◌, ◌%◌, ◌-◌, ◌<◌, ◌≤◌}
 use mathlib.Core.Path.{◌≡◌, refl, sym, ap, ap₂, ◌∙◌}
 use mathlib.Core.Bool.{Bool, true, false, cond}
 use mathlib.Core.List.{List, [], ◌∷◌, ◌++◌, append_assoc}
@@ -126,11 +126,19 @@ module _ (v : Variant) (s w : List ℕ) (at k : ℕ) (f : Field) (in_it : at ≤
   some_left : 0 < length (words_in (hear_from (length s - k / 2) v at (drop at s)))
   some_left = omega (arith, ap length left, length-drop k w)
 
-  pub no_fault : (number : ℕ) → f ≡ field.Fault number → ⊥
+  no_fault : (number : ℕ) → f ≡ field.Fault number → ⊥
   no_fault number e = omega (arith, some_left, ap length (no_words_fault v at (drop at s) f field_there number e (length s - k / 2)))
 
-  pub no_end : f ≡ field.End → ⊥
+  no_end : f ≡ field.End → ⊥
   no_end e = omega (arith, some_left, ap length (no_words_end v at (drop at s) f field_there e (length s - k / 2)))
+
+  pub no_other : ((first item : ℕ) → f ≡ field.Entry first item → ⊥) → ⊥
+  no_other h = by f refl
+    where
+      by : (g : Field) → f ≡ g → ⊥
+      by (field.Fault number) e = no_fault number e
+      by field.End e = no_end e
+      by (field.Entry first item) e = h first item e
 
   module _ (first item : ℕ) (e : f ≡ field.Entry first item) where
     two_left : drop k w ≡ first ∷ item ∷ words_in (hear_from (length s - k / 2 - 1) v (at + size_of first) (drop (size_of first) (drop at s)))
@@ -165,3 +173,28 @@ none_copied v s b = let z : length s - 0 / 2 ≡ length s = omega arith in (sym 
 
 pub all_copied : (w b x : List ℕ) (k : ℕ) → length w ≤ k → x ≡ over (take k w) b → x ≡ over w b
 all_copied w b x k h e = e ∙ ap (λ (l : List ℕ). over l b) (take_all k w h)
+
+-- the words come in twos
+even_joined : (first item : ℕ) (h : Heard) → length (words_in h) % 2 ≡ 0 → length (words_in (joined first item h)) % 2 ≡ 0
+unfolding joined words_in
+even_joined first item (stopped number at) e = refl
+even_joined first item (heard words) e = omega arith
+
+even_by : (at : ℕ) (r : List ℕ) (f : Field) (h : Heard) → length (words_in h) % 2 ≡ 0 → length (words_in (heard_by at r f h)) % 2 ≡ 0
+unfolding heard_by words_in
+even_by at r (field.Fault number) h e = refl
+even_by at r field.End h e = either (eqb (length r) 3)
+  where
+    either : (b : Bool) → length (words_in (cond b (heard []) (stopped 15 (at + 3)))) % 2 ≡ 0
+    either true = refl
+    either false = refl
+even_by at r (field.Entry first item) h e = even_joined first item h e
+
+even_from : (more : ℕ) (v : Variant) (at : ℕ) (r : List ℕ) → length (words_in (hear_from more v at r)) % 2 ≡ 0
+unfolding hear_from words_in
+even_from zero v at r = refl
+even_from (suc more) v at r = even_by at r (field_in v r) _ (even_from more v (at + long_of (field_in v r)) (drop (long_of (field_in v r)) r))
+
+pub even_words : (v : Variant) (s : List ℕ) → length (words_in (hear_in v s)) % 2 ≡ 0
+unfolding hear_in
+even_words v s = even_from (length s) v 7 (drop 7 s)

@@ -10,6 +10,8 @@ ghost use Rattle.tapes.specs.Heard.{hear_in, count_in, words_in, read_of, read_i
 use tapes_fields::{Field, Head};
 use tapes_numbers::Variant;
 
+// The four answers are enums of their own, since `write_of`, `load_from`, `count_in` and `read_of` of specs/ answer them.
+
 // What the writer answers: a refusal with its number and value, or the count of bytes written.
 #[derive(Clone, Copy)]
 pub enum Writing {
@@ -43,14 +45,12 @@ fn loaded(words: &[u64]) -> Load
 {
     let n = words.len() / 2;
     let mut long = 10;
-    let mut i = 0;
-    while i < n {
+    for i in 0..n {
         let first = words[2 * i];
-        if tapes_fields::carried(first, words[2 * i + 1]) {} else {
+        if !tapes_fields::carried(first, words[2 * i + 1]) {
             return Load::Unfit(i);
         }
         long += tapes_fields::size(first);
-        i += 1;
     }
     Load::Bytes(long)
 }
@@ -63,12 +63,10 @@ fn fill(buffer: &mut [u8], v: Variant, capacity: u64, workers: u64, words: &[u64
     tapes_fields::put_head(buffer, v, capacity, workers);
     let n = words.len() / 2;
     let mut at = 7;
-    let mut i = 0;
-    while i < n {
+    for i in 0..n {
         let first = words[2 * i];
         tapes_fields::put_entry(&mut buffer[at..], v, first, words[2 * i + 1]);
         at += tapes_fields::size(first);
-        i += 1;
     }
     tapes_fields::put_end(&mut buffer[at..], v);
 }
@@ -81,14 +79,10 @@ pub fn write(v: Variant, capacity: u64, workers: u64, words: &[u64], buffer: &mu
     if words.len() % 2 == 1 {
         return Writing::Refused(11, 0);
     }
-    if 65535 < capacity {
+    if 65535 < capacity || 65535 < workers {
         return Writing::Refused(17, 0);
     }
-    if 65535 < workers {
-        return Writing::Refused(17, 0);
-    }
-    let l = loaded(words);
-    match l {
+    match loaded(words) {
         Load::Unfit(place) => Writing::Refused(17, place),
         Load::Bytes(long) => {
             if buffer.len() < long {
@@ -109,11 +103,8 @@ fn scanned(bytes: &[u8], v: Variant) -> Scan
     let mut at = 7;
     let mut n = 0;
     loop {
-        let f = tapes_fields::field_in(&bytes[at..], v);
-        match f {
-            Field::Fault(number) => {
-                return Scan::Fault(number, at);
-            }
+        match tapes_fields::field_in(&bytes[at..], v) {
+            Field::Fault(number) => return Scan::Fault(number, at),
             Field::End => {
                 if bytes.len() - at == 3 {
                     return Scan::Words(n);
@@ -134,23 +125,13 @@ fn copy(bytes: &[u8], v: Variant, n: usize, buffer: &mut [u64])
     ensures { buffer.new ≡ over (words_in (hear_in v bytes.now)) buffer.old }
 {
     let mut at = 7;
-    let mut k = 0;
-    while k < n {
-        let next = tapes_fields::field_in(&bytes[at..], v);
-        match next {
-            Field::Fault(_) => {
-                return;
-            }
-            Field::End => {
-                return;
-            }
-            Field::Entry(first, item) => {
-                buffer[k] = first;
-                buffer[k + 1] = item;
-                at += tapes_fields::size(first);
-                k += 2;
-            }
-        }
+    for i in 0..n / 2 {
+        let Field::Entry(first, item) = tapes_fields::field_in(&bytes[at..], v) else {
+            return;
+        };
+        buffer[2 * i] = first;
+        buffer[2 * i + 1] = item;
+        at += tapes_fields::size(first);
     }
 }
 
@@ -159,21 +140,17 @@ pub fn read(bytes: &[u8], buffer: &mut [u64]) -> Reading
     ensures answer { result ≡ read_of bytes.now (length buffer.old) }
     ensures lent { buffer.new ≡ read_into bytes.now buffer.old }
 {
-    let h = tapes_fields::head_in(bytes);
-    match h {
+    match tapes_fields::head_in(bytes) {
         Head::Fault(number) => Reading::Refused(number, 0),
-        Head::Makes(v, capacity, workers) => {
-            let s = scanned(bytes, v);
-            match s {
-                Scan::Fault(number, at) => Reading::Refused(number, at),
-                Scan::Words(count) => {
-                    if buffer.len() < count {
-                        return Reading::Refused(16, count);
-                    }
-                    copy(bytes, v, count, buffer);
-                    Reading::Schedule(v, capacity, workers, count)
+        Head::Makes(v, capacity, workers) => match scanned(bytes, v) {
+            Scan::Fault(number, at) => Reading::Refused(number, at),
+            Scan::Words(count) => {
+                if buffer.len() < count {
+                    return Reading::Refused(16, count);
                 }
+                copy(bytes, v, count, buffer);
+                Reading::Schedule(v, capacity, workers, count)
             }
-        }
+        },
     }
 }

@@ -8,14 +8,14 @@ ghost use Rattle.tapes_fields.specs.Judged.{opens, allowed, head_by, head_in, en
 use queue_entries::Entry;
 use tapes_numbers::Variant;
 
-// The first field of a tape: a refusal, or variant, capacity and workers.
+// The first field of a tape: a refusal, or variant, capacity and workers. An enum of its own, since `head_in` of specs/Judged.antt answers it.
 #[derive(Clone, Copy)]
 pub enum Head {
     Fault(u64),
     Makes(Variant, u64, u64),
 }
 
-// A later field: a refusal, the end, or an entry's two words.
+// A later field: a refusal, the end, or an entry's two words. `field_in` of specs/Judged.antt answers it.
 #[derive(Clone, Copy)]
 pub enum Field {
     Fault(u64),
@@ -27,11 +27,7 @@ fn opens(bytes: &[u8], v: Variant, tag: u8, long: u64) -> bool
     requires { (tag < 128) × (3 ≤ length bytes.now) }
     ensures { result ≡ opens v tag long bytes.now }
 {
-    if bytes[0] == tapes_numbers::tag(v, tag) {
-        tapes_numbers::number(&bytes[1..3], v) == long
-    } else {
-        false
-    }
+    bytes[0] == tapes_numbers::tag(v, tag) && tapes_numbers::number(&bytes[1..3], v) == long
 }
 
 fn head_by(bytes: &[u8], v: Variant) -> Head
@@ -75,11 +71,7 @@ fn tag_for(code: u64) -> u8
 fn allowed(tag: u8, code: u64) -> bool
     ensures { result ≡ allowed tag code }
 {
-    if code < 10 {
-        tag == tag_for(code)
-    } else {
-        false
-    }
+    code < 10 && tag == tag_for(code)
 }
 
 fn entry_by(bytes: &[u8], v: Variant, tag: u8, long: usize) -> Field
@@ -90,7 +82,7 @@ fn entry_by(bytes: &[u8], v: Variant, tag: u8, long: usize) -> Field
     if bytes.len() < end {
         return Field::Fault(12);
     }
-    let b = tapes_numbers::wide(bytes[3]);
+    let b = u64::from(bytes[3]);
     if allowed(tag, b / 16) {
         Field::Entry(swapped(b), tapes_numbers::number(&bytes[4..end], v))
     } else {

@@ -2,6 +2,7 @@
 use Prim.Native.Nat.{ℕ}
 use mathlib.Core.Path.{◌≡◌, refl, sym, ap, ◌∙◌}
 use mathlib.Core.List.{List}
+use native.Mathlib.Omega.{arith}
 use lib.ListN.{length}
 use Rattle.queue_entries.proofs.Pick.{equal, other}
 use Rattle.tapes_numbers.specs.declared.Variant.{Variant}
@@ -15,7 +16,7 @@ use Rattle.tapes.specs.Written.{write_of, written_of}
 use Rattle.tapes.specs.Heard as reader
 use Rattle.tapes.specs.Heard.{read_of, read_into}
 use Rattle.tapes_host.specs.declared.Reply.{Reply}
-use Rattle.tapes_host.specs.Host.{reply, written, writing_reply, write_tape, read_out_of, reading_reply, about_of, about_after, read_tape}
+use Rattle.tapes_host.specs.Host.{reply, name_of, written, writing_reply, write_tape, read_out_of, reading_reply, about_of, about_after, read_tape}
 
 -- ---- the writer
 pub reply_refused : (w : Writing) (number value : ℕ) → w ≡ writing.Refused number value → reply number value ≡ writing_reply w
@@ -28,13 +29,17 @@ reply_tape w count e = ap writing_reply (sym e)
 
 module _ (name capacity workers : ℕ) (words tape : List ℕ) where
   module _ (x : Writing) (r : Reply) (z : List ℕ) (answer : x ≡ write_of capacity workers words (length tape)) (told : r ≡ writing_reply x) where
-    pub wrote_big : name ≡ 1 → z ≡ written_of BigEndian capacity workers words tape → written r z ≡ write_tape name capacity workers words tape
+    wrote_big : name ≡ 1 → z ≡ written_of BigEndian capacity workers words tape → written r z ≡ write_tape name capacity workers words tape
     unfolding write_tape
     wrote_big n e = equal _ _ _ _ _ n (λ i. written ((told ∙ ap writing_reply answer) i) (e i))
 
-    pub wrote_little : (name ≡ 1 → ⊥) → name ≡ 129 → z ≡ written_of LittleEndian capacity workers words tape → written r z ≡ write_tape name capacity workers words tape
+    wrote_little : (name ≡ 1 → ⊥) → name ≡ 129 → z ≡ written_of LittleEndian capacity workers words tape → written r z ≡ write_tape name capacity workers words tape
     unfolding write_tape
     wrote_little o n e = other _ _ _ _ _ o (equal _ _ _ _ _ n (λ i. written ((told ∙ ap writing_reply answer) i) (e i)))
+
+    pub wrote : (v : Variant) → name ≡ name_of v → z ≡ written_of v capacity workers words tape → written r z ≡ write_tape name capacity workers words tape
+    wrote BigEndian n e = wrote_big n e
+    wrote LittleEndian n e = wrote_little (λ o. omega arith) n e
 
   pub no_variant : (name ≡ 1 → ⊥) → (name ≡ 129 → ⊥) → written (reply 13 0) tape ≡ write_tape name capacity workers words tape
   unfolding write_tape

@@ -68,13 +68,17 @@ module _ (room long count : ℕ) where
       in_room h r e = above _ _ _ _ _ head (above room (long + 3) _ _ _ (omega arith) e)
 
 module _ (name long count : ℕ) where
-  pub big_stands : name ≡ 1 → At BigEndian long count ≡ stands_by name long count
+  big_stands : name ≡ 1 → At BigEndian long count ≡ stands_by name long count
   unfolding stands_by
   big_stands n = equal _ _ _ _ _ n refl
 
-  pub little_stands : (name ≡ 1 → ⊥) → name ≡ 129 → At LittleEndian long count ≡ stands_by name long count
+  little_stands : (name ≡ 1 → ⊥) → name ≡ 129 → At LittleEndian long count ≡ stands_by name long count
   unfolding stands_by
   little_stands o n = other _ _ _ _ _ o (equal _ _ _ _ _ n refl)
+
+  pub one_stands : (v : Variant) → name ≡ name_of v → At v long count ≡ stands_by name long count
+  one_stands BigEndian n = big_stands n
+  one_stands LittleEndian n = little_stands (λ o. omega arith) n
 
   pub none_stands : (name ≡ 1 → ⊥) → (name ≡ 129 → ⊥) → Broken ≡ stands_by name long count
   unfolding stands_by

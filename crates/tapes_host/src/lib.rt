@@ -2,8 +2,9 @@
 // answers and what stands in every slice then; a refused call changes nothing that is lent.
 #![tactic(auto)]
 
-ghost use Rattle.std.specs.Prelude.{◌≡◌, length, ◌+◌, ◌*◌, ◌≤◌, [], ◌∷◌};
-ghost use Rattle.tapes_host.specs.Host.{writing_reply, written, write_tape, about_of, read_out_of, read_tape};
+ghost use Rattle.std.specs.Prelude.{◌≡◌, ◌≢◌, length, ◌+◌, ◌*◌, ◌≤◌, [], ◌∷◌, MatchOption};
+ghost use Rattle.tapes_numbers.specs.declared.Variant.TheVariants.{BigEndian, LittleEndian};
+ghost use Rattle.tapes_host.specs.Host.{name_of, writing_reply, written, write_tape, about_of, read_out_of, read_tape};
 ghost use Rattle.tapes_host.specs.Recorder.{recorded, entries_can, stands, stands_by, recorder_in, begin_tape, append_at, append_tape, end_at, end_tape};
 
 use tapes::{Reading, Writing};
@@ -25,23 +26,35 @@ pub struct Reply {
     pub number: u64,
 }
 
-fn writing_reply(w: Writing) -> Reply
-    ensures { result ≡ writing_reply w }
+impl From<Writing> for Reply {
+    ghost from_gives = { λ w r. r ≡ writing_reply w };
+
+    fn from(w: Writing) -> Reply {
+        match w {
+            Writing::Refused(refusal, value) => Reply {
+                refusal,
+                number: value as u64,
+            },
+            Writing::Tape(count) => Reply {
+                refusal: 0,
+                number: count as u64,
+            },
+        }
+    }
+}
+
+fn variant_of(name: u64) -> Option<Variant>
+    ensures { MatchOption result ((name ≢ name_of BigEndian) × (name ≢ name_of LittleEndian)) (λ v. name ≡ name_of v) }
 {
-    match w {
-        Writing::Refused(number, value) => Reply {
-            refusal: number,
-            number: value as u64,
-        },
-        Writing::Tape(count) => Reply {
-            refusal: 0,
-            number: count as u64,
-        },
+    match name {
+        BIG => Some(Variant::BigEndian),
+        LITTLE => Some(Variant::LittleEndian),
+        _ => None,
     }
 }
 
 // A schedule as a tape at the buffer's start, and how many bytes. 13: no variant has this name; then 11, 17, 16.
-#[tactic(auto, using(crate::proofs::Answering::wrote_big, crate::proofs::Answering::wrote_little, crate::proofs::Answering::no_variant))]
+#[tactic(auto, using(crate::proofs::Answering::wrote, crate::proofs::Answering::no_variant))]
 #[unsafe(no_mangle)]
 pub extern "C" fn fern_tape_write(
     variant: u64,
@@ -52,22 +65,13 @@ pub extern "C" fn fern_tape_write(
 ) -> Reply
     ensures { written result tape.new ≡ write_tape variant capacity workers schedule.now tape.old }
 {
-    if variant == BIG {
-        return writing_reply(tapes::write(Variant::BigEndian, capacity, workers, schedule, tape));
-    }
-    if variant == LITTLE {
-        return writing_reply(tapes::write(
-            Variant::LittleEndian,
-            capacity,
-            workers,
-            schedule,
-            tape,
-        ));
-    }
-    Reply {
-        refusal: 13,
-        number: 0,
-    }
+    let Some(v) = variant_of(variant) else {
+        return Reply {
+            refusal: 13,
+            number: 0,
+        };
+    };
+    Reply::from(tapes::write(v, capacity, workers, schedule, tape))
 }
 
 fn put_three(words: &mut [u64], first: u64, second: u64, third: u64)
@@ -83,7 +87,7 @@ fn put_about(about: &mut [u64], v: Variant, capacity: u64, workers: u64)
     requires { length about.old ≡ 3 }
     ensures { about.new ≡ about_of v capacity workers }
 {
-    let name = tapes_numbers::wide(tapes_numbers::tag(v, 1));
+    let name = u64::from(tapes_numbers::tag(v, 1));
     put_three(about, name, capacity, workers);
 }
 
@@ -98,10 +102,9 @@ pub extern "C" fn fern_tape_read(tape: &[u8], about: &mut [u64], schedule: &mut 
             number: 0,
         };
     }
-    let heard = tapes::read(tape, schedule);
-    match heard {
-        Reading::Refused(number, value) => Reply {
-            refusal: number,
+    match tapes::read(tape, schedule) {
+        Reading::Refused(refusal, value) => Reply {
+            refusal,
             number: value as u64,
         },
         Reading::Schedule(v, capacity, workers, count) => {
@@ -115,6 +118,7 @@ pub extern "C" fn fern_tape_read(tape: &[u8], about: &mut [u64], schedule: &mut 
 }
 
 // A recorder, as its words say: its variant, the bytes of its tape so far but for the last field, and its entries so far; or that they are no recorder's.
+// An enum of its own, since `recorder_in` of specs/Recorder.antt answers it.
 #[derive(Clone, Copy)]
 pub enum Recorder {
     Broken,
@@ -128,38 +132,22 @@ fn entries_can(bytes: u64, count: u64) -> bool
         return false;
     }
     let items = bytes - 4 * count;
-    if items % 8 == 0 {
-        items / 8 <= count
-    } else {
-        false
-    }
+    items % 8 == 0 && items / 8 <= count
 }
 
 fn stands(room: usize, long: u64, count: u64) -> bool
     ensures { result ≡ stands room long count }
 {
-    if long < 7 {
-        return false;
-    }
-    if room < 3 {
-        return false;
-    }
-    if ((room - 3) as u64) < long {
-        return false;
-    }
-    entries_can(long - 7, count)
+    7 <= long && 3 <= room && long <= (room - 3) as u64 && entries_can(long - 7, count)
 }
 
 fn stands_by(name: u64, long: u64, count: u64) -> Recorder
     ensures { result ≡ stands_by name long count }
 {
-    if name == BIG {
-        return Recorder::At(Variant::BigEndian, long as usize, count);
+    match variant_of(name) {
+        Some(v) => Recorder::At(v, long as usize, count),
+        None => Recorder::Broken,
     }
-    if name == LITTLE {
-        return Recorder::At(Variant::LittleEndian, long as usize, count);
-    }
-    Recorder::Broken
 }
 
 fn recorder_in(words: &[u64], room: usize) -> Recorder
@@ -211,7 +199,7 @@ fn append_at(
     requires { (length recorder.old ≡ 3) × (long + 3 ≤ length tape.old) × (4 * count ≤ long) }
     ensures { recorded result recorder.new tape.new ≡ append_at v long count recorder.old first item tape.old }
 {
-    if tapes_fields::carried(first, item) {} else {
+    if !tapes_fields::carried(first, item) {
         return Reply {
             refusal: 17,
             number: count,
@@ -228,7 +216,7 @@ fn append_at(
     tapes_fields::put_entry(&mut tape[long..], v, first, item);
     put_three(
         recorder,
-        tapes_numbers::wide(tapes_numbers::tag(v, 1)),
+        u64::from(tapes_numbers::tag(v, 1)),
         end as u64,
         count + 1,
     );
@@ -248,8 +236,7 @@ pub extern "C" fn fern_recorder_append(
 ) -> Reply
     ensures { recorded result recorder.new tape.new ≡ append_tape recorder.old first second tape.old }
 {
-    let stand = recorder_in(recorder, tape.len());
-    match stand {
+    match recorder_in(recorder, tape.len()) {
         Recorder::Broken => Reply {
             refusal: 6,
             number: 0,
@@ -274,8 +261,7 @@ fn end_at(v: Variant, long: usize, tape: &mut [u8]) -> Reply
 pub extern "C" fn fern_recorder_end(recorder: &[u64], tape: &mut [u8]) -> Reply
     ensures { written result tape.new ≡ end_tape recorder.now tape.old }
 {
-    let stand = recorder_in(recorder, tape.len());
-    match stand {
+    match recorder_in(recorder, tape.len()) {
         Recorder::Broken => Reply {
             refusal: 6,
             number: 0,

@@ -4,7 +4,7 @@
 ghost use Rattle.std.specs.Prelude.{◌≡◌, ◌≤◌, ◌<◌, length};
 ghost use Rattle.tapes_numbers.specs.Numbers.{tag_of, spot_of, number_of, bytes_of};
 
-#[derive(Clone, Copy)]
+#[derive(Clone, Copy, PartialEq, Eq)]
 pub enum Variant {
     BigEndian,
     LittleEndian,
@@ -32,12 +32,6 @@ fn spot(v: Variant, count: usize, i: usize) -> usize
     }
 }
 
-pub fn wide(b: u8) -> u64
-    ensures { result ≡ b }
-{
-    b as u64
-}
-
 // The number that these bytes are.
 pub fn number(bytes: &[u8], v: Variant) -> u64
     requires { length bytes.now ≤ 8 }
@@ -45,10 +39,8 @@ pub fn number(bytes: &[u8], v: Variant) -> u64
 {
     let count = bytes.len();
     let mut n = 0;
-    let mut i = count;
-    while 0 < i {
-        i -= 1;
-        n = n * 256 + wide(bytes[spot(v, count, i)]);
+    for i in (0..count).rev() {
+        n = n * 256 + u64::from(bytes[spot(v, count, i)]);
     }
     n
 }
@@ -59,10 +51,8 @@ pub fn put_number(buffer: &mut [u8], n: u64, v: Variant)
 {
     let count = buffer.len();
     let mut rest = n;
-    let mut i = 0;
-    while i < count {
+    for i in 0..count {
         buffer[spot(v, count, i)] = (rest % 256) as u8;
-        rest = rest / 256;
-        i += 1;
+        rest /= 256;
     }
 }

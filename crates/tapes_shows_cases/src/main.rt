@@ -8,11 +8,12 @@
 // No count and no room is above 256. Each answer is a line: what was answered, a colon, and the whole lent buffer.
 #![tactic(auto)]
 
-ghost use Rattle.std.specs.Prelude.{◌≤◌, length};
+ghost use Rattle.std.specs.Prelude.{IfSome, ◌≤◌, length};
 
 use tapes::{Reading, Writing};
 use tapes_numbers::Variant;
 use text_numbers::Scan;
+use text_output::Text;
 use text_system::System;
 
 const MOST: usize = 256;
@@ -22,51 +23,27 @@ const BYTES: usize = 16384;
 
 const NUMBERS: usize = 8704;
 
-// How many numbers were used, 0 where a case is not whole, and where the text goes on.
-#[derive(Clone, Copy)]
-struct Went {
-    used: usize,
-    at: usize,
-}
-
-fn byte_of(n: u64) -> u8 {
-    (n % 256) as u8
-}
-
 fn small(n: u64) -> usize
     ensures { result ≤ 256 }
 {
-    if n <= 256 { n as usize } else { 256 }
+    n.min(256) as usize
 }
 
-fn to_bytes(list: &[u64], bytes: &mut [u8]) {
-    let mut i = 0;
-    while i < list.len() && i < bytes.len() {
-        bytes[i] = byte_of(list[i]);
-        i += 1;
+fn bytes_of(list: &[u64]) -> [u8; MOST] {
+    let mut bytes = [0; MOST];
+    for (byte, n) in bytes.iter_mut().zip(list) {
+        *byte = (*n % 256) as u8;
     }
+    bytes
 }
 
-fn with_words(out: &mut [u8], at: usize, words: &[u64]) -> usize {
-    let mut p = at;
-    let mut i = 0;
-    while i < words.len() {
-        p = text_output::byte(out, p, b' ');
-        p = text_output::number(out, p, words[i]);
-        i += 1;
+// The whole of a lent buffer, to the line's end.
+fn rest<T: Copy + Into<u64>>(text: &mut Text, buffer: &[T]) {
+    for n in buffer {
+        text.byte(b' ');
+        text.number((*n).into());
     }
-    text_output::byte(out, p, b'\n')
-}
-
-fn with_bytes(out: &mut [u8], at: usize, bytes: &[u8]) -> usize {
-    let mut p = at;
-    let mut i = 0;
-    while i < bytes.len() {
-        p = text_output::byte(out, p, b' ');
-        p = text_output::number(out, p, tapes_numbers::wide(bytes[i]));
-        i += 1;
-    }
-    text_output::byte(out, p, b'\n')
+    text.byte(b'\n');
 }
 
 fn variant_number(v: Variant) -> u64 {
@@ -76,91 +53,45 @@ fn variant_number(v: Variant) -> u64 {
     }
 }
 
-fn read_answer(out: &mut [u8], at: usize, r: Reading) -> usize {
+fn refused(text: &mut Text, number: u64, value: usize) {
+    text.form("refused # at #:", &[number, value as u64]);
+}
+
+fn read_answer(text: &mut Text, r: Reading) {
     match r {
-        Reading::Refused(number, value) => text_output::form(
-            out,
-            at,
-            b"refused # at #:",
-            &[number, value as u64],
-        ),
-        Reading::Schedule(v, capacity, workers, count) => text_output::form(
-            out,
-            at,
-            b"read variant # capacity # workers # words #:",
+        Reading::Refused(number, value) => refused(text, number, value),
+        Reading::Schedule(v, capacity, workers, count) => text.form(
+            "read variant # capacity # workers # words #:",
             &[variant_number(v), capacity, workers, count as u64],
         ),
     }
 }
 
-fn write_answer(out: &mut [u8], at: usize, r: Writing) -> usize {
+fn write_answer(text: &mut Text, r: Writing) {
     match r {
-        Writing::Refused(number, value) => text_output::form(
-            out,
-            at,
-            b"refused # at #:",
-            &[number, value as u64],
-        ),
-        Writing::Tape(count) => text_output::form(out, at, b"wrote #:", &[count as u64]),
+        Writing::Refused(number, value) => refused(text, number, value),
+        Writing::Tape(count) => text.form("wrote #:", &[count as u64]),
     }
 }
 
-fn read_case(
-    list: &[u64],
-    room: usize,
-    tape: &mut [u8],
-    words: &mut [u64],
-    out: &mut [u8],
-    at: usize,
-) -> usize {
-    let n = list.len();
-    to_bytes(list, tape);
-    if tape.len() < n {
-        return at;
-    }
-    if words.len() < room {
-        return at;
-    }
-    let r = tapes::read(&tape[..n], &mut words[..room]);
-    let p = read_answer(out, at, r);
-    with_words(out, p, &words[..room])
+fn reads(text: &mut Text, list: &[u64], room: usize)
+    requires list_fits { length list.now ≤ 256 }
+    requires room_fits { room ≤ 256 }
+{
+    let tape = bytes_of(list);
+    let mut words = [7; MOST];
+    let r = tapes::read(&tape[..list.len()], &mut words[..room]);
+    read_answer(text, r);
+    rest(text, &words[..room]);
 }
 
-fn write_case(
-    v: Variant,
-    capacity: u64,
-    workers: u64,
-    list: &[u64],
-    room: usize,
-    tape: &mut [u8],
-    out: &mut [u8],
-    at: usize,
-) -> usize {
-    if tape.len() < room {
-        return at;
-    }
+fn writes(text: &mut Text, v: Variant, capacity: u64, workers: u64, list: &[u64], room: usize)
+    requires { room ≤ 256 }
+{
+    let mut tape = [238; MOST];
     let r = tapes::write(v, capacity, workers, list, &mut tape[..room]);
-    let p = write_answer(out, at, r);
-    with_bytes(out, p, &tape[..room])
-}
-
-fn reads(list: &[u64], room: usize, out: &mut [u8], at: usize) -> usize {
-    let mut tape = [0u8; MOST];
-    let mut words = [7u64; MOST];
-    read_case(list, room, &mut tape, &mut words, out, at)
-}
-
-fn writes(
-    v: Variant,
-    capacity: u64,
-    workers: u64,
-    list: &[u64],
-    room: usize,
-    out: &mut [u8],
-    at: usize,
-) -> usize {
-    let mut tape = [238u8; MOST];
-    write_case(v, capacity, workers, list, room, &mut tape, out, at)
+    write_answer(text, r);
+    rest(text, &tape[..room]);
 }
 
 fn variant_of(kind: u64) -> Variant {
@@ -171,128 +102,81 @@ fn variant_of(kind: u64) -> Variant {
     }
 }
 
-// The case at the start of these numbers, if it is whole.
-fn one(list: &[u64], out: &mut [u8], at: usize) -> Went
-    ensures { result.used ≤ length list.now }
+// The case at the start of these numbers, if it is whole: how many of them it has.
+fn one(text: &mut Text, list: &[u64]) -> Option<usize>
+    ensures { IfSome result (λ n. n ≤ length list.now) }
 {
-    if list.len() < 3 {
-        return Went { used: 0, at: at };
-    }
-    let room = small(list[1]);
-    let count = small(list[2]);
-    if list[0] == 0 {
-        let end = 3 + count;
-        if list.len() < end {
-            return Went { used: 0, at: at };
-        }
-        return Went {
-            used: end,
-            at: reads(&list[3..end], room, out, at),
-        };
-    }
-    let end = 5 + count;
-    if list.len() < end {
-        return Went { used: 0, at: at };
-    }
-    let v = variant_of(list[0]);
-    Went {
-        used: end,
-        at: writes(v, list[3], list[4], &list[5..end], room, out, at),
-    }
-}
-
-// Writes the text where there is much of it.
-fn eased(system: &System, out: &[u8], at: usize) -> usize {
-    if 32768 < at {
-        text_output::flush(system, out, at)
-    } else {
-        at
-    }
-}
-
-// Every whole case of these numbers, and how many numbers they are.
-fn all(system: &System, list: &[u64], out: &mut [u8]) -> usize {
-    let mut from = 0;
-    let mut at = 0;
-    while from < list.len() {
-        let w = one(&list[from..], out, at);
-        at = eased(system, out, w.at);
-        if w.used == 0 {
-            text_output::flush(system, out, at);
-            return from;
-        }
-        from += w.used;
-    }
-    text_output::flush(system, out, at);
-    from
-}
-
-// What is left goes to the list's start.
-fn carry(list: &mut [u64], from: usize, n: usize) -> usize
-    requires { n ≤ length list.old }
-{
-    let mut i = from;
-    let mut k = 0;
-    while i < n {
-        list[k] = list[i];
-        i += 1;
-        k += 1;
-    }
-    k
-}
-
-fn settle(system: &System, list: &mut [u64], n: usize, out: &mut [u8]) -> usize {
-    if n <= list.len() {
-        let from = all(system, &list[..n], out);
-        return carry(list, from, n);
-    }
-    0
-}
-
-// Where the reading of numbers stands, and how many of them are left.
-#[derive(Clone, Copy)]
-struct Standing {
-    scan: Scan,
-    left: usize,
-    going: bool,
-}
-
-fn turn(
-    system: &System,
-    r: Standing,
-    bytes: &mut [u8],
-    list: &mut [u64],
-    out: &mut [u8],
-) -> Standing {
-    let scan = r.scan;
-    let got = text_system::streams::read(system, bytes);
-    let piece = text_numbers::read_piece(scan, false, &bytes[..got.n], list, r.left);
-    let after = piece.scan;
-    let left = settle(system, list, piece.count, out);
-    Standing {
-        scan: after,
-        left: left,
-        going: 0 < got.n && piece.event == text_numbers::NOTHING,
-    }
-}
-
-fn run(system: &System, bytes: &mut [u8], list: &mut [u64], out: &mut [u8]) {
-    let mut r = Standing {
-        scan: text_numbers::start(1),
-        left: 0,
-        going: true,
+    let [kind, room, count, rest @ ..] = list else {
+        return None;
     };
-    let mut turns = u64::MAX;
-    while turns > 0 && r.going {
-        turns -= 1;
-        r = turn(system, r, bytes, list, out);
+    let room = small(*room);
+    let count = small(*count);
+    if *kind == 0 {
+        if rest.len() < count {
+            return None;
+        }
+        reads(text, &rest[..count], room);
+        return Some(3 + count);
+    }
+    let [capacity, workers, words @ ..] = rest else {
+        return None;
+    };
+    if words.len() < count {
+        return None;
+    }
+    let v = variant_of(*kind);
+    writes(text, v, *capacity, *workers, &words[..count], room);
+    Some(5 + count)
+}
+
+// Every whole case of these numbers; how many numbers are left. The text is written where there is much of it, and at the end.
+fn all(system: &System, text: &mut Text, list: &[u64]) -> usize
+    ensures { result ≤ length list.now }
+{
+    let mut rest = list;
+    for _ in 0..list.len() {
+        match one(text, rest) {
+            Some(used) => rest = &rest[used..],
+            None => break,
+        }
+        if text.len() > 32768 {
+            text.flush(system);
+        }
+    }
+    text.flush(system);
+    rest.len()
+}
+
+// What is left of the first n goes to the list's start.
+fn settle(system: &System, text: &mut Text, list: &mut [u64], n: usize) -> usize {
+    if list.len() < n {
+        return 0;
+    }
+    let left = all(system, text, &list[..n]);
+    list.copy_within(n - left..n, 0);
+    left
+}
+
+fn run(system: &System, text: &mut Text, bytes: &mut [u8], list: &mut [u64]) {
+    let mut scan = Scan::start(1);
+    let mut left = 0;
+    for _ in 0..u64::MAX {
+        let Ok(n @ 1..) = text_system::streams::read(system, bytes) else {
+            return;
+        };
+        let piece = scan.read_piece(false, &bytes[..n], list, left);
+        left = settle(system, text, list, piece.count);
+        if piece.stop.is_some() {
+            return;
+        }
     }
 }
 
 fn main(rt: HostRuntime) {
-    let mut bytes = [0u8; BYTES];
-    let mut list = [0u64; NUMBERS];
-    let mut out = [0u8; 65536];
+    let mut bytes = [0; BYTES];
+    let mut list = [0; NUMBERS];
+    let mut room = [0; 65536];
+    let mut text = Text::new(&mut room);
     let system = text_system::of(rt);
-    run(&system, &mut bytes, &mut list, &mut out);
+    run(&system, &mut text, &mut bytes, &mut list);
 }

@@ -2,30 +2,27 @@
 // for is said by who goes through the rows. Rows in place of calls keep a program's check short.
 #![tactic(auto)]
 
+use text_numbers::Scan;
+
 // The most numbers of a row.
 pub const NUMBERS: usize = 64;
 
 // The first such byte from there on, or the text's end.
 fn find(text: &[u8], from: usize, b: u8) -> usize {
-    let mut i = from;
-    while i < text.len() {
+    for i in from..text.len() {
         if text[i] == b {
             return i;
         }
-        i += 1;
     }
     text.len()
 }
 
 // What stands after the byte at `from`, up to the one at `to`.
 fn between(text: &[u8], from: usize, to: usize) -> &[u8] {
-    if from < to {
-        if to <= text.len() {
-            let first = from + 1;
-            return &text[first..to];
-        }
+    if from < to && to <= text.len() {
+        return &text[from + 1..to];
     }
-    &text[..0]
+    &[]
 }
 
 pub fn letter(text: &[u8], at: usize) -> u8 {
@@ -35,8 +32,7 @@ pub fn letter(text: &[u8], at: usize) -> u8 {
 // The numbers of the row at this place, into the list; how many.
 pub fn numbers(text: &[u8], at: usize, list: &mut [u64]) -> usize {
     let digits = between(text, at, find(text, at, b'|'));
-    let piece = text_numbers::read_piece(text_numbers::start(1), false, digits, list, 0);
-    piece.count
+    Scan::start(1).read_piece(false, digits, list, 0).count
 }
 
 pub fn label(text: &[u8], at: usize) -> &[u8] {

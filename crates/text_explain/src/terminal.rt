@@ -7,8 +7,5 @@ fn is_set(system: &System) -> bool {
 }
 
 pub fn has_colours(system: &System) -> bool {
-    if text_system::streams::is_terminal(system) {
-        return !is_set(system);
-    }
-    false
+    text_system::streams::is_terminal(system) && !is_set(system)
 }

@@ -1,23 +1,17 @@
 // A file's name as a line may have it: what would end the line, or be obeyed by a terminal, is written as archive writes it; knows no queue.
 #![tactic(auto)]
 
-fn digit(n: u8) -> u8 {
-    if n < 10 { b'0' + n } else { b'a' + n % 16 - 10 }
-}
+use std::fmt::Write;
+use text_output::{Text, put};
 
-// \x1b
-fn by_number(out: &mut [u8], at: usize, b: u8) -> usize {
-    let p = text_output::text(out, at, b"\\x");
-    let q = text_output::byte(out, p, digit(b / 16));
-    text_output::byte(out, q, digit(b % 16))
-}
-
-fn obeyed(out: &mut [u8], at: usize, b: u8) -> usize {
+fn obeyed(text: &mut Text, b: u8) {
     match b {
-        b'\n' => text_output::text(out, at, b"\\n"),
-        b'\r' => text_output::text(out, at, b"\\r"),
-        b'\t' => text_output::text(out, at, b"\\t"),
-        _ => by_number(out, at, b),
+        b'\n' => text.text("\\n"),
+        b'\r' => text.text("\\r"),
+        b'\t' => text.text("\\t"),
+        _ => {
+            put!(text, "\\x{b:02x}");
+        }
     }
 }
 
@@ -29,24 +23,16 @@ fn is_obeyed(before: u8, b: u8) -> bool {
     b < 160 && (before < 128 || before == 194)
 }
 
-fn byte(out: &mut [u8], at: usize, before: u8, b: u8) -> usize {
-    if is_obeyed(before, b) {
-        return obeyed(out, at, b);
-    }
-    text_output::byte(out, at, b)
-}
-
-// Puts the name at `at` and answers the place after it.
-pub fn shown(out: &mut [u8], at: usize, name: &[u8]) -> usize {
-    let mut p = at;
+pub fn shown(text: &mut Text, name: &[u8]) {
     let mut before = 0;
-    let mut i = 0;
-    while i < name.len() {
-        p = byte(out, p, before, name[i]);
-        before = name[i];
-        i += 1;
+    for b in name {
+        if is_obeyed(before, *b) {
+            obeyed(text, *b);
+        } else {
+            text.byte(*b);
+        }
+        before = *b;
     }
-    p
 }
 
 // The most bytes that a path takes, written so.

@@ -1,8 +1,8 @@
 // Files, by name or open. A name is text, and one that isn't names none.
-ghost use Rattle.std.specs.Prelude.{◌≤◌, length};
+ghost use Rattle.std.specs.Prelude.{IfOk, ◌≤◌, length};
 
 use crate::System;
-use crate::streams::{Got, got_none, got_some, is_done};
+use crate::streams::{Failed, failure, is_done};
 pub use std::fs::File;
 use std::fs::OpenOptions;
 use std::io::{Read, Seek, SeekFrom, Write};
@@ -30,10 +30,8 @@ fn opened(s: &System, how: &OpenOptions, path: &str) -> Option<File> {
 }
 
 fn opened_by_name(s: &System, how: &OpenOptions, name: &[u8]) -> Option<File> {
-    match path_of(s, name) {
-        Some(path) => opened(s, how, path),
-        None => None,
-    }
+    let path = path_of(s, name)?;
+    opened(s, how, path)
 }
 
 // For reading.
@@ -141,23 +139,23 @@ pub fn is_flow(s: &System, name: &[u8]) -> bool {
 }
 
 // Reads once, where the file stands.
-pub fn read(s: &System, file: &File, bytes: &mut [u8]) -> Got
-    ensures { result.n ≤ length bytes.new }
+pub fn read(s: &System, file: &File, bytes: &mut [u8]) -> Result<usize, Failed>
+    ensures { IfOk result (λ n. n ≤ length bytes.new) }
 {
     let mut from = file;
     match from.read(bytes) {
-        Ok(n) => got_some(n),
-        Err(e) => got_none(s, e),
+        Ok(n) => Ok(n),
+        Err(e) => Err(failure(s, e)),
     }
 }
 
 // Reads once, from this byte on, and the file stands where it stood.
-pub fn read_at(s: &System, file: &File, bytes: &mut [u8], at: u64) -> Got
-    ensures { result.n ≤ length bytes.new }
+pub fn read_at(s: &System, file: &File, bytes: &mut [u8], at: u64) -> Result<usize, Failed>
+    ensures { IfOk result (λ n. n ≤ length bytes.new) }
 {
     match file.read_at(bytes, at) {
-        Ok(n) => got_some(n),
-        Err(e) => got_none(s, e),
+        Ok(n) => Ok(n),
+        Err(e) => Err(failure(s, e)),
     }
 }
 
@@ -197,8 +195,8 @@ pub enum Flow {
     Of(File),
 }
 
-pub fn read_from(s: &System, from: &Flow, bytes: &mut [u8]) -> Got
-    ensures { result.n ≤ length bytes.new }
+pub fn read_from(s: &System, from: &Flow, bytes: &mut [u8]) -> Result<usize, Failed>
+    ensures { IfOk result (λ n. n ≤ length bytes.new) }
 {
     match from {
         Flow::Standard => crate::streams::read(s, bytes),

@@ -7,6 +7,7 @@ pub mod descriptors;
 pub mod files;
 pub mod process;
 mod reason;
+mod room;
 pub mod streams;
 
 use std::cell::Cell;
@@ -58,7 +59,7 @@ fn failed_by(s: &System, e: Error) {
 
 // WHAT: and why the last call that failed did, on standard error.
 pub fn fail(s: &System, what: &[u8]) {
-    let mut text = [0u8; reason::ROOM];
+    let mut text = [0u8; room::ROOM];
     let n = reason::told(&mut text, why(s));
     streams::put_error(s, what);
     if n <= text.len() {

@@ -1,40 +1,11 @@
 // The system's words for the number of an error.
-use std::fmt;
+use crate::room::{ROOM, Room};
 use std::fmt::Write;
 use std::io::Error;
 
-// The longest are far below this.
-pub const ROOM: usize = 256;
-
-// Text that is put together, as far as there is room.
-#[derive(Drop)]
-struct Text {
-    bytes: [u8; ROOM],
-    length: usize,
-}
-
-fn put(t: &mut Text, b: u8) {
-    if t.length < ROOM {
-        t.bytes[t.length] = b;
-        t.length += 1;
-    }
-}
-
-impl Write for Text {
-    fn write_str(&mut self, s: &str) -> fmt::Result {
-        for b in s.as_bytes() {
-            put(self, *b);
-        }
-        Ok(())
-    }
-}
-
-fn text_of(number: i32) -> Text {
+fn text_of(number: i32) -> Room {
     let e = Error::from_raw_os_error(number);
-    let mut t = Text {
-        bytes: [0; ROOM],
-        length: 0,
-    };
+    let mut t = Room::new();
     let _ = write!(t, ": {e}");
     t
 }

@@ -1,40 +1,26 @@
 // The standard streams.
-ghost use Rattle.std.specs.Prelude.{◌≡◌, ◌≤◌, length};
+ghost use Rattle.std.specs.Prelude.{IfOk, ◌≤◌, length};
 
 use crate::System;
 use std::io::{Error, IsTerminal, Print, Read};
 
-// What a read brought: so many bytes at the buffer's start; none where the input ends or it failed.
-#[derive(Clone, Copy)]
-pub struct Got {
-    pub n: usize,
-    pub failed: bool,
-}
+// A read that failed: `why` tells the reason.
+#[derive(Clone, Copy, PartialEq, Eq)]
+pub struct Failed;
 
-pub(crate) fn got_some(n: usize) -> Got
-    ensures { result.n ≡ n }
-{
-    Got {
-        n: n,
-        failed: false,
-    }
-}
-
-pub(crate) fn got_none(s: &System, e: Error) -> Got
-    ensures { result.n ≡ 0 }
-{
+pub(crate) fn failure(s: &System, e: Error) -> Failed {
     crate::failed_by(s, e);
-    Got { n: 0, failed: true }
+    Failed
 }
 
 // Reads standard input once.
-pub fn read(s: &System, bytes: &mut [u8]) -> Got
-    ensures { result.n ≤ length bytes.new }
+pub fn read(s: &System, bytes: &mut [u8]) -> Result<usize, Failed>
+    ensures { IfOk result (λ n. n ≤ length bytes.new) }
 {
     let mut input = s.rt.stdin();
     match input.read(bytes) {
-        Ok(n) => got_some(n),
-        Err(e) => got_none(s, e),
+        Ok(n) => Ok(n),
+        Err(e) => Err(failure(s, e)),
     }
 }
 
@@ -44,11 +30,11 @@ pub fn read_full(s: &System, bytes: &mut [u8]) -> usize
 {
     let mut n = 0;
     while n < bytes.len() {
-        let got = read(s, &mut bytes[n..]);
-        if got.n == 0 {
-            return n;
+        match read(s, &mut bytes[n..]) {
+            Ok(0) => return n,
+            Ok(more) => n += more,
+            Err(_) => return n,
         }
-        n += got.n;
     }
     n
 }

@@ -1,60 +1,49 @@
 // The lines of a schedule in words, byte by byte: which words may stand where, and what a whole line means.
-use text_numbers::Scan;
+use crate::reading::Form;
+use text_numbers::{Scan, State, Stop};
 
-// Beside the events of `text_numbers`: a word that is none of those that may stand there, or none where one must.
-pub const UNEXPECTED: u64 = 5;
-
-// What may stand next on a line, in the order of `expected`. The first three begin one: as many numbers as there are of capacity and workers say which.
-const CAPACITY: u64 = 0;
-
-const WORKERS: u64 = 1;
-
-const WORKER: u64 = 2;
-
-const NUMBER: u64 = 3;
-
-const NAME: u64 = 4;
-
-const ITEM: u64 = 5;
-
-const TIMES: u64 = 6;
-
-const LINE_END: u64 = 7;
-
-// a worker whose entry would not fit 64 bits, in the place of WORKER
-const LOWER: u64 = 8;
+// What may stand next on a line. The first three begin one: as many numbers as there are of capacity and workers say which.
+#[derive(Clone, Copy, PartialEq, Eq)]
+enum Want {
+    Capacity,
+    Workers,
+    Worker,
+    Number,
+    Name,
+    Item,
+    Times,
+    LineEnd,
+    // a worker whose entry would not fit 64 bits, in the place of Worker
+    Lower,
+}
 
 // The word at hand.
-const NO_WORD: u64 = 0;
+#[derive(Clone, Copy, PartialEq, Eq)]
+enum Kind {
+    NoWord,
+    Letters,
+    Digits,
+    // a w and digits
+    OneWorker,
+    Other,
+    // digits of a number that does not fit 64 bits, alone and after a w
+    Large,
+    LargeWorker,
+    Comment,
+    // after a `%` at the start of a line
+    Percent,
+}
 
-const LETTERS: u64 = 1;
-
-const DIGITS: u64 = 2;
-
-// a w and digits
-const ONE_WORKER: u64 = 3;
-
-const OTHER: u64 = 4;
-
-// digits of a number that does not fit 64 bits, alone and after a w
-const LARGE: u64 = 5;
-
-const LARGE_WORKER: u64 = 6;
-
-const COMMENT: u64 = 7;
-
-// after a `%` at the start of a line
-const PERCENT: u64 = 8;
-
-// Where a reading stands beside its `Scan`, which has the line, the column and a number's value.
+// Where a reading stands: its `Scan` has the line, the column and a number's value.
 #[derive(Clone, Copy)]
 pub struct Words {
+    pub scan: Scan,
     // which form the text has, once that is decided
-    pub form: u64,
-    // how many of capacity and workers are there
-    head: u64,
-    want: u64,
-    kind: u64,
+    pub form: Option<Form>,
+    // what begins the line
+    head: Want,
+    want: Want,
+    kind: Kind,
     // the letters of the word at hand as one number
     spelled: u64,
     // the entry of the line at hand, how often it is meant, and how often it is still to be handed on
@@ -64,361 +53,289 @@ pub struct Words {
     pub left: u64,
 }
 
-#[derive(Clone, Copy)]
-pub struct Step {
-    pub scan: Scan,
-    pub words: Words,
-    pub event: u64,
-}
-
-// Before a schedule; 1: of a queue that has no capacity.
-pub fn start(before: usize) -> Words {
-    let head = if before == 0 { CAPACITY } else { WORKERS };
-    Words {
-        form: 0,
-        head: head,
-        want: head,
-        kind: NO_WORD,
-        spelled: 0,
-        first: 0,
-        item: 0,
-        times: 1,
-        left: 0,
-    }
-}
-
-// What should stand where something else does or nothing.
-pub fn expected(out: &mut [u8], at: usize, w: Words) -> usize {
-    text_output::nth(
-        out,
-        at,
-        b"expected: capacity and a number|expected: workers and a number|expected: a worker (w0, w1, ..)|expected: a number|\
-        expected: push, force_push, pop, len, is_empty, is_full, close, is_closed, act or fail|\
-        expected: an item, which is a number|expected: a number of acts, from 1|expected: the end of the line|\
-        expected: a worker up to w1152921504606846975|",
-        (w.want % 16) as usize,
-        &[],
-    )
-}
-
-fn up(n: u64) -> u64 {
-    std::num::wrapping_add_u64(n, 1)
-}
-
-fn stepped(scan: Scan, words: Words, event: u64) -> Step {
-    Step {
-        scan: scan,
-        words: words,
-        event: event,
-    }
-}
-
-fn along(s: Scan) -> Scan {
-    let mut after = s;
-    after.column = up(s.column);
-    after
-}
-
-fn unexpected(s: Scan, w: Words, want: u64) -> Step {
-    let mut after = w;
-    after.want = want;
-    stepped(s, after, UNEXPECTED)
-}
-
-fn wanting(s: Scan, w: Words, want: u64) -> Step {
-    let mut after = w;
-    after.want = want;
-    after.kind = NO_WORD;
-    after.spelled = 0;
-    stepped(s, after, text_numbers::NOTHING)
-}
-
-// What the word at hand is where only a number may stand.
-fn no_number(s: Scan, w: Words) -> Step {
-    if w.kind == LARGE {
-        return stepped(s, w, text_numbers::TOO_LARGE);
-    }
-    unexpected(s, w, w.want)
-}
-
-fn with_item(s: Scan, w: Words) -> Step {
-    if w.kind != DIGITS {
-        return no_number(s, w);
-    }
-    let mut after = w;
-    after.item = s.value;
-    wanting(s, after, LINE_END)
-}
-
-fn with_times(s: Scan, w: Words) -> Step {
-    if w.kind != DIGITS {
-        return no_number(s, w);
-    }
-    if s.value == 0 {
-        return unexpected(s, w, TIMES);
-    }
-    let mut after = w;
-    after.times = s.value;
-    wanting(s, after, LINE_END)
-}
-
-fn with_head(names: &[u64], s: Scan, w: Words) -> Step {
-    if w.kind == LETTERS {
-        if crate::names::place_of(names, w.spelled)
-            == std::num::wrapping_add_u64(crate::names::CALLS_AND_ACTS, w.want)
-        {
-            return wanting(s, w, NUMBER);
-        }
-    }
-    unexpected(s, w, w.want)
-}
-
-fn with_worker(s: Scan, w: Words) -> Step {
-    if w.kind == LARGE_WORKER {
-        return unexpected(s, w, LOWER);
-    }
-    if w.kind != ONE_WORKER {
-        return unexpected(s, w, WORKER);
-    }
-    if s.value < 1152921504606846976 {
-        let mut after = w;
-        after.first = 16 * s.value;
-        return wanting(s, after, NAME);
-    }
-    unexpected(s, w, LOWER)
-}
-
-// What follows the name of a call or an act.
-fn after_name(code: u64) -> u64 {
-    match code {
-        0 | 1 => ITEM,
-        8 | 9 => TIMES,
-        _ => LINE_END,
-    }
-}
-
-fn with_name(names: &[u64], s: Scan, w: Words) -> Step {
-    let code = crate::names::place_of(names, w.spelled);
-    if w.kind == LETTERS {
-        if code < crate::names::CALLS_AND_ACTS {
-            let mut after = w;
-            after.first = std::num::wrapping_add_u64(w.first, code);
-            after.item = 0;
-            after.times = 1;
-            return wanting(s, after, after_name(code));
-        }
-    }
-    unexpected(s, w, NAME)
-}
-
-// The word that has just ended, at the place where it stands.
-fn with_word(names: &[u64], s: Scan, w: Words) -> Step {
-    let want = w.want;
-    match want {
-        CAPACITY | WORKERS => with_head(names, s, w),
-        WORKER => with_worker(s, w),
-        NUMBER | ITEM => with_item(s, w),
-        NAME => with_name(names, s, w),
-        TIMES => with_times(s, w),
-        _ => unexpected(s, w, LINE_END),
-    }
-}
-
-fn is_word(kind: u64) -> bool {
-    match kind {
-        NO_WORD | COMMENT | PERCENT => false,
-        _ => true,
-    }
-}
-
-fn between_words(s: Scan) -> Scan {
-    Scan {
-        state: text_numbers::State::Between,
-        value: 0,
-        line: s.line,
-        column: s.column,
-        start: s.start,
-    }
-}
-
-fn ended(names: &[u64], s: Scan, w: Words) -> Step {
-    let after = if is_word(w.kind) {
-        with_word(names, s, w)
-    } else {
-        stepped(s, w, text_numbers::NOTHING)
-    };
-    stepped(between_words(after.scan), after.words, after.event)
-}
-
-// Whether a line may end here.
-fn may_end(w: Words) -> bool {
-    if w.want == w.head {
-        return true;
-    }
-    match w.want {
-        TIMES | LINE_END => true,
-        _ => false,
-    }
-}
-
-// Before a comment or the line's end: the word before it, and whether the line has all that it needs.
-fn closed(names: &[u64], s: Scan, w: Words) -> Step {
-    let after = ended(names, s, w);
-    let scan = after.scan;
-    let words = after.words;
-    if after.event == text_numbers::NOTHING {
-        if may_end(words) {
-            return after;
-        }
-        let mut there = scan;
-        there.start = scan.column;
-        return unexpected(there, words, words.want);
-    }
-    after
-}
-
-// A whole line: its number, or its entry, which is handed on as often as is said.
-fn handed(next: Scan, w: Words) -> Step {
-    let mut after = w;
-    after.kind = NO_WORD;
-    if w.want == w.head {
-        return stepped(next, after, text_numbers::NOTHING);
-    }
-    if w.head < WORKER {
-        after.head = up(w.head);
-        after.want = after.head;
-        return stepped(next, after, text_numbers::NUMBER);
-    }
-    after.left = w.times;
-    after.want = WORKER;
-    stepped(next, after, text_numbers::NOTHING)
-}
-
-fn line_end(names: &[u64], s: Scan, w: Words) -> Step {
-    let next = text_numbers::start(up(s.line));
-    if w.kind == PERCENT {
-        return stepped(next, w, text_numbers::MARK);
-    }
-    if w.kind == COMMENT {
-        return handed(next, w);
-    }
-    let c = closed(names, s, w);
-    if c.event == text_numbers::NOTHING {
-        return handed(next, c.words);
-    }
-    c
-}
-
-fn with_comment(names: &[u64], s: Scan, w: Words) -> Step {
-    let c = closed(names, s, w);
-    if c.event == text_numbers::NOTHING {
-        let mut after = c.words;
-        after.kind = COMMENT;
-        return stepped(along(c.scan), after, text_numbers::NOTHING);
-    }
-    c
-}
-
-fn with_blank(names: &[u64], s: Scan, w: Words) -> Step {
-    let e = ended(names, s, w);
-    if e.event == text_numbers::NOTHING {
-        return stepped(along(e.scan), e.words, text_numbers::NOTHING);
-    }
-    e
-}
-
-fn with_kind(s: Scan, w: Words, kind: u64) -> Step {
-    let mut after = w;
-    after.kind = kind;
-    stepped(along(s), after, text_numbers::NOTHING)
-}
-
-// A digit of a number that is read as those of text_numbers are; the word began at `s.start`.
-fn digit(s: Scan, w: Words, b: u8, kind: u64, large: u64) -> Step {
-    let saw = text_numbers::byte(s, false, b);
-    if saw.event != text_numbers::NOTHING {
-        return with_kind(s, w, large);
-    }
-    let read = saw.scan;
-    let mut there = read;
-    there.start = s.start;
-    let mut after = w;
-    after.kind = kind;
-    stepped(there, after, text_numbers::NOTHING)
-}
-
 // `w` alone, which digits may follow.
 const W: u64 = 23;
 
-fn with_digit(s: Scan, w: Words, b: u8) -> Step {
-    let kind = w.kind;
-    match kind {
-        NO_WORD | DIGITS => digit(s, w, b, DIGITS, LARGE),
-        ONE_WORKER => digit(s, w, b, ONE_WORKER, LARGE_WORKER),
-        LETTERS => {
-            if w.spelled == W {
-                return digit(s, w, b, ONE_WORKER, LARGE_WORKER);
+// What follows the name of a call or an act.
+fn after_name(code: usize) -> Want {
+    match code {
+        0 | 1 => Want::Item,
+        8 | 9 => Want::Times,
+        _ => Want::LineEnd,
+    }
+}
+
+impl Words {
+    // Before a schedule, on this line; 1: of a queue that has no capacity.
+    pub fn start(line: u64, before: usize) -> Words {
+        let head = if before == 0 {
+            Want::Capacity
+        } else {
+            Want::Workers
+        };
+        Words {
+            scan: Scan::start(line),
+            form: None,
+            head,
+            want: head,
+            kind: Kind::NoWord,
+            spelled: 0,
+            first: 0,
+            item: 0,
+            times: 1,
+            left: 0,
+        }
+    }
+
+    // What should stand where something else does or nothing.
+    pub fn expected(&self) -> &'static str {
+        match self.want {
+            Want::Capacity => "expected: capacity and a number",
+            Want::Workers => "expected: workers and a number",
+            Want::Worker => "expected: a worker (w0, w1, ..)",
+            Want::Number => "expected: a number",
+            Want::Name =>
+                "expected: push, force_push, pop, len, is_empty, is_full, close, is_closed, act or fail",
+            Want::Item => "expected: an item, which is a number",
+            Want::Times => "expected: a number of acts, from 1",
+            Want::LineEnd => "expected: the end of the line",
+            Want::Lower => "expected: a worker up to w1152921504606846975",
+        }
+    }
+
+    // One byte further, in a word of this kind.
+    fn along(&mut self, kind: Kind) {
+        self.scan.column = self.scan.column.wrapping_add(1);
+        self.kind = kind;
+    }
+
+    fn wants(&mut self, want: Want) {
+        self.want = want;
+        self.kind = Kind::NoWord;
+        self.spelled = 0;
+    }
+
+    fn unexpected(&mut self, want: Want) -> Stop {
+        self.want = want;
+        Stop::Unexpected
+    }
+
+    // The word at hand, where only a number may stand.
+    fn number(&self) -> Result<u64, Stop> {
+        match self.kind {
+            Kind::Digits => Ok(self.scan.value),
+            Kind::Large => Err(Stop::TooLarge),
+            _ => Err(Stop::Unexpected),
+        }
+    }
+
+    fn with_item(&mut self) -> Result<(), Stop> {
+        self.item = self.number()?;
+        self.wants(Want::LineEnd);
+        Ok(())
+    }
+
+    fn with_times(&mut self) -> Result<(), Stop> {
+        let times = self.number()?;
+        if times == 0 {
+            return Err(Stop::Unexpected);
+        }
+        self.times = times;
+        self.wants(Want::LineEnd);
+        Ok(())
+    }
+
+    fn with_head(&mut self, names: &[u64], name: usize) -> Result<(), Stop> {
+        if self.kind != Kind::Letters || crate::names::place_of(names, self.spelled) != Some(name) {
+            return Err(Stop::Unexpected);
+        }
+        self.wants(Want::Number);
+        Ok(())
+    }
+
+    fn with_worker(&mut self) -> Result<(), Stop> {
+        if self.kind == Kind::LargeWorker {
+            return Err(self.unexpected(Want::Lower));
+        }
+        if self.kind != Kind::OneWorker {
+            return Err(Stop::Unexpected);
+        }
+        if self.scan.value >= 1152921504606846976 {
+            return Err(self.unexpected(Want::Lower));
+        }
+        self.first = 16 * self.scan.value;
+        self.wants(Want::Name);
+        Ok(())
+    }
+
+    fn with_name(&mut self, names: &[u64]) -> Result<(), Stop> {
+        match crate::names::place_of(names, self.spelled) {
+            Some(code) if self.kind == Kind::Letters && code < crate::names::CALLS_AND_ACTS => {
+                self.first = self.first.wrapping_add(code as u64);
+                self.item = 0;
+                self.times = 1;
+                self.wants(after_name(code));
+                Ok(())
             }
-            with_kind(s, w, OTHER)
-        }
-        _ => with_kind(s, w, w.kind),
-    }
-}
-
-fn with_other(s: Scan, w: Words, letter: u64) -> Step {
-    if letter != 0 {
-        if w.kind <= LETTERS {
-            let mut after = w;
-            after.spelled = crate::names::with_letter(w.spelled, letter);
-            return with_kind(s, after, LETTERS);
+            _ => Err(Stop::Unexpected),
         }
     }
-    with_kind(s, w, OTHER)
-}
 
-// A byte of a word.
-fn in_word(before: Scan, w: Words, b: u8) -> Step {
-    let mut s = before;
-    if w.kind == NO_WORD {
-        s.start = s.column;
+    // The word that has just ended, at the place where it stands.
+    fn with_word(&mut self, names: &[u64]) -> Result<(), Stop> {
+        match self.want {
+            Want::Capacity => self.with_head(names, crate::names::CAPACITY),
+            Want::Workers => self.with_head(names, crate::names::WORKERS),
+            Want::Worker => self.with_worker(),
+            Want::Number | Want::Item => self.with_item(),
+            Want::Name => self.with_name(names),
+            Want::Times => self.with_times(),
+            Want::LineEnd | Want::Lower => Err(self.unexpected(Want::LineEnd)),
+        }
     }
-    if text_numbers::is_digit(b) {
-        return with_digit(s, w, b);
-    }
-    with_other(s, w, crate::names::letter_of(b))
-}
 
-// Behind a `%` only blanks may stand on its line.
-fn in_percent(s: Scan, w: Words, b: u8) -> Step {
-    if text_numbers::is_blank(b) {
-        return stepped(along(s), w, text_numbers::NOTHING);
+    fn ended(&mut self, names: &[u64]) -> Result<(), Stop> {
+        if self.kind != Kind::NoWord {
+            self.with_word(names)?;
+        }
+        self.scan.state = State::Between;
+        self.scan.value = 0;
+        Ok(())
     }
-    unexpected(s, w, w.want)
-}
 
-fn is_mark(s: Scan, w: Words, many: bool, b: u8) -> bool {
-    many && b == b'%' && s.column == 1 && w.kind == NO_WORD
-}
+    // Whether a line may end here.
+    fn may_end(&self) -> bool {
+        self.want == self.head || matches!(self.want, Want::Times | Want::LineEnd)
+    }
 
-// One byte more.
-pub fn byte(names: &[u64], s: Scan, w: Words, many: bool, b: u8) -> Step {
-    if b == b'\n' {
-        return line_end(names, s, w);
+    // Before a comment or the line's end: the word before it, and whether the line has all that it needs.
+    fn closed(&mut self, names: &[u64]) -> Result<(), Stop> {
+        self.ended(names)?;
+        if !self.may_end() {
+            self.scan.start = self.scan.column;
+            return Err(Stop::Unexpected);
+        }
+        Ok(())
     }
-    if w.kind == COMMENT {
-        return stepped(along(s), w, text_numbers::NOTHING);
+
+    fn number_of_head(&mut self, next: Want) -> Option<u64> {
+        self.head = next;
+        self.want = next;
+        Some(self.item)
     }
-    if w.kind == PERCENT {
-        return in_percent(s, w, b);
+
+    // A whole line: its number, or its entry, which is handed on as often as is said.
+    fn handed(&mut self) -> Option<u64> {
+        self.kind = Kind::NoWord;
+        if self.want == self.head {
+            return None;
+        }
+        match self.head {
+            Want::Capacity => self.number_of_head(Want::Workers),
+            Want::Workers => self.number_of_head(Want::Worker),
+            _ => {
+                self.left = self.times;
+                self.want = Want::Worker;
+                None
+            }
+        }
     }
-    if b == b'#' {
-        return with_comment(names, s, w);
+
+    fn line_end(&mut self, names: &[u64]) -> Result<Option<u64>, Stop> {
+        let next = Scan::start(self.scan.line.wrapping_add(1));
+        if self.kind == Kind::Percent {
+            self.scan = next;
+            return Err(Stop::Mark);
+        }
+        if self.kind != Kind::Comment {
+            self.closed(names)?;
+        }
+        self.scan = next;
+        Ok(self.handed())
     }
-    if text_numbers::is_blank(b) {
-        return with_blank(names, s, w);
+
+    fn with_comment(&mut self, names: &[u64]) -> Result<(), Stop> {
+        self.closed(names)?;
+        self.along(Kind::Comment);
+        Ok(())
     }
-    if is_mark(s, w, many, b) {
-        return with_kind(s, w, PERCENT);
+
+    fn with_blank(&mut self, names: &[u64]) -> Result<(), Stop> {
+        self.ended(names)?;
+        self.along(self.kind);
+        Ok(())
     }
-    in_word(s, w, b)
+
+    // A digit of a number that is read as those of text_numbers are, and keeps where its word began.
+    fn digit(&mut self, b: u8, kind: Kind, large: Kind) {
+        let start = self.scan.start;
+        let read = self.scan.byte(false, b);
+        self.scan.start = start;
+        if read.is_ok() {
+            self.kind = kind;
+        } else {
+            self.along(large);
+        }
+    }
+
+    fn with_digit(&mut self, b: u8) {
+        match self.kind {
+            Kind::NoWord | Kind::Digits => self.digit(b, Kind::Digits, Kind::Large),
+            Kind::OneWorker => self.digit(b, Kind::OneWorker, Kind::LargeWorker),
+            Kind::Letters if self.spelled == W => self.digit(b, Kind::OneWorker, Kind::LargeWorker),
+            Kind::Letters => self.along(Kind::Other),
+            kind => self.along(kind),
+        }
+    }
+
+    fn with_other(&mut self, b: u8) {
+        match crate::names::letter_of(b) {
+            Some(letter) if matches!(self.kind, Kind::NoWord | Kind::Letters) => {
+                self.spelled = crate::names::with_letter(self.spelled, letter);
+                self.along(Kind::Letters);
+            }
+            _ => self.along(Kind::Other),
+        }
+    }
+
+    // A byte of a word.
+    fn in_word(&mut self, b: u8) {
+        if self.kind == Kind::NoWord {
+            self.scan.start = self.scan.column;
+        }
+        if b.is_ascii_digit() {
+            self.with_digit(b);
+        } else {
+            self.with_other(b);
+        }
+    }
+
+    // Behind a `%` only blanks may stand on its line.
+    fn in_percent(&mut self, b: u8) -> Result<(), Stop> {
+        if !text_numbers::is_blank(b) {
+            return Err(Stop::Unexpected);
+        }
+        self.along(Kind::Percent);
+        Ok(())
+    }
+
+    fn is_mark(&self, many: bool, b: u8) -> bool {
+        many && b == b'%' && self.scan.column == 1 && self.kind == Kind::NoWord
+    }
+
+    // One byte more; the number that it ends, if it ends one.
+    pub fn byte(&mut self, names: &[u64], many: bool, b: u8) -> Result<Option<u64>, Stop> {
+        if b == b'\n' {
+            return self.line_end(names);
+        }
+        match self.kind {
+            Kind::Comment => self.along(Kind::Comment),
+            Kind::Percent => self.in_percent(b)?,
+            _ if b == b'#' => self.with_comment(names)?,
+            _ if text_numbers::is_blank(b) => self.with_blank(names)?,
+            _ if self.is_mark(many, b) => self.along(Kind::Percent),
+            _ => self.in_word(b),
+        }
+        Ok(None)
+    }
 }

@@ -1,69 +1,59 @@
 // The names that a schedule in words has, each as one number: its letters, in the order in which they come.
 
-// The letters of names, from 1; 0: none.
-pub fn letter_of(b: u8) -> u64 {
-    if b == b'_' {
-        return 27;
+// The letters of names, from 1.
+pub fn letter_of(b: u8) -> Option<u64> {
+    match b {
+        b'_' => Some(27),
+        b'a'..=b'z' => Some(u64::from(b - 96)),
+        _ => None,
     }
-    if b < b'a' {
-        return 0;
-    }
-    if b'z' < b {
-        return 0;
-    }
-    (b - 96) as u64
 }
 
 // One letter more; of eleven letters and more, which no name has, some number that no name is spelled as.
 pub fn with_letter(spelled: u64, letter: u64) -> u64 {
-    if spelled < 296196766695424 {
-        if letter < 28 {
-            return 28 * spelled + letter;
-        }
+    if spelled < 296196766695424 && letter < 28 {
+        return 28 * spelled + letter;
     }
     spelled
 }
 
-fn spell(name: &[u8]) -> u64 {
+fn spell(name: &str) -> u64 {
     let mut spelled = 0;
-    let mut i = 0;
-    while i < name.len() {
-        spelled = with_letter(spelled, letter_of(name[i]));
-        i += 1;
+    for b in name.as_bytes() {
+        if let Some(letter) = letter_of(*b) {
+            spelled = with_letter(spelled, letter);
+        }
     }
     spelled
 }
 
-// By their codes; and what begins the first two lines.
-const NAMES: usize = 12;
+pub const CALLS_AND_ACTS: usize = 10;
 
-pub const CALLS_AND_ACTS: u64 = 10;
+pub const CAPACITY: usize = 10;
 
-pub fn all() -> [u64; NAMES] {
-    [
-        spell(b"push"),
-        spell(b"force_push"),
-        spell(b"pop"),
-        spell(b"len"),
-        spell(b"is_empty"),
-        spell(b"is_full"),
-        spell(b"close"),
-        spell(b"is_closed"),
-        spell(b"act"),
-        spell(b"fail"),
-        spell(b"capacity"),
-        spell(b"workers"),
-    ]
+pub const WORKERS: usize = 11;
+
+// Calls and acts by their codes; and what begins the first two lines.
+const NAMES: [&str; 12] = [
+    "push",
+    "force_push",
+    "pop",
+    "len",
+    "is_empty",
+    "is_full",
+    "close",
+    "is_closed",
+    "act",
+    "fail",
+    "capacity",
+    "workers",
+];
+
+pub fn all() -> [u64; 12] {
+    NAMES.map(spell)
 }
 
-// The place among the names; NAMES: none.
-pub fn place_of(names: &[u64], spelled: u64) -> u64 {
-    let mut i = 0;
-    while i < names.len() {
-        if names[i] == spelled {
-            return i as u64;
-        }
-        i += 1;
-    }
-    NAMES as u64
+// The place among the names.
+pub fn place_of(names: &[u64], spelled: u64) -> Option<usize> {
+    names.iter().position(|name| *name == spelled)
 }

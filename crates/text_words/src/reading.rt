@@ -1,242 +1,132 @@
 // The text of a schedule, byte by byte, in numbers or in words: the first thing that is no comment decides, a letter for words. The words give the numbers that they
 // stand for, so that who reads a schedule need not know which form it has. `act N` gives N entries, as many at a time as find room.
 use crate::line::Words;
-use text_numbers::Scan;
+use text_numbers::Piece;
 
-// What decides how the text is read.
-const UNDECIDED: u64 = 0;
-
-const NUMBERS: u64 = 1;
-
-const WORDS: u64 = 2;
-
-// As `text_numbers::Piece`.
-#[derive(Clone, Copy)]
-pub struct Piece {
-    pub scan: Scan,
-    pub words: Words,
-    pub used: usize,
-    pub count: usize,
-    pub event: u64,
+#[derive(Clone, Copy, PartialEq, Eq)]
+pub enum Form {
+    Numbers,
+    Words,
 }
 
-// The entry that is still to be handed on, as often as there is room.
-#[derive(Clone, Copy)]
-struct Owed {
-    count: usize,
-    left: u64,
-}
-
-fn put(list: &mut [u64], i: usize, number: u64) {
-    if i < list.len() {
-        list[i] = number;
+impl Words {
+    // Puts the entry that is still to be handed on, as often as there is room; how many numbers are there then.
+    fn hand_on(&mut self, list: &mut [u64], count: usize) -> usize {
+        let mut n = count;
+        while self.left > 0 && n < list.len() && n + 1 < list.len() {
+            list[n] = self.first;
+            list[n + 1] = self.item;
+            n += 2;
+            self.left -= 1;
+        }
+        n
     }
-}
 
-fn with_pair(list: &mut [u64], n: usize, first: u64, item: u64) -> usize {
-    if n < list.len() {
-        if 1 < list.len() - n {
-            put(list, n, first);
-            put(list, n + 1, item);
-            return n + 2;
+    // To the end, to what stops it, or until the list is full.
+    fn in_words(&mut self, many: bool, bytes: &[u8], list: &mut [u64], count: usize) -> Piece {
+        let names = crate::names::all();
+        let mut kept = count;
+        for (i, b) in bytes.iter().enumerate() {
+            match self.byte(&names, many, *b) {
+                Ok(None) => kept = self.hand_on(list, kept),
+                Ok(Some(number)) => kept = text_numbers::keep(list, kept, number),
+                Err(stop) => {
+                    return Piece {
+                        used: i + 1,
+                        count: kept,
+                        stop: Some(stop),
+                    };
+                }
+            }
+            if self.left > 0 {
+                return Piece {
+                    used: i + 1,
+                    count: kept,
+                    stop: None,
+                };
+            }
+        }
+        Piece {
+            used: bytes.len(),
+            count: kept,
+            stop: None,
         }
     }
-    n
-}
 
-fn hand_on(list: &mut [u64], count: usize, w: Words) -> Owed {
-    let mut n = count;
-    let mut left = w.left;
-    while left > 0 {
-        let after = with_pair(list, n, w.first, w.item);
-        if after == n {
-            return Owed {
-                count: n,
-                left: left,
-            };
+    // The form that a byte decides: a letter for words; white space, a comment and a mark decide nothing.
+    fn decided(&self, many: bool, b: u8) -> Option<Form> {
+        let is_mark = many && b == b'%' && self.scan.column == 1;
+        if !self.scan.is_between()
+            || is_mark
+            || matches!(b, b'\n' | b'#')
+            || text_numbers::is_blank(b)
+        {
+            return None;
         }
-        n = after;
-        left -= 1;
+        if b.is_ascii_alphabetic() {
+            return Some(Form::Words);
+        }
+        Some(Form::Numbers)
     }
-    Owed {
-        count: n,
-        left: left,
-    }
-}
 
-// What a step has to hand on goes into the list; answers how many numbers are there, and how often the entry is left.
-fn keep(list: &mut [u64], count: usize, w: Words, event: u64) -> Owed {
-    if event == text_numbers::NUMBER {
-        if count < list.len() {
-            list[count] = w.item;
-            return Owed {
-                count: count + 1,
-                left: 0,
-            };
+    // What stands before the byte that decides; that one is not used.
+    fn before_form(&mut self, many: bool, bytes: &[u8], count: usize) -> Piece {
+        for (i, b) in bytes.iter().enumerate() {
+            self.form = self.decided(many, *b);
+            if self.form.is_some() {
+                return Piece {
+                    used: i,
+                    count,
+                    stop: None,
+                };
+            }
+            if let Err(stop) = self.scan.byte(many, *b) {
+                return Piece {
+                    used: i + 1,
+                    count,
+                    stop: Some(stop),
+                };
+            }
+        }
+        Piece {
+            used: bytes.len(),
+            count,
+            stop: None,
         }
     }
-    hand_on(list, count, w)
-}
 
-// After a step that brought this event: unless its entries are owed.
-fn goes_on(event: u64, w: Words) -> bool {
-    event < text_numbers::MARK && w.left == 0
-}
-
-fn with_left(w: Words, left: u64) -> Words {
-    let mut after = w;
-    after.left = left;
-    after
-}
-
-// In words from this byte on, to the end, to the first event that is no number, or until the list is full.
-fn in_words(
-    s: Scan,
-    w: Words,
-    many: bool,
-    bytes: &[u8],
-    from: usize,
-    list: &mut [u64],
-    count: usize,
-) -> Piece {
-    let names = crate::names::all();
-    let mut scan = s;
-    let mut words = w;
-    let mut kept = count;
-    let mut event = text_numbers::NOTHING;
-    let mut i = from;
-    let n = bytes.len();
-    while i < n && goes_on(event, words) {
-        let after = crate::line::byte(&names, scan, words, many, bytes[i]);
-        let there = after.scan;
-        scan = there;
-        event = after.event;
-        let h = keep(list, kept, after.words, event);
-        kept = h.count;
-        words = with_left(after.words, h.left);
-        i += 1;
-    }
-    Piece {
-        scan: scan,
-        words: words,
-        used: i,
-        count: kept,
-        event: text_numbers::stop_of(event),
-    }
-}
-
-fn in_numbers(
-    s: Scan,
-    w: Words,
-    many: bool,
-    bytes: &[u8],
-    from: usize,
-    list: &mut [u64],
-    count: usize,
-) -> Piece {
-    if bytes.len() < from {
-        return stopped(s, w, from, count, text_numbers::NOTHING);
-    }
-    let p = text_numbers::read_piece(s, many, &bytes[from..], list, count);
-    let scan = p.scan;
-    stopped(
-        scan,
-        w,
-        std::num::wrapping_add_usize(from, p.used),
-        p.count,
-        p.event,
-    )
-}
-
-fn stopped(s: Scan, w: Words, used: usize, count: usize, event: u64) -> Piece {
-    Piece {
-        scan: s,
-        words: w,
-        used: used,
-        count: count,
-        event: event,
-    }
-}
-
-// The form that a byte decides: a letter for words; white space, a comment and a mark decide nothing.
-fn decided(s: Scan, many: bool, b: u8) -> u64 {
-    if text_numbers::is_between(s) {} else {
-        return UNDECIDED;
-    }
-    match b {
-        b'a'..=b'z' | b'A'..=b'Z' => return WORDS,
-        b'\n' | b'#' => return UNDECIDED,
-        _ => {}
-    }
-    if text_numbers::is_blank(b) {
-        return UNDECIDED;
-    }
-    if many && b == b'%' && s.column == 1 {
-        return UNDECIDED;
-    }
-    NUMBERS
-}
-
-fn with_form(w: Words, form: u64) -> Words {
-    let mut after = w;
-    after.form = form;
-    after
-}
-
-// What stands before the byte that decides; it is not used.
-fn before_form(s: Scan, w: Words, many: bool, bytes: &[u8], count: usize) -> Piece {
-    let mut scan = s;
-    let mut event = text_numbers::NOTHING;
-    let mut i = 0;
-    while i < bytes.len() && event < text_numbers::MARK {
-        let form = decided(scan, many, bytes[i]);
-        if form != UNDECIDED {
-            return stopped(scan, with_form(w, form), i, count, text_numbers::NOTHING);
+    // A piece of text, to its end, to what stops it, or until the list is full, as it may be before the piece is used.
+    pub fn read_piece(
+        &mut self,
+        many: bool,
+        bytes: &[u8],
+        list: &mut [u64],
+        count: usize,
+    ) -> Piece {
+        let kept = self.hand_on(list, count);
+        let mut before = Piece {
+            used: 0,
+            count: kept,
+            stop: None,
+        };
+        if self.left > 0 {
+            return before;
         }
-        let saw = text_numbers::byte(scan, many, bytes[i]);
-        let after = saw.scan;
-        scan = after;
-        event = saw.event;
-        i += 1;
+        if self.form.is_none() {
+            before = self.before_form(many, bytes, kept);
+        }
+        if before.stop.is_some() || bytes.len() < before.used {
+            return before;
+        }
+        let rest = &bytes[before.used..];
+        let after = match self.form {
+            Some(Form::Words) => self.in_words(many, rest, list, kept),
+            Some(Form::Numbers) => self.scan.read_piece(many, rest, list, kept),
+            None => return before,
+        };
+        Piece {
+            used: before.used.wrapping_add(after.used),
+            ..after
+        }
     }
-    stopped(scan, w, i, count, text_numbers::stop_of(event))
-}
-
-fn by_form(p: Piece, many: bool, bytes: &[u8], list: &mut [u64]) -> Piece {
-    let w = p.words;
-    let form = w.form;
-    if text_numbers::MARK <= p.event {
-        return p;
-    }
-    match form {
-        WORDS => in_words(p.scan, w, many, bytes, p.used, list, p.count),
-        NUMBERS => in_numbers(p.scan, w, many, bytes, p.used, list, p.count),
-        _ => p,
-    }
-}
-
-// A piece of text, to its end, to the first event that is no number, or until the list is full, as it may be before the piece is used.
-pub fn read_piece(
-    s: Scan,
-    w: Words,
-    many: bool,
-    bytes: &[u8],
-    list: &mut [u64],
-    count: usize,
-) -> Piece {
-    let h = hand_on(list, count, w);
-    let words = with_left(w, h.left);
-    if 0 < h.left {
-        return stopped(s, words, 0, h.count, text_numbers::NOTHING);
-    }
-    if w.form != UNDECIDED {
-        return by_form(
-            stopped(s, words, 0, h.count, text_numbers::NOTHING),
-            many,
-            bytes,
-            list,
-        );
-    }
-    let p = before_form(s, words, many, bytes, h.count);
-    by_form(p, many, bytes, list)
 }

@@ -7,8 +7,7 @@ use native.Mathlib.Omega.{arith}
 use native.Mathlib.Numerals.{add-one}
 use lib.ListN.{get_or, set, length, take, drop, length-drop}
 use lib.Seq.{drop-cons, take-suc, take_all, length-take-le, set_at}
-use Rattle.queue_entries.specs.declared.Told.{Told}
-use Rattle.queue_entries.specs.declared.Told.TheVariants.{Number, Refused}
+use Rattle.std.specs.Prelude.{Result, Ok, Err}
 use Rattle.queue_entries.specs.Told.{told}
 use Rattle.queue_entries.proofs.Pick.{yes, no, below, above, other}
 use Rattle.unbounded_words.specs.declared.Index.{Index}
@@ -162,25 +161,25 @@ module _ (all : List ℕ) (n : ℕ) (s : List Slot) (left : ℕ) (l : List Block
             ∙ ap (λ (x : ℕ). take x all ++ drop x before) (sym (add-one met))
 
 -- ---- which refusal, the answer and the buffer
-abbrev pub Answers : Machine → List ℕ → List ℕ → Told → Type 0
+abbrev pub Answers : Machine → List ℕ → List ℕ → Result ℕ ℕ → Type 0
 Answers m before after r = (r ≡ told (contents_refusal sizes m (length before)) (count_in sizes m)) × (after ≡ written sizes m before)
 
-turned : (m : Machine) (buffer : List ℕ) (n : ℕ) → 0 < n → n ≡ contents_refusal sizes m (length buffer) → Answers m buffer buffer (Refused n)
+turned : (m : Machine) (buffer : List ℕ) (n : ℕ) → 0 < n → n ≡ contents_refusal sizes m (length buffer) → Answers m buffer buffer (Err n)
 unfolding told written
 turned m buffer n pos e = (rw (← e) (other n 0 _ _ _ (λ z. omega arith) refl), rw (← e) (other n 0 _ _ _ (λ z. omega arith) refl))
 
 module _ (m : Machine) (buffer : List ℕ) (b : Bool) (eb : b ≡ broken_of sizes m) where
-  pub turned_6 : b ≡ true → Answers m buffer buffer (Refused 6)
+  pub turned_6 : b ≡ true → Answers m buffer buffer (Err 6)
   unfolding contents_refusal
   turned_6 h = turned m buffer 6 (omega arith) (yes _ b _ _ _ eb h refl)
 
   module _ (hb : b ≡ false) (d : Bool) (ed : d ≡ all_idle sizes m.workers) where
-    pub turned_4 : d ≡ false → Answers m buffer buffer (Refused 4)
+    pub turned_4 : d ≡ false → Answers m buffer buffer (Err 4)
     unfolding contents_refusal
     turned_4 h = turned m buffer 4 (omega arith) (no _ b _ _ _ eb hb (no _ d _ _ _ ed h refl))
 
     module _ (hd : d ≡ true) (r : Dropped) (er : r ≡ walk_of sizes m.ends m.blocks) where
-      pub turned_10 : length buffer < r.count → Answers m buffer buffer (Refused 10)
+      pub turned_10 : length buffer < r.count → Answers m buffer buffer (Err 10)
       unfolding contents_refusal count_in
       turned_10 h = turned m buffer 10 (omega arith) (no _ b _ _ _ eb hb
           (yes _ d _ _ _ ed hd (below (length buffer) (walk_of sizes m.ends m.blocks).count _ _ _
@@ -200,13 +199,13 @@ module _ (m : Machine) (buffer : List ℕ) (b : Bool) (eb : b ≡ broken_of size
       pub told_all : (h t : Index) (after : List ℕ) → h ≡ unmarked_of m.ends.head → t ≡ unmarked_of m.ends.tail → r.count ≤ length buffer
           → r.count ≡ length (items_from sizes m.slots 2080 m.blocks m.ends.front h t)
           → after ≡ items_from sizes m.slots 2080 m.blocks m.ends.front h t ++ drop (length (items_from sizes m.slots 2080 m.blocks m.ends.front h t)) buffer
-          → Answers m buffer after (Number r.count)
+          → Answers m buffer after (Ok r.count)
       unfolding told written contents_of items_of count_in contents_refusal
       told_all h t after eh et full count e =
           let c : r.count ≡ (walk_of sizes m.ends m.blocks).count = ap (λ (x : Dropped). x.count) er in
           let z : 0 ≡ contents_refusal sizes m (length buffer) = no _ b _ _ _ eb hb
           (yes _ d _ _ _ ed hd (above (length buffer) (walk_of sizes m.ends m.blocks).count 0 10 0 (omega arith) refl)) in
-          (rw (← z) (ap Number c), rw (← z, ← c, count) (e ∙ rw (eh, et)))
+          (rw (← z) (ap Ok c), rw (← z, ← c, count) (e ∙ rw (eh, et)))
 
 -- the walk does not run out of steps
 pub ends_within : (all : List ℕ) (n : ℕ) (s : List Slot) (left : ℕ) (l : List Block) (b : Pointer) (h t : Index) (met : ℕ) → Walking all n s left l b h t met → left ≤ 0 → ⊥

@@ -6,7 +6,7 @@ use mathlib.Core.List.{[], ◌∷◌}
 use lib.Dec.{ltb, eqb}
 use borrow.Author.Tests.{eqb-true}
 use Rattle.queue_entries.specs.Limits.{workers_most, in_limits}
-use Rattle.queue_entries.specs.declared.Finding.TheVariants.{AllRead}
+use Rattle.std.specs.Prelude.{None, Ok, Err}
 use Rattle.queue_entries.specs.Schedules.{run_by, stops_at, search_by, searched, schedule_by}
 use Rattle.queue_entries.proofs.Pick.{yes, no, below, above}
 use Rattle.queue_entries.specs.declared.Entry.{Entry}
@@ -25,7 +25,6 @@ use Rattle.unbounded_machine.specs.Broken.{broken_of}
 use Rattle.unbounded_machine.specs.Turn.{entry_here, verdict_of, lowest_free, begun, used_by, taken_by, moved_by, carried_by, turn_by, turn_with, turn_of}
 use Rattle.unbounded_machine.specs.Run.{ran, run_of}
 use Rattle.unbounded_machine.proofs.Fits.{either}
-use Rattle.unbounded.specs.declared.Bound.TheVariants as bound
 use Rattle.unbounded.specs.Unbounded.{make_of, step_of, begin_step_of, act_step_of, capacity_of}
 
 -- ---- a refused entry changes nothing
@@ -82,7 +81,7 @@ unfolding schedule_by search_by run_by ran turn_with refused
 one_entry m first second r e = ap whole e ∙ go (broken_of sizes m) refl
   where
     after_search : Entry → Ran
-    after_search x = searched (λ (d : Did). d.refusal) (λ (d : Did). d.machine) (turn_of sizes) ran m (first ∷ second ∷ []) (stops_at 0 x AllRead)
+    after_search x = searched (λ (d : Did). d.refusal) (λ (d : Did). d.machine) (turn_of sizes) ran m (first ∷ second ∷ []) (stops_at 0 x None)
 
     read : (x : Entry) → entry_here first second ≡ x → broken_of sizes m ≡ false → whole (after_search x) ≡ turn_of sizes m first second
     read Unreadable h q = no (broken_of sizes m) false _ (refused 6 m) _ (sym q) refl (sym (ap (turn_by sizes acts.act_of m) h))
@@ -130,10 +129,10 @@ module _ (workers : ℕ) (a : Bool) (ea : a ≡ in_limits workers workers_most) 
   make_0 h q e = yes _ a _ _ _ ea h (e ∙ ap accepted q)
 
 module _ (m : Machine) (b : Bool) (e : b ≡ broken_of sizes m) where
-  pub capacity_6 : b ≡ true → bound.Refused 6 ≡ capacity_of sizes m
+  pub capacity_6 : b ≡ true → Err 6 ≡ capacity_of sizes m
   unfolding capacity_of
   capacity_6 h = yes _ b _ _ _ e h refl
 
-  pub capacity_none : b ≡ false → bound.None ≡ capacity_of sizes m
+  pub capacity_none : b ≡ false → Ok tt ≡ capacity_of sizes m
   unfolding capacity_of
   capacity_none h = no _ b _ _ _ e h refl

@@ -1,5 +1,5 @@
 -- Making, beginning and acting, one call at a time.
-use Rattle.std.specs.Prelude.{ℕ, ◌%◌, cond, ltb}
+use Rattle.std.specs.Prelude.{ℕ, ◌%◌, cond, ltb, Result, Ok, Err}
 use Rattle.queue_entries.specs.Limits.{workers_most, in_limits}
 use Rattle.unbounded_words.specs.Words.{Sizes}
 use Rattle.unbounded_machine.specs.declared.Machine.{Machine}
@@ -7,8 +7,6 @@ use Rattle.unbounded_machine.specs.declared.Did.{Did}
 use Rattle.unbounded_machine.specs.Machine.{fresh_of, blank, refused, accepted}
 use Rattle.unbounded_machine.specs.Broken.{broken_of}
 use Rattle.unbounded_machine.specs.Turn.{turn_of}
-use Rattle.unbounded.specs.declared.Bound.{Bound}
-use Rattle.unbounded.specs.declared.Bound.TheVariants.{None, Refused}
 
 -- Making: 2 (there is no capacity, so no refusal 1). A refused making returns the blank machine.
 unfoldable pub make_of : Sizes → ℕ → Did
@@ -29,5 +27,5 @@ act_step_of z m first second =
     cond (broken_of z m) (refused 6 m) (cond (ltb (first % 16) 8) (refused 9 m) (turn_of z m first second))
 
 -- `capacity`: 6, else none (the crate's dispatch answers None for this queue).
-unfoldable pub capacity_of : Sizes → Machine → Bound
-capacity_of z m = cond (broken_of z m) (Refused 6) None
+unfoldable pub capacity_of : Sizes → Machine → Result (Unit {0}) ℕ
+capacity_of z m = cond (broken_of z m) (Err 6) (Ok tt)

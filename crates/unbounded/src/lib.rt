@@ -9,16 +9,8 @@ ghost use Rattle.unbounded_machine.specs.Contents.{count_in, contents_refusal, w
 ghost use Rattle.unbounded_machine.specs.Run.{run_of};
 ghost use Rattle.unbounded.specs.Unbounded.{make_of, step_of, begin_step_of, act_step_of, capacity_of};
 
-use queue_entries::Told;
 use unbounded_machine::{Did, Machine, Ran};
 use unbounded_places::Block;
-
-// How `capacity` is told: the queue has none.
-#[derive(Clone, Copy)]
-pub enum Bound {
-    None,
-    Refused(u64),
-}
 
 // A fresh machine, or refusal 2 with the blank one.
 pub fn make(workers: u64) -> Did
@@ -34,33 +26,26 @@ pub fn make(workers: u64) -> Did
 pub fn broken(m: Machine) -> bool
     ensures { result ≡ broken_of sizes m }
 {
-    let e = m.ends;
-    let blocks = m.blocks;
-    let workers = m.workers;
-    unbounded_machine::broken_in(e, blocks, workers, m.count)
+    unbounded_machine::broken_in(m.ends, m.blocks, m.workers, m.count)
 }
 
-pub fn capacity(m: Machine) -> Bound
+// The queue has no capacity: there is nothing to tell but a refusal.
+pub fn capacity(m: Machine) -> Result<(), u64>
     ensures { result ≡ capacity_of sizes m }
 {
-    if broken(m) {
-        Bound::Refused(6)
-    } else {
-        Bound::None
-    }
+    if broken(m) { Err(6) } else { Ok(()) }
 }
 
 // The items as `Drop` would meet them, written at the buffer's start. Nothing is removed.
-pub fn contents(m: Machine, buffer: &mut [u64]) -> Told
+pub fn contents(m: Machine, buffer: &mut [u64]) -> Result<u64, u64>
     ensures answer { result ≡ told (contents_refusal sizes m (length buffer.old)) (count_in sizes m) }
     ensures lent { buffer.new ≡ written sizes m buffer.old }
 {
     if broken(m) {
-        return Told::Refused(6);
+        return Err(6);
     }
-    let workers = m.workers;
-    if unbounded_machine::all_idle(workers) {} else {
-        return Told::Refused(4);
+    if !unbounded_machine::all_idle(m.workers) {
+        return Err(4);
     }
     let e = m.ends;
     let mut blocks = m.blocks;
@@ -68,37 +53,29 @@ pub fn contents(m: Machine, buffer: &mut [u64]) -> Told
     let walked = unbounded_machine::walk(e, blocks);
     let n = walked.count;
     if buffer.len() < (n as usize) {
-        return Told::Refused(10);
+        return Err(10);
     }
     let mut b = e.front;
     let mut h = unbounded_words::unmarked(e.head);
     let t = unbounded_words::unmarked(e.tail);
     let mut met: usize = 0;
-    let mut left = unbounded_machine::STEPS;
-    while 0 < left {
-        if unbounded_words::same_word(h, t) {
-            return Told::Number(n);
+    for _ in 0..unbounded_machine::STEPS {
+        if h == t {
+            return Ok(n);
         }
         let k = unbounded_words::number(b);
         if unbounded_words::past_slots(h) {
             let g = blocks[k as usize];
-            let next = g.next;
-            blocks[k as usize] = Block {
-                next: next,
-                free: true,
-            };
-            b = next;
-            h = unbounded_words::next(h);
-            left -= 1;
+            blocks[k as usize] = Block { free: true, ..g };
+            b = g.next;
         } else {
             let s = slots[(k * unbounded_words::SLOTS + unbounded_words::offset(h)) as usize];
             buffer[met] = s.value;
             met += 1;
-            h = unbounded_words::next(h);
-            left -= 1;
         }
+        h = unbounded_words::next(h);
     }
-    Told::Number(n)
+    Ok(n)
 }
 
 // A schedule, entry by entry, to its end or to the first refusal.
@@ -112,12 +89,10 @@ pub fn run(m: Machine, schedule: &[u64]) -> Ran
 pub fn step(m: Machine, first: u64, second: u64) -> Did
     ensures { result ≡ step_of sizes m first second }
 {
-    let entry = [first, second];
-    let r = run(m, &entry);
-    let after = r.machine;
+    let r = run(m, &[first, second]);
     Did {
         refusal: r.refusal,
-        machine: after,
+        machine: r.machine,
     }
 }
 

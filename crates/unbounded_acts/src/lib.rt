@@ -47,43 +47,19 @@ fn told(e: Ends, g: Block, s: Slot, yes: bool) -> Acted
 pub fn head_to(e: Ends, w: Index) -> Ends
     ensures { result ≡ head_to e w }
 {
-    let hb = e.front;
-    let t = e.tail;
-    let tb = e.back;
-    Ends {
-        head: w,
-        front: hb,
-        tail: t,
-        back: tb,
-    }
+    Ends { head: w, ..e }
 }
 
 pub fn front_to(e: Ends, b: Pointer) -> Ends
     ensures { result ≡ front_to e b }
 {
-    let h = e.head;
-    let t = e.tail;
-    let tb = e.back;
-    Ends {
-        head: h,
-        front: b,
-        tail: t,
-        back: tb,
-    }
+    Ends { front: b, ..e }
 }
 
 fn tail_to(e: Ends, w: Index) -> Ends
     ensures { result ≡ tail_to e w }
 {
-    let h = e.head;
-    let hb = e.front;
-    let tb = e.back;
-    Ends {
-        head: h,
-        front: hb,
-        tail: w,
-        back: tb,
-    }
+    Ends { tail: w, ..e }
 }
 
 fn tail_to_next(e: Ends, t: Index) -> Ends
@@ -95,41 +71,25 @@ fn tail_to_next(e: Ends, t: Index) -> Ends
 fn tail_to_marked(e: Ends) -> Ends
     ensures { result ≡ tail_to e (with_mark e.tail) }
 {
-    let t = e.tail;
-    tail_to(e, unbounded_words::with_mark(t))
+    tail_to(e, unbounded_words::with_mark(e.tail))
 }
 
 fn back_to(e: Ends, b: Pointer) -> Ends
     ensures { result ≡ back_to_words e b }
 {
-    let h = e.head;
-    let hb = e.front;
-    let t = e.tail;
-    Ends {
-        head: h,
-        front: hb,
-        tail: t,
-        back: b,
-    }
+    Ends { back: b, ..e }
 }
 
 fn next_to(g: Block, b: Pointer) -> Block
     ensures { result ≡ next_to g b }
 {
-    Block {
-        next: b,
-        free: g.free,
-    }
+    Block { next: b, ..g }
 }
 
 pub fn freed(g: Block) -> Block
     ensures { result ≡ freed g }
 {
-    let b = g.next;
-    Block {
-        next: b,
-        free: true,
-    }
+    Block { free: true, ..g }
 }
 
 fn new_block() -> Block
@@ -170,7 +130,7 @@ fn set_write(s: Slot) -> Slot
 {
     Slot {
         state: or_write(s.state),
-        value: s.value,
+        ..s
     }
 }
 
@@ -185,7 +145,7 @@ pub fn set_read(s: Slot) -> Slot
 {
     Slot {
         state: or_read(s.state),
-        value: s.value,
+        ..s
     }
 }
 
@@ -200,17 +160,14 @@ pub fn set_destroy(s: Slot) -> Slot
 {
     Slot {
         state: or_destroy(s.state),
-        value: s.value,
+        ..s
     }
 }
 
 fn value_to(s: Slot, v: u64) -> Slot
     ensures { result ≡ value_to s v }
 {
-    Slot {
-        state: s.state,
-        value: v,
-    }
+    Slot { value: v, ..s }
 }
 
 // push
@@ -238,11 +195,7 @@ fn answered(n: Pointer, a: Answer) -> Place
 fn lacks_next(n: Pointer, t: Index) -> bool
     ensures { result ≡ lacks_next sizes n t }
 {
-    if unbounded_words::last_slot(t) {
-        unbounded_words::is_none(n)
-    } else {
-        false
-    }
+    unbounded_words::last_slot(t) && unbounded_words::is_none(n)
 }
 
 // Top of push's loop.
@@ -265,8 +218,7 @@ fn push_from(n: Pointer, t: Index, b: Pointer, item: u64) -> Place
 pub fn u2(e: Ends, g: Block, s: Slot, n: Pointer, t: Index, item: u64) -> Acted
     ensures { result ≡ act_u2 sizes e g s n t item }
 {
-    let b = e.back;
-    leave(e, g, s, push_from(n, t, b, item))
+    leave(e, g, s, push_from(n, t, e.back, item))
 }
 
 pub fn u3(e: Ends, k: u64, s: Slot, t: Index, b: Pointer, item: u64) -> Acted
@@ -294,8 +246,7 @@ fn set_aside(n: Pointer, new: Pointer, item: u64) -> Place
 pub fn u5(e: Ends, g: Block, s: Slot, n: Pointer, t: Index, new: Pointer, item: u64) -> Acted
     ensures { result ≡ act_u5 e g s n t new item }
 {
-    let found = e.back;
-    if unbounded_words::is_none(found) {
+    if unbounded_words::is_none(e.back) {
         leave(back_to(e, new), g, s, Place::U6(n, t, new, item))
     } else {
         leave(e, g, s, set_aside(n, new, item))
@@ -330,15 +281,14 @@ pub fn u7(
 ) -> Acted
     ensures { result ≡ act_u7 sizes e g s n t b item lose }
 {
-    let found = e.tail;
-    if unbounded_words::same_word(found, t) {
+    if e.tail == t {
         if lose {
             leave(e, g, s, Place::U8(n, t, item))
         } else {
             leave(tail_to_next(e, t), g, s, claimed(n, t, b, item))
         }
     } else {
-        leave(e, g, s, Place::U8(n, found, item))
+        leave(e, g, s, Place::U8(n, e.tail, item))
     }
 }
 
@@ -351,8 +301,7 @@ pub fn u9(e: Ends, g: Block, s: Slot, n: Pointer, t: Index, b: Pointer, item: u6
 pub fn u10(e: Ends, g: Block, s: Slot, n: Pointer, t: Index, b: Pointer, item: u64) -> Acted
     ensures { result ≡ act_u10 e g s n t b item }
 {
-    let tail = e.tail;
-    leave(tail_to_next(e, tail), g, s, Place::U11(n, t, b, item))
+    leave(tail_to_next(e, e.tail), g, s, Place::U11(n, t, b, item))
 }
 
 pub fn u11(e: Ends, g: Block, s: Slot, n: Pointer, t: Index, b: Pointer, item: u64) -> Acted
@@ -390,8 +339,7 @@ pub fn u15(e: Ends, g: Block, s: Slot, new: Pointer, item: u64) -> Acted
 pub fn len3(e: Ends, g: Block, s: Slot, t: Index, h: Index) -> Acted
     ensures { result ≡ act_len3 sizes e g s t h }
 {
-    let again = e.tail;
-    if unbounded_words::same_word(again, t) {
+    if e.tail == t {
         leave(
             e,
             g,
@@ -406,15 +354,13 @@ pub fn len3(e: Ends, g: Block, s: Slot, t: Index, h: Index) -> Acted
 pub fn empty2(e: Ends, g: Block, s: Slot, h: Index) -> Acted
     ensures { result ≡ act_empty2 e g s h }
 {
-    let t = e.tail;
-    told(e, g, s, unbounded_words::same_position(h, t))
+    told(e, g, s, unbounded_words::same_position(h, e.tail))
 }
 
 pub fn close1(e: Ends, g: Block, s: Slot) -> Acted
     ensures { result ≡ act_close1 e g s }
 {
-    let t = e.tail;
-    if unbounded_words::marked(t) {
+    if unbounded_words::marked(e.tail) {
         leave(e, g, s, Place::Idle(Answer::No))
     } else {
         leave(tail_to_marked(e), g, s, Place::Idle(Answer::Yes))
@@ -424,6 +370,5 @@ pub fn close1(e: Ends, g: Block, s: Slot) -> Acted
 pub fn is_closed1(e: Ends, g: Block, s: Slot) -> Acted
     ensures { result ≡ act_is_closed1 e g s }
 {
-    let t = e.tail;
-    told(e, g, s, unbounded_words::marked(t))
+    told(e, g, s, unbounded_words::marked(e.tail))
 }

@@ -1,7 +1,7 @@
 -- Words and places are one to one: beside `read_back`.
 use Prim.Native.Nat.{ℕ}
 use mathlib.Core.Path.{◌≡◌, refl, sym, ap, ◌∙◌}
-use mathlib.Core.Bool.{Bool, true, false}
+use mathlib.Core.Bool.{Bool, true, false, ◌&&◌, cond}
 use lib.Dec.{eqb}
 use borrow.Author.Tests.{eq-eqb, ne_eqb, eqb-true}
 use Rattle.queue_entries.proofs.Pick.{both_left, both_right}
@@ -48,20 +48,16 @@ module _ (n a b c d : ℕ) (p : Place) (x : Coded) (is : p ≡ place_in n a b c 
   unfolding stands_for
   asked = ap (λ (y : Coded). same_as y n a b c d) (e ∙ ap code_of is)
 
-  pub other_code : (x.code ≡ n → ⊥) → false ≡ stands_for n a b c d
-  other_code h = sym (rw (ne_eqb x.code n h) refl) ∙ asked
-
-  module _ (en : x.code ≡ n) where
-    pub other_first : (x.first ≡ a → ⊥) → false ≡ stands_for n a b c d
-    other_first h = sym (rw (eq-eqb x.code n en, ne_eqb x.first a h) refl) ∙ asked
-
-    module _ (ea : x.first ≡ a) where
-      pub other_second : (x.second ≡ b → ⊥) → false ≡ stands_for n a b c d
-      other_second h = sym (rw (eq-eqb x.code n en, eq-eqb x.first a ea, ne_eqb x.second b h) refl) ∙ asked
-
-      module _ (eb : x.second ≡ b) where
-        pub other_third : (x.third ≡ c → ⊥) → false ≡ stands_for n a b c d
-        other_third h = sym (rw (eq-eqb x.code n en, eq-eqb x.first a ea, eq-eqb x.second b eb, ne_eqb x.third c h) refl) ∙ asked
-
-        pub by_fourth : x.third ≡ c → (r : Bool) → r ≡ eqb x.fourth d → r ≡ stands_for n a b c d
-        by_fourth ec r h = h ∙ sym (rw (eq-eqb x.code n en, eq-eqb x.first a ea, eq-eqb x.second b eb, eq-eqb x.third c ec) refl) ∙ asked
+  pub by_words : (t : Coded) → t ≡ five n a b c d → (r : Bool)
+      → r ≡ (eqb x.code t.code && (eqb x.first t.first && (eqb x.second t.second && (eqb x.third t.third && eqb x.fourth t.fourth)))) → r ≡ stands_for n a b c d
+  unfolding five
+  by_words t u r h =
+      h ∙ ap (λ (y : Coded). eqb x.code y.code && (eqb x.first y.first && (eqb x.second y.second && (eqb x.third y.third && eqb x.fourth y.fourth)))) u
+      ∙ shape (eqb x.code n) (eqb x.first a) (eqb x.second b) (eqb x.third c) (eqb x.fourth d) ∙ asked
+    where
+      shape : (f g h k l : Bool) → (f && (g && (h && (k && l)))) ≡ cond f (cond g (cond h (cond k l false) false) false) false
+      shape false g h k l = refl
+      shape true false h k l = refl
+      shape true true false k l = refl
+      shape true true true false l = refl
+      shape true true true true l = refl

@@ -7,7 +7,7 @@ ghost use Rattle.unbounded_codes.specs.Codes.{five, first_block, second_block, a
 use unbounded_places::{Answer, Place};
 use unbounded_words::{Index, Pointer, number};
 
-#[derive(Clone, Copy)]
+#[derive(Clone, Copy, PartialEq, Eq)]
 pub struct Coded {
     pub code: u64,
     pub first: u64,
@@ -21,7 +21,7 @@ fn five(code: u64, a: u64, b: u64, c: u64, d: u64) -> Coded
     ensures { result ≡ five code a b c d }
 {
     Coded {
-        code: code,
+        code,
         first: a,
         second: b,
         third: c,
@@ -33,7 +33,7 @@ fn first_block(code: u64, a: Pointer, b: u64, c: u64, d: u64) -> Coded
     ensures { result ≡ first_block code a b c d }
 {
     Coded {
-        code: code,
+        code,
         first: number(a),
         second: b,
         third: c,
@@ -45,7 +45,7 @@ fn second_block(code: u64, a: u64, b: Pointer, c: u64, d: u64) -> Coded
     ensures { result ≡ second_block code a b c d }
 {
     Coded {
-        code: code,
+        code,
         first: a,
         second: number(b),
         third: c,
@@ -57,7 +57,7 @@ fn aside(code: u64, a: Pointer, b: u64, c: Pointer, d: u64) -> Coded
     ensures { result ≡ aside code a b c d }
 {
     Coded {
-        code: code,
+        code,
         first: number(a),
         second: b,
         third: number(c),
@@ -69,7 +69,7 @@ fn two_blocks(code: u64, a: Pointer, b: Pointer, c: u64, d: u64) -> Coded
     ensures { result ≡ two_blocks code a b c d }
 {
     Coded {
-        code: code,
+        code,
         first: number(a),
         second: number(b),
         third: c,
@@ -81,7 +81,7 @@ fn next_last(code: u64, a: u64, b: Pointer, c: u64, d: Pointer) -> Coded
     ensures { result ≡ next_last code a b c d }
 {
     Coded {
-        code: code,
+        code,
         first: a,
         second: number(b),
         third: c,
@@ -93,7 +93,7 @@ fn next_third(code: u64, a: u64, b: Pointer, c: Pointer, d: u64) -> Coded
     ensures { result ≡ next_third code a b c d }
 {
     Coded {
-        code: code,
+        code,
         first: a,
         second: number(b),
         third: number(c),
@@ -301,18 +301,6 @@ pub fn place_in(code: u64, a: u64, b: u64, c: u64, d: u64) -> Place
 pub fn stands(code: u64, first: u64, second: u64, third: u64, fourth: u64) -> bool
     ensures { result ≡ stands_for code first second third fourth }
 {
-    let x = code_of(place_in(code, first, second, third, fourth));
-    if x.code == code {} else {
-        return false;
-    }
-    if x.first == first {} else {
-        return false;
-    }
-    if x.second == second {} else {
-        return false;
-    }
-    if x.third == third {} else {
-        return false;
-    }
-    x.fourth == fourth
+    code_of(place_in(code, first, second, third, fourth))
+        == five(code, first, second, third, fourth)
 }

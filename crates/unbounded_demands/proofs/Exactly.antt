@@ -24,7 +24,7 @@ use Rattle.unbounded_machine.specs.Broken.{broken_of, all_idle}
 use Rattle.unbounded_machine.specs.Contents.{count_in, contents_refusal}
 use Rattle.unbounded_machine.specs.Turn.{entry_here, lowest_free, taken_by, used_by, moved_by, carried_by, turn_by, turn_with, turn_of}
 use Rattle.unbounded_machine.specs.Run.{ran, run_of}
-use Rattle.unbounded.specs.declared.Bound.TheVariants as bound
+use Rattle.std.specs.Prelude.{Ok, Err}
 use Rattle.unbounded.specs.Unbounded as face
 use Rattle.unbounded_demands.specs.Demands.{RefusedExactly, refusals, entry_grounds, bound_number}
 
@@ -124,7 +124,7 @@ module _ (m : Machine) where
   unfolding face.capacity_of
   capacity_exactly = go (broken_of sizes m)
     where
-      go : (x : Bool) → bound_number (cond x (bound.Refused 6) bound.None) ≡ first_of (on 6 x ∷ [])
+      go : (x : Bool) → bound_number (cond x (Err 6) (Ok tt)) ≡ first_of (on 6 x ∷ [])
       go true = refl
       go false = refl
 

@@ -1,7 +1,6 @@
 -- The statements of request 12, all of them, in its words, and what is said of the pool and of progress beside them. The notions (history, claim, hand ..) are
 -- defined in Notions.antt and Waiting.antt. The proofs are gathered in crates/unbounded_proof_all_demands/proofs/Headlines.antt.
-use Rattle.std.specs.Prelude.{ℕ, suc, ◌+◌, ◌*◌, ◌%◌, ◌≤◌, ◌<◌, Bool, true, false, cond, not, List, [], ◌∷◌, ◌++◌, map, ◌↔◌, ◌⊎◌, ◌≡◌, eqb, ltb, length, take}
-use Rattle.queue_entries.specs.declared.Told.{Told}
+use Rattle.std.specs.Prelude.{ℕ, suc, ◌+◌, ◌*◌, ◌%◌, ◌≤◌, ◌<◌, Bool, true, false, cond, not, List, [], ◌∷◌, ◌++◌, map, ◌↔◌, ◌⊎◌, ◌≡◌, eqb, ltb, length, take, Result, Err, Ok}
 use Rattle.queue_entries.specs.Told.{told}
 use Rattle.queue_entries.specs.Limits.{workers_most, meter_most, in_limits}
 use Rattle.queue_entries.specs.declared.Order.TheVariants.{Begin, Act}
@@ -38,15 +37,12 @@ use Rattle.unbounded_machine.specs.Contents.{count_in, contents_of, contents_ref
 use Rattle.unbounded_machine.specs.Turn.{entry_here, lowest_free}
 use Rattle.unbounded_machine.specs.Run.{ran, run_from, run_of}
 use Rattle.unbounded_machine.specs.History.{events_of}
-use Rattle.unbounded.specs.declared.Bound.{Bound}
 use Rattle.unbounded.specs.Unbounded.{make_of, step_of, begin_step_of, act_step_of, capacity_of}
 use Rattle.unbounded_demands.specs.Notions.{Definition, Allowed, machine_after, acts_of, Acts, Asking, Pushing, Popping, Reads, value_at, state_at, takings_of, freeings_of, sign_of, HandsOut, takers_of, LatestIn, ItemIn, waiting, Fifo, position, Truth, chained}
 use Rattle.unbounded_demands.specs.Waiting.{PushingIn, PoppingIn, OneSlot, Crossing, Tying, Leaving, Fronting, push_left, passed, own_acts, Holding, pop_most, push_most, look_most}
 use Rattle.unbounded_demands.specs.Attained.{Case, seen_by, exactly, old_pops, crossing_pops, ending_pops, beginning_pushes, going_pushes, ending_pushes}
 use Rattle.unbounded_demands.specs.Notions.{fresh_two, pushing_two, spent_two, wanting_two, fresh_one, stocked_one}
 use Rattle.unbounded_machine.specs.Turn.{Table}
-use Rattle.unbounded.specs.declared.Bound.TheVariants as bound
-use Rattle.queue_entries.specs.declared.Told.TheVariants as answer
 use Rattle.queue_numbers.specs.Answers.{BothWays, number_in, value_in}
 use Rattle.unbounded_demands.specs.Claims.{CallClaim, WrittenIn, closed_by, ClosesYes, NoClaims}
 use Rattle.unbounded_demands.specs.Stories.{Story, story_of, task_of, Takes, item_in, change_of, actor, known, queue_at, reply_of, put_by, taken_by, given_back, At, AfterNextTail, moment_of, place_in, Emptying, Filling, last_claimed, asks_len, asks_empty}
@@ -256,12 +252,12 @@ pub record EachNumber (n : Numbers Machine) : Type 0 where
 
 -- "Where an answer is an enum, a definition gives this paper's number and values for each of the enum's cases": there and back, inverse to each other, of what `contents` answers and of what
 -- `capacity` does, which has no value; and the promises use it.
-abbrev pub bound_number : Bound → ℕ
-bound_number bound.None = 0
-bound_number (bound.Refused number) = number
+abbrev pub bound_number : Result (Unit {0}) ℕ → ℕ
+bound_number (Ok value) = 0
+bound_number (Err number) = number
 
-abbrev pub bound_of : ℕ → Unit {0} → Bound
-bound_of number value = cond (eqb number 0) bound.None (bound.Refused number)
+abbrev pub bound_of : ℕ → Unit {0} → Result (Unit {0}) ℕ
+bound_of number value = cond (eqb number 0) (Ok tt) (Err number)
 
 -- What an entry is refused for on a machine that is not broken, in document 01's order; last, request 12's 23: a call needs a block and none is free.
 abbrev pub entry_grounds : Machine → Entry → List Ground
@@ -287,8 +283,8 @@ pub record RefusedExactly (n : Numbers Machine) : Type 0 where
   pub capacity : (m : Machine) → bound_number (capacity_of sizes m) ≡ first_of (on 6 (broken_of sizes m) ∷ [])
 
 pub record EnumsBothWays : Type 0 where
-  pub numbers_back : BothWays answer.Refused number_in value_in told
-  pub bounds_back : BothWays bound.Refused bound_number (λ (b : Bound). tt) bound_of
+  pub numbers_back : BothWays Err number_in value_in told
+  pub bounds_back : BothWays Err bound_number (λ (b : Result (Unit {0}) ℕ). tt) bound_of
   pub bound_is : (m : Machine) → capacity_of sizes m ≡ bound_of (cond (broken_of sizes m) 6 0) tt
 
 -- Only one answer meets a promise: of the whole answer, the machine and the lent buffer.
@@ -298,10 +294,10 @@ pub record OnlyOne : Type 0 where
   pub begin : (m : Machine) (first second : ℕ) (x y : Did) → x ≡ begin_step_of sizes m first second → y ≡ begin_step_of sizes m first second → x ≡ y
   pub act : (m : Machine) (first second : ℕ) (x y : Did) → x ≡ act_step_of sizes m first second → y ≡ act_step_of sizes m first second → x ≡ y
   pub run : (m : Machine) (s : List ℕ) (x y : Ran) → x ≡ run_of sizes m s → y ≡ run_of sizes m s → x ≡ y
-  pub contents : (m : Machine) (before : List ℕ) (x y : Told) (a b : List ℕ)
+  pub contents : (m : Machine) (before : List ℕ) (x y : Result ℕ ℕ) (a b : List ℕ)
       → (x ≡ told (contents_refusal sizes m (length before)) (count_in sizes m)) × (a ≡ written sizes m before)
       → (y ≡ told (contents_refusal sizes m (length before)) (count_in sizes m)) × (b ≡ written sizes m before) → (x ≡ y) × (a ≡ b)
-  pub capacity : (m : Machine) (x y : Bound) → x ≡ capacity_of sizes m → y ≡ capacity_of sizes m → x ≡ y
+  pub capacity : (m : Machine) (x y : Result (Unit {0}) ℕ) → x ≡ capacity_of sizes m → y ≡ capacity_of sizes m → x ≡ y
   pub broken : (m : Machine) (x y : Bool) → x ≡ broken_of sizes m → y ≡ broken_of sizes m → x ≡ y
 
 -- ==== 2. Under every schedule from a fresh machine. Said of the machine m that entries reach, and of the acts h behind it.

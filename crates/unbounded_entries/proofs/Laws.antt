@@ -109,13 +109,9 @@ module _ (a b : Block) (s : Bool) (e : s ≡ same_pointer sizes a.next b.next) w
     unfolding same_header
     still_free f = yes _ s _ _ _ e h (on a.free _ _ _ f refl)
 
-    pub freed_since : a.free ≡ false → b.free ≡ true → false ≡ same_header sizes a b
+    pub was_taken : a.free ≡ false → not b.free ≡ same_header sizes a b
     unfolding same_header
-    freed_since f g = yes _ s _ _ _ e h (off a.free _ _ _ f (ap not (sym g)))
-
-    pub neither_free : a.free ≡ false → b.free ≡ false → true ≡ same_header sizes a b
-    unfolding same_header
-    neither_free f g = yes _ s _ _ _ e h (off a.free _ _ _ f (ap not (sym g)))
+    was_taken f = yes _ s _ _ _ e h (off a.free _ _ _ f refl)
 
 module _ (busy : ℕ) (o : Order) (after : Bool) (r : ℕ) where
   pub tally_begin : (c : Call) → o ≡ Begin c → r ≡ (busy + 1) % wide → r ≡ tallied busy o after

@@ -28,7 +28,7 @@ fn asking(worker: u64, o: Order) -> Ask
 {
     Ask {
         refusal: 0,
-        worker: worker,
+        worker,
         order: o,
     }
 }
@@ -46,7 +46,7 @@ fn unasked(number: u64) -> Ask
 pub fn ask_of(sound: bool, count: u64, first: u64, second: u64) -> Ask
     ensures { result ≡ ask_of sound count first second }
 {
-    if sound {} else {
+    if !sound {
         return unasked(6);
     }
     let Entry::Asks(worker, order) = queue_entries::entry_but(FORCE_PUSH, first, second) else {
@@ -75,12 +75,12 @@ fn aimed(worker: u64, o: Order, takes: bool, k: u64, i: u64, meter: u64) -> Aim
 {
     Aim {
         refusal: 0,
-        worker: worker,
+        worker,
         order: o,
-        takes: takes,
+        takes,
         block: k,
         slot: i,
-        meter: meter,
+        meter,
     }
 }
 
@@ -102,9 +102,8 @@ fn way_acts(meter: u64, w: u64, lose: bool, view: View) -> Aim
     requires { meter < meter_most }
     ensures { result ≡ way_acts meter w lose view }
 {
-    let uses = view.uses;
-    let k = unbounded_machine::block_used(uses);
-    let i = unbounded_machine::slot_used(uses);
+    let k = unbounded_machine::block_used(view.uses);
+    let i = unbounded_machine::slot_used(view.uses);
     aimed(w, Order::Act(lose), view.takes, k, i, meter + 1)
 }
 
@@ -112,15 +111,12 @@ fn way_acts(meter: u64, w: u64, lose: bool, view: View) -> Aim
 pub fn way_of(ask: Ask, worker: Worker, meter: u64) -> Aim
     ensures { result ≡ way_of sizes meter ask worker.place }
 {
-    let refusal = ask.refusal;
-    if 0 < refusal {
-        return turned_away(refusal);
+    if 0 < ask.refusal {
+        return turned_away(ask.refusal);
     }
     let w = ask.worker;
-    let order = ask.order;
-    let p = worker.place;
-    let view = unbounded_views::view_before(p);
-    match queue_entries::verdict_for(meter, view.busy, view.weak, order) {
+    let view = unbounded_views::view_before(worker.place);
+    match queue_entries::verdict_for(meter, view.busy, view.weak, ask.order) {
         Verdict::Refuse(number) => turned_away(number),
         Verdict::Start(call) => aimed(w, Order::Begin(call), false, 0, 0, meter),
         Verdict::Move(lose) => way_acts(meter, w, lose, view),
@@ -131,14 +127,11 @@ pub fn way_of(ask: Ask, worker: Worker, meter: u64) -> Aim
 pub fn aim_of(way: Aim, k: u64) -> Aim
     ensures { result ≡ aim_at sizes way k }
 {
-    if way.takes {} else {
+    if !way.takes {
         return way;
     }
     if k < (unbounded_words::BLOCKS as u64) {
-        let w = way.worker;
-        let order = way.order;
-        let meter = way.meter;
-        aimed(w, order, true, k, 0, meter)
+        aimed(way.worker, way.order, true, k, 0, way.meter)
     } else {
         turned_away(23)
     }
@@ -167,20 +160,15 @@ fn leaves(e: Ends, g: Block, s: Slot, p: Place) -> Done
 fn done_by(a: Acted) -> Done
     ensures { result ≡ done_by a }
 {
-    let e = a.ends;
-    let g = a.block;
-    let s = a.slot;
-    let p = a.place;
-    leaves(e, g, s, p)
+    leaves(a.ends, a.block, a.slot, a.place)
 }
 
 pub fn done_at(e: Ends, k: u64, g: Block, s: Slot, worker: Worker, o: Order) -> Done
     ensures { result ≡ done_of sizes e k g s worker o }
 {
-    let p = worker.place;
     match o {
         Order::Begin(call) => leaves(e, g, s, unbounded_places::first_place(call)),
-        Order::Act(lose) => done_by(unbounded_table::act_at(e, k, g, s, p, lose)),
+        Order::Act(lose) => done_by(unbounded_table::act_at(e, k, g, s, worker.place, lose)),
     }
 }
 
@@ -197,9 +185,9 @@ fn looked(busy: bool, asks: bool, fits: bool, k: u64) -> Look
     ensures { result ≡ looked busy asks fits k }
 {
     Look {
-        busy: busy,
-        asks: asks,
-        fits: fits,
+        busy,
+        asks,
+        fits,
         block: k,
     }
 }
@@ -237,11 +225,9 @@ fn look_uses(u: Uses) -> Look
 pub fn look_at(worker: Worker) -> Look
     ensures { result ≡ look_at sizes worker.place }
 {
-    let p = worker.place;
-    let v = unbounded_views::view_after(p);
-    let u = v.uses;
+    let v = unbounded_views::view_after(worker.place);
     if v.busy {
-        look_uses(u)
+        look_uses(v.uses)
     } else {
         looked(false, false, true, 0)
     }
@@ -251,11 +237,7 @@ pub fn look_at(worker: Worker) -> Look
 pub fn fits_at(look: Look, g: Block) -> bool
     ensures { result ≡ fits_at look g }
 {
-    if look.asks {
-        if g.free { false } else { true }
-    } else {
-        look.fits
-    }
+    if look.asks { !g.free } else { look.fits }
 }
 
 fn same_pointer(p: Pointer, q: Pointer) -> bool
@@ -263,30 +245,20 @@ fn same_pointer(p: Pointer, q: Pointer) -> bool
 {
     if unbounded_words::is_none(p) {
         unbounded_words::is_none(q)
+    } else if unbounded_words::is_none(q) {
+        false
     } else {
-        if unbounded_words::is_none(q) {
-            false
-        } else {
-            unbounded_words::number(p) == unbounded_words::number(q)
-        }
+        unbounded_words::number(p) == unbounded_words::number(q)
     }
 }
 
 pub fn same_header(a: Block, b: Block) -> bool
     ensures { result ≡ same_header sizes a b }
 {
-    let p = a.next;
-    let q = b.next;
-    let free = b.free;
-    if same_pointer(p, q) {
-        if a.free {
-            free
-        } else {
-            if free { false } else { true }
-        }
-    } else {
-        false
+    if !same_pointer(a.next, b.next) {
+        return false;
     }
+    if a.free { b.free } else { !b.free }
 }
 
 // How many are busy after an entry: one more where it begins a call, one fewer where its act was the call's last.
@@ -294,12 +266,12 @@ pub fn tally(busy: u64, o: Order, after: bool) -> u64
     ensures { result ≡ tallied busy o after }
 {
     match o {
-        Order::Begin(_) => std::num::wrapping_add_u64(busy, 1),
+        Order::Begin(_) => busy.wrapping_add(1),
         Order::Act(_) => {
             if after {
                 busy
             } else {
-                std::num::wrapping_add_u64(busy, 0xFFFF_FFFF_FFFF_FFFF)
+                busy.wrapping_add(u64::MAX)
             }
         }
     }

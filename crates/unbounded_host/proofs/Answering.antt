@@ -7,7 +7,7 @@ use native.Mathlib.Omega.{arith}
 use lib.Dec.{eqb}
 use lib.ListN.{length}
 use borrow.Author.Tests.{eq-eqb, ne_eqb}
-use Rattle.queue_entries.specs.declared.Told.{Told}
+use Rattle.std.specs.Prelude.{Result}
 use Rattle.queue_entries.specs.Told.{told}
 use Rattle.queue_entries.proofs.Pick.{along, both_left}
 use Rattle.unbounded_words.specs.Words.{sizes}
@@ -26,7 +26,7 @@ use Rattle.unbounded_rows.proofs.Standing.{standing, shape_of}
 use Rattle.unbounded_host.specs.declared.Reply.{Reply}
 use Rattle.unbounded_host.specs.Host.{reply, broken_refusal, broken_words, after, after_of, make_words, step_words_of, ended, ended_of, run_words, reply_of, listed, contents_in, contents_words}
 
-pub along_reply : (p q : Told) (r : Reply) → p ≡ q → r ≡ reply_of q → r ≡ reply_of p
+pub along_reply : (p q : Result ℕ ℕ) (r : Reply) → p ≡ q → r ≡ reply_of q → r ≡ reply_of p
 along_reply = along reply_of
 
 -- ---- words that stand for nothing
@@ -73,7 +73,7 @@ module _ (h p rs : List ℕ) (b : Bool) (eb : b ≡ stand (words h p rs)) where
       pub is_sound : (t : Bool) → t ≡ broken_of sizes m → t ≡ false → 0 ≡ broken_refusal (words h p rs)
       is_sound t et e = ap (λ (x : Bool). cond x 6 0) (sym e) ∙ looked t et
 
-      pub contents_listed : (buffer buffer' : List ℕ) (t : Told) (r : Reply) → t ≡ told (contents_refusal sizes m (length buffer)) (count_in sizes m) → buffer' ≡ written sizes m buffer → r ≡ reply_of t
+      pub contents_listed : (buffer buffer' : List ℕ) (t : Result ℕ ℕ) (r : Reply) → t ≡ told (contents_refusal sizes m (length buffer)) (count_in sizes m) → buffer' ≡ written sizes m buffer → r ≡ reply_of t
           → listed r buffer' ≡ contents_words (words h p rs) buffer
       unfolding contents_words
       contents_listed buffer buffer' t r et eu er =

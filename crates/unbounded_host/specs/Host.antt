@@ -1,10 +1,8 @@
 -- What each function of the host's face answers, and the words as they are then: the words are read as a machine, the unbounded queue's own definitions say what comes of it, and that is written
 -- as words.
 -- Words that stand for no machine are refusal 6; a refused call changes no word.
-use Rattle.std.specs.Prelude.{ℕ, Bool, true, cond, List, eqb, length}
+use Rattle.std.specs.Prelude.{ℕ, Bool, true, cond, List, eqb, length, Result, Ok, Err}
 use Rattle.queue_entries.specs.Told.{told}
-use Rattle.queue_entries.specs.declared.Told.{Told}
-use Rattle.queue_entries.specs.declared.Told.TheVariants.{Number, Refused}
 use Rattle.unbounded_words.specs.Words.{sizes}
 use Rattle.unbounded_machine.specs.declared.Machine.{Machine}
 use Rattle.unbounded_machine.specs.declared.Did.{Did}
@@ -62,9 +60,9 @@ unfoldable pub run_words : Words → List ℕ → Ended
 run_words w s = cond (stand w) (ended_of (run_of sizes (machine_in w) s)) (ended (reply 6 0) w)
 
 -- a number, or a refusal and 0
-abbrev pub reply_of : Told → Reply
-reply_of (Number n) = reply 0 n
-reply_of (Refused k) = reply k 0
+abbrev pub reply_of : Result ℕ ℕ → Reply
+reply_of (Ok n) = reply 0 n
+reply_of (Err k) = reply k 0
 
 -- how many items, and the buffer with them at its start
 pub record Listed : Type 0 where

@@ -9,8 +9,6 @@ ghost use Rattle.unbounded.specs.Unbounded.{step_of};
 ghost use Rattle.unbounded_rows.specs.Rows.{words, machine_in, shaped};
 ghost use Rattle.unbounded_host.specs.Host.{reply_of, broken_refusal, after, after_of, make_words, step_words_of, ended, ended_of, run_words, listed, contents_words};
 
-use queue_entries::Told;
-
 // The number of a refusal, 0 where there is none; and what the call is asked for: an entry's place or a count.
 #[repr(C)]
 #[derive(Clone, Copy)]
@@ -29,16 +27,14 @@ pub extern "C" fn fern_unbounded_make(
 ) -> u64
     ensures { after result (words head.new pool.new records.new) ≡ make_words (words head.old pool.old records.old) workers }
 {
-    if unbounded_rows::shaped(head, pool, records) {} else {
+    if !unbounded_rows::shaped(head, pool, records) {
         return 6;
     }
     let made = unbounded::make(workers);
-    let refusal = made.refusal;
-    if refusal == 0 {} else {
-        return refusal;
+    if made.refusal != 0 {
+        return made.refusal;
     }
-    let m = made.machine;
-    unbounded_rows::put_machine(head, pool, records, m);
+    unbounded_rows::put_machine(head, pool, records, made.machine);
     0
 }
 
@@ -56,10 +52,8 @@ fn step_on(head: &mut [u64], pool: &mut [u64], records: &mut [u64], first: u64, 
         first,
         second,
     );
-    let refusal = did.refusal;
-    let m = did.machine;
-    unbounded_rows::put_machine(head, pool, records, m);
-    refusal
+    unbounded_rows::put_machine(head, pool, records, did.machine);
+    did.refusal
 }
 
 fn run_on(head: &mut [u64], pool: &mut [u64], records: &mut [u64], schedule: &[u64]) -> Reply
@@ -67,13 +61,10 @@ fn run_on(head: &mut [u64], pool: &mut [u64], records: &mut [u64], schedule: &[u
     ensures { ended result (words head.new pool.new records.new) ≡ ended_of (run_of sizes (machine_in (words head.old pool.old records.old)) schedule.now) }
 {
     let ran = unbounded::run(unbounded_rows::machine_in(head, pool, records), schedule);
-    let refusal = ran.refusal;
-    let place = ran.place;
-    let m = ran.machine;
-    unbounded_rows::put_machine(head, pool, records, m);
+    unbounded_rows::put_machine(head, pool, records, ran.machine);
     Reply {
-        refusal: refusal,
-        number: place,
+        refusal: ran.refusal,
+        number: ran.place,
     }
 }
 
@@ -88,7 +79,7 @@ pub extern "C" fn fern_unbounded_step(
 ) -> u64
     ensures { after result (words head.new pool.new records.new) ≡ step_words_of (words head.old pool.old records.old) first second }
 {
-    if unbounded_rows::stands(head, pool, records) {} else {
+    if !unbounded_rows::stands(head, pool, records) {
         return 6;
     }
     step_on(head, pool, records, first, second)
@@ -104,7 +95,7 @@ pub extern "C" fn fern_unbounded_run(
 ) -> Reply
     ensures { ended result (words head.new pool.new records.new) ≡ run_words (words head.old pool.old records.old) schedule.now }
 {
-    if unbounded_rows::stands(head, pool, records) {} else {
+    if !unbounded_rows::stands(head, pool, records) {
         return Reply {
             refusal: 6,
             number: 0,
@@ -120,7 +111,7 @@ pub extern "C" fn fern_unbounded_run(
 pub extern "C" fn fern_unbounded_broken(head: &[u64], pool: &[u64], records: &[u64]) -> u64
     ensures { result ≡ broken_refusal (words head.now pool.now records.now) }
 {
-    if unbounded_rows::stands(head, pool, records) {} else {
+    if !unbounded_rows::stands(head, pool, records) {
         return 6;
     }
     // the slots are not asked for, and are most of the words
@@ -134,15 +125,15 @@ pub extern "C" fn fern_unbounded_broken(head: &[u64], pool: &[u64], records: &[u
     }
 }
 
-fn reply_of(t: Told) -> Reply
+fn reply_of(t: Result<u64, u64>) -> Reply
     ensures { result ≡ reply_of t }
 {
     match t {
-        Told::Number(n) => Reply {
+        Ok(n) => Reply {
             refusal: 0,
             number: n,
         },
-        Told::Refused(k) => Reply {
+        Err(k) => Reply {
             refusal: k,
             number: 0,
         },
@@ -159,7 +150,7 @@ pub extern "C" fn fern_unbounded_contents(
 ) -> Reply
     ensures { listed result buffer.new ≡ contents_words (words head.now pool.now records.now) buffer.old }
 {
-    if unbounded_rows::stands(head, pool, records) {} else {
+    if !unbounded_rows::stands(head, pool, records) {
         return Reply {
             refusal: 6,
             number: 0,

@@ -4,8 +4,8 @@ use mathlib.Core.Path.{◌≡◌, refl, sym, ap, ◌∙◌}
 use mathlib.Core.Bool.{Bool, true, false, cond, not}
 use mathlib.Core.List.{List}
 use native.Mathlib.Omega.{arith}
-use lib.Dec.{ltb, eqb}
-use borrow.Author.Tests.{lt-ltb, le-ltb}
+use lib.Dec.{ltb, leb, eqb}
+use borrow.Author.Tests.{lt-ltb, le-ltb, leb-true, leb-false}
 use Rattle.queue_entries.specs.Limits.{workers_most}
 use Rattle.queue_entries.proofs.Pick.{yes, no, on, off, below, above, equal, other}
 use Rattle.unbounded_words.specs.declared.Index.{Index}
@@ -60,6 +60,13 @@ module _ (e : Ends) (h t : Index) (eh : h ≡ unmarked_of e.head) (et : t ≡ un
   unfolding in_order
   ahead le = rw (← eh, ← et) (sym (simp (le-ltb t.0 h.0 le)))
 
+  pub ordered : leb h.0 t.0 ≡ in_order e
+  ordered = go (leb h.0 t.0) refl
+    where
+      go : (b : Bool) → leb h.0 t.0 ≡ b → b ≡ in_order e
+      go true q = ahead (leb-true h.0 t.0 q)
+      go false q = behind (leb-false h.0 t.0 q)
+
   module _ (known : Known) where
     pub laps_by : (r : Bool) → h.0 / 64 ≡ known.head → r ≡ eqb (t.0 / 64) known.tail → r ≡ same_laps known e
     unfolding same_laps
@@ -98,13 +105,9 @@ module _ (known : Known) (e : Ends) where
     some_busy n = other busy 0 _ _ _ n refl
 
     module _ (z : busy ≡ 0) (b : Bool) (eb : b ≡ still_of sizes known e) where
-      pub none_due : b ≡ true → false ≡ due_of sizes busy known e
+      pub due_by : not b ≡ due_of sizes busy known e
       unfolding due_of
-      none_due h = equal busy 0 _ _ _ z (ap not (sym h ∙ eb))
-
-      pub is_due : b ≡ false → true ≡ due_of sizes busy known e
-      unfolding due_of
-      is_due h = equal busy 0 _ _ _ z (ap not (sym h ∙ eb))
+      due_by = equal busy 0 _ _ _ z (ap not eb)
 
 -- ---- blocks that are linked, from what is left to look at
 stuck_last : (l : List Block) (k : ℕ) → live sizes l k ≡ false → false ≡ linked_from sizes zero l k
@@ -142,11 +145,18 @@ module _ (left : ℕ) (l : List Block) (k : ℕ) (whole : Bool) (back : linked_f
         let q : left ≡ 0 = omega arith in
         yes (live sizes l k) true _ _ false (live_not l k h f) refl (er ∙ ap (λ (x : ℕ). not (ltb x 64)) en) ∙ ap (λ (x : ℕ). linked_from sizes x l k) (sym q) ∙ back
 
-    pub linked_further : n < 64 → false ≡ whole
+    linked_further : n < 64 → false ≡ whole
     linked_further lt = last false (sym (ap not (lt-ltb n 64 lt)))
 
-    pub linked_end : 64 ≤ n → true ≡ whole
+    linked_end : 64 ≤ n → true ≡ whole
     linked_end le = last true (sym (ap not (le-ltb n 64 le)))
+
+    pub linked_last : leb 64 n ≡ whole
+    linked_last = go (leb 64 n) refl
+      where
+        go : (b : Bool) → leb 64 n ≡ b → b ≡ whole
+        go true q = linked_end (leb-true 64 n q)
+        go false q = linked_further (leb-false 64 n q)
 
 module _ (e : Ends) (l : List Block) (h t : Index) (eh : h ≡ unmarked_of e.head) (et : t ≡ unmarked_of e.tail) where
   pub linked_behind : t.0 < h.0 → false ≡ linked_of sizes e l

@@ -11,17 +11,10 @@ use unbounded_places::{Block, Ends, Worker};
 pub fn busy_in(workers: [Worker; queue_entries::WORKERS]) -> u64
     ensures { result ≡ busy_in sizes workers }
 {
-    let mut i = 0;
     let mut n = 0;
-    while i < queue_entries::WORKERS {
-        let worker = workers[i];
-        let p = worker.place;
-        let v = unbounded_places::view_of(p);
-        if v.busy {
+    for worker in &workers {
+        if unbounded_places::view_of(worker.place).busy {
             n += 1;
-            i += 1;
-        } else {
-            i += 1;
         }
     }
     n
@@ -30,7 +23,7 @@ pub fn busy_in(workers: [Worker; queue_entries::WORKERS]) -> u64
 pub fn both(a: bool, b: bool) -> bool
     ensures { result ≡ cond a b false }
 {
-    if a { b } else { false }
+    a && b
 }
 
 // Where `Drop`'s walk is sure to be sound with the headers as they are: head's block, and the laps of head and of tail.
@@ -58,7 +51,7 @@ fn in_order(e: Ends) -> bool
 {
     let h = unbounded_words::unmarked(e.head);
     let t = unbounded_words::unmarked(e.tail);
-    if t.0 < h.0 { false } else { true }
+    h.0 <= t.0
 }
 
 fn same_laps(known: Known, e: Ends) -> bool
@@ -66,44 +59,29 @@ fn same_laps(known: Known, e: Ends) -> bool
 {
     let h = unbounded_words::unmarked(e.head);
     let t = unbounded_words::unmarked(e.tail);
-    if h.0 / 64 == known.head {
-        t.0 / 64 == known.tail
-    } else {
-        false
-    }
+    h.0 / 64 == known.head && t.0 / 64 == known.tail
 }
 
 fn same_front(known: Known, e: Ends) -> bool
     ensures { result ≡ same_front sizes known e }
 {
-    let front = e.front;
-    let k = unbounded_words::number(front);
-    if known.sure { k == known.front } else { false }
+    known.sure && unbounded_words::number(e.front) == known.front
 }
 
 fn still(known: Known, e: Ends) -> bool
     ensures { result ≡ still_of sizes known e }
 {
-    if same_front(known, e) {
-        if same_laps(known, e) {
-            in_order(e)
-        } else {
-            false
-        }
-    } else {
-        false
+    if !same_front(known, e) {
+        return false;
     }
+    same_laps(known, e) && in_order(e)
 }
 
 // With nobody busy the walk is judged where it is not known.
 pub fn due(busy: u64, known: Known, e: Ends) -> bool
     ensures { result ≡ due_of sizes busy known e }
 {
-    if busy == 0 {
-        if still(known, e) { false } else { true }
-    } else {
-        false
-    }
+    busy == 0 && !still(known, e)
 }
 
 // From block k so many blocks on, none of them free, to one that has no next. No block comes twice, since from it the end would stand at two distances.
@@ -111,8 +89,7 @@ fn linked_from(blocks: [Block; unbounded_words::BLOCKS], front: u64, laps: u64) 
     ensures { result ≡ linked_from sizes laps blocks front }
 {
     let mut k = front;
-    let mut left = laps;
-    while 0 < left {
+    for _ in 0..laps {
         if (unbounded_words::BLOCKS as u64) <= k {
             return false;
         }
@@ -120,9 +97,7 @@ fn linked_from(blocks: [Block; unbounded_words::BLOCKS], front: u64, laps: u64) 
         if g.free {
             return false;
         }
-        let next = g.next;
-        k = unbounded_words::number(next);
-        left -= 1;
+        k = unbounded_words::number(g.next);
     }
     if (unbounded_words::BLOCKS as u64) <= k {
         return false;
@@ -131,13 +106,7 @@ fn linked_from(blocks: [Block; unbounded_words::BLOCKS], front: u64, laps: u64) 
     if g.free {
         return false;
     }
-    let next = g.next;
-    let end = unbounded_words::number(next);
-    if end < (unbounded_words::BLOCKS as u64) {
-        false
-    } else {
-        true
-    }
+    (unbounded_words::BLOCKS as u64) <= unbounded_words::number(g.next)
 }
 
 // So many laps have all words.
@@ -149,21 +118,16 @@ fn linked(e: Ends, blocks: [Block; unbounded_words::BLOCKS]) -> bool
 {
     let h = unbounded_words::unmarked(e.head);
     let t = unbounded_words::unmarked(e.tail);
-    let front = e.front;
-    let k = unbounded_words::number(front);
+    let k = unbounded_words::number(e.front);
     let first = h.0 / 64;
     let last = t.0 / 64;
     if t.0 < h.0 {
         return false;
     }
-    if last < LAPS {} else {
+    if LAPS <= last {
         return false;
     }
-    if last - first < (unbounded_words::BLOCKS as u64) {
-        linked_from(blocks, k, last - first)
-    } else {
-        false
-    }
+    last - first < (unbounded_words::BLOCKS as u64) && linked_from(blocks, k, last - first)
 }
 
 fn noted(e: Ends) -> Known
@@ -171,11 +135,9 @@ fn noted(e: Ends) -> Known
 {
     let h = unbounded_words::unmarked(e.head);
     let t = unbounded_words::unmarked(e.tail);
-    let front = e.front;
-    let k = unbounded_words::number(front);
     Known {
         sure: true,
-        front: k,
+        front: unbounded_words::number(e.front),
         head: h.0 / 64,
         tail: t.0 / 64,
     }
@@ -193,16 +155,13 @@ pub fn rest_of(e: Ends, blocks: [Block; unbounded_words::BLOCKS]) -> Rest
     ensures { result ≡ rest_of sizes e blocks }
 {
     if linked(e, blocks) {
-        let known = noted(e);
         return Rest {
             sound: true,
-            known: known,
+            known: noted(e),
         };
     }
-    let d = unbounded_machine::walk(e, blocks);
-    let known = unknown();
     Rest {
-        sound: d.sound,
-        known: known,
+        sound: unbounded_machine::walk(e, blocks).sound,
+        known: unknown(),
     }
 }

@@ -36,6 +36,10 @@ blank_is m e = e
 
 -- ---- a block that is not free
 module _ (l : List Block) (k : ℕ) where
+  pub live_by : k < 64 → not (block_at l k).free ≡ live sizes l k
+  unfolding live
+  live_by h = below k 64 _ _ _ h refl
+
   pub live_free : k < 64 → (block_at l k).free ≡ true → false ≡ live sizes l k
   unfolding live
   live_free h f = below k 64 _ _ _ h (ap not (sym f))
@@ -149,13 +153,9 @@ module _ (e : Ends) (l : List Block) (ws : List Worker) (count : ℕ) (a : Bool)
     broken_record h = yes _ a _ _ _ ea ha (no _ b _ _ _ eb h refl)
 
     module _ (hb : b ≡ true) (d : Bool) (ed : d ≡ drop_fits sizes e l ws) where
-      pub broken_drop : d ≡ false → true ≡ broken_in sizes e l ws count
+      pub broken_drops : not d ≡ broken_in sizes e l ws count
       unfolding broken_in
-      broken_drop h = yes _ a _ _ _ ea ha (yes _ b _ _ _ eb hb (ap not (sym h ∙ ed)))
-
-      pub unbroken : d ≡ true → false ≡ broken_in sizes e l ws count
-      unfolding broken_in
-      unbroken h = yes _ a _ _ _ ea ha (yes _ b _ _ _ eb hb (ap not (sym h ∙ ed)))
+      broken_drops = yes _ a _ _ _ ea ha (yes _ b _ _ _ eb hb (ap not ed))
 
 -- ---- the lowest free block, from what is left to look at
 module _ (l : List Block) (k whole : ℕ) (back : lowest_from (64 - k) k l ≡ whole) where

@@ -109,12 +109,7 @@ pub fn blank() -> Machine
 pub fn live(blocks: [Block; unbounded_words::BLOCKS], k: u64) -> bool
     ensures { result ≡ live sizes blocks k }
 {
-    if k < (unbounded_words::BLOCKS as u64) {
-        let g = blocks[k as usize];
-        if g.free { false } else { true }
-    } else {
-        false
-    }
+    k < (unbounded_words::BLOCKS as u64) && !blocks[k as usize].free
 }
 
 fn uses_fit(blocks: [Block; unbounded_words::BLOCKS], u: Uses) -> bool
@@ -123,13 +118,7 @@ fn uses_fit(blocks: [Block; unbounded_words::BLOCKS], u: Uses) -> bool
     match u {
         Uses::Nothing => true,
         Uses::Block(k) => live(blocks, k),
-        Uses::Slot(k, i) => {
-            if i < unbounded_words::SLOTS {
-                live(blocks, k)
-            } else {
-                false
-            }
-        }
+        Uses::Slot(k, i) => i < unbounded_words::SLOTS && live(blocks, k),
     }
 }
 
@@ -137,12 +126,10 @@ fn record_fits(blocks: [Block; unbounded_words::BLOCKS], p: Place, counted: bool
     ensures { result ≡ record_fits sizes blocks p counted }
 {
     let v = unbounded_places::view_of(p);
-    let u = v.uses;
-    if v.busy {
-        if counted { uses_fit(blocks, u) } else { false }
-    } else {
-        true
+    if !v.busy {
+        return true;
     }
+    counted && uses_fit(blocks, v.uses)
 }
 
 pub fn records_fit(
@@ -152,13 +139,8 @@ pub fn records_fit(
 ) -> bool
     ensures { result ≡ records_fit sizes blocks count workers }
 {
-    let mut i = 0;
-    while i < queue_entries::WORKERS {
-        let worker = workers[i];
-        let p = worker.place;
-        if record_fits(blocks, p, (i as u64) < count) {
-            i += 1;
-        } else {
+    for (i, worker) in workers.iter().enumerate() {
+        if !record_fits(blocks, worker.place, (i as u64) < count) {
             return false;
         }
     }
@@ -168,15 +150,10 @@ pub fn records_fit(
 pub fn all_idle(workers: [Worker; queue_entries::WORKERS]) -> bool
     ensures { result ≡ all_idle sizes workers }
 {
-    let mut i = 0;
-    while i < queue_entries::WORKERS {
-        let worker = workers[i];
-        let p = worker.place;
-        let v = unbounded_places::view_of(p);
-        if v.busy {
+    for worker in &workers {
+        if unbounded_places::view_of(worker.place).busy {
             return false;
         }
-        i += 1;
     }
     true
 }
@@ -184,11 +161,7 @@ pub fn all_idle(workers: [Worker; queue_entries::WORKERS]) -> bool
 fn last_fits(blocks: [Block; unbounded_words::BLOCKS], b: Pointer) -> bool
     ensures { result ≡ last_fits sizes blocks b }
 {
-    if unbounded_words::is_none(b) {
-        true
-    } else {
-        live(blocks, unbounded_words::number(b))
-    }
+    unbounded_words::is_none(b) || live(blocks, unbounded_words::number(b))
 }
 
 // The most steps of `Drop`'s walk: one more block than there are, each with its gap.
@@ -203,9 +176,8 @@ pub fn walk(e: Ends, pool: [Block; unbounded_words::BLOCKS]) -> Dropped
     let mut h = unbounded_words::unmarked(e.head);
     let t = unbounded_words::unmarked(e.tail);
     let mut met = 0;
-    let mut left = STEPS;
-    while 0 < left {
-        if unbounded_words::same_word(h, t) {
+    for _ in 0..STEPS {
+        if h == t {
             return Dropped {
                 sound: last_fits(blocks, b),
                 count: met,
@@ -226,19 +198,12 @@ pub fn walk(e: Ends, pool: [Block; unbounded_words::BLOCKS]) -> Dropped
             };
         }
         if unbounded_words::past_slots(h) {
-            let next = g.next;
-            blocks[k as usize] = Block {
-                next: next,
-                free: true,
-            };
-            b = next;
-            h = unbounded_words::next(h);
-            left -= 1;
+            blocks[k as usize] = Block { free: true, ..g };
+            b = g.next;
         } else {
             met += 1;
-            h = unbounded_words::next(h);
-            left -= 1;
         }
+        h = unbounded_words::next(h);
     }
     Dropped {
         sound: false,
@@ -253,12 +218,7 @@ fn drop_fits(
 ) -> bool
     ensures { result ≡ drop_fits sizes e blocks workers }
 {
-    if all_idle(workers) {
-        let d = walk(e, blocks);
-        d.sound
-    } else {
-        true
-    }
+    !all_idle(workers) || walk(e, blocks).sound
 }
 
 pub fn broken_in(
@@ -269,17 +229,13 @@ pub fn broken_in(
 ) -> bool
     ensures { result ≡ broken_in sizes e blocks workers count }
 {
-    if queue_entries::in_limits(count, queue_entries::WORKERS as u64) {} else {
+    if !queue_entries::in_limits(count, queue_entries::WORKERS as u64) {
         return true;
     }
-    if records_fit(blocks, count, workers) {} else {
+    if !records_fit(blocks, count, workers) {
         return true;
     }
-    if drop_fits(e, blocks, workers) {
-        false
-    } else {
-        true
-    }
+    !drop_fits(e, blocks, workers)
 }
 
 // Entries and acts.
@@ -295,15 +251,12 @@ pub fn verdict_of(meter: u64, p: Place, o: Order) -> Verdict
 pub fn lowest_free(blocks: [Block; unbounded_words::BLOCKS]) -> u64
     ensures { result ≡ lowest_free sizes blocks }
 {
-    let mut k = 0;
-    while k < (unbounded_words::BLOCKS as u64) {
-        let g = blocks[k as usize];
-        if g.free {
-            return k;
+    for (k, block) in blocks.iter().enumerate() {
+        if block.free {
+            return k as u64;
         }
-        k += 1;
     }
-    k
+    unbounded_words::BLOCKS as u64
 }
 
 // The slots of block k as `Block::new` makes them.
@@ -312,10 +265,8 @@ pub fn cleared(pool: [Slot; unbounded_words::POOL], k: u64) -> [Slot; unbounded_
     ensures { result ≡ cleared sizes pool k }
 {
     let mut slots = pool;
-    let mut i = 0;
-    while i < unbounded_words::SLOTS {
+    for i in 0..unbounded_words::SLOTS {
         slots[(k * unbounded_words::SLOTS + i) as usize] = Slot { state: 0, value: 0 };
-        i += 1;
     }
     slots
 }
@@ -325,8 +276,7 @@ pub fn block_used(u: Uses) -> u64
 {
     match u {
         Uses::Nothing => 0,
-        Uses::Block(k) => k,
-        Uses::Slot(k, _) => k,
+        Uses::Block(k) | Uses::Slot(k, _) => k,
     }
 }
 
@@ -334,8 +284,7 @@ pub fn slot_used(u: Uses) -> u64
     ensures { result ≡ slot_used u }
 {
     match u {
-        Uses::Nothing => 0,
-        Uses::Block(_) => 0,
+        Uses::Nothing | Uses::Block(_) => 0,
         Uses::Slot(_, i) => i,
     }
 }

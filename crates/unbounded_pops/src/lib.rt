@@ -36,8 +36,7 @@ fn pop_from(h: Index, b: Pointer) -> Place
 pub fn v2(e: Ends, g: Block, s: Slot, h: Index) -> Acted
     ensures { result ≡ act_v2 sizes e g s h }
 {
-    let b = e.front;
-    unbounded_acts::leave(e, g, s, pop_from(h, b))
+    unbounded_acts::leave(e, g, s, pop_from(h, e.front))
 }
 
 fn new_head(h: Index, t: Index) -> Index
@@ -79,15 +78,14 @@ fn taken(h: Index, b: Pointer, new: Index) -> Place
 pub fn v4(e: Ends, g: Block, s: Slot, h: Index, b: Pointer, new: Index, lose: bool) -> Acted
     ensures { result ≡ act_v4 sizes e g s h b new lose }
 {
-    let found = e.head;
-    if unbounded_words::same_word(found, h) {
+    if e.head == h {
         if lose {
             unbounded_acts::leave(e, g, s, Place::V5(h))
         } else {
             unbounded_acts::leave(unbounded_acts::head_to(e, new), g, s, taken(h, b, new))
         }
     } else {
-        unbounded_acts::leave(e, g, s, Place::V5(found))
+        unbounded_acts::leave(e, g, s, Place::V5(e.head))
     }
 }
 
@@ -116,8 +114,7 @@ fn next_index(new: Index, b: Pointer) -> Index
 pub fn v7(e: Ends, g: Block, s: Slot, h: Index, b: Pointer, new: Index, next: Pointer) -> Acted
     ensures { result ≡ act_v7 e g s h b new next }
 {
-    let further = g.next;
-    unbounded_acts::leave(e, g, s, Place::V8(h, b, next, next_index(new, further)))
+    unbounded_acts::leave(e, g, s, Place::V8(h, b, next, next_index(new, g.next)))
 }
 
 pub fn v8(e: Ends, g: Block, s: Slot, h: Index, b: Pointer, next: Pointer, i: Index) -> Acted

@@ -1,13 +1,11 @@
 -- That only one answer meets the promise of each function, as its `ensures` says it in its code. (`OnlyOne` of
 -- crates/unbounded_demands/specs/Demands.antt writes these promises out anew; here they are read out of the functions' own contracts, so that one that says less is refused here.)
-use Rattle.std.specs.Prelude.{ℕ, Bool, List, ◌≡◌}
+use Rattle.std.specs.Prelude.{ℕ, Bool, List, ◌≡◌, Result}
 use base.Fml.{Lft, GName}
 use Rattle.std.specs.Borrow.{Bor, MutBor}
-use Rattle.queue_entries.specs.declared.Told.{Told}
 use Rattle.unbounded_machine.specs.declared.Machine.{Machine}
 use Rattle.unbounded_machine.specs.declared.Did.{Did}
 use Rattle.unbounded_machine.specs.declared.Ran.{Ran}
-use Rattle.unbounded.specs.declared.Bound.{Bound}
 use Rattle.unbounded.proofs.make.Reads as make
 use Rattle.unbounded.proofs.step.Reads as step
 use Rattle.unbounded.proofs.begin.Reads as begin
@@ -30,7 +28,7 @@ pub record OnlyOneOwn : Type 0 where
   pub of_act : (m : Machine) (first second : ℕ) (x y : Did)
       → act.Post tt (m, (first, (second, tt))) x (m, (first, (second, tt))) → act.Post tt (m, (first, (second, tt))) y (m, (first, (second, tt))) → x ≡ y
   pub of_run : (κ : Lft) (r : Bor (List ℕ)) (m : Machine) (x y : Ran) → run.Post (κ, tt) (m, (r, tt)) x (m, (r, tt)) → run.Post (κ, tt) (m, (r, tt)) y (m, (r, tt)) → x ≡ y
-  pub of_contents : (κ : Lft) (ptr : ℕ × ℕ) (name : GName) (m : Machine) (before : List ℕ) (x y : Told) (a b : List ℕ)
+  pub of_contents : (κ : Lft) (ptr : ℕ × ℕ) (name : GName) (m : Machine) (before : List ℕ) (x y : Result ℕ ℕ) (a b : List ℕ)
       → contents.Post (κ, tt) (m, (slice ptr name before, tt)) x (m, (slice ptr name a, tt)) → contents.Post (κ, tt) (m, (slice ptr name before, tt)) y (m, (slice ptr name b, tt)) → (x ≡ y) × (a ≡ b)
-  pub of_capacity : (m : Machine) (x y : Bound) → capacity.Post tt (m, tt) x (m, tt) → capacity.Post tt (m, tt) y (m, tt) → x ≡ y
+  pub of_capacity : (m : Machine) (x y : Result (Unit {0}) ℕ) → capacity.Post tt (m, tt) x (m, tt) → capacity.Post tt (m, tt) y (m, tt) → x ≡ y
   pub of_broken : (m : Machine) (x y : Bool) → broken.Post tt (m, tt) x (m, tt) → broken.Post tt (m, tt) y (m, tt) → x ≡ y

@@ -25,13 +25,10 @@ pub const LAYOUT: u64 = 3;
 pub fn shaped(head: &[u64], pool: &[u64], records: &[u64]) -> bool
     ensures { result ≡ shaped (words head.now pool.now records.now) }
 {
-    if head.len() == HEAD {} else {
+    if head.len() != HEAD {
         return false;
     }
-    if pool.len() == POOL {} else {
-        return false;
-    }
-    records.len() == RECORDS
+    pool.len() == POOL && records.len() == RECORDS
 }
 
 // ---- judged
@@ -40,21 +37,15 @@ fn laid_out(head: &[u64]) -> bool
     requires { length head.now ≡ 8 }
     ensures { result ≡ laid_out_rows head.now }
 {
-    if head[6] == 0 {} else {
-        return false;
-    }
-    head[7] == LAYOUT
+    head[6] == 0 && head[7] == LAYOUT
 }
 
 fn all_bits(pool: &[u64]) -> bool
     requires { length pool.now ≡ 4096 }
     ensures { result ≡ bits pool.now }
 {
-    let mut k = 0;
-    while k < unbounded_words::BLOCKS {
-        if pool[k * BLOCK + 1] < 2 {
-            k += 1;
-        } else {
+    for k in 0..unbounded_words::BLOCKS {
+        if 2 <= pool[k * BLOCK + 1] {
             return false;
         }
     }
@@ -79,11 +70,8 @@ fn all_placed(records: &[u64]) -> bool
     requires { length records.now ≡ 80 }
     ensures { result ≡ placed records.now }
 {
-    let mut i = 0;
-    while i < queue_entries::WORKERS {
-        if placed_at(records, i) {
-            i += 1;
-        } else {
+    for i in 0..queue_entries::WORKERS {
+        if !placed_at(records, i) {
             return false;
         }
     }
@@ -94,16 +82,13 @@ fn all_placed(records: &[u64]) -> bool
 pub fn stands(head: &[u64], pool: &[u64], records: &[u64]) -> bool
     ensures { result ≡ stand (words head.now pool.now records.now) }
 {
-    if shaped(head, pool, records) {} else {
+    if !shaped(head, pool, records) {
         return false;
     }
-    if laid_out(head) {} else {
+    if !laid_out(head) {
         return false;
     }
-    if all_bits(pool) {} else {
-        return false;
-    }
-    all_placed(records)
+    all_bits(pool) && all_placed(records)
 }
 
 // ---- read
@@ -112,13 +97,11 @@ pub fn ends_in(head: &[u64]) -> Ends
     requires { length head.now ≡ 8 }
     ensures { result ≡ ends_in head.now }
 {
-    let front = unbounded_codes::pointer_in(head[1]);
-    let back = unbounded_codes::pointer_in(head[3]);
     Ends {
         head: Index(head[0]),
-        front: front,
+        front: unbounded_codes::pointer_in(head[1]),
         tail: Index(head[2]),
-        back: back,
+        back: unbounded_codes::pointer_in(head[3]),
     }
 }
 
@@ -126,9 +109,8 @@ fn block_in(pool: &[u64], k: usize) -> Block
     requires { k * 64 + 1 < length pool.now }
     ensures { result ≡ block_in pool.now k }
 {
-    let next = unbounded_codes::pointer_in(pool[k * BLOCK]);
     Block {
-        next: next,
+        next: unbounded_codes::pointer_in(pool[k * BLOCK]),
         free: pool[k * BLOCK + 1] == 1,
     }
 }
@@ -157,10 +139,8 @@ pub fn blocks_in(pool: &[u64]) -> [Block; unbounded_words::BLOCKS]
         next: Pointer::None,
         free: false,
     }; unbounded_words::BLOCKS];
-    let mut k = 0;
-    while k < unbounded_words::BLOCKS {
+    for k in 0..unbounded_words::BLOCKS {
         all[k] = block_in(pool, k);
-        k += 1;
     }
     all
 }
@@ -170,14 +150,12 @@ fn slots_in(pool: &[u64]) -> [Slot; unbounded_words::POOL]
     ensures { result ≡ slots_in pool.now }
 {
     let mut all = [Slot { state: 0, value: 0 }; unbounded_words::POOL];
-    let mut j = 0;
-    while j < unbounded_words::POOL {
+    for j in 0..unbounded_words::POOL {
         let at = j * 2 + j / 31 * 2 + 2;
         all[j] = Slot {
             state: pool[at],
             value: pool[at + 1],
         };
-        j += 1;
     }
     all
 }
@@ -189,10 +167,8 @@ pub fn records_in(records: &[u64]) -> [Worker; queue_entries::WORKERS]
     let mut all = [Worker {
         place: Place::Idle(Answer::Nothing),
     }; queue_entries::WORKERS];
-    let mut i = 0;
-    while i < queue_entries::WORKERS {
+    for i in 0..queue_entries::WORKERS {
         all[i] = record_in(records, i);
-        i += 1;
     }
     all
 }
@@ -208,10 +184,10 @@ pub fn machine_in(head: &[u64], pool: &[u64], records: &[u64]) -> Machine
     let slots = slots_in(pool);
     let workers = records_in(records);
     Machine {
-        ends: ends,
-        blocks: blocks,
-        slots: slots,
-        workers: workers,
+        ends,
+        blocks,
+        slots,
+        workers,
         count: head[4],
         meter: head[5],
     }
@@ -223,14 +199,10 @@ fn put_head(head: &mut [u64], e: Ends, count: u64, meter: u64)
     requires { length head.old ≡ 8 }
     ensures { head.new ≡ head_from e count meter }
 {
-    let h = e.head;
-    let front = e.front;
-    let t = e.tail;
-    let back = e.back;
-    head[0] = h.0;
-    head[1] = unbounded_words::number(front);
-    head[2] = t.0;
-    head[3] = unbounded_words::number(back);
+    head[0] = e.head.0;
+    head[1] = unbounded_words::number(e.front);
+    head[2] = e.tail.0;
+    head[3] = unbounded_words::number(e.back);
     head[4] = count;
     head[5] = meter;
     head[6] = 0;
@@ -247,13 +219,10 @@ fn put_blocks(pool: &mut [u64], blocks: [Block; unbounded_words::BLOCKS])
     requires { length pool.old ≡ 4096 }
     ensures { pool.new ≡ with_blocks pool.old blocks }
 {
-    let mut k = 0;
-    while k < unbounded_words::BLOCKS {
+    for k in 0..unbounded_words::BLOCKS {
         let g = blocks[k];
-        let next = g.next;
-        pool[k * BLOCK] = unbounded_words::number(next);
+        pool[k * BLOCK] = unbounded_words::number(g.next);
         pool[k * BLOCK + 1] = bit(g.free);
-        k += 1;
     }
 }
 
@@ -261,13 +230,11 @@ fn put_slots(pool: &mut [u64], slots: [Slot; unbounded_words::POOL])
     requires { length pool.old ≡ 4096 }
     ensures { pool.new ≡ with_slots pool.old slots }
 {
-    let mut j = 0;
-    while j < unbounded_words::POOL {
+    for j in 0..unbounded_words::POOL {
         let s = slots[j];
         let at = j * 2 + j / 31 * 2 + 2;
         pool[at] = s.state;
         pool[at + 1] = s.value;
-        j += 1;
     }
 }
 
@@ -275,8 +242,7 @@ pub fn put_record(records: &mut [u64], i: usize, r: Worker)
     requires { i * 5 + 4 < length records.old }
     ensures { records.new ≡ with_record records.old i r }
 {
-    let p = r.place;
-    let x = unbounded_codes::code_of(p);
+    let x = unbounded_codes::code_of(r.place);
     let at = i * RECORD;
     records[at] = x.code;
     records[at + 1] = x.first;
@@ -289,10 +255,8 @@ fn put_records(records: &mut [u64], all: [Worker; queue_entries::WORKERS])
     requires { length records.old ≡ 80 }
     ensures { records.new ≡ records_of all }
 {
-    let mut i = 0;
-    while i < queue_entries::WORKERS {
-        put_record(records, i, all[i]);
-        i += 1;
+    for (i, worker) in all.iter().enumerate() {
+        put_record(records, i, *worker);
     }
 }
 
@@ -304,12 +268,8 @@ pub fn put_machine(head: &mut [u64], pool: &mut [u64], records: &mut [u64], m: M
     ensures pool_after { pool.new ≡ pool_of m.blocks m.slots }
     ensures records_after { records.new ≡ records_of m.workers }
 {
-    let e = m.ends;
-    put_head(head, e, m.count, m.meter);
-    let blocks = m.blocks;
-    let slots = m.slots;
-    put_blocks(pool, blocks);
-    put_slots(pool, slots);
-    let all = m.workers;
-    put_records(records, all);
+    put_head(head, m.ends, m.count, m.meter);
+    put_blocks(pool, m.blocks);
+    put_slots(pool, m.slots);
+    put_records(records, m.workers);
 }

@@ -9,8 +9,7 @@ use borrow.Author.Tests.{ne_eqb, eq-eqb}
 use Rattle.queue_entries.specs.Limits.{workers_most}
 use Rattle.queue_entries.specs.declared.Order.{Order}
 use Rattle.queue_entries.specs.declared.Order.TheVariants.{Begin, Act}
-use Rattle.queue_entries.specs.declared.Finding.{Finding}
-use Rattle.queue_entries.specs.declared.Finding.TheVariants.{AllRead, UnreadableAt}
+use Rattle.std.specs.Prelude.{Option, Some, None}
 use Rattle.queue_entries.specs.Schedules.{run_by, search_by, schedule_by}
 use Rattle.queue_entries.proofs.Searching.{two_words}
 use Rattle.queue_entries.proofs.Pick.{yes, no, on, off}
@@ -183,9 +182,9 @@ module _ (s : List ℕ) (n i : ℕ) (m : Machine) (sound : Bool) (busy : ℕ) (k
   short (a ∷ []) h = refl
   short (a ∷ b ∷ l) h = absurd (omega arith)
 
-  pub ends : n ≤ i → ran 0 i m ≡ whole
+  pub ends : n ≤ i → i ≤ n → ran 0 n m ≡ whole
   unfolding Stand
-  ends ge = let half = st.1 in sym (short (drop (2 * i) s) (omega (arith, length-drop (2 * i) s))) ∙ st.7
+  ends ge le = let half = st.1 in let e : n ≡ i = omega arith in ap (λ (k : ℕ). ran 0 k m) e ∙ sym (short (drop (2 * i) s) (omega (arith, length-drop (2 * i) s))) ∙ st.7
 
 module _ (m : Machine) (s : List ℕ) (b : Bool) (e : b ≡ broken_of sizes m) where
   pub broken_run : b ≡ true → ran 6 0 m ≡ run_of sizes m s
@@ -197,11 +196,11 @@ module _ (m : Machine) (s : List ℕ) (b : Bool) (e : b ≡ broken_of sizes m) w
     unfolding schedule_by
     odd_run k = no _ b _ _ _ e h (sym (simp (eq-eqb _ _ k)))
 
-    module _ (k : length s % 2 ≡ 1 → ⊥) (f : Finding) (g : f ≡ search_by entry_here 0 s) where
-      pub unread_run : (i : ℕ) → f ≡ UnreadableAt i → ran 9 i m ≡ run_of sizes m s
+    module _ (k : length s % 2 ≡ 1 → ⊥) (f : Option ℕ) (g : f ≡ search_by entry_here 0 s) where
+      pub unread_run : (i : ℕ) → f ≡ Some i → ran 9 i m ≡ run_of sizes m s
       unfolding schedule_by
       unread_run i z = no _ b _ _ _ e h (sym (simp (ne_eqb _ _ k, sym g ∙ z)))
 
-      pub read_run : f ≡ AllRead → run_from sizes m 0 s ≡ run_of sizes m s
+      pub read_run : f ≡ None → run_from sizes m 0 s ≡ run_of sizes m s
       unfolding schedule_by
       read_run z = no _ b _ _ _ e h (sym (simp (ne_eqb _ _ k, sym g ∙ z)))

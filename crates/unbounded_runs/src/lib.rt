@@ -7,7 +7,6 @@ ghost use Rattle.unbounded_machine.specs.Broken.{broken_in};
 ghost use Rattle.unbounded_machine.specs.Machine.{machine_of};
 ghost use Rattle.unbounded_machine.specs.Run.{ran, run_from, run_of};
 
-use queue_entries::Finding;
 use unbounded_machine::{Machine, Ran};
 use unbounded_places::{Block, Ends, Slot, Worker};
 
@@ -24,15 +23,15 @@ fn ran(
     ensures { result ≡ ran refusal place (machine_of e blocks slots workers count meter) }
 {
     Ran {
-        refusal: refusal,
+        refusal,
         place: place as u64,
         machine: Machine {
             ends: e,
-            blocks: blocks,
-            slots: slots,
-            workers: workers,
-            count: count,
-            meter: meter,
+            blocks,
+            slots,
+            workers,
+            count,
+            meter,
         },
     }
 }
@@ -55,8 +54,7 @@ fn run_from(
     let mut known = unbounded_judged::unknown();
     let mut sound = true;
     let n = schedule.len() / 2;
-    let mut i = 0;
-    while i < n {
+    for i in 0..n {
         let ask = unbounded_entries::ask_of(sound, count, schedule[2 * i], schedule[2 * i + 1]);
         let asker = ask.worker;
         let standing = workers[asker as usize];
@@ -72,10 +70,8 @@ fn run_from(
         }
         let k = aim.block;
         if aim.takes {
-            let mut c = 0;
-            while c < unbounded_words::SLOTS {
+            for c in 0..unbounded_words::SLOTS {
                 slots[(k * unbounded_words::SLOTS + c) as usize] = Slot { state: 0, value: 0 };
-                c += 1;
             }
         }
         let j = k * unbounded_words::SLOTS + aim.slot;
@@ -86,31 +82,28 @@ fn run_from(
         let worker = workers[w as usize];
         let done = unbounded_entries::done_at(ends, k, g, s, worker, order);
         let block_after = done.block;
-        let slot_after = done.slot;
         let worker_after = done.worker;
         ends = done.ends;
         blocks[k as usize] = block_after;
-        slots[j as usize] = slot_after;
+        slots[j as usize] = done.slot;
         workers[w as usize] = worker_after;
         let look = unbounded_entries::look_at(worker_after);
         let spot = look.block;
         let x = blocks[spot as usize];
         sound = unbounded_entries::fits_at(look, x);
-        if unbounded_entries::same_header(g, block_after) {} else {
+        if !unbounded_entries::same_header(g, block_after) {
             known = unbounded_judged::unknown();
             sound = unbounded_machine::records_fit(blocks, count, workers);
         }
         busy = unbounded_entries::tally(busy, order, look.busy);
         if unbounded_judged::due(busy, known, ends) {
             let rest = unbounded_judged::rest_of(ends, blocks);
-            let walked = rest.sound;
             known = rest.known;
-            sound = unbounded_judged::both(sound, walked);
+            sound = unbounded_judged::both(sound, rest.sound);
         }
         meter = aim.meter;
-        i += 1;
     }
-    ran(0, i, ends, blocks, slots, workers, count, meter)
+    ran(0, n, ends, blocks, slots, workers, count, meter)
 }
 
 pub fn run(m: Machine, schedule: &[u64]) -> Ran
@@ -129,7 +122,7 @@ pub fn run(m: Machine, schedule: &[u64]) -> Ran
         return ran(11, 0, ends, blocks, slots, workers, count, meter);
     }
     match queue_entries::search_but(unbounded_entries::FORCE_PUSH, schedule) {
-        Finding::UnreadableAt(place) => ran(9, place, ends, blocks, slots, workers, count, meter),
-        Finding::AllRead => run_from(ends, blocks, slots, workers, count, meter, schedule),
+        Some(place) => ran(9, place, ends, blocks, slots, workers, count, meter),
+        None => run_from(ends, blocks, slots, workers, count, meter, schedule),
     }
 }

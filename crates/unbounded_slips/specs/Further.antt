@@ -1,5 +1,5 @@
 -- Slips of the statements on numbers, on the pool and on progress, and that each statement is false of its own; at full size (Whole.antt).
-use Rattle.std.specs.Prelude.{ℕ, ◌+◌, ◌-◌, List, ◌++◌, ◌≡◌}
+use Rattle.std.specs.Prelude.{ℕ, ◌+◌, ◌-◌, List, ◌++◌, ◌≡◌, Result, Err}
 use Rattle.queue_numbers.specs.Numbers.{Numbers, Functions}
 use Rattle.queue_numbers.specs.Slips.{Parts, functions_with, refused_moves, unsearched, refused_empties}
 use Rattle.queue_numbers.specs.Slips as slips
@@ -17,8 +17,6 @@ use Rattle.unbounded_machine.specs.Turn.{turn_with}
 use Rattle.unbounded_demands.specs.Notions.{Definition, acts}
 use Rattle.unbounded_demands.specs.Demands.{functions, refusals, RefusedUnchangedBy, ListFirstBy, Numbered, LowestFirst, TwentyThree, OneAside, OneHandInPool, RefusedByMeterOrPool, Holders, PushEnds, PopAlone, PushAlone, LookAlone, AttainedBy, EachNumber, RefusedExactly, bound_of}
 use Rattle.queue_numbers.specs.Answers.{BothWays}
-use Rattle.unbounded.specs.declared.Bound.{Bound}
-use Rattle.unbounded.specs.declared.Bound.TheVariants as bound
 use Rattle.unbounded_slips.specs.Slips.{none, aside_first, takes_again, unset, writes_on, frees_on, gives_on, looks_again, act_with}
 use Rattle.unbounded_slips.specs.Refuted.{Trial, trial, does}
 use Rattle.unbounded_slips.specs.Whole.{whole, whole_machine, pushes, pops, all_but_last, all_pushed, stingy_whole}
@@ -110,4 +108,4 @@ pub record FurtherRefuted : Type 0 where
   pub each_number : EachNumber gives_one → ⊥
   pub refused_exactly : RefusedExactly gives_one → ⊥
   -- a refusal of `capacity` has number 0
-  pub both_ways : BothWays bound.Refused (λ (b : Bound). 0) (λ (b : Bound). tt) bound_of → ⊥
+  pub both_ways : BothWays Err (λ (b : Result (Unit {0}) ℕ). 0) (λ (b : Result (Unit {0}) ℕ). tt) bound_of → ⊥

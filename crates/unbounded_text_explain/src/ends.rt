@@ -1,63 +1,57 @@
-// What stands at the end of a run, by numbers: a worker that is busy, what waits, what was lost.
+// What stands at the end of a run: a worker that is busy, what waits, what was lost.
 use crate::notes::Notes;
 use crate::stood;
-use queue_entries::Told;
+use text_output::Text;
 use text_system::System;
-use unbounded_text_places::code::WORDS;
+use unbounded_text_places::code::{Case, Coded};
 
 // The slot in hand: of a push from U9 to U13, of a pop from V6 to V12.
-fn hand_of(out: &mut [u8], at: usize, s: [u64; WORDS]) -> usize {
-    let case = s[0];
-    match case {
-        9 | 10 | 11 | 12 | 13 => in_hand(out, at, s[2], s[3]),
-        21 | 22 | 23 | 24 | 25 | 26 | 27 => in_hand(out, at, s[1], s[2]),
-        _ => text_output::byte(out, at, b'\n'),
+fn tell_hand(text: &mut Text, s: Coded) {
+    match s.case {
+        Case::U9 | Case::U10 | Case::U11 | Case::U12 | Case::U13 => {
+            in_hand(text, s.words[1], s.words[2]);
+        }
+        Case::V6 | Case::V7 | Case::V8 | Case::V9 | Case::V10 | Case::V11 | Case::V12 => {
+            in_hand(text, s.words[0], s.words[1]);
+        }
+        _ => text.byte(b'\n'),
     }
 }
 
-fn in_hand(out: &mut [u8], at: usize, word: u64, block: u64) -> usize {
-    text_output::form(
-        out,
-        at,
-        b", slot # of block # in its hand\n",
+fn in_hand(text: &mut Text, word: u64, block: u64) {
+    text.form(
+        ", slot # of block # in its hand\n",
         &[stood::offset(word), block],
-    )
+    );
 }
 
 // busy: wN at PLACE
-pub fn busy(system: &System, out: &mut [u8], at: usize, w: u64, s: [u64; WORDS]) -> usize {
-    if s[0] == 0 {
-        return at;
+pub fn busy(system: &System, text: &mut Text, w: u64, s: Coded) {
+    if s.case == Case::Idle {
+        return;
     }
-    let p = text_output::form(out, at, b"busy: w# at ", &[w]);
-    let q = stood::name(out, p, s[0]);
-    let r = hand_of(out, q, s);
-    text_output::settle(system, out, r)
+    text.form("busy: w# at ", &[w]);
+    stood::name(text, s.case);
+    tell_hand(text, s);
+    text.settle(system);
 }
 
 // What contents tell through a buffer that any list fits.
-fn waits(system: &System, out: &mut [u8], at: usize, items: &[u64], t: Told, n: Notes) -> usize {
+fn waits(system: &System, text: &mut Text, items: &[u64], t: Result<u64, u64>, n: Notes) {
     match t {
-        Told::Number(k) => text_explain::waiting::told(system, out, at, items, k),
-        Told::Refused(_) => {
-            let ahead = std::num::wrapping_sub_u64(n.tails, n.heads);
-            text_output::form(
-                out,
-                at,
-                b"waits: not told while a worker is busy; claims of tail ahead of head: #\n",
-                &[ahead],
-            )
-        }
+        Ok(k) => text_explain::waiting::told(system, text, items, k),
+        Err(_) => text.form(
+            "waits: not told while a worker is busy; claims of tail ahead of head: #\n",
+            &[n.tails.wrapping_sub(n.heads)],
+        ),
     }
 }
 
 // What waits, and what was lost along the run.
-pub fn rest(system: &System, out: &mut [u8], at: usize, items: &[u64], t: Told, n: Notes) -> usize {
-    let p = waits(system, out, at, items, t, n);
-    text_output::form(
-        out,
-        p,
-        b"exchanges lost: # because the words differed, # by the schedule\n",
+pub fn rest(system: &System, text: &mut Text, items: &[u64], t: Result<u64, u64>, n: Notes) {
+    waits(system, text, items, t, n);
+    text.form(
+        "exchanges lost: # because the words differed, # by the schedule\n",
         &[n.differed, n.failed],
-    )
+    );
 }

@@ -2,94 +2,79 @@
 use crate::notes::Notes;
 use crate::{Entered, acts, notes, stood};
 use text_explain::columns;
+use text_explain::columns::Tells;
+use text_output::Text;
+use text_sentences::Key;
 use text_system::System;
-
-// The first n bytes of a cause, if there is one.
-fn with_cause(line: &mut [u8], at: usize, cause: &[u8], n: usize) -> usize {
-    if n == 0 {
-        return at;
-    }
-    columns::at_right(line, at, cause, n)
-}
+use unbounded_text_places::code::Case;
 
 // A claim of an item that is followed has its lap.
-fn with_lap(line: &mut [u8], at: usize, follows: bool, e: Entered) -> usize {
-    let s = e.before;
+fn with_lap(line: &mut Text, follows: bool, e: Entered) {
     if !follows {
-        return at;
+        return;
     }
     if notes::is_tail_claim(e) {
-        return with_lap_of(line, at, s[2]);
+        with_lap_of(line, e.before.words[1]);
+    } else if notes::is_head_claim(e) {
+        with_lap_of(line, e.before.words[0]);
     }
-    if notes::is_head_claim(e) {
-        return with_lap_of(line, at, s[1]);
-    }
-    at
 }
 
-fn with_lap_of(line: &mut [u8], at: usize, word: u64) -> usize {
-    let mut text = [0u8; 64];
-    let n = text_output::form(&mut text, 0, b"(lap #)", &[word / 2 / unbounded_words::LAP]);
-    columns::at_right(line, at, &text, n)
+fn with_lap_of(line: &mut Text, word: u64) {
+    let mut room = [0u8; 64];
+    let mut lap = Text::new(&mut room);
+    lap.form("(lap #)", &[word / 2 / unbounded_words::LAP]);
+    columns::at_right(line, &lap);
 }
 
-fn entry_line(line: &mut [u8], key: &[u8], follows: bool, e: Entered, n: Notes) -> usize {
-    let s = e.before;
-    let p = columns::number(line, e.place);
-    let q = columns::worker(line, p, e.first / 16);
-    let r = stood::name(line, q, s[0]);
-    let t = columns::behind_place(line, r, q);
-    if s[0] == 0 {
-        return text_explain::words::begin(line, t, e.first, e.second);
+fn entry_line(line: &mut Text, key: Key, follows: bool, e: Entered, n: Notes) {
+    columns::number(line, e.place);
+    columns::worker(line, e.first / 16);
+    let from = line.len();
+    stood::name(line, e.before.case);
+    columns::behind_place(line, from);
+    if e.before.case == Case::Idle {
+        return text_explain::words::begin(line, e.first, e.second);
     }
-    let u = acts::act(line, t, key, e, n.tails, n.heads);
-    with_lap(line, u, follows, e)
+    acts::act(line, key, e, n.tails, n.heads);
+    with_lap(line, follows, e);
 }
 
-fn colour_of(e: Entered, is_back: bool) -> u8 {
-    let after = e.after;
+fn tells(e: Entered, is_back: bool) -> Tells {
     if is_back {
-        return columns::AGAIN;
+        return Tells::Again;
     }
     if notes::is_tail_claim(e) || notes::is_head_claim(e) {
-        return columns::CLAIM;
+        return Tells::Claim;
     }
-    if after[0] == 0 {
-        return columns::ANSWER;
+    if e.after.case == Case::Idle {
+        return Tells::Answer;
     }
-    columns::PLAIN
+    Tells::Plain
 }
 
 // Of an entry that was accepted, by what was noted before it.
-pub fn told(
-    system: &System,
-    out: &mut [u8],
-    at: usize,
-    colours: bool,
-    follows: bool,
-    e: Entered,
-    n: Notes,
-) -> usize {
-    let mut key = [0u8; text_sentences::KEY];
-    let mut cause = [0u8; 64];
-    let mut line = [0u8; columns::WIDE];
-    acts::key(&mut key, e);
-    let k = acts::cause(&mut cause, &key);
-    let p = entry_line(&mut line, &key, follows, e, n);
-    let q = with_cause(&mut line, p, &cause, k);
-    columns::put(system, out, at, &line, q, colours, colour_of(e, k != 0))
+pub fn told(system: &System, text: &mut Text, colours: bool, follows: bool, e: Entered, n: Notes) {
+    let mut room = [0u8; columns::WIDE];
+    let mut line = Text::new(&mut room);
+    let mut cause_room = [0u8; 64];
+    let mut cause = Text::new(&mut cause_room);
+    let key = acts::key(e);
+    acts::cause(&mut cause, key);
+    let is_back = cause.len() != 0;
+    entry_line(&mut line, key, follows, e, n);
+    if is_back {
+        columns::at_right(&mut line, &cause);
+    }
+    columns::put(system, text, &line, colours, tells(e, is_back));
 }
 
+const MAKINGS: &[(u64, &str)] = &[
+    (0, "made: an unbounded queue, #a workers"),
+    (2, "refused 2: the number of workers, #a, is not 1 to 16"),
+];
+
 // Of the making with so many workers.
-pub fn made(
-    system: &System,
-    out: &mut [u8],
-    at: usize,
-    colours: bool,
-    refusal: u64,
-    workers: u64,
-) -> usize {
-    let table = b"0 made: an unbounded queue, #a workers|\
-        2 refused 2: the number of workers, #a, is not 1 to 16|";
-    text_explain::words::made(system, out, at, colours, table, refusal, &[workers])
+pub fn made(system: &System, text: &mut Text, colours: bool, refusal: u64, workers: u64) {
+    text_explain::words::made(system, text, colours, MAKINGS, refusal, &[workers]);
 }

@@ -1,5 +1,6 @@
 // What is noted along a run: claims at each end, counted, exchanges lost, and who has the item that is followed.
 use crate::{Entered, stood};
+use unbounded_text_places::code::Case;
 
 #[derive(Clone, Copy)]
 pub struct Notes {
@@ -9,8 +10,8 @@ pub struct Notes {
     pub failed: u64,
     // the item that is followed was met
     pub met: bool,
-    // of each worker 1 where its call is of its life
-    pub workers: [u64; queue_entries::WORKERS],
+    // of each worker whether its call is of its life
+    pub workers: [bool; queue_entries::WORKERS],
 }
 
 pub fn none() -> Notes {
@@ -20,94 +21,65 @@ pub fn none() -> Notes {
         differed: 0,
         failed: 0,
         met: false,
-        workers: [0; queue_entries::WORKERS],
+        workers: [false; queue_entries::WORKERS],
     }
 }
 
 pub fn is_tail_claim(e: Entered) -> bool {
-    let s = e.before;
-    let after = e.after;
-    s[0] == 7 && after[0] != 8
+    e.before.case == Case::U7 && e.after.case != Case::U8
 }
 
 pub fn is_head_claim(e: Entered) -> bool {
-    let s = e.before;
-    let after = e.after;
-    s[0] == 19 && after[0] != 20
+    e.before.case == Case::V4 && e.after.case != Case::V5
+}
+
+// The exchange of U7 or V4 was not won; whether the word found is the one expected.
+fn found_same(e: Entered) -> Option<bool> {
+    match (e.before.case, e.after.case) {
+        (Case::U7, Case::U8) => Some(e.after.words[1] == e.before.words[1]),
+        (Case::V4, Case::V5) => Some(e.after.words[0] == e.before.words[0]),
+        _ => None,
+    }
 }
 
 // The exchange failed by the schedule: the word found is the one expected.
 pub fn is_failed(e: Entered) -> bool {
-    let s = e.before;
-    let after = e.after;
-    let case = s[0];
-    match case {
-        7 => after[0] == 8 && after[2] == s[2],
-        19 => after[0] == 20 && after[1] == s[1],
-        _ => false,
-    }
+    found_same(e) == Some(true)
 }
 
 pub fn is_differed(e: Entered) -> bool {
-    let s = e.before;
-    let after = e.after;
-    let case = s[0];
-    match case {
-        5 => after[0] != 6,
-        7 => after[0] == 8 && after[2] != s[2],
-        19 => after[0] == 20 && after[1] != s[1],
-        _ => false,
+    if e.before.case == Case::U5 {
+        return e.after.case != Case::U6;
     }
+    found_same(e) == Some(false)
 }
 
 // Which slot of the pool's a claim is of.
 fn slot_of(e: Entered) -> usize {
-    let s = e.before;
-    if s[0] == 7 {
-        return slot_at(s[3], s[2]);
+    let words = e.before.words;
+    if e.before.case == Case::U7 {
+        return slot_at(words[2], words[1]);
     }
-    slot_at(s[2], s[1])
+    slot_at(words[1], words[0])
 }
 
 fn slot_at(block: u64, word: u64) -> usize {
     if block < 64 {
-        return std::num::wrapping_add_u64(block * 31, stood::offset(word)) as usize;
+        return (block * 31).wrapping_add(stood::offset(word)) as usize;
     }
     unbounded_words::POOL
 }
 
-// Whether the slot has the item that is followed.
-fn get(slots: &[u64], i: usize) -> bool {
-    if i < slots.len() {
-        return slots[i] != 0;
-    }
-    false
-}
-
-// A push's claim of this item, or of another one, is noted at its slot.
+// A push's claim of this item, or of another one, is noted at its slot: 1 where it has the item that is followed.
 pub fn claims(slots: &mut [u64], e: Entered, item: u64) {
-    if is_tail_claim(e) {
-        let s = e.before;
-        put(slots, slot_of(e), as_number(s[4] == item));
+    let i = slot_of(e);
+    if is_tail_claim(e) && i < slots.len() {
+        slots[i] = u64::from(e.before.words[3] == item);
     }
-}
-
-fn put(slots: &mut [u64], i: usize, n: u64) {
-    if i < slots.len() {
-        slots[i] = n;
-    }
-}
-
-fn as_number(it: bool) -> u64 {
-    if it { 1 } else { 0 }
 }
 
 fn is_worker(n: Notes, i: usize) -> bool {
-    let workers = n.workers;
-    if i < queue_entries::WORKERS {
-        return workers[i] != 0;
-    }
-    false
+    i < queue_entries::WORKERS && n.workers[i]
 }
 
 // The entry begins the life of this item, or claims it to hand it out.
@@ -115,30 +87,24 @@ fn takes_up(slots: &[u64], e: Entered, item: u64) -> bool {
     if e.first % 16 == 0 {
         return e.second == item;
     }
-    is_head_claim(e) && get(slots, slot_of(e))
+    let i = slot_of(e);
+    is_head_claim(e) && i < slots.len() && slots[i] != 0
 }
 
 // Whether an entry belongs to the life of this item.
 pub fn is_of(n: Notes, slots: &[u64], e: Entered, item: u64) -> bool {
-    if is_worker(n, (e.first / 16) as usize) {
-        return true;
-    }
-    takes_up(slots, e, item)
+    is_worker(n, (e.first / 16) as usize) || takes_up(slots, e, item)
 }
 
 fn up_if(n: u64, it: bool) -> u64 {
-    if it {
-        return std::num::wrapping_add_u64(n, 1);
-    }
-    n
+    if it { n.wrapping_add(1) } else { n }
 }
 
-fn workers_after(n: Notes, e: Entered, is_of: bool) -> [u64; queue_entries::WORKERS] {
-    let after = e.after;
+fn workers_after(n: Notes, e: Entered, is_of: bool) -> [bool; queue_entries::WORKERS] {
     let mut workers = n.workers;
     let i = (e.first / 16) as usize;
     if i < queue_entries::WORKERS {
-        workers[i] = as_number(after[0] != 0 && is_of);
+        workers[i] = e.after.case != Case::Idle && is_of;
     }
     workers
 }

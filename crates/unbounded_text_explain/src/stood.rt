@@ -1,31 +1,79 @@
-// Names of places and of what an act leads to, by their numbers (unbounded_text_places::code).
+// Names of places and of answers, and where a slot is.
+use text_output::Text;
+use unbounded_places::Answer;
+use unbounded_text_places::code::Case;
 
-// The first place of a pop.
-pub const V1: u64 = 16;
+// The places in the order of their names; - for none.
+const PLACES: &[&str] = &[
+    "-",
+    "U1",
+    "U2",
+    "U3",
+    "U4",
+    "U5",
+    "U6",
+    "U7",
+    "U8",
+    "U9",
+    "U10",
+    "U11",
+    "U12",
+    "U13",
+    "U14",
+    "U15",
+    "V1",
+    "V2",
+    "V3",
+    "V4",
+    "V5",
+    "V6",
+    "V7",
+    "V8",
+    "V9",
+    "V10",
+    "V11",
+    "V12",
+    "V13",
+    "V14",
+    "V15",
+    "len1",
+    "len2",
+    "len3",
+    "empty1",
+    "empty2",
+    "full1",
+    "close1",
+    "isclosed1",
+];
 
-// In the list of names, behind those of the places: the answers in the order of their numbers, then what an act may lead to besides.
-pub const ANSWERS: u64 = 39;
+pub fn place(case: Case) -> &'static str {
+    PLACES.get(case as usize).copied().unwrap_or("")
+}
 
-pub const MARKED: u64 = 48;
+// The name of a place.
+pub fn name(text: &mut Text, case: Case) {
+    text.text(place(case));
+}
 
-pub const FAILED: u64 = 49;
+pub fn answered(a: Answer) -> &'static str {
+    match a {
+        Answer::Nothing => "nothing",
+        Answer::Pushed => "pushed",
+        Answer::Closed(_) | Answer::PopClosed => "closed",
+        Answer::Popped(_) => "popped",
+        Answer::Empty => "empty",
+        Answer::Len(_) => "len",
+        Answer::Yes => "yes",
+        Answer::No => "no",
+    }
+}
 
-pub const NONE: u64 = 50;
-
-pub const END: u64 = 51;
-
-// The name of a place, - for none; of what stands behind the places.
-pub fn name(out: &mut [u8], at: usize, case: u64) -> usize {
-    text_output::nth(
-        out,
-        at,
-        b"-|U1|U2|U3|U4|U5|U6|U7|U8|U9|U10|U11|U12|U13|U14|U15|\
-        V1|V2|V3|V4|V5|V6|V7|V8|V9|V10|V11|V12|V13|V14|V15|\
-        len1|len2|len3|empty1|empty2|full1|close1|isclosed1|\
-        nothing|pushed|closed|popped|empty|closed|len|yes|no|marked|failed|none|end|",
-        case as usize,
-        &[],
-    )
+// What an answer hands out; 0 where it hands out nothing.
+pub fn told(a: Answer) -> u64 {
+    match a {
+        Answer::Closed(x) | Answer::Popped(x) | Answer::Len(x) => x,
+        _ => 0,
+    }
 }
 
 // The place of a slot in its block, by the index word.

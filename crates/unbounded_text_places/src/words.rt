@@ -1,106 +1,111 @@
 // Pointers, answers and places as text.
-use crate::code::{NONE, WORDS};
-use unbounded_places::Place;
+use crate::code::{Case, Coded, NONE};
+use text_output::Text;
+use unbounded_places::{Answer, Place};
 use unbounded_words::Pointer;
 
-fn block(out: &mut [u8], at: usize, number: u64) -> usize {
+fn block(text: &mut Text, number: u64) {
     if number == NONE {
-        return text_output::byte(out, at, b'-');
+        text.byte(b'-');
+    } else {
+        text.number(number);
     }
-    text_output::number(out, at, number)
 }
 
 // A block's number; - for no block.
-pub fn pointer(out: &mut [u8], at: usize, p: Pointer) -> usize {
+pub fn pointer(text: &mut Text, p: Pointer) {
     match p {
-        Pointer::None => text_output::byte(out, at, b'-'),
-        Pointer::To(k) => text_output::number(out, at, k),
+        Pointer::None => text.byte(b'-'),
+        Pointer::To(k) => text.number(k),
     }
 }
 
-// By its number in the order of the enum.
-fn answer(out: &mut [u8], at: usize, number: u64, told: u64) -> usize {
-    text_output::nth(
-        out,
-        at,
-        b"none|pushed|closed(#)|popped(#)|empty|closed|len(#)|yes|no|",
-        number as usize,
-        &[told],
-    )
-}
-
-fn byte_at(s: &[u8], i: usize) -> u8 {
-    if i < s.len() {
-        return s[i];
+fn answer(text: &mut Text, a: Answer) {
+    match a {
+        Answer::Nothing => text.text("none"),
+        Answer::Pushed => text.text("pushed"),
+        Answer::Closed(x) => text.form("closed(#)", &[x]),
+        Answer::Popped(x) => text.form("popped(#)", &[x]),
+        Answer::Empty => text.text("empty"),
+        Answer::PopClosed => text.text("closed"),
+        Answer::Len(n) => text.form("len(#)", &[n]),
+        Answer::Yes => text.text("yes"),
+        Answer::No => text.text("no"),
     }
-    b'.'
 }
 
-// What a word of a place is, four for each place in the order of their numbers: a number n, a block b; none is a dot.
-fn kind_of(case: u64, word: usize) -> u8 {
-    let kinds = b"....\
-        bn..bnn.nbn.bnn.bnbnbnbnbnbnbnn.bnbnbnbnbnbnbnbnbnb.b...bbn.\
-        ....n...nb..nbn.n...nbn.nbnbnbbnnbn.nb..nb..nbn.bnn.bnn.bn..\
-        ....n...nn......n...............";
-    byte_at(
-        kinds,
-        std::num::wrapping_add_usize((case % 64 * 4) as usize, word),
-    )
-}
+// The places in the order of their names, and of each what its words are: a number n, a block b.
+const PLACES: &[(&str, &str)] = &[
+    ("idle:", ""),
+    ("U1", "bn"),
+    ("U2", "bnn"),
+    ("U3", "nbn"),
+    ("U4", "bnn"),
+    ("U5", "bnbn"),
+    ("U6", "bnbn"),
+    ("U7", "bnbn"),
+    ("U8", "bnn"),
+    ("U9", "bnbn"),
+    ("U10", "bnbn"),
+    ("U11", "bnbn"),
+    ("U12", "bnbn"),
+    ("U13", "bnb"),
+    ("U14", "b"),
+    ("U15", "bbn"),
+    ("V1", ""),
+    ("V2", "n"),
+    ("V3", "nb"),
+    ("V4", "nbn"),
+    ("V5", "n"),
+    ("V6", "nbn"),
+    ("V7", "nbnb"),
+    ("V8", "nbbn"),
+    ("V9", "nbn"),
+    ("V10", "nb"),
+    ("V11", "nb"),
+    ("V12", "nbn"),
+    ("V13", "bnn"),
+    ("V14", "bnn"),
+    ("V15", "bn"),
+    ("len1", ""),
+    ("len2", "n"),
+    ("len3", "nn"),
+    ("empty1", ""),
+    ("empty2", "n"),
+    ("full1", ""),
+    ("close1", ""),
+    ("isclosed1", ""),
+];
 
-fn word(out: &mut [u8], at: usize, kind: u8, number: u64) -> usize {
-    if kind == b'b' {
-        return block(out, at, number);
+// (A,B,C,D), as far as there are words; U14 has an answer behind its block.
+fn words(text: &mut Text, c: Coded, kinds: &str) {
+    let mut before = b'(';
+    for (kind, word) in kinds.as_bytes().iter().zip(&c.words) {
+        text.byte(before);
+        before = b',';
+        if *kind == b'b' {
+            block(text, *word);
+        } else {
+            text.number(*word);
+        }
     }
-    text_output::number(out, at, number)
-}
-
-// A further word, where there is one.
-fn further(out: &mut [u8], at: usize, kind: u8, number: u64) -> usize {
-    if kind == b'.' {
-        return at;
+    if c.case == Case::U14 {
+        text.byte(b',');
+        answer(text, c.answer);
     }
-    let p = text_output::byte(out, at, b',');
-    word(out, p, kind, number)
-}
-
-// (A,B,C,D), as far as there are words
-fn words(out: &mut [u8], at: usize, c: [u64; WORDS]) -> usize {
-    let kind = kind_of(c[0], 0);
-    if kind == b'.' {
-        return at;
+    if before == b',' {
+        text.byte(b')');
     }
-    let p = text_output::byte(out, at, b'(');
-    let q = word(out, p, kind, c[1]);
-    let r = further(out, q, kind_of(c[0], 1), c[2]);
-    let s = further(out, r, kind_of(c[0], 2), c[3]);
-    let t = further(out, s, kind_of(c[0], 3), c[4]);
-    ended(out, t, c)
 }
 
-// U14 has an answer behind its block.
-fn ended(out: &mut [u8], at: usize, c: [u64; WORDS]) -> usize {
-    if c[0] == 14 {
-        let p = text_output::byte(out, at, b',');
-        let q = answer(out, p, c[5], c[6]);
-        return text_output::byte(out, q, b')');
-    }
-    text_output::byte(out, at, b')')
-}
-
-// The places in the order of their numbers.
-fn case(out: &mut [u8], at: usize, n: u64) -> usize {
-    let list = b"idle:|U1|U2|U3|U4|U5|U6|U7|U8|U9|U10|U11|U12|U13|U14|U15|\
-        V1|V2|V3|V4|V5|V6|V7|V8|V9|V10|V11|V12|V13|V14|V15|\
-        len1|len2|len3|empty1|empty2|full1|close1|isclosed1|";
-    text_output::nth(out, at, list, n as usize, &[])
-}
-
-pub fn place(out: &mut [u8], at: usize, p: Place) -> usize {
+pub fn place(text: &mut Text, p: Place) {
     let c = crate::code::of(p);
-    let q = case(out, at, c[0]);
-    if c[0] == 0 {
-        return answer(out, q, c[5], c[6]);
+    if let Some((name, kinds)) = PLACES.get(c.case as usize) {
+        text.text(name);
+        if c.case == Case::Idle {
+            answer(text, c.answer);
+        } else {
+            words(text, c, kinds);
+        }
     }
-    words(out, q, c)
 }

@@ -2,11 +2,11 @@
 #![tactic(auto)]
 
 ghost use Rattle.std.specs.Prelude.{◌≡◌};
-ghost use Rattle.unbounded_words.specs.Words.{sizes, offset_of, past_slots, last_slot, marked_of, unmarked_of, with_mark, later, same, same_position, same_block, minus, settled, behind, count_of, none_of, number_of};
+ghost use Rattle.unbounded_words.specs.Words.{sizes, offset_of, past_slots, last_slot, marked_of, unmarked_of, with_mark, later, same_position, same_block, minus, settled, behind, count_of, none_of, number_of};
 
 // A word of head.index or of tail.index: a position in all bits but the lowest, and the mark.
 // "If set in head, indicates that the block is not the last one. If set in tail, indicates that the queue is closed."
-#[derive(Clone, Copy)]
+#[derive(Clone, Copy, PartialEq, Eq)]
 pub struct Index(pub u64);
 
 // A block of the pool by its number, or no block.
@@ -73,13 +73,7 @@ pub fn with_mark(w: Index) -> Index
 pub fn next(w: Index) -> Index
     ensures { result ≡ later w }
 {
-    Index(std::num::wrapping_add_u64(w.0, 2))
-}
-
-pub fn same_word(a: Index, b: Index) -> bool
-    ensures { result ≡ same a b }
-{
-    a.0 == b.0
+    Index(w.0.wrapping_add(2))
 }
 
 // `a >> SHIFT == b >> SHIFT`
@@ -99,7 +93,7 @@ pub fn same_block(a: Index, b: Index) -> bool
 fn less(a: u64, b: u64) -> u64
     ensures { result ≡ minus a b }
 {
-    std::num::wrapping_sub_u64(a, b)
+    a.wrapping_sub(b)
 }
 
 // "Erase the lower bits." and "Fix up indices if they fall onto block ends."
@@ -130,10 +124,7 @@ pub fn count(t: Index, h: Index) -> u64
 pub fn is_none(p: Pointer) -> bool
     ensures { result ≡ none_of p }
 {
-    match p {
-        Pointer::None => true,
-        Pointer::To(_) => false,
-    }
+    matches!(p, Pointer::None)
 }
 
 // The block's number; that of no block for none.

@@ -11,10 +11,10 @@ use walk_options::Options;
 
 // Each answers the status of the program.
 
-// The file that the argument names.
-fn run_file(system: &System, o: Options) -> u8 {
-    let mut path = [0u8; 4096];
-    let n = text_system::arguments::read(system, o.file, &mut path);
+// The file that this argument names.
+fn run_file(system: &System, o: Options, file: usize) -> u8 {
+    let mut path = [0; 4096];
+    let n = text_system::arguments::read(system, file, &mut path);
     if text_system::why(system) != 0 {
         text_system::fail(system, b"walk");
         return replay_many::UNREADABLE;
@@ -22,14 +22,14 @@ fn run_file(system: &System, o: Options) -> u8 {
     match text_system::files::open(system, &path[..n]) {
         Some(file) => run_from(system, o, Flow::Of(file), &path[..n]),
         None => {
-            replay_input::say::fail(system, b"walk", &path[..n]);
+            replay_input::say::fail(system, "walk", &path[..n]);
             replay_many::UNREADABLE
         }
     }
 }
 
 fn run_from(system: &System, o: Options, from: Flow, name: &[u8]) -> u8 {
-    match replay_input::source::kept(system, b"walk", from, name) {
+    match replay_input::source::kept(system, "walk", from, name) {
         Some(kept) => {
             let status = many::run_all(system, o, &kept, name);
             replay_input::source::release(kept);
@@ -39,28 +39,23 @@ fn run_from(system: &System, o: Options, from: Flow, name: &[u8]) -> u8 {
     }
 }
 
+// Nothing but a text of the program's own, which is whole or not.
+fn said(system: &System, whole: bool) -> u8 {
+    replay_many::status_of(system, "walk", replay_many::DONE, whole)
+}
+
 fn run(system: &System, o: Options) -> u8 {
     if o.help {
-        return replay_many::status_of(
-            system,
-            b"walk",
-            replay_many::DONE,
-            walk_options::help(system),
-        );
+        return said(system, walk_options::help(system));
     }
     if o.version {
-        return replay_many::status_of(
-            system,
-            b"walk",
-            replay_many::DONE,
-            text_options::version(system, b"walk"),
-        );
+        return said(system, text_options::version(system, "walk"));
     }
     if o.wrong {
         return replay_many::UNREADABLE;
     }
-    if o.file != 0 {
-        return run_file(system, o);
+    if let Some(file) = o.file {
+        return run_file(system, o, file);
     }
     run_from(system, o, Flow::Standard, b"standard input")
 }

@@ -1,112 +1,86 @@
-// Ways to end, each a row of a table that the caller lends: the ends of up to three workers, two numbers each, how many sequences end so, and
-// the length and the place in the list of the first of the shortest.
+// Ways to end: the ends of up to three workers, how many sequences end so, and the first of the shortest of them.
 #![tactic(auto)]
 
-// The numbers of a row, and the most rows.
-pub const ROW: usize = 9;
-
+// The most ways that are kept.
 pub const ROWS: usize = 512;
 
-pub const TIMES: usize = 6;
-
-pub const LENGTH: usize = 7;
-
-pub const PLACE: usize = 8;
-
-// The number of a row in this column; 0 where there is none.
-pub fn number(table: &[u64], row: usize, column: usize) -> u64 {
-    if row < ROWS {
-        if column < ROW {
-            let at = ROW * row + column;
-            if at < table.len() {
-                return table[at];
-            }
-        }
-    }
-    0
+// A worker's end: its call is under way, or it is idle with an answer, which is a code (bounded_codes) and the item in it.
+#[derive(Clone, Copy, PartialEq, Eq)]
+pub enum End {
+    Busy,
+    Idle(u64, u64),
 }
 
-fn put(table: &mut [u64], row: usize, column: usize, n: u64) {
-    if row < ROWS {
-        if column < ROW {
-            let at = ROW * row + column;
-            if at < table.len() {
-                table[at] = n;
-            }
+// None: this worker's end makes no difference, or there is no such worker.
+pub type Ends = [Option<End>; 3];
+
+#[derive(Clone, Copy)]
+pub struct Way<'a> {
+    pub ends: Ends,
+    pub times: u64,
+    pub shortest: &'a [u8],
+}
+
+impl<'a> Way<'a> {
+    fn again(&mut self, acts: &'a [u8]) {
+        self.times = self.times.wrapping_add(1);
+        if acts.len() < self.shortest.len() {
+            self.shortest = acts;
         }
     }
 }
 
-fn is_row(table: &[u64], row: usize, key: [u64; 6]) -> bool {
-    let mut i = 0;
-    while i < 6 {
-        if number(table, row, i) != key[i] {
-            return false;
+#[derive(Drop)]
+pub struct Ways<'a> {
+    rows: [Way<'a>; ROWS],
+    // At most ROWS, which stands in no ghost field: of a struct that has one `count` could lend no row to be changed.
+    kept: usize,
+    unlisted: usize,
+}
+
+impl<'a> Ways<'a> {
+    pub fn new() -> Ways<'a> {
+        let none = Way {
+            ends: [None; 3],
+            times: 0,
+            shortest: &[],
+        };
+        Ways {
+            rows: [none; ROWS],
+            kept: 0,
+            unlisted: 0,
         }
-        i += 1;
     }
-    true
-}
 
-// The row of this end among the first rows; as many where there is none.
-fn find(table: &[u64], rows: usize, key: [u64; 6]) -> usize {
-    let mut i = 0;
-    while i < rows {
-        if is_row(table, i, key) {
-            return i;
+    // In the order in which they were met.
+    pub fn listed(&self) -> &[Way<'a>] {
+        &self.rows[..self.kept.min(ROWS)]
+    }
+
+    // How many sequences end in a way that found no row.
+    pub fn unlisted(&self) -> usize {
+        self.unlisted
+    }
+
+    // One sequence more, of these acts, that ends so.
+    pub fn count(&mut self, ends: Ends, acts: &'a [u8]) {
+        let kept = self.kept.min(ROWS);
+        match self.rows[..kept].iter_mut().find(|way| way.ends == ends) {
+            Some(way) => way.again(acts),
+            None => self.add(ends, acts),
         }
-        i += 1;
     }
-    rows
-}
 
-fn put_key(table: &mut [u64], row: usize, key: [u64; 6]) {
-    let mut i = 0;
-    while i < 6 {
-        put(table, row, i, key[i]);
-        i += 1;
+    fn add(&mut self, ends: Ends, acts: &'a [u8]) {
+        if self.kept < ROWS {
+            self.rows[self.kept] = Way {
+                ends,
+                times: 1,
+                shortest: acts,
+            };
+            self.kept += 1;
+        } else {
+            self.unlisted = self.unlisted.wrapping_add(1);
+        }
     }
-}
-
-fn more(table: &mut [u64], row: usize) {
-    let times = number(table, row, TIMES);
-    put(table, row, TIMES, std::num::wrapping_add_u64(times, 1));
-}
-
-fn shorter(table: &mut [u64], row: usize, length: u64, place: u64) {
-    if length < number(table, row, LENGTH) {
-        put(table, row, LENGTH, length);
-        put(table, row, PLACE, place);
-    }
-}
-
-fn begin(table: &mut [u64], row: usize, key: [u64; 6], length: u64, place: u64) {
-    put_key(table, row, key);
-    put(table, row, TIMES, 1);
-    put(table, row, LENGTH, length);
-    put(table, row, PLACE, place);
-}
-
-// How many rows are kept, of a count of rows.
-pub fn listed(rows: usize) -> usize {
-    if rows < ROWS { rows } else { ROWS }
-}
-
-// How many sequences end in a way that has no row.
-pub fn unlisted(rows: usize) -> usize {
-    if rows < ROWS { 0 } else { rows - ROWS }
-}
-
-// One sequence more that ends so, of this length and at this place of the list. Answers how many rows there are now; once there are ROWS,
-// with each sequence that ends in a way that has none.
-pub fn count(table: &mut [u64], rows: usize, key: [u64; 6], length: u64, place: u64) -> usize {
-    let kept = listed(rows);
-    let row = find(table, kept, key);
-    if row < kept {
-        more(table, row);
-        shorter(table, row, length, place);
-        return rows;
-    }
-    begin(table, rows, key, length, place);
-    std::num::wrapping_add_usize(rows, 1)
 }

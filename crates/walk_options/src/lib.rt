@@ -1,31 +1,26 @@
 // The arguments of walk.
 #![tactic(auto)]
 
-use text_options::Arguments;
+use text_options::{Arguments, Known, Wanted};
 use text_system::System;
 
-// The options in the order of the table.
-const EDITION: usize = 0;
-
-const DEPTH: usize = 1;
-
-const ENDING: usize = 2;
-
-const LIST: usize = 3;
-
-const EXPLAIN: usize = 4;
-
-const MANY: usize = 5;
-
-const HELP: usize = 6;
-
-const TELLS: usize = 7;
-
-const SHORT_HELP: usize = 8;
-
-const VERSION: usize = 9;
-
-const TELLS_ON: usize = 10;
+const TABLE: &[Known] = &[
+    ("--edition", Wanted::Number),
+    ("--depth", Wanted::Number),
+    ("--ending", Wanted::NumberFrom1),
+    ("--list", Wanted::Nothing),
+    ("--explain", Wanted::Nothing),
+    ("--many", Wanted::Nothing),
+    ("--help", Wanted::Nothing),
+    ("--tell-status", Wanted::Nothing),
+    ("-h", Wanted::Nothing),
+    ("--version", Wanted::Nothing),
+    ("--tell-status-on", Wanted::Number),
+    ("--queue", Wanted::OfAnother),
+    ("--bits", Wanted::OfAnother),
+    ("--lent", Wanted::OfAnother),
+    ("--tape", Wanted::OfAnother),
+];
 
 #[derive(Clone, Copy)]
 pub struct Options {
@@ -34,74 +29,59 @@ pub struct Options {
     // handed to the walk as it stands
     pub depth: u64,
     pub list: bool,
-    // the number of the argument that asks for endings in words; 0: none does
-    pub explain: usize,
-    // only this one of them, from 1; 0: all
-    pub ending: u64,
+    // the number of the last argument that asks for endings in words
+    pub explain: Option<usize>,
+    // only this one of them, from 1; None: all
+    pub ending: Option<u64>,
     pub many: bool,
     pub help: bool,
     pub version: bool,
     // the starter asks for the status on this descriptor; 0: nobody asks
     pub tells_on: u64,
-    // the number of the argument that names the file; 0: standard input
-    pub file: usize,
+    // the number of the argument that names the file; None: standard input
+    pub file: Option<usize>,
     // an argument is wrong, and that was said
     pub wrong: bool,
 }
 
-fn value_or(at: usize, value: u64, unless_given: u64) -> u64 {
-    if at == 0 { unless_given } else { value }
+// Endings in words are a text of their own, of one schedule.
+fn judge(a: &mut Arguments) {
+    let words = ["--explain", "--ending"];
+    a.refuse_dash();
+    a.clashes("--list", &words, a.is_given("--list"));
+    a.clashes("--many", &words, a.is_given("--many"));
 }
 
-fn later(a: usize, b: usize) -> usize {
-    if a < b { b } else { a }
-}
-
-fn is_wrong(a: Arguments) -> bool {
-    let w = a.wrong;
-    w.kind != 0
-}
-
-// Endings in words are a text of their own, of one schedule. Standard input is read where no file is named.
-fn judged(a: Arguments) -> Arguments {
-    let words = [EXPLAIN, ENDING];
-    let b = text_options::useless(a, a.dash, a.dash != 0);
-    let c = text_options::clashes(b, LIST, &words, text_options::is_given(b, LIST));
-    text_options::clashes(c, MANY, &words, text_options::is_given(c, MANY))
-}
-
-fn options_of(a: Arguments) -> Options {
-    let at = a.at;
-    let values = a.values;
-    let names = a.names;
+fn options_of(a: &Arguments) -> Options {
     Options {
-        edition: value_or(at[EDITION], values[EDITION], 1),
-        depth: value_or(at[DEPTH], values[DEPTH], 12),
-        list: at[LIST] != 0,
-        explain: later(at[EXPLAIN], at[ENDING]),
-        ending: values[ENDING],
-        many: at[MANY] != 0,
-        help: at[HELP] != 0 || at[SHORT_HELP] != 0,
-        version: at[VERSION] != 0,
-        tells_on: if at[TELLS] != 0 { 3 } else { values[TELLS_ON] },
-        file: names[0],
-        wrong: is_wrong(a),
+        edition: a.value("--edition").unwrap_or(1),
+        depth: a.value("--depth").unwrap_or(12),
+        list: a.is_given("--list"),
+        explain: a.place("--explain").max(a.place("--ending")),
+        ending: a.value("--ending"),
+        many: a.is_given("--many"),
+        help: a.is_given("--help") || a.is_given("-h"),
+        version: a.is_given("--version"),
+        tells_on: if a.is_given("--tell-status") {
+            3
+        } else {
+            a.value("--tell-status-on").unwrap_or(0)
+        },
+        file: a.name(0),
+        wrong: a.is_wrong(),
     }
 }
 
-// Says what is wrong, unless help or the version is asked for.
+// Says what is wrong, unless help or the version is asked for. Standard input is read where no file is named.
 pub fn read(system: &System) -> Options {
-    let table =
-        b"--edition=#|--depth=#|--ending=+|--list|--explain|--many|--help|--tell-status|-h|--version|--tell-status-on=#|--queue=!|--bits=!|--lent=!|--tape=!|";
-    let a = judged(text_options::read(system, table, 1));
-    let o = options_of(a);
+    let mut a = text_options::read(system, TABLE, 1);
+    judge(&mut a);
+    let o = options_of(&a);
     if o.wrong && !o.help && !o.version {
-        text_options::complain(
+        a.complain(
             system,
-            b"walk",
-            table,
-            a,
-            b" is replay's: walk has the ring of 64 bits, from a text, and no other",
+            "walk",
+            " is replay's: walk has the ring of 64 bits, from a text, and no other",
         );
     }
     o

@@ -1,29 +1,30 @@
 // The walk from a machine, and what is told of it.
 use bounded_text_words::WORDS;
-use bounded_walks::Sized;
-use queue_entries::Told;
-use replay_survey::Played;
+use std::fmt::Write;
 use std::fs::File;
+use text_output::{Text, put};
 use text_sums::Sum;
 use text_system::System;
 
 // The longest list, in bytes.
 const BUFFER: usize = 4194304;
 
+// What is told of the sequences: in which ways they end, each of them, or in words (walk_explain) every ending or this one.
+#[derive(Clone, Copy)]
+pub enum Telling {
+    Ways,
+    List,
+    Words(Option<u64>),
+}
+
 #[derive(Clone, Copy)]
 pub struct Asked<'a> {
     pub depth: u64,
-    pub list: bool,
+    pub telling: Telling,
     pub many: bool,
-    // in words (walk_explain): every ending, 0, or this one; and the file of the schedule that was run, with the sum of its bytes
-    pub explain: bool,
-    pub ending: u64,
+    // the schedule that was run, with the sum of its bytes
     pub file: &'a File,
     pub due: Sum,
-}
-
-fn played(at: usize, refused: bool) -> Played {
-    replay_survey::told(at, refused)
 }
 
 // By the code of its place: 0 to 10 are those of idle workers.
@@ -33,100 +34,7 @@ fn is_idle(m: [u64; WORDS], w: u64) -> bool {
 
 // The lowest idle worker of at most three, of which one is idle.
 fn idle_worker(m: [u64; WORDS]) -> u64 {
-    if is_idle(m, 0) {
-        return 0;
-    }
-    if is_idle(m, 1) {
-        return 1;
-    }
-    2
-}
-
-fn refused(
-    system: &System,
-    out: &mut [u8],
-    at: usize,
-    o: Asked<'_>,
-    m: [u64; WORDS],
-    refusal: u64,
-) -> Played {
-    let p = crate::refused::tell(system, out, at, o.many, refusal, &[idle_worker(m)]);
-    played(p, true)
-}
-
-fn explained(
-    system: &System,
-    out: &mut [u8],
-    at: usize,
-    o: Asked<'_>,
-    m: [u64; WORDS],
-    sequences: u64,
-    list: &[u8],
-) -> Played {
-    let due = o.due;
-    let asked = walk_explain::Asked {
-        depth: o.depth,
-        ending: o.ending,
-        file: o.file,
-        due: due,
-    };
-    let t = walk_explain::tell(system, out, at, asked, m, sequences, list);
-    played(t.at, t.found == false)
-}
-
-fn told(
-    system: &System,
-    out: &mut [u8],
-    at: usize,
-    o: Asked<'_>,
-    m: [u64; WORDS],
-    sequences: u64,
-    list: &[u8],
-) -> Played {
-    if o.list {
-        return played(walk_lists::lines(system, out, at, list), false);
-    }
-    if o.explain {
-        return explained(system, out, at, o, m, sequences, list);
-    }
-    let p = text_output::form(
-        out,
-        at,
-        b"walked depth=# sequences=# bytes=#\n",
-        &[o.depth, sequences, list.len() as u64],
-    );
-    played(crate::ends::lines(system, out, p, m, list), false)
-}
-
-fn told_first(
-    system: &System,
-    out: &mut [u8],
-    at: usize,
-    o: Asked<'_>,
-    m: [u64; WORDS],
-    sequences: u64,
-    buffer: &[u8],
-    n: usize,
-) -> Played {
-    if n <= buffer.len() {
-        return told(system, out, at, o, m, sequences, &buffer[..n]);
-    }
-    played(at, false)
-}
-
-fn listed(
-    system: &System,
-    out: &mut [u8],
-    at: usize,
-    o: Asked<'_>,
-    m: [u64; WORDS],
-    n: usize,
-    buffer: &mut [u8],
-) -> Played {
-    match bounded_walks::walk(bounded_text_faces::machine::read(m), o.depth, buffer) {
-        Told::Number(sequences) => told_first(system, out, at, o, m, sequences, buffer, n),
-        Told::Refused(_) => played(at, false),
-    }
+    (0..2).find(|w| is_idle(m, *w)).unwrap_or(2)
 }
 
 // A function of its own, since a check of what is done with so long an array would count its bytes.
@@ -134,35 +42,82 @@ fn room() -> [u8; BUFFER] {
     [0; BUFFER]
 }
 
-fn walked(
-    system: &System,
-    out: &mut [u8],
-    at: usize,
-    o: Asked<'_>,
-    m: [u64; WORDS],
-    n: usize,
-) -> Played {
-    let mut buffer = room();
-    listed(system, out, at, o, m, n, &mut buffer)
-}
+impl Asked<'_> {
+    fn refused(&self, system: &System, text: &mut Text, refusal: u64, numbers: &[u64]) {
+        crate::refused::tell(system, text, self.many, refusal, numbers);
+    }
 
-// A list that is longer than the buffer is told with its numbers.
-pub fn walk(system: &System, out: &mut [u8], at: usize, o: Asked<'_>, m: [u64; WORDS]) -> Played {
-    match bounded_walks::size(bounded_text_faces::machine::read(m), o.depth) {
-        Sized::Refused(refusal) => refused(system, out, at, o, m, refusal),
-        Sized::Sequences(sequences, bytes) => {
-            if (BUFFER as u64) < bytes {
-                let p = crate::refused::tell(
-                    system,
-                    out,
-                    at,
-                    o.many,
-                    22,
-                    &[sequences, bytes, BUFFER as u64],
-                );
-                return played(p, true);
+    // Answers whether there is what was asked for.
+    fn told(
+        &self,
+        system: &System,
+        text: &mut Text,
+        m: [u64; WORDS],
+        sequences: u64,
+        list: &[u8],
+    ) -> bool {
+        match self.telling {
+            Telling::List => walk_lists::lines(system, text, list),
+            Telling::Words(ending) => {
+                let asked = walk_explain::Asked {
+                    depth: self.depth,
+                    ending,
+                    file: self.file,
+                    due: self.due,
+                };
+                return asked.tell(system, text, m, sequences, list);
             }
-            walked(system, out, at, o, m, bytes as usize)
+            Telling::Ways => {
+                let bytes = list.len();
+                put!(
+                    text,
+                    "walked depth={} sequences={sequences} bytes={bytes}\n",
+                    self.depth
+                );
+                crate::ends::lines(system, text, m, list);
+            }
+        }
+        true
+    }
+
+    // The list has so many bytes.
+    fn listed(
+        &self,
+        system: &System,
+        text: &mut Text,
+        m: [u64; WORDS],
+        n: usize,
+        buffer: &mut [u8],
+    ) -> bool {
+        match bounded_walks::walk(bounded_text_faces::machine::read(m), self.depth, buffer) {
+            Ok(sequences) => {
+                let n = n.min(buffer.len());
+                self.told(system, text, m, sequences, &buffer[..n])
+            }
+            Err(_) => true,
+        }
+    }
+
+    fn walked(&self, system: &System, text: &mut Text, m: [u64; WORDS], n: usize) -> bool {
+        let mut buffer = room();
+        self.listed(system, text, m, n, &mut buffer)
+    }
+
+    // Answers whether nothing was refused. A list that is longer than the buffer is told with its numbers.
+    pub fn walk(&self, system: &System, text: &mut Text, m: [u64; WORDS]) -> bool {
+        match bounded_walks::size(bounded_text_faces::machine::read(m), self.depth) {
+            Err(refusal) => {
+                self.refused(system, text, refusal, &[idle_worker(m)]);
+                false
+            }
+            Ok(all) => {
+                if BUFFER < all.bytes {
+                    let numbers = [all.sequences, all.bytes as u64, BUFFER as u64];
+                    self.refused(system, text, 22, &numbers);
+                    return false;
+                }
+                self.walked(system, text, m, all.bytes)
+            }
         }
     }
 }

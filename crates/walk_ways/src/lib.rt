@@ -1,131 +1,78 @@
-// In which ways the sequences of a list end: for each worker, and for all together. An end is two numbers: 0 and 0 of a call under way, else
-// one more than its answer's code (bounded_codes) and the item in it. A machine is in hand only where a sequence is run.
+// In which ways the sequences of a list end: for each worker, and for all together. A machine is in hand only where a sequence is run.
 #![tactic(auto)]
 
 use bounded_machine::Machine;
-use bounded_places::Worker;
+use bounded_places::{Place, Worker};
 use bounded_text_words::WORDS;
 use text_system::System;
+use walk_ends::{End, Ends, Ways};
+use walk_lists::Sequences;
 
-pub const TABLE: usize = walk_ends::ROW * walk_ends::ROWS;
+const WORDS_OF_ACTS: usize = 2 * queue_walks::DEPTH;
 
-fn put_word(words: &mut [u64], i: usize, acts: &[u8]) {
-    if i < acts.len() {
-        if 2 * i < words.len() {
-            words[2 * i] = walk_lists::word_of(acts[i]);
+// As a schedule has them, two words each.
+fn words_of(acts: &[u8]) -> [u64; WORDS_OF_ACTS] {
+    let mut words = [0; WORDS_OF_ACTS];
+    for (word, act) in words.iter_mut().step_by(2).zip(acts) {
+        *word = walk_lists::word_of(*act);
+    }
+    words
+}
+
+fn end_of(worker: &Worker) -> End {
+    match worker.place {
+        Place::Idle(_) => {
+            let c = bounded_codes::code_of(worker.place);
+            End::Idle(c.code, c.first)
         }
+        _ => End::Busy,
     }
 }
 
-fn put_words(words: &mut [u64], acts: &[u8]) {
-    let mut i = 0;
-    while i < queue_walks::DEPTH {
-        put_word(words, i, acts);
-        i += 1;
-    }
-}
-
-#[derive(Clone, Copy)]
-struct End {
-    kind: u64,
-    item: u64,
-}
-
-fn end_of(w: Worker) -> End {
-    let p = w.place;
-    let c = bounded_codes::code_of(p);
-    if c.code < 11 {
-        return End {
-            kind: c.code + 1,
-            item: c.first,
-        };
-    }
-    End { kind: 0, item: 0 }
-}
-
-// Of the first three records, two numbers each.
-fn ends_of(m: Machine) -> [u64; 6] {
-    let workers = m.workers;
-    let a = end_of(workers[0]);
-    let b = end_of(workers[1]);
-    let c = end_of(workers[2]);
-    [a.kind, a.item, b.kind, b.item, c.kind, c.item]
-}
-
-fn ran(m: Machine, words: &[u64], n: usize) -> [u64; 6] {
-    if n <= queue_walks::DEPTH {
-        let k = n + n;
-        if k <= words.len() {
-            let after = bounded::run(m, &words[..k]);
-            return ends_of(after.machine);
-        }
-    }
-    ends_of(m)
-}
-
-// The ends after these acts.
-fn after(m: Machine, acts: &[u8]) -> [u64; 6] {
-    let mut words = [0u64; 24];
-    put_words(&mut words, acts);
-    ran(m, &words, acts.len())
-}
-
-// The key of worker k alone, or of all where there is no worker k.
-fn key_of(ends: [u64; 6], count: u64, k: u64) -> [u64; 6] {
-    if k < count {
-        if k < 3 {
-            let i = 2 * (k as usize);
-            return [ends[i], ends[i + 1], 0, 0, 0, 0];
-        }
+fn ends_of(m: Machine) -> Ends {
+    let mut ends = [None; 3];
+    for (end, worker) in ends.iter_mut().zip(&m.workers).take(m.count as usize) {
+        *end = Some(end_of(worker));
     }
     ends
 }
 
-fn counted(
-    system: &System,
-    m: Machine,
-    count: u64,
-    list: &[u8],
-    at: usize,
-    k: u64,
-    table: &mut [u64],
-    rows: usize,
-) -> usize {
-    let acts = walk_lists::acts_at(list, at);
-    walk_lists::said::past(system, at, acts.len());
-    let key = key_of(after(m, acts), count, k);
-    walk_ends::count(table, rows, key, acts.len() as u64, at as u64)
+fn ends_after(m: Machine, acts: &[u8]) -> Ends {
+    let words = words_of(acts);
+    let n = acts.len().min(queue_walks::DEPTH);
+    ends_of(bounded::run(m, &words[..2 * n]).machine)
 }
 
-// Into the table, each way of worker k, or of all where there is no worker k; answers as walk_ends::count does.
-pub fn count(system: &System, w: [u64; WORDS], list: &[u8], k: u64, table: &mut [u64]) -> usize {
-    let m = bounded_text_faces::machine::read(w);
-    let count = w[bounded_text_words::COUNT];
-    let mut rows = 0;
-    let mut i = 0;
-    let mut turns = list.len();
-    while turns > 0 && i < list.len() {
-        rows = counted(system, m, count, list, i, k, table, rows);
-        i = walk_lists::next_at(list, i);
-        turns -= 1;
-    }
-    rows
-}
-
-fn left_by(w: [u64; WORDS], words: &[u64], n: usize) -> [u64; WORDS] {
-    if n <= queue_walks::DEPTH {
-        let k = n + n;
-        if k <= words.len() {
-            let left = bounded_text_faces::run(w, &words[..k]);
-            return left.words;
+fn only_of(ends: Ends, worker: Option<usize>) -> Ends {
+    match worker {
+        Some(w) if w < 3 => {
+            let mut only = [None; 3];
+            only[w] = ends[w];
+            only
         }
+        _ => ends,
     }
-    w
+}
+
+// Each way of this worker, or of all together.
+pub fn count<'a>(
+    system: &System,
+    m: [u64; WORDS],
+    list: &'a [u8],
+    worker: Option<usize>,
+) -> Ways<'a> {
+    let machine = bounded_text_faces::machine::read(m);
+    let mut ways = Ways::new();
+    for (place, acts) in Sequences::of(list) {
+        walk_lists::said::past(system, place, acts.len());
+        ways.count(only_of(ends_after(machine, acts), worker), acts);
+    }
+    ways
 }
 
 // The machine after these acts.
-pub fn left(w: [u64; WORDS], acts: &[u8]) -> [u64; WORDS] {
-    let mut words = [0u64; 24];
-    put_words(&mut words, acts);
-    left_by(w, &words, acts.len())
+pub fn left(m: [u64; WORDS], acts: &[u8]) -> [u64; WORDS] {
+    let words = words_of(acts);
+    let n = acts.len().min(queue_walks::DEPTH);
+    bounded_text_faces::run(m, &words[..2 * n]).words
 }

@@ -1,4 +1,4 @@
-use Prim.Native.Nat.{ℕ, ◌≤◌, ◌-◌}
+use Prim.Native.Nat.{ℕ, ◌-◌}
 use mathlib.Core.Path.{◌≡◌}
 use mathlib.Core.Bool.{true, cond, not}
 use lib.Dec.{eqb}
@@ -8,8 +8,4 @@ use Rattle.bounded_causes.proofs.others_hold.Given as goal
 
 abbrev pub invariant-loop-i : goal.invariant-loop-i
 invariant-loop-i l =
-    (l.i ≤ watched_most)
-    × (all (watched_most - l.i) l.i (λ (k : ℕ). cond (eqb k l.w) true (not (watch_of l.xs k).hand)) ≡ all watched_most 0 (λ (k : ℕ). cond (eqb k l.w) true (not (watch_of l.xs k).hand)))
-
-abbrev pub decreases-loop-i : goal.decreases-loop-i
-decreases-loop-i l = watched_most - l.i
+    all (watched_most - l.i) l.i (λ (k : ℕ). cond (eqb k l.w) true (not (watch_of l.fn.xs k).hand)) ≡ all watched_most 0 (λ (k : ℕ). cond (eqb k l.w) true (not (watch_of l.fn.xs k).hand))

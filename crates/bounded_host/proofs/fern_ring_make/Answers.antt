@@ -2,11 +2,11 @@ use Rattle.bounded_host.proofs.Answering.{make_six, make_refused, made_eight, ma
 use borrow.Author.Rules.{rules}
 use Rattle.bounded_host.proofs.fern_ring_make.Goals as goal
 
-pub returns-else-shaped : goal.returns-else-shaped
-returns-else-shaped c = search (rules, make_six)
+pub returns-then-not-shaped : goal.returns-then-not-shaped
+returns-then-not-shaped c = search (rules, make_six)
 
-pub returns-else-made-eq0 : goal.returns-else-made-eq0
-returns-else-made-eq0 c = search (rules, make_refused)
+pub returns-then-made-ne0 : goal.returns-then-made-ne0
+returns-then-made-ne0 c = search (rules, make_refused)
 
 pub put_ring-requires : goal.put_ring-requires
 put_ring-requires c = search (rules, made_eight)

@@ -5,8 +5,7 @@ use Rattle.bounded_lent.proofs.Listing.{six_first, listed}
 use Rattle.bounded_lent.proofs.contents.Goals as goal
 
 pub returns-then-broken : goal.returns-then-broken
-returns-then-broken c =
-    ap (λ r. filled r c.args.buffer.now) c.refused.ensures ∙ six_first _ _ _ (sym c.broken.ensures ∙ c.if-broken.true)
+returns-then-broken c = six_first _ _ _ (sym c.broken.ensures ∙ c.if-broken.true)
 
 pub records_fit-idle-requires : goal.records_fit-idle-requires
 records_fit-idle-requires c = fair_lent _ _ (unbroken_lent c.args.ring.now c.args.records.now (sym c.broken.ensures ∙ c.if-broken.false))

@@ -1,18 +1,18 @@
-use Rattle.std.proofs.Common.{refl, arith}
+use Rattle.std.proofs.Common.{refl}
 use native.Mathlib.Nat.{sub-zero}
 use Rattle.queue_entries.proofs.Limits.{all_more, all_failed, all_passed}
 use Rattle.bounded_lent.specs.Lent.{each_fits}
 use Rattle.bounded_lent.proofs.records_fit.Goals as goal
 
-pub loop-i-init : goal.loop-i-init
+pub loop-record-init : goal.loop-record-init
 unfolding each_fits
-loop-i-init c = (omega arith, rw sub-zero refl)
+loop-record-init c = rw sub-zero refl
 
-pub returns-else-record_fits : goal.returns-else-record_fits
-returns-else-record_fits c = all_failed _ _ c.loop-i.i _ c.loop-i.invariant.1 c.record_fits.result c.loop-i-test.true c.record_fits.ensures c.if-record_fits.false
+pub returns-then-not-record_fits : goal.returns-then-not-record_fits
+returns-then-not-record_fits c = all_failed _ _ c.loop-record.record-index _ c.loop-record.invariant c.record_fits.result c.loop-record-test.true c.record_fits.ensures c.if-not-record_fits.true
 
-pub loop-i-preserved : goal.loop-i-preserved
-loop-i-preserved c = (omega arith, all_more _ _ c.loop-i.i _ c.loop-i.invariant.1 c.record_fits.result c.loop-i-test.true c.record_fits.ensures c.if-record_fits.true)
+pub loop-record-preserved : goal.loop-record-preserved
+loop-record-preserved c = (all_more _ _ c.loop-record.record-index _ c.loop-record.invariant c.record_fits.result c.loop-record-test.true c.record_fits.ensures c.if-not-record_fits.false)
 
 pub returns : goal.returns
-returns c = all_passed _ _ c.loop-i.i _ c.loop-i.invariant.1 c.loop-i-test.false
+returns c = all_passed _ _ c.loop-record.record-index _ c.loop-record.invariant c.loop-record-test.false

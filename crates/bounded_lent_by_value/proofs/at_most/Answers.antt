@@ -1,8 +1,5 @@
-use Rattle.bounded_lent_by_value.proofs.Most.{as_many, no_more}
+use Rattle.bounded_lent_by_value.proofs.Most.{the_lesser}
 use Rattle.bounded_lent_by_value.proofs.at_most.Goals as goal
 
-pub returns-then-count-le-RECORDS : goal.returns-then-count-le-RECORDS
-returns-then-count-le-RECORDS c = as_many c.args.count c.if-count-le-RECORDS.true
-
-pub returns-else-count-le-RECORDS : goal.returns-else-count-le-RECORDS
-returns-else-count-le-RECORDS c = no_more c.args.count c.if-count-le-RECORDS.false
+pub returns : goal.returns
+returns c = the_lesser c.args.count c.min.result c.min.ensures

@@ -6,16 +6,16 @@ use borrow.Author.Rules.{rules}
 use Rattle.bounded_machine.proofs.item_at.Goals as goal
 
 pub index-requires : goal.index-requires
-index-requires c = search (rules, fair_at)
+index-requires c = rw c.fixed.ensures (search (rules, fair_at))
 
 pub overflow_add-at : goal.overflow_add-at
-overflow_add-at c = search (rules, index_small)
+overflow_add-at c = let i = rw c.fixed.ensures at c.index.ensures in search (rules, index_small)
 
-pub offset_bounds-slots-wrap : goal.offset_bounds-slots-wrap
-offset_bounds-slots-wrap c = let h : c.wrap.result < slots_most = search (rules, wrapped_below) in omega arith
+pub offset_bounds-ring-wrap : goal.offset_bounds-ring-wrap
+offset_bounds-ring-wrap c = let i = rw c.fixed.ensures at c.index.ensures in let h : c.wrap.result < slots_most = search (rules, wrapped_below) in omega arith
 
-pub bounds-slots-wrap : goal.bounds-slots-wrap
-bounds-slots-wrap c = search (rules, wrapped_below)
+pub bounds-ring-wrap : goal.bounds-ring-wrap
+bounds-ring-wrap c = let i = rw c.fixed.ensures at c.index.ensures in search (rules, wrapped_below)
 
 pub returns : goal.returns
-returns c = search (rules, item_is)
+returns c = let i = rw c.fixed.ensures at c.index.ensures in search (rules, item_is)

@@ -7,13 +7,13 @@ use Rattle.bounded_machine.proofs.records_fit.Goals as goal
 
 pub loop-i-init : goal.loop-i-init
 unfolding records_fit
-loop-i-init c = (search rules, refl)
+loop-i-init c = refl
 
 pub loop-i-preserved : goal.loop-i-preserved
-loop-i-preserved c = (search rules, all_more _ _ _ _ c.loop-i.invariant.1 c.record_fits.result (omega arith) c.record_fits.ensures c.if-record_fits.true)
+loop-i-preserved c = all_more _ _ _ _ c.loop-i.invariant c.record_fits.result (omega arith) c.record_fits.ensures (search rules)
 
-pub returns-else-record_fits : goal.returns-else-record_fits
-returns-else-record_fits c = all_failed _ _ _ _ c.loop-i.invariant.1 c.record_fits.result (omega arith) c.record_fits.ensures c.if-record_fits.false
+pub returns-then-not-record_fits : goal.returns-then-not-record_fits
+returns-then-not-record_fits c = all_failed _ _ _ _ c.loop-i.invariant c.record_fits.result (omega arith) c.record_fits.ensures (search rules)
 
 pub returns : goal.returns
-returns c = all_passed _ _ _ _ c.loop-i.invariant.1 (omega arith)
+returns c = all_passed _ _ _ _ c.loop-i.invariant (omega arith)

@@ -1,4 +1,4 @@
-use Prim.Native.Nat.{ℕ, ◌≤◌, ◌-◌}
+use Prim.Native.Nat.{ℕ, ◌-◌}
 use mathlib.Core.Path.{◌≡◌}
 use lib.Dec.{ltb}
 use Rattle.queue_entries.specs.Limits.{workers_most, all}
@@ -8,7 +8,4 @@ use Rattle.bounded_machine.proofs.records_fit.Given as goal
 
 abbrev pub invariant-loop-i : goal.invariant-loop-i
 invariant-loop-i l =
-    (l.i ≤ workers_most) × (all (workers_most - l.i) l.i (λ (k : ℕ). record_fits l.f l.meter (record_of_worker l.workers k) (ltb k l.count)) ≡ records_fit workers_most l.f l.count l.meter l.workers)
-
-abbrev pub decreases-loop-i : goal.decreases-loop-i
-decreases-loop-i l = workers_most - l.i
+    all (workers_most - l.i) l.i (λ (k : ℕ). record_fits l.f l.meter (record_of_worker l.fn.workers k) (ltb k l.count)) ≡ records_fit workers_most l.f l.count l.meter l.fn.workers

@@ -4,10 +4,10 @@ use Rattle.bounded_moments.proofs.heard_by_all.Goals as goal
 
 pub loop-i-init : goal.loop-i-init
 unfolding mapped_to
-loop-i-init c = (search rules, refl)
+loop-i-init c = refl
 
 pub loop-i-preserved : goal.loop-i-preserved
-loop-i-preserved c = (search rules, search (rules, heard_more))
+loop-i-preserved c = search (rules, heard_more)
 
 pub returns : goal.returns
-returns c = heard_all _ _ _ _ _ (omega (arith, c.well_formed)) c.loop-i.invariant.1
+returns c = heard_all _ _ _ _ _ (omega (arith, c.well_formed)) c.loop-i.invariant

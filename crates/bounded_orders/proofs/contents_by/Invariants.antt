@@ -7,7 +7,4 @@ use Rattle.bounded_orders.proofs.contents_by.Given as goal
 
 abbrev pub invariant-loop-k : goal.invariant-loop-k
 invariant-loop-k l =
-    (l.k ≤ l.n) × (l.n ≤ length l.initial.buffer) × (length l.buffer ≡ length l.initial.buffer) × (l.buffer ≡ items_on l.ring l.k 0 ++ drop l.k l.initial.buffer)
-
-abbrev pub decreases-loop-k : goal.decreases-loop-k
-decreases-loop-k l = l.n - l.k
+    (l.n ≤ length l.initial.buffer) × (length l.buffer ≡ length l.initial.buffer) × (l.buffer ≡ items_on l.ring l.k 0 ++ drop l.k l.initial.buffer)

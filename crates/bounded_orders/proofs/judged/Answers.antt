@@ -8,8 +8,8 @@ returns-then-broken c = search (rules, judged_6)
 pub returns-then-schedule-eq1 : goal.returns-then-schedule-eq1
 returns-then-schedule-eq1 c = search (rules, judged_11)
 
-pub returns-in-UnreadableAt : goal.returns-in-UnreadableAt
-returns-in-UnreadableAt c = search (rules, judged_9)
+pub returns-in-Some : goal.returns-in-Some
+returns-in-Some c = search (rules, judged_9)
 
-pub returns-in-AllRead : goal.returns-in-AllRead
-returns-in-AllRead c = search (rules, judged_read)
+pub returns-in-None : goal.returns-in-None
+returns-in-None c = search (rules, judged_read)

@@ -2,8 +2,8 @@ use Rattle.bounded_rows.proofs.Asking.{refuses, starts, goes, loses, cannot_lose
 use borrow.Author.Rules.{rules}
 use Rattle.bounded_rows.proofs.verdict_in.Goals as goal
 
-pub returns-else-lose : goal.returns-else-lose
-returns-else-lose c = search (rules, goes)
+pub returns-then-not-lose : goal.returns-then-not-lose
+returns-then-not-lose c = search (rules, goes)
 
 pub returns-in-Refuse : goal.returns-in-Refuse
 returns-in-Refuse c = search (rules, refuses)

@@ -1,4 +1,4 @@
-use Prim.Native.Nat.{◌≤◌, ◌*◌, ◌-◌}
+use Prim.Native.Nat.{◌*◌}
 use mathlib.Core.Path.{◌≡◌}
 use lib.ListN.{length, drop}
 use Rattle.bounded_machine.specs.Machine.{machine_of}
@@ -8,8 +8,5 @@ use Rattle.bounded_runs.proofs.entries.Given as goal
 
 abbrev pub invariant-loop-i : goal.invariant-loop-i
 invariant-loop-i l =
-    (l.i ≤ l.n) × (length l.schedule ≡ 2 * l.n) × Unbroken (machine_of l.f l.ends l.slots l.workers l.count l.meter)
-    × (run_at l.bits (machine_of l.f l.ends l.slots l.workers l.count l.meter) l.i (drop (2 * l.i) l.schedule) ≡ run_at l.bits (machine_of l.f l.initial.ends l.initial.slots l.initial.workers l.count l.initial.meter) 0 l.schedule)
-
-abbrev pub decreases-loop-i : goal.decreases-loop-i
-decreases-loop-i l = l.n - l.i
+    (length l.schedule ≡ 2 * l.n) × Unbroken (machine_of l.f l.ends l.slots l.workers l.count l.meter)
+    × (run_at l.bits (machine_of l.f l.ends l.slots l.workers l.count l.meter) l.i (drop (2 * l.i) l.schedule) ≡ run_at l.bits l.fn.m 0 l.schedule)

@@ -14,12 +14,12 @@ use Rattle.bounded_sequences.proofs.Lasting.{soon, soon_not}
 use Rattle.bounded_sequences.proofs.Turning.{one_less, some_left, begins, asks_8, half, asks_9, again, done, none_told, one_told, set_back}
 use Rattle.bounded_sequences.proofs.+choose_walk_state.Goals as goal
 
-pub choose-returns-else-may_act : goal.choose-returns-else-may_act
-choose-returns-else-may_act t c =
+pub choose-returns-then-not-may_act : goal.choose-returns-then-not-may_act
+choose-returns-then-not-may_act t c =
     let x = none_told c.args.s c.args.n c.args.left c.requires.sound c.args.w
     c.requires.few.0 c.args.lose c.args.path c.args.stamps.now c.args.values.now
     (seen c.args.worker (record_of_worker c.args.s.workers c.args.w) c.args.lose c.requires.few.1 c.may_act.result false
-    c.may_act.ensures c.if-may_act.false) c.args.told c.args.out.now in record { answer = x.0; lent = x.1; same = (refl, refl) }
+    c.may_act.ensures c.if-not-may_act.true) c.args.told c.args.out.now in record { answer = x.0; lent = x.1; same = (refl, refl) }
 
 pub choose-spot_of-k-requires : goal.choose-spot_of-k-requires
 choose-spot_of-k-requires t c =
@@ -28,7 +28,7 @@ choose-spot_of-k-requires t c =
 pub choose-offset_bounds-stamps-k : goal.choose-offset_bounds-stamps-k
 choose-offset_bounds-stamps-k t c =
     let may = seen c.args.worker (record_of_worker c.args.s.workers c.args.w) c.args.lose c.requires.few.1
-    c.may_act.result true c.may_act.ensures c.if-may_act.true in
+    c.may_act.result true c.may_act.ensures c.if-not-may_act.false in
     let here = spot_here c.args.s c.args.n c.args.left c.requires.sound c.args.w c.requires.few.0 c.args.lose may
     c.spot_of-k.result (c.spot_of-k.ensures ∙ ap (spot_in c.args.s.fixed) c.requires.few.1) in omega arith
 
@@ -36,7 +36,7 @@ pub choose-bounds-stamps-k : goal.choose-bounds-stamps-k
 choose-bounds-stamps-k t c =
     let may = seen c.args.worker (record_of_worker c.args.s.workers c.args.w) c.args.lose c.requires.few.1
     c.may_act.result true c.may_act.ensures
-    c.if-may_act.true in let here = spot_here c.args.s c.args.n c.args.left c.requires.sound c.args.w
+    c.if-not-may_act.false in let here = spot_here c.args.s c.args.n c.args.left c.requires.sound c.args.w
     c.requires.few.0 c.args.lose may c.spot_of-k.result
     (c.spot_of-k.ensures ∙ ap (spot_in c.args.s.fixed) c.requires.few.1) in omega (arith, c.requires.slots.0)
 
@@ -44,7 +44,7 @@ pub choose-offset_bounds-values-k : goal.choose-offset_bounds-values-k
 choose-offset_bounds-values-k t c =
     let may = seen c.args.worker (record_of_worker c.args.s.workers c.args.w) c.args.lose c.requires.few.1
     c.may_act.result true c.may_act.ensures
-    c.if-may_act.true in let here = spot_here c.args.s c.args.n c.args.left c.requires.sound c.args.w
+    c.if-not-may_act.false in let here = spot_here c.args.s c.args.n c.args.left c.requires.sound c.args.w
     c.requires.few.0 c.args.lose may c.spot_of-k.result
     (c.spot_of-k.ensures ∙ ap (spot_in c.args.s.fixed) c.requires.few.1) in omega arith
 
@@ -52,7 +52,7 @@ pub choose-bounds-values-k : goal.choose-bounds-values-k
 choose-bounds-values-k t c =
     let may = seen c.args.worker (record_of_worker c.args.s.workers c.args.w) c.args.lose c.requires.few.1
     c.may_act.result true c.may_act.ensures
-    c.if-may_act.true in let here = spot_here c.args.s c.args.n c.args.left c.requires.sound c.args.w
+    c.if-not-may_act.false in let here = spot_here c.args.s c.args.n c.args.left c.requires.sound c.args.w
     c.requires.few.0 c.args.lose may c.spot_of-k.result
     (c.spot_of-k.ensures ∙ ap (spot_in c.args.s.fixed) c.requires.few.1) in omega (arith, c.requires.slots.1)
 
@@ -60,7 +60,7 @@ pub choose-act_on-a-requires : goal.choose-act_on-a-requires
 choose-act_on-a-requires t c =
     let may = seen c.args.worker (record_of_worker c.args.s.workers c.args.w) c.args.lose c.requires.few.1
     c.may_act.result true c.may_act.ensures
-    c.if-may_act.true in ready c.args.s c.args.n c.args.left c.requires.sound c.args.w
+    c.if-not-may_act.false in ready c.args.s c.args.n c.args.left c.requires.sound c.args.w
     c.requires.few.0 c.args.lose may c.args.worker c.requires.few.1
 
 pub choose-act_byte-requires : goal.choose-act_byte-requires
@@ -76,7 +76,7 @@ choose-put_slot-requires t c =
     let may = seen c.args.worker (record_of_worker c.args.s.workers c.args.w) c.args.lose c.requires.few.1
     c.may_act.result true
     c.may_act.ensures
-    c.if-may_act.true in
+    c.if-not-may_act.false in
     let here = spot_here c.args.s c.args.n c.args.left c.requires.sound c.args.w c.requires.few.0 c.args.lose may
     c.spot_of-k.result
     (c.spot_of-k.ensures ∙ ap (spot_in c.args.s.fixed) c.requires.few.1) in
@@ -91,7 +91,7 @@ choose-overflow_add-n t c =
 pub choose-walk_state-r-requires : goal.choose-walk_state-r-requires
 choose-walk_state-r-requires t c =
     let may = seen c.args.worker (record_of_worker c.args.s.workers c.args.w) c.args.lose c.requires.few.1
-    c.may_act.result true c.may_act.ensures c.if-may_act.true in let short : c.args.n < length c.args.path = omega (arith, c.well_formed, c.requires.sound.depth) in
+    c.may_act.result true c.may_act.ensures c.if-not-may_act.false in let short : c.args.n < length c.args.path = omega (arith, c.well_formed, c.requires.sound.depth) in
     let chosen = one_told c.args.s c.args.n c.args.left c.requires.sound c.args.w c.requires.few.0 c.args.lose c.args.path c.args.stamps.now c.args.values.now may
     c.spot_of-k.result (c.spot_of-k.ensures ∙ ap (spot_in c.args.s.fixed) c.requires.few.1) c.requires.slots.0 c.requires.slots.1 short
     c.act_on-a.result c.act_on-a.ensures c.act_byte.result c.act_byte.ensures c.put_slot.new.stamps c.put_slot.new.values c.put_slot.ensures.stamps c.put_slot.ensures.values in
@@ -116,7 +116,7 @@ choose-put_slot-requires-2 t c =
     let may = seen c.args.worker (record_of_worker c.args.s.workers c.args.w) c.args.lose c.requires.few.1
     c.may_act.result true
     c.may_act.ensures
-    c.if-may_act.true in
+    c.if-not-may_act.false in
     let here = spot_here c.args.s c.args.n c.args.left c.requires.sound c.args.w c.requires.few.0 c.args.lose may
     c.spot_of-k.result
     (c.spot_of-k.ensures ∙ ap (spot_in c.args.s.fixed) c.requires.few.1) in
@@ -136,7 +136,7 @@ choose-put_slot-requires-2 t c =
 
 pub choose-returns : goal.choose-returns
 choose-returns t c =
-    let may = seen c.args.worker (record_of_worker c.args.s.workers c.args.w) c.args.lose c.requires.few.1 c.may_act.result true c.may_act.ensures c.if-may_act.true in
+    let may = seen c.args.worker (record_of_worker c.args.s.workers c.args.w) c.args.lose c.requires.few.1 c.may_act.result true c.may_act.ensures c.if-not-may_act.false in
     let short : c.args.n < length c.args.path = omega (arith, c.well_formed, c.requires.sound.depth) in
     let chosen = one_told c.args.s c.args.n c.args.left c.requires.sound c.args.w c.requires.few.0 c.args.lose c.args.path c.args.stamps.now c.args.values.now may
     c.spot_of-k.result (c.spot_of-k.ensures ∙ ap (spot_in c.args.s.fixed) c.requires.few.1) c.requires.slots.0 c.requires.slots.1 short
@@ -232,15 +232,6 @@ walk_state-choose-r-requires-in-loop-w t c =
           ),
         ),
       ),
-    )
-
-pub walk_state-overflow_add-w : goal.walk_state-overflow_add-w
-walk_state-overflow_add-w t c =
-    let end = soon_not c.args.s c.args.left (sym c.ends_soon.ensures
-    ∙ c.if-ends_soon.false) in let one = some_left c.args.s c.args.left end in
-    let few = c.loop-w-test.true in omega (
-      arith,
-      low c.args.s c.args.n (c.args.left - 1) (one_less c.args.s c.args.n c.args.left one c.requires.sound) _ few,
     )
 
 pub walk_state-loop-w-preserved : goal.walk_state-loop-w-preserved

@@ -11,8 +11,8 @@ overflow_add-at c = search (rules, index_small)
 pub returns-then-at-f : goal.returns-then-at-f
 returns-then-at-f c = search (rules, low_item)
 
-pub slot_at-s-requires-2 : goal.slot_at-s-requires-2
-slot_at-s-requires-2 c = search (rules, high_stamp, high_value)
+pub slot_at-requires-2 : goal.slot_at-requires-2
+slot_at-requires-2 c = search (rules, high_stamp, high_value)
 
 pub returns : goal.returns
 returns c = search (rules, high_item)

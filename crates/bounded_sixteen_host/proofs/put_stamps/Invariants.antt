@@ -1,9 +1,5 @@
-use Prim.Native.Nat.{◌-◌}
 use Rattle.bounded_sixteen_host.proofs.Making.{Stamped}
 use Rattle.bounded_sixteen_host.proofs.put_stamps.Given as goal
 
 abbrev pub invariant-loop-i : goal.invariant-loop-i
 invariant-loop-i l = Stamped l.initial.stamps l.n l.i l.stamps
-
-abbrev pub decreases-loop-i : goal.decreases-loop-i
-decreases-loop-i l = l.n - l.i

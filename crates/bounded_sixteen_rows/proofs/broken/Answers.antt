@@ -2,17 +2,17 @@ use Rattle.bounded_sixteen_rows.proofs.Fitting.{not_seven, no_shape, fives, no_l
 use borrow.Author.Rules.{rules}
 use Rattle.bounded_sixteen_rows.proofs.broken.Goals as goal
 
-pub returns-else-head-eq-HEAD : goal.returns-else-head-eq-HEAD
-returns-else-head-eq-HEAD c = search (rules, not_seven)
+pub returns-then-head-ne-HEAD : goal.returns-then-head-ne-HEAD
+returns-then-head-ne-HEAD c = search (rules, not_seven)
 
-pub returns-else-shaped_for : goal.returns-else-shaped_for
-returns-else-shaped_for c = search (rules, no_shape)
+pub returns-then-not-shaped_for : goal.returns-then-not-shaped_for
+returns-then-not-shaped_for c = search (rules, no_shape)
 
-pub returns-else-head-eq-LAYOUT : goal.returns-else-head-eq-LAYOUT
-returns-else-head-eq-LAYOUT c = search (rules, no_layout)
+pub returns-then-head-ne-LAYOUT : goal.returns-then-head-ne-LAYOUT
+returns-then-head-ne-LAYOUT c = search (rules, no_layout)
 
-pub returns-else-ring_fits : goal.returns-else-ring_fits
-returns-else-ring_fits c = search (rules, not_ring)
+pub returns-then-not-ring_fits : goal.returns-then-not-ring_fits
+returns-then-not-ring_fits c = search (rules, not_ring)
 
 pub records_fit-requires : goal.records_fit-requires
 records_fit-requires c = search (rules, fair_so, fives)

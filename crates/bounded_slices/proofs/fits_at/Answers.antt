@@ -9,8 +9,8 @@ returns-then-meter-records c = search (rules, many_differed)
 pub returns-then-meter-records-2 : goal.returns-then-meter-records-2
 returns-then-meter-records-2 c = search (rules, many_failed)
 
-pub returns-else-allowed : goal.returns-else-allowed
-returns-else-allowed c = search (rules, past_count)
+pub returns-then-not-allowed : goal.returns-then-not-allowed
+returns-then-not-allowed c = search (rules, past_count)
 
 pub end_fits-requires : goal.end_fits-requires
 end_fits-requires c = record { fair = search rules; code_value = sym c.within.ensures ∙ c.if-within.true }

@@ -1,10 +1,5 @@
-use Prim.Native.Nat.{◌-◌}
-use Rattle.bounded_words.specs.Limits.{slots_most}
 use Rattle.bounded_slices.proofs.Filling.{Stored}
 use Rattle.bounded_slices.proofs.put_slots.Given as goal
 
 abbrev pub invariant-loop-i : goal.invariant-loop-i
 invariant-loop-i l = Stored l.initial.slots l.all l.i l.slots
-
-abbrev pub decreases-loop-i : goal.decreases-loop-i
-decreases-loop-i l = slots_most - l.i

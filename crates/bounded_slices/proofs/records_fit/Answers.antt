@@ -8,8 +8,8 @@ loop-i-init c = search (rules, begins)
 pub fits_at-requires : goal.fits_at-requires
 fits_at-requires c = search (rules, in_reach)
 
-pub returns-else-fits_at : goal.returns-else-fits_at
-returns-else-fits_at c = search (rules, no_fit)
+pub returns-then-not-fits_at : goal.returns-then-not-fits_at
+returns-then-not-fits_at c = search (rules, no_fit)
 
 pub loop-i-preserved : goal.loop-i-preserved
 loop-i-preserved c = search (rules, goes_on)

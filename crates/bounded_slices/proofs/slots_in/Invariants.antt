@@ -1,10 +1,5 @@
-use Prim.Native.Nat.{◌-◌}
-use Rattle.bounded_words.specs.Limits.{slots_most}
 use Rattle.bounded_slices.proofs.Filling.{Taken}
 use Rattle.bounded_slices.proofs.slots_in.Given as goal
 
 abbrev pub invariant-loop-i : goal.invariant-loop-i
 invariant-loop-i l = Taken l.slots l.initial.all l.i l.all
-
-abbrev pub decreases-loop-i : goal.decreases-loop-i
-decreases-loop-i l = slots_most - l.i

@@ -13,10 +13,10 @@ use Rattle.bounded_step_record.proofs.turn_on.Goals as goal
 use Rattle.bounded_step_record.proofs.turn_on.Goals.{In-Move}
 
 busy_at : (c : In-Move) → (view_of c.args.r.place).busy ≡ true
-busy_at c = move_busy c.args.meter c.args.r.place c.in-Asks.order c.verdict_of-verdict.result c.verdict_of-verdict.ensures c.in-Move.lose (search rules)
+busy_at c = move_busy c.args.meter c.args.r.place c.in-Asks.order c.verdict_of.result c.verdict_of.ensures c.in-Move.lose (search rules)
 
 in_time_at : (c : In-Move) → c.args.meter < meter_most
-in_time_at c = move_in_time c.args.meter c.args.r.place c.in-Asks.order c.verdict_of-verdict.result c.verdict_of-verdict.ensures c.in-Move.lose (search rules)
+in_time_at c = move_in_time c.args.meter c.args.r.place c.in-Asks.order c.verdict_of.result c.verdict_of.ensures c.in-Move.lose (search rules)
 
 few_at : (c : In-Move) → (c.args.r.differed ≤ c.args.meter) × (c.args.r.failed ≤ c.args.meter)
 few_at c = (
@@ -53,23 +53,23 @@ pub returns-in-Refuse : goal.returns-in-Refuse
 returns-in-Refuse c = c.with-in-Refuse.ensures
     ∙ stop _ _ _ _ _ _ _ _ _ c.entry_of.result
     c.entry_of.ensures c.in-Asks.worker c.in-Asks.order (search rules)
-    c.verdict_of-verdict.result c.if-count-worker.false
-    c.verdict_of-verdict.ensures c.in-Refuse.number (search rules)
+    c.verdict_of.result c.if-count-worker.false
+    c.verdict_of.ensures c.in-Refuse.number (search rules)
 
 pub returns-in-Start : goal.returns-in-Start
 returns-in-Start c = c.with-in-Start.ensures
     ∙ start _ _ _ _ _ _ _ _ _ c.entry_of.result
     c.entry_of.ensures c.in-Asks.worker c.in-Asks.order (search rules)
-    c.verdict_of-verdict.result c.if-count-worker.false
-    c.verdict_of-verdict.ensures c.in-Start.call _ (search rules)
+    c.verdict_of.result c.if-count-worker.false
+    c.verdict_of.ensures c.in-Start.call _ (search rules)
     c.first_place.ensures
 
 pub returns-in-Move : goal.returns-in-Move
 returns-in-Move c = c.with-in-Move.ensures
     ∙ move _ _ _ _ _ _ _ _ _ c.entry_of.result
     c.entry_of.ensures c.in-Asks.worker c.in-Asks.order
-    (asks_at (goal.at.returns-in-Move c).In-Move) c.verdict_of-verdict.result
+    (asks_at (goal.at.returns-in-Move c).In-Move) c.verdict_of.result
     c.if-count-worker.false
-    c.verdict_of-verdict.ensures
+    c.verdict_of.ensures
     c.in-Move.lose c.act_at-a.result _ (search rules)
     c.act_at-a.ensures c.record_after-after.ensures

@@ -7,7 +7,4 @@ use Rattle.bounded_walks.proofs.all_busy.Given as goal
 
 abbrev pub invariant-loop-i : goal.invariant-loop-i
 invariant-loop-i l =
-    (l.i ≤ l.count) × (l.count ≤ workers_most) × (all (l.count - l.i) l.i (λ (k : ℕ). (view_of (place_of l.workers k)).busy) ≡ all l.count 0 (λ (k : ℕ). (view_of (place_of l.workers k)).busy))
-
-abbrev pub decreases-loop-i : goal.decreases-loop-i
-decreases-loop-i l = l.count - l.i
+    (l.count ≤ workers_most) × (all (l.count - l.i) l.i (λ (k : ℕ). (view_of (place_of l.workers k)).busy) ≡ all l.count 0 (λ (k : ℕ). (view_of (place_of l.workers k)).busy))

@@ -11,8 +11,8 @@ returns-then-m-gt-WALKERS c = search (rules, refused_19, refused_deep)
 pub returns-then-depth : goal.returns-then-depth
 returns-then-depth c = search (rules, refused_19, refused_deep)
 
-pub returns-else-all_busy : goal.returns-else-all_busy
-returns-else-all_busy c = search (rules, refused_20)
+pub returns-then-not-all_busy : goal.returns-then-not-all_busy
+returns-then-not-all_busy c = search (rules, refused_20)
 
 pub returns-then-acts_left-depth : goal.returns-then-acts_left-depth
 returns-then-acts_left-depth c = search (rules, refused_21)

@@ -1,4 +1,3 @@
-use Prim.Native.Nat.{◌≤◌, ◌-◌}
 use mathlib.Core.Path.{◌≡◌}
 use lib.ListN.{length, take}
 use Rattle.bounded_words.specs.Limits.{slots_most}
@@ -7,7 +6,4 @@ use Rattle.bounded_walks.proofs.row_of.Given as goal
 
 abbrev pub invariant-loop-i : goal.invariant-loop-i
 invariant-loop-i l =
-    (l.i ≤ slots_most) × (length l.slots ≡ slots_most) × (length l.row ≡ slots_most) × (take l.i l.row ≡ take l.i (row_of l.value l.slots))
-
-abbrev pub decreases-loop-i : goal.decreases-loop-i
-decreases-loop-i l = slots_most - l.i
+    (length l.slots ≡ slots_most) × (length l.row ≡ slots_most) × (take l.i l.row ≡ take l.i (row_of l.value l.slots))

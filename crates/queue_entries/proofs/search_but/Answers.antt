@@ -1,22 +1,20 @@
-use Prim.Native.Nat.{◌-◌}
+use native.Mathlib.Omega.{arith}
 use borrow.Author.Rules.{rules}
-use Rattle.queue_entries.specs.Entries.{entry_but}
 use Rattle.queue_entries.proofs.Searching.{search_stops, search_goes, search_ends}
 use Rattle.queue_entries.proofs.search_but.Goals as goal
 
 pub returns-in_default : goal.returns-in_default
 returns-in_default c = let l = c.loop-i in
     let e = c.entry_but in
-    search_stops _ _ _ _ _ l.invariant.2 l.invariant.1 c.loop-i-test.true e.result e.ensures (search rules)
+    search_stops _ _ _ _ _ l.invariant.1 l.invariant.0 (omega arith) e.result e.ensures (search rules)
 
 pub loop-i-preserved : goal.loop-i-preserved
 loop-i-preserved c = let l = c.loop-i in
     let e = c.entry_but in (
-      search rules,
-      l.invariant.1,
-      search_goes _ _ _ _ _ l.invariant.2 l.invariant.1 c.loop-i-test.true e.result
-          e.ensures c.in-Asks.worker c.in-Asks.order (search rules),
+      l.invariant.0,
+      search_goes _ _ _ _ _ l.invariant.1 l.invariant.0 (omega arith) e.result
+          e.ensures _ _ c.in-Asks.is,
     )
 
 pub returns : goal.returns
-returns c = search_ends _ _ _ _ _ c.loop-i.invariant.2 c.loop-i.invariant.1 c.loop-i-test.false
+returns c = search_ends _ _ _ _ _ c.loop-i.invariant.1 c.loop-i.invariant.0 (omega arith)

@@ -1,4 +1,4 @@
-use Prim.Native.Nat.{◌*◌, ◌/◌, ◌-◌, ◌≤◌}
+use Prim.Native.Nat.{◌*◌, ◌/◌}
 use mathlib.Core.Path.{◌≡◌}
 use lib.ListN.{length, drop}
 use Rattle.queue_entries.specs.Entries.{entry_but}
@@ -6,7 +6,4 @@ use Rattle.queue_entries.specs.Schedules.{search_by}
 use Rattle.queue_entries.proofs.search_but.Given as goal
 
 abbrev pub invariant-loop-i : goal.invariant-loop-i
-invariant-loop-i l = (l.i ≤ l.n) × (l.n ≡ length l.schedule / 2) × (search_by (entry_but l.barred) l.i (drop (2 * l.i) l.schedule) ≡ search_by (entry_but l.barred) 0 l.schedule)
-
-abbrev pub decreases-loop-i : goal.decreases-loop-i
-decreases-loop-i l = l.n - l.i
+invariant-loop-i l = (l.n ≡ length l.schedule / 2) × (search_by (entry_but l.barred) l.i (drop (2 * l.i) l.schedule) ≡ search_by (entry_but l.barred) 0 l.schedule)

@@ -2,8 +2,8 @@ use Rattle.single_host.proofs.Answering.{broken_six, five_words, all_words, is_b
 use borrow.Author.Rules.{rules}
 use Rattle.single_host.proofs.fern_slot_broken.Goals as goal
 
-pub returns-else-stands : goal.returns-else-stands
-returns-else-stands c = search (rules, broken_six)
+pub returns-then-not-stands : goal.returns-then-not-stands
+returns-then-not-stands c = search (rules, broken_six)
 
 pub machine_in-requires : goal.machine_in-requires
 machine_in-requires c = search (rules, five_words, all_words)

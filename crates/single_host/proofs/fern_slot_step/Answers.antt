@@ -2,8 +2,8 @@ use Rattle.single_host.proofs.Answering.{step_six, five_words, all_words, steppe
 use borrow.Author.Rules.{rules}
 use Rattle.single_host.proofs.fern_slot_step.Goals as goal
 
-pub returns-else-stands : goal.returns-else-stands
-returns-else-stands c = search (rules, step_six)
+pub returns-then-not-stands : goal.returns-then-not-stands
+returns-then-not-stands c = search (rules, step_six)
 
 pub machine_in-requires : goal.machine_in-requires
 machine_in-requires c = search (rules, five_words, all_words)

@@ -1,4 +1,4 @@
-use Prim.Native.Nat.{ℕ, ◌≤◌, ◌-◌}
+use Prim.Native.Nat.{ℕ, ◌-◌}
 use mathlib.Core.Path.{◌≡◌}
 use lib.Dec.{ltb}
 use Rattle.queue_entries.specs.Limits.{workers_most, all}
@@ -8,7 +8,4 @@ use Rattle.single_machine.proofs.idle_from.Given as goal
 
 abbrev pub invariant-loop-i : goal.invariant-loop-i
 invariant-loop-i l =
-    (l.i ≤ workers_most) × (all (workers_most - l.i) l.i (λ (k : ℕ). record_fits (place_of l.workers k) (ltb k l.n)) ≡ idle_from l.n l.workers)
-
-abbrev pub decreases-loop-i : goal.decreases-loop-i
-decreases-loop-i l = workers_most - l.i
+    all (workers_most - l.i) l.i (λ (k : ℕ). record_fits (place_of l.fn.workers k) (ltb k l.fn.n)) ≡ idle_from l.fn.n l.fn.workers

@@ -8,8 +8,8 @@ loop-i-init c = search (rules, begins)
 pub loop-i-preserved : goal.loop-i-preserved
 loop-i-preserved c = search (rules, goes_on)
 
-pub returns-else-placed_at : goal.returns-else-placed_at
-returns-else-placed_at c = search (rules, no_place)
+pub returns-then-not-placed_at : goal.returns-then-not-placed_at
+returns-then-not-placed_at c = search (rules, no_place)
 
 pub returns : goal.returns
 returns c = search (rules, none_left)

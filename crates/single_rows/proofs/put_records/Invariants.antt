@@ -1,10 +1,5 @@
-use Prim.Native.Nat.{◌-◌}
-use Rattle.queue_entries.specs.Limits.{workers_most}
 use Rattle.single_rows.proofs.Going.{Stored}
 use Rattle.single_rows.proofs.put_records.Given as goal
 
 abbrev pub invariant-loop-i : goal.invariant-loop-i
-invariant-loop-i l = Stored l.initial.records l.all l.i l.records
-
-abbrev pub decreases-loop-i : goal.decreases-loop-i
-decreases-loop-i l = workers_most - l.i
+invariant-loop-i l = Stored l.initial.records l.fn.all l.i l.records

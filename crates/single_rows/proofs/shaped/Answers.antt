@@ -5,5 +5,5 @@ use Rattle.single_rows.proofs.shaped.Goals as goal
 pub returns-else-head-eq-HEAD : goal.returns-else-head-eq-HEAD
 returns-else-head-eq-HEAD c = search (rules, shape_1)
 
-pub returns : goal.returns
-returns c = search (rules, shape_2)
+pub returns-then-head-eq-HEAD : goal.returns-then-head-eq-HEAD
+returns-then-head-eq-HEAD c = search (rules, shape_2)

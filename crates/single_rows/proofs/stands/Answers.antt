@@ -2,8 +2,8 @@ use Rattle.single_rows.proofs.Standing.{no_shape, fourth, no_layout, all_words, 
 use borrow.Author.Rules.{rules}
 use Rattle.single_rows.proofs.stands.Goals as goal
 
-pub returns-else-shaped : goal.returns-else-shaped
-returns-else-shaped c = search (rules, no_shape)
+pub returns-then-not-shaped : goal.returns-then-not-shaped
+returns-then-not-shaped c = search (rules, no_shape)
 
 pub bounds-head-4 : goal.bounds-head-4
 bounds-head-4 c = search (rules, fourth)
@@ -14,5 +14,5 @@ returns-else-head-eq-LAYOUT c = search (rules, no_layout)
 pub all_placed-requires : goal.all_placed-requires
 all_placed-requires c = search (rules, all_words)
 
-pub returns : goal.returns
-returns c = search (rules, by_places)
+pub returns-then-head-eq-LAYOUT : goal.returns-then-head-eq-LAYOUT
+returns-then-head-eq-LAYOUT c = search (rules, by_places)

@@ -4,6 +4,7 @@ use borrow.Author.Rules.{rules}
 use Rattle.single_machine.specs.Turn.{begun, stored}
 use Rattle.single_runs.proofs.Turns.{first_stand, ended, stop_9, stop_3, stop, start, move, in_time, worker_below}
 use Rattle.single_runs.proofs.entries.Goals as goal
+use Rattle.single_runs.proofs.entries.Goals.{in-Start, in-Move}
 
 pub loop-i-init : goal.loop-i-init
 loop-i-init c = first_stand _ _ (search rules) _ (omega arith)
@@ -32,7 +33,7 @@ returns-in-Refuse c = c.ran-in-Refuse.ensures ∙ stop _ _ _ _ _ c.loop-i.invari
     c.in-Asks.worker
     c.in-Asks.order
     (search rules) c.if-count-worker.false
-    c.verdict_of-verdict.result c.verdict_of-verdict.ensures c.in-Refuse.number
+    c.verdict_of.result c.verdict_of.ensures c.in-Refuse.number
     (search rules)
 
 pub offset_bounds-workers-w-in-Start : goal.offset_bounds-workers-w-in-Start
@@ -40,18 +41,6 @@ offset_bounds-workers-w-in-Start c = let h = (worker_below _ _ _ _ _ c.loop-i.in
 
 pub bounds-workers-w-in-Start : goal.bounds-workers-w-in-Start
 bounds-workers-w-in-Start c = (worker_below _ _ _ _ _ c.loop-i.invariant c.in-Asks.worker c.if-count-worker.false)
-
-pub loop-i-preserved-in-Start : goal.loop-i-preserved-in-Start
-unfolding begun
-loop-i-preserved-in-Start c = start _ _ _ _ _ c.loop-i.invariant
-    c.loop-i-test.true
-    c.entry_of.result
-    c.entry_of.ensures
-    c.in-Asks.worker
-    c.in-Asks.order
-    (search rules) c.if-count-worker.false
-    c.verdict_of-verdict.result c.verdict_of-verdict.ensures
-    c.in-Start.call _ (search rules) c.first_place.ensures
 
 pub offset_bounds-workers-w-in-Move : goal.offset_bounds-workers-w-in-Move
 offset_bounds-workers-w-in-Move c = let h = (worker_below _ _ _ _ _ c.loop-i.invariant c.in-Asks.worker c.if-count-worker.false) in omega arith
@@ -66,20 +55,35 @@ overflow_add-meter c = let h = in_time _ _ _ _ _ c.loop-i.invariant c.loop-i-tes
     c.in-Asks.worker
     c.in-Asks.order
     (search rules) c.if-count-worker.false
-    c.verdict_of-verdict.result c.verdict_of-verdict.ensures
+    c.verdict_of.result c.verdict_of.ensures
     c.in-Move.field-0 c.in-Move.is in omega arith
 
 pub loop-i-preserved : goal.loop-i-preserved
-unfolding stored
-loop-i-preserved c = move _ _ _ _ _ c.loop-i.invariant
-    c.loop-i-test.true
-    c.entry_of.result
-    c.entry_of.ensures
-    c.in-Asks.worker
-    c.in-Asks.order
-    (search rules) c.if-count-worker.false
-    c.verdict_of-verdict.result c.verdict_of-verdict.ensures
-    c.in-Move.field-0 c.act_at-a.result c.in-Move.is c.act_at-a.ensures
+unfolding begun stored
+loop-i-preserved c = elim c.match-verdict_of.branch [
+  | in-Start w ↦
+      rw (w.single-is, w.workers-is, w.meter-is)
+      (start _ _ _ _ _ c.loop-i.invariant
+      c.loop-i-test.true
+      c.entry_of.result
+      c.entry_of.ensures
+      c.in-Asks.worker
+      c.in-Asks.order
+      (search rules) c.if-count-worker.false
+      c.verdict_of.result c.verdict_of.ensures
+      w.in-Start.call _ (search rules) w.first_place.ensures)
+  | in-Move w ↦
+      rw (w.single-is, w.workers-is, w.meter-is)
+      (move _ _ _ _ _ c.loop-i.invariant
+      c.loop-i-test.true
+      c.entry_of.result
+      c.entry_of.ensures
+      c.in-Asks.worker
+      c.in-Asks.order
+      (search rules) c.if-count-worker.false
+      c.verdict_of.result c.verdict_of.ensures
+      w.in-Move.field-0 w.act_at-a.result w.in-Move.is w.act_at-a.ensures)
+]
 
 pub returns : goal.returns
 returns c = c.ran-2.ensures ∙ ended _ _ _ _ _ c.loop-i.invariant c.loop-i-test.false

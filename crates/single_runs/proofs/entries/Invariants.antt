@@ -1,4 +1,3 @@
-use Prim.Native.Nat.{◌-◌}
 use Rattle.single_machine.specs.Machine.{machine_of}
 use Rattle.single_machine.specs.Run.{run_from}
 use Rattle.single_runs.proofs.Turns.{Stand}
@@ -7,6 +6,3 @@ use Rattle.single_runs.proofs.entries.Given as goal
 abbrev pub invariant-loop-i : goal.invariant-loop-i
 invariant-loop-i l =
     Stand l.schedule l.n l.i (machine_of l.single l.workers l.count l.meter) (run_from (machine_of l.initial.single l.initial.workers l.count l.initial.meter) 0 l.schedule)
-
-abbrev pub decreases-loop-i : goal.decreases-loop-i
-decreases-loop-i l = l.n - l.i

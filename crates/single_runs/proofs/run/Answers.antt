@@ -17,12 +17,12 @@ pub returns-then-done-eq0 : goal.returns-then-done-eq0
 returns-then-done-eq0 c =
     unrefused_run _ _ (sym c.broken.ensures ∙ c.if-broken.false) c.if-schedule-eq1.false c.entries-done.result c.entries-done.ensures c.if-done-eq0.true
 
-pub returns-in-UnreadableAt : goal.returns-in-UnreadableAt
-returns-in-UnreadableAt c =
-    c.unchanged-in-UnreadableAt.ensures
+pub returns-in-Some : goal.returns-in-Some
+returns-in-Some c =
+    c.unchanged-in-Some.ensures
     ∙ unread_run _ _ c.broken.result c.broken.ensures c.if-broken.false c.if-schedule-eq1.false c.search.result c.search.ensures _ (search rules)
 
-pub returns-in-AllRead : goal.returns-in-AllRead
-returns-in-AllRead c =
+pub returns-in-None : goal.returns-in-None
+returns-in-None c =
     c.entries-done.ensures
     ∙ read_run _ _ c.broken.result c.broken.ensures c.if-broken.false c.if-schedule-eq1.false c.search.result c.search.ensures (search rules)

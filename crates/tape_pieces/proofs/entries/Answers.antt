@@ -11,7 +11,7 @@ loop-n-init c = record {
 }
 
 pub returns-then-bytes-at-clause-next : goal.returns-then-bytes-at-clause-next
-returns-then-bytes-at-clause-next c = λ q. no_bytes c.args.v c.args.bytes.now c.loop-n.at (search rules)
+returns-then-bytes-at-clause-next c = no_bytes c.args.v c.args.bytes.now c.loop-n.at (search rules)
 
 pub loop-n-preserved : goal.loop-n-preserved
 unfolding size_of

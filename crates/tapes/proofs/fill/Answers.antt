@@ -12,7 +12,6 @@ put_head-requires c = omega (
 
 pub loop-i-init : goal.loop-i-init
 loop-i-init c = let p = c.put_head in (
-  omega arith,
   omega (
     arith,
     length_tape c.args.v
@@ -34,49 +33,48 @@ put_entry-requires c = let l = c.loop-i in (
   entry_byte c.args.v
       c.args.capacity
       c.args.workers
-      c.args.words.now _ _ l.i l.at _ l.invariant.1
-      l.invariant.2 l.invariant.4 l.invariant.5 (omega arith) l.invariant.6,
+      c.args.words.now _ _ l.i l.at _ l.invariant.0
+      l.invariant.1 l.invariant.3 l.invariant.4 (omega arith) l.invariant.5,
   entry_room c.args.v
       c.args.capacity
       c.args.workers
-      c.args.words.now _ _ l.i l.at _ l.invariant.1
-      l.invariant.2 l.invariant.4 l.invariant.5 (omega arith) l.invariant.6,
+      c.args.words.now _ _ l.i l.at _ l.invariant.0
+      l.invariant.1 l.invariant.3 l.invariant.4 (omega arith) l.invariant.5,
 )
 
 pub loop-i-preserved : goal.loop-i-preserved
 loop-i-preserved c = let l = c.loop-i in
     let p = c.put_entry in (
-      omega arith,
       entry_in c.args.v
           c.args.capacity
           c.args.workers
           c.args.words.now _ _
-          l.i l.at _ l.invariant.1 l.invariant.2 l.invariant.4 l.invariant.5 (omega arith) l.invariant.6 _ c.size-at.ensures.0,
-      l.invariant.2,
+          l.i l.at _ l.invariant.0 l.invariant.1 l.invariant.3 l.invariant.4 (omega arith) l.invariant.5 _ c.size-at.ensures.0,
+      l.invariant.1,
       omega (arith, p.auto.buffer),
       entry_written c.args.v
           c.args.capacity
           c.args.workers
           c.args.words.now _ _
-          l.i l.at _ l.invariant.1 l.invariant.2 l.invariant.4 l.invariant.5 (omega arith) l.invariant.6 _ c.size-at.ensures.0 _ p.ensures,
+          l.i l.at _ l.invariant.0 l.invariant.1 l.invariant.3 l.invariant.4 (omega arith) l.invariant.5 _ c.size-at.ensures.0 _ p.ensures,
       entry_left c.args.v
           c.args.capacity
           c.args.workers
           c.args.words.now _ _
-          l.i l.at _ l.invariant.1 l.invariant.2 l.invariant.4 l.invariant.5 (omega arith) l.invariant.6 _ c.size-at.ensures.0,
+          l.i l.at _ l.invariant.0 l.invariant.1 l.invariant.3 l.invariant.4 (omega arith) l.invariant.5 _ c.size-at.ensures.0,
       entry_load c.args.v
           c.args.capacity
           c.args.workers
           c.args.words.now _ _
-          l.i l.at _ l.invariant.1 l.invariant.2 l.invariant.4 l.invariant.5 (omega arith) l.invariant.6 _ c.size-at.ensures.0,
+          l.i l.at _ l.invariant.0 l.invariant.1 l.invariant.3 l.invariant.4 (omega arith) l.invariant.5 _ c.size-at.ensures.0,
     )
 
 pub put_end-requires : goal.put_end-requires
 put_end-requires c = let l = c.loop-i in end_room c.args.v
     c.args.capacity
     c.args.workers
-    c.args.words.now _ _ l.i l.at 0 l.invariant.1 l.invariant.2 l.invariant.4
-    l.invariant.5 (omega arith)
+    c.args.words.now _ _ l.i l.at 0 l.invariant.0 l.invariant.1 l.invariant.3
+    l.invariant.4 (omega arith)
 
 pub shape_of-buffer : goal.shape_of-buffer
 shape_of-buffer c = omega (arith, c.put_end.auto.buffer)
@@ -86,6 +84,6 @@ returns c = let l = c.loop-i in
     end_written c.args.v
     c.args.capacity
     c.args.workers
-    c.args.words.now _ _ l.i l.at 0 l.invariant.1
-    l.invariant.2 l.invariant.4 l.invariant.5 (omega arith) _ _ c.put_head.ensures
+    c.args.words.now _ _ l.i l.at 0 l.invariant.0
+    l.invariant.1 l.invariant.3 l.invariant.4 (omega arith) _ _ c.put_head.ensures
     c.put_end.ensures

@@ -9,13 +9,9 @@ use Rattle.tapes.proofs.fill.Given as goal
 
 abbrev pub invariant-loop-i : goal.invariant-loop-i
 invariant-loop-i l =
-    (l.i ≤ l.n)
-    × (l.at ≤ length (tape_of l.v l.capacity l.workers l.words))
+    (l.at ≤ length (tape_of l.v l.capacity l.workers l.words))
     × (length (tape_of l.v l.capacity l.workers l.words) ≤ length l.initial.buffer)
     × (length l.buffer ≡ length l.initial.buffer)
     × (l.buffer ≡ over (take l.at (tape_of l.v l.capacity l.workers l.words)) l.initial.buffer)
     × (drop l.at (tape_of l.v l.capacity l.workers l.words) ≡ entries_of l.v (drop (2 * l.i) l.words) ++ end_of l.v)
     × (load_from l.i (l.at + 3) (drop (2 * l.i) l.words) ≡ Bytes (length (tape_of l.v l.capacity l.workers l.words)))
-
-abbrev pub decreases-loop-i : goal.decreases-loop-i
-decreases-loop-i l = l.n - l.i

@@ -10,8 +10,8 @@ loop-number-init c = (omega arith, omega arith, none_scanned c.args.v c.args.byt
 pub returns-in-Fault : goal.returns-in-Fault
 returns-in-Fault c = let l = c.loop-number in
     scan_fault c.args.v
-    c.args.bytes.now l.at l.n c.field_in-f.result _ l.invariant.0
-    l.invariant.1 c.field_in-f.ensures l.invariant.2 c.in-Fault.number (search rules)
+    c.args.bytes.now l.at l.n c.field_in.result _ l.invariant.0
+    l.invariant.1 c.field_in.ensures l.invariant.2 c.in-Fault.number (search rules)
 
 pub loop-number-smaller : goal.loop-number-smaller
 unfolding size_of
@@ -21,7 +21,7 @@ loop-number-smaller c = let l = c.loop-number in
       c.size-at.ensures.0,
       entry_inside c.args.v
           c.args.bytes.now l.at l.n
-          c.field_in-f.result _ l.invariant.0 l.invariant.1 c.field_in-f.ensures l.invariant.2
+          c.field_in.result _ l.invariant.0 l.invariant.1 c.field_in.ensures l.invariant.2
           c.in-Entry.first c.in-Entry.field-1 _ (search rules) c.size-at.ensures.0,
     )
 
@@ -30,11 +30,11 @@ unfolding size_of
 loop-number-preserved c = let l = c.loop-number in (
   entry_inside c.args.v
       c.args.bytes.now l.at l.n
-      c.field_in-f.result _ l.invariant.0 l.invariant.1 c.field_in-f.ensures l.invariant.2
+      c.field_in.result _ l.invariant.0 l.invariant.1 c.field_in.ensures l.invariant.2
       c.in-Entry.first c.in-Entry.field-1 _ (search rules) c.size-at.ensures.0,
   omega (arith, c.size-at.ensures.0),
   scan_more c.args.v
       c.args.bytes.now l.at l.n
-      c.field_in-f.result _ l.invariant.0 l.invariant.1 c.field_in-f.ensures l.invariant.2
+      c.field_in.result _ l.invariant.0 l.invariant.1 c.field_in.ensures l.invariant.2
       c.in-Entry.first c.in-Entry.field-1 _ (search rules) c.size-at.ensures.0,
 )

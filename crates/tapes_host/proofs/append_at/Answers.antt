@@ -2,8 +2,8 @@ use Rattle.tapes_host.proofs.Recording.{not_carried, no_room_left, entry_byte, e
 use borrow.Author.Rules.{rules}
 use Rattle.tapes_host.proofs.append_at.Goals as goal
 
-pub returns-else-carried : goal.returns-else-carried
-returns-else-carried c = search (rules, not_carried)
+pub returns-then-not-carried : goal.returns-then-not-carried
+returns-then-not-carried c = search (rules, not_carried)
 
 pub returns-then-tape-all : goal.returns-then-tape-all
 returns-then-tape-all c = search (rules, no_room_left)

@@ -1,12 +1,8 @@
-use Rattle.tapes_host.proofs.Recording.{big_stands, little_stands, none_stands}
-use borrow.Author.Rules.{rules}
+use Rattle.tapes_host.proofs.Recording.{one_stands, none_stands}
 use Rattle.tapes_host.proofs.stands_by.Goals as goal
 
-pub returns-then-name-eq-BIG : goal.returns-then-name-eq-BIG
-returns-then-name-eq-BIG c = search (rules, big_stands)
+pub returns-in-Some : goal.returns-in-Some
+returns-in-Some c = one_stands _ _ _ _ c.in-Some.ensures
 
-pub returns-then-name-eq-LITTLE : goal.returns-then-name-eq-LITTLE
-returns-then-name-eq-LITTLE c = search (rules, little_stands)
-
-pub returns : goal.returns
-returns c = search (rules, none_stands)
+pub returns-in-None : goal.returns-in-None
+returns-in-None c = none_stands _ _ _ c.in-None.ensures.0 c.in-None.ensures.1

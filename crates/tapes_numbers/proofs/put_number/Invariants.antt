@@ -1,4 +1,4 @@
-use Prim.Native.Nat.{◌-◌, ◌≤◌}
+use Prim.Native.Nat.{◌-◌}
 use mathlib.Core.Path.{◌≡◌}
 use mathlib.Core.List.{◌++◌}
 use lib.ListN.{length, take}
@@ -7,7 +7,4 @@ use Rattle.tapes_numbers.proofs.put_number.Given as goal
 
 abbrev pub invariant-loop-i : goal.invariant-loop-i
 invariant-loop-i l =
-    (l.i ≤ l.count) × (length l.buffer ≡ l.count) × (take l.i (in_order l.v l.buffer) ++ digits_of (l.count - l.i) l.rest ≡ digits_of l.count l.n)
-
-abbrev pub decreases-loop-i : goal.decreases-loop-i
-decreases-loop-i l = l.count - l.i
+    (length l.buffer ≡ l.count) × (take l.i (in_order l.v l.buffer) ++ digits_of (l.count - l.i) l.rest ≡ digits_of l.count l.n)

@@ -1,6 +1,5 @@
-use Rattle.std.proofs.Common.{length, ◌-◌}
+use Rattle.std.proofs.Common.{◌≤◌, length}
 use Rattle.tapes_shows_cases.proofs.all.Given as goal
 
--- proposed from the loop's first test
-abbrev pub decreases-loop-from : goal.decreases-loop-from
-decreases-loop-from l = length l.list - l.from
+abbrev pub invariant-loop : goal.invariant-loop
+invariant-loop l = length l.rest ≤ length l.list

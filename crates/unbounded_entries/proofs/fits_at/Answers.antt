@@ -3,13 +3,9 @@ use Rattle.unbounded_entries.specs.Looks.{fits_at}
 use Rattle.std.proofs.Common.{rules}
 use Rattle.unbounded_entries.proofs.fits_at.Goals as goal
 
-pub returns-then-g : goal.returns-then-g
+pub returns-then-look : goal.returns-then-look
 unfolding fits_at
-returns-then-g c = search (rules, picks)
-
-pub returns-else-g : goal.returns-else-g
-unfolding fits_at
-returns-else-g c = search (rules, picks)
+returns-then-look c = search (rules, picks)
 
 pub returns-else-look : goal.returns-else-look
 unfolding fits_at

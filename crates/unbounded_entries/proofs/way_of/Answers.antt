@@ -2,8 +2,8 @@ use Rattle.unbounded_entries.proofs.Laws.{way_away, way_by, way_moves, way_in_ti
 use Rattle.std.proofs.Common.{rules}
 use Rattle.unbounded_entries.proofs.way_of.Goals as goal
 
-pub returns-then-refusal-gt0 : goal.returns-then-refusal-gt0
-returns-then-refusal-gt0 c = search (rules, way_away)
+pub returns-then-ask-gt0 : goal.returns-then-ask-gt0
+returns-then-ask-gt0 c = search (rules, way_away)
 
 pub way_acts-requires : goal.way_acts-requires
 way_acts-requires c = search (rules, way_in_time)

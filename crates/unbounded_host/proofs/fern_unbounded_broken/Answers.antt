@@ -2,8 +2,8 @@ use Rattle.unbounded_host.proofs.Answering.{broken_six, head_words, pool_words, 
 use borrow.Author.Rules.{rules}
 use Rattle.unbounded_host.proofs.fern_unbounded_broken.Goals as goal
 
-pub returns-else-stands : goal.returns-else-stands
-returns-else-stands c = search (rules, broken_six)
+pub returns-then-not-stands : goal.returns-then-not-stands
+returns-then-not-stands c = search (rules, broken_six)
 
 pub ends_in-ends-requires : goal.ends_in-ends-requires
 ends_in-ends-requires c = search (rules, head_words)

@@ -5,8 +5,6 @@ use Rattle.unbounded_words.specs.Words.{sizes}
 use Rattle.unbounded_judged.specs.Judged.{busy_from, busy_in}
 use Rattle.unbounded_judged.proofs.busy_in.Given as goal
 
-abbrev pub invariant-loop-i : goal.invariant-loop-i
-invariant-loop-i l = (l.i ≤ workers_most) × (l.n ≤ l.i) × (l.n + busy_from sizes (workers_most - l.i) l.i l.workers ≡ busy_in sizes l.workers)
-
-abbrev pub decreases-loop-i : goal.decreases-loop-i
-decreases-loop-i l = workers_most - l.i
+abbrev pub invariant-loop-worker : goal.invariant-loop-worker
+invariant-loop-worker l =
+    (l.n ≤ l.worker-index) × (l.n + busy_from sizes (workers_most - l.worker-index) l.worker-index l.fn.workers ≡ busy_in sizes l.fn.workers)

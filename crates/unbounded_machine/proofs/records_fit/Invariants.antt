@@ -1,4 +1,4 @@
-use Prim.Native.Nat.{ℕ, ◌≤◌, ◌-◌}
+use Prim.Native.Nat.{ℕ, ◌-◌}
 use Rattle.unbounded_words.specs.Words.{sizes}
 use Rattle.queue_entries.specs.Limits.{workers_most, all}
 use Rattle.unbounded_machine.specs.Machine.{place_of}
@@ -8,7 +8,4 @@ use Rattle.unbounded_machine.specs.Broken.{record_fits, records_fit}
 use Rattle.unbounded_machine.proofs.records_fit.Given as goal
 
 abbrev pub invariant-loop-i : goal.invariant-loop-i
-invariant-loop-i l = (l.i ≤ workers_most) × (all (workers_most - l.i) l.i (λ (k : ℕ). record_fits sizes l.blocks (place_of l.workers k) (ltb k l.count)) ≡ records_fit sizes l.blocks l.count l.workers)
-
-abbrev pub decreases-loop-i : goal.decreases-loop-i
-decreases-loop-i l = workers_most - l.i
+invariant-loop-i l = all (workers_most - l.i) l.i (λ (k : ℕ). record_fits sizes l.fn.blocks (place_of l.fn.workers k) (ltb k l.fn.count)) ≡ records_fit sizes l.fn.blocks l.fn.count l.fn.workers

@@ -11,8 +11,8 @@ bounds-pool-k c = search (rules, bit_in)
 pub loop-k-preserved : goal.loop-k-preserved
 loop-k-preserved c = search (rules, bits_more)
 
-pub returns-else-pool-k-lt2 : goal.returns-else-pool-k-lt2
-returns-else-pool-k-lt2 c = search (rules, no_bit)
+pub returns-then-pool-k-ge2 : goal.returns-then-pool-k-ge2
+returns-then-pool-k-ge2 c = search (rules, no_bit)
 
 pub returns : goal.returns
 returns c = search (rules, bits_end)

@@ -11,8 +11,8 @@ placed_at-requires c = search (rules, place_room)
 pub loop-i-preserved : goal.loop-i-preserved
 loop-i-preserved c = search (rules, places_more)
 
-pub returns-else-placed_at : goal.returns-else-placed_at
-returns-else-placed_at c = search (rules, no_place)
+pub returns-then-not-placed_at : goal.returns-then-not-placed_at
+returns-then-not-placed_at c = search (rules, no_place)
 
 pub returns : goal.returns
 returns c = search (rules, places_end)

@@ -5,6 +5,3 @@ use Rattle.unbounded_rows.proofs.all_placed.Given as goal
 
 abbrev pub invariant-loop-i : goal.invariant-loop-i
 invariant-loop-i l = Places l.records l.i
-
-abbrev pub decreases-loop-i : goal.decreases-loop-i
-decreases-loop-i l = workers_most - l.i

@@ -6,6 +6,3 @@ use Rattle.unbounded_rows.proofs.blocks_in.Given as goal
 
 abbrev pub invariant-loop-k : goal.invariant-loop-k
 invariant-loop-k l = Taken new_block 64 (block_in l.pool) l.k l.all
-
-abbrev pub decreases-loop-k : goal.decreases-loop-k
-decreases-loop-k l = 64 - l.k

@@ -5,5 +5,5 @@ use Rattle.unbounded_rows.proofs.laid_out.Goals as goal
 pub returns-else-head-eq0 : goal.returns-else-head-eq0
 returns-else-head-eq0 c = search (rules, not_nought)
 
-pub returns : goal.returns
-returns c = search (rules, by_layout)
+pub returns-then-head-eq0 : goal.returns-then-head-eq0
+returns-then-head-eq0 c = search (rules, by_layout)

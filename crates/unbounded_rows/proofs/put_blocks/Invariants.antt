@@ -4,6 +4,3 @@ use Rattle.unbounded_rows.proofs.put_blocks.Given as goal
 
 abbrev pub invariant-loop-k : goal.invariant-loop-k
 invariant-loop-k l = Headed l.initial.pool l.blocks l.k l.pool
-
-abbrev pub decreases-loop-k : goal.decreases-loop-k
-decreases-loop-k l = 64 - l.k

@@ -4,7 +4,4 @@ use Rattle.unbounded_rows.proofs.Going.{Stored}
 use Rattle.unbounded_rows.proofs.put_records.Given as goal
 
 abbrev pub invariant-loop-i : goal.invariant-loop-i
-invariant-loop-i l = Stored l.all l.i l.records
-
-abbrev pub decreases-loop-i : goal.decreases-loop-i
-decreases-loop-i l = workers_most - l.i
+invariant-loop-i l = Stored l.fn.all l.i l.records

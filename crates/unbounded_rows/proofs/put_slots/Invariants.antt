@@ -4,6 +4,3 @@ use Rattle.unbounded_rows.proofs.put_slots.Given as goal
 
 abbrev pub invariant-loop-j : goal.invariant-loop-j
 invariant-loop-j l = Filled l.initial.pool l.slots l.j l.pool
-
-abbrev pub decreases-loop-j : goal.decreases-loop-j
-decreases-loop-j l = 1984 - l.j

@@ -7,6 +7,3 @@ use Rattle.unbounded_rows.proofs.records_in.Given as goal
 
 abbrev pub invariant-loop-i : goal.invariant-loop-i
 invariant-loop-i l = Taken idler workers_most (record_in l.records) l.i l.all
-
-abbrev pub decreases-loop-i : goal.decreases-loop-i
-decreases-loop-i l = workers_most - l.i

@@ -6,6 +6,3 @@ use Rattle.unbounded_rows.proofs.slots_in.Given as goal
 
 abbrev pub invariant-loop-j : goal.invariant-loop-j
 invariant-loop-j l = Taken (slot 0 0) 1984 (slot_in l.pool) l.j l.all
-
-abbrev pub decreases-loop-j : goal.decreases-loop-j
-decreases-loop-j l = 1984 - l.j

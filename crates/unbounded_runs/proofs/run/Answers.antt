@@ -12,14 +12,14 @@ returns-then-schedule-eq1 c = c.ran-then-schedule-eq1.ensures ∙ odd_run _ _ c.
 pub run_from-requires : goal.run_from-requires
 run_from-requires c = sym c.broken_in.ensures ∙ c.if-broken_in.false
 
-pub returns-in-UnreadableAt : goal.returns-in-UnreadableAt
-returns-in-UnreadableAt c = c.ran-in-UnreadableAt.ensures ∙ unread_run _ _ c.broken_in.result
+pub returns-in-Some : goal.returns-in-Some
+returns-in-Some c = c.ran-in-Some.ensures ∙ unread_run _ _ c.broken_in.result
     c.broken_in.ensures c.if-broken_in.false
     c.if-schedule-eq1.false c.search_but.result
     c.search_but.ensures _ (search rules)
 
-pub returns-in-AllRead : goal.returns-in-AllRead
-returns-in-AllRead c = c.run_from.ensures ∙ read_run _ _ c.broken_in.result
+pub returns-in-None : goal.returns-in-None
+returns-in-None c = c.run_from.ensures ∙ read_run _ _ c.broken_in.result
     c.broken_in.ensures c.if-broken_in.false
     c.if-schedule-eq1.false c.search_but.result c.search_but.ensures
     (search rules)

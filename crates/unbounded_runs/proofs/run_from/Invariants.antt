@@ -9,16 +9,9 @@ use Rattle.unbounded_runs.proofs.Turns.{Stand}
 use Rattle.unbounded_runs.proofs.run_from.Given as goal
 
 abbrev pub invariant-loop-c : goal.invariant-loop-c
-invariant-loop-c l = (l.c ≤ 31) × (l.k < 64)
-    × (cleared_from (31 - l.c) (l.k * 31 + l.c) l.slots ≡ cleared_from 31 (l.k * 31 + 0) l.initial.slots)
-
-abbrev pub decreases-loop-c : goal.decreases-loop-c
-decreases-loop-c l = 31 - l.c
+invariant-loop-c l = (l.k < 64) × (cleared_from (31 - l.c) (l.k * 31 + l.c) l.slots ≡ cleared_from 31 (l.k * 31 + 0) l.initial.slots)
 
 abbrev pub invariant-loop-i : goal.invariant-loop-i
 invariant-loop-i l =
-    (l.i ≤ l.n) × (l.n ≡ length l.schedule / 2) × Stand l.schedule l.n l.i (machine_of l.ends l.blocks l.slots l.workers l.count l.meter) l.sound l.busy l.known
+    (l.n ≡ length l.schedule / 2) × Stand l.schedule l.n l.i (machine_of l.ends l.blocks l.slots l.workers l.count l.meter) l.sound l.busy l.known
     (run_from sizes (machine_of l.initial.ends l.initial.blocks l.initial.slots l.initial.workers l.count l.initial.meter) 0 l.schedule)
-
-abbrev pub decreases-loop-i : goal.decreases-loop-i
-decreases-loop-i l = l.n - l.i

@@ -1,7 +1,0 @@
-use borrow.Author.Rules.{rules}
-use Rattle.bounded_acts.specs.Acts.{value_to}
-use Rattle.bounded_acts.proofs.value_to.Goals as goal
-
-pub returns : goal.returns
-unfolding value_to
-returns c = search rules

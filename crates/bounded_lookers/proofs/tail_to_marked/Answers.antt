@@ -1,6 +1,0 @@
-use Rattle.bounded_acts.proofs.Arms.{tail_is}
-use borrow.Author.Rules.{rules}
-use Rattle.bounded_lookers.proofs.tail_to_marked.Goals as goal
-
-pub returns : goal.returns
-returns c = search (rules, tail_is)

@@ -1,7 +1,0 @@
-use Rattle.std.proofs.Common.{rules}
-use Rattle.bounded_words.specs.Words.{same}
-use Rattle.bounded_words.proofs.same_word.Goals as goal
-
-pub returns : goal.returns
-unfolding same
-returns c = search rules

@@ -1,6 +1,0 @@
-use Rattle.std.proofs.Common.{length, ◌-◌}
-use Rattle.text_output.proofs.start_of.Given as goal
-
--- proposed from the loop's first test
-abbrev pub decreases-loop-i : goal.decreases-loop-i
-decreases-loop-i l = length l.list - l.i

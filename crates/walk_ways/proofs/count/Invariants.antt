@@ -1,5 +1,0 @@
-use Rattle.walk_ways.proofs.count.Given as goal
-
--- proposed from the loop's first test
-abbrev pub decreases-loop-turns : goal.decreases-loop-turns
-decreases-loop-turns l = l.turns
