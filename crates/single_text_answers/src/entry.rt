@@ -9,13 +9,15 @@ pub enum Call {
     Begin,
     Act,
     Step,
+    // a number that names none of them is handed to step, and its line begins with the outcome
+    Unnamed,
 }
 
 pub fn done(call: Call, m: Machine, first: u64, second: u64) -> Did {
     match call {
         Call::Begin => single::begin(m, first, second),
         Call::Act => single::act(m, first, second),
-        Call::Step => single::step(m, first, second),
+        Call::Step | Call::Unnamed => single::step(m, first, second),
     }
 }
 
@@ -43,12 +45,13 @@ pub fn one(system: &System, label: &[u8], call: Call, n: [u64; NUMBERS], first: 
     let m = crate::build::machine(n);
     let d = done(call, m, first, second);
     text.bytes(label);
-    text.text(match call {
-        Call::Begin => "begin",
-        Call::Act => "act",
-        Call::Step => "step",
-    });
-    text.form(" # #: # ", &[first, second, d.refusal]);
+    let form = match call {
+        Call::Begin => "begin # #: # ",
+        Call::Act => "act # #: # ",
+        Call::Step => "step # #: # ",
+        Call::Unnamed => "",
+    };
+    text.form(form, &[first, second, d.refusal]);
     outcome(&mut text, first / 16, m, d);
     text.end_line(system);
 }

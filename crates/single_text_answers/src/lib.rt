@@ -40,7 +40,8 @@ fn call_of(n: u64) -> Call {
     match n {
         0 => Call::Begin,
         1 => Call::Act,
-        _ => Call::Step,
+        2 => Call::Step,
+        _ => Call::Unnamed,
     }
 }
 

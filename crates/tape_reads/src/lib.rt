@@ -13,15 +13,28 @@ fn is_written(system: &System, text: &Text) -> bool {
     replay_input::say::is_written(system, "tape", !text.is_lost())
 }
 
-// A line for each entry, behind the first line of the first piece, if there is one; says where not all could be written, and answers whether all was.
+// Where there is so much of the text it is written.
+const MUCH: usize = 65000;
+
+// A line for each entry, behind the first line of the first piece, if there is one; says where not all could be written, and answers whether all was. The first line is
+// written by itself, so that who reads no more than that has it before the others come.
 fn put_piece(system: &System, text: &mut Text, p: Piece, is_first: bool, words: &[u64]) -> bool {
-    if is_first && !matches!(p.state, State::Refused | State::Failed) {
+    if is_first {
+        if matches!(p.state, State::Refused | State::Failed) {
+            return true;
+        }
         text.form("# #\n", &[p.capacity, p.workers]);
+        text.flush(system);
+        if !is_written(system, text) {
+            return false;
+        }
     }
     let (pairs, _) = words[..p.count.min(words.len())].as_chunks::<2>();
     for pair in pairs {
         text.form("# #\n", pair);
-        text.settle(system);
+        if MUCH <= text.len() {
+            text.flush(system);
+        }
     }
     text.flush(system);
     is_written(system, text)

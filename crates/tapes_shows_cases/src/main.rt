@@ -147,17 +147,18 @@ fn all(system: &System, text: &mut Text, list: &[u64]) -> usize
     rest.len()
 }
 
-// What is left of the first n goes to the list's start.
-fn settle(system: &System, text: &mut Text, list: &mut [u64], n: usize) -> usize {
+// What is left of the first n goes to the list's start. Each piece has a text of its own, so that after a write that failed the next piece is written all the same.
+fn settle(system: &System, room: &mut [u8], list: &mut [u64], n: usize) -> usize {
     if list.len() < n {
         return 0;
     }
-    let left = all(system, text, &list[..n]);
+    let mut text = Text::new(room);
+    let left = all(system, &mut text, &list[..n]);
     list.copy_within(n - left..n, 0);
     left
 }
 
-fn run(system: &System, text: &mut Text, bytes: &mut [u8], list: &mut [u64]) {
+fn run(system: &System, room: &mut [u8], bytes: &mut [u8], list: &mut [u64]) {
     let mut scan = Scan::start(1);
     let mut left = 0;
     for _ in 0..u64::MAX {
@@ -165,7 +166,7 @@ fn run(system: &System, text: &mut Text, bytes: &mut [u8], list: &mut [u64]) {
             return;
         };
         let piece = scan.read_piece(false, &bytes[..n], list, left);
-        left = settle(system, text, list, piece.count);
+        left = settle(system, room, list, piece.count);
         if piece.stop.is_some() {
             return;
         }
@@ -176,7 +177,6 @@ fn main(rt: HostRuntime) {
     let mut bytes = [0; BYTES];
     let mut list = [0; NUMBERS];
     let mut room = [0; 65536];
-    let mut text = Text::new(&mut room);
     let system = text_system::of(rt);
-    run(&system, &mut text, &mut bytes, &mut list);
+    run(&system, &mut room, &mut bytes, &mut list);
 }
