@@ -17,24 +17,47 @@ struct Replay {
     machine: Machine,
 }
 
-impl Replay {
-    // With the line PLACE R h=H hb=B t=T tb=B m=M wN=S; answers its refusal, or 0.
-    fn step(
-        &mut self,
-        system: &System,
-        place: u64,
-        first: u64,
-        second: u64,
-        text: &mut Text,
-    ) -> u64 {
-        let w = first / 16;
-        let ran = unbounded::run(self.machine, &[first, second]);
-        self.machine = ran.machine;
-        let stands = machine::place_of(ran.machine, w);
-        let standing = machine::standing_of(ran.machine);
-        machine::entry(text, place, ran.refusal, w, standing, stands);
-        text.settle(system);
-        ran.refusal
+// How far the run is, and the machine there.
+#[derive(Clone, Copy)]
+struct Stepped {
+    run: Run,
+    machine: Machine,
+}
+
+// PLACE R h=H hb=B t=T tb=B m=M wN=S
+fn line(system: &System, text: &mut Text, place: u64, refusal: u64, w: u64, m: &Machine) {
+    let stands = machine::place_of(m, w);
+    let standing = machine::standing_of(m);
+    machine::entry(text, place, refusal, w, standing, stands);
+    text.settle(system);
+}
+
+// Entry by entry, with a line for each, to the list's end or to the first refusal. A loop of its own and not `runs::steps`: behind a reference the machine is copied once
+// or twice more an entry, which then takes 1.2 to 1.5 times as long.
+fn steps(system: &System, run: Run, begun: Machine, list: &[u64], text: &mut Text) -> Stepped {
+    let mut m = begun;
+    let mut refusal = run.refusal;
+    let mut place = run.place;
+    for i in 0..list.len() / 2 {
+        if refusal != 0 {
+            break;
+        }
+        let w = list[2 * i] / 16;
+        let ran = unbounded::run(m, &[list[2 * i], list[2 * i + 1]]);
+        m = ran.machine;
+        refusal = ran.refusal;
+        line(system, text, place, refusal, w, &m);
+        if refusal == 0 {
+            place = place.wrapping_add(1);
+        }
+    }
+    Stepped {
+        run: Run {
+            place,
+            refusal,
+            ..run
+        },
+        machine: m,
     }
 }
 
@@ -45,11 +68,9 @@ impl Runner for Replay {
             self.machine = ran.machine;
             return run.ran(ran.place, ran.refusal);
         }
-        runs::steps(
-            run,
-            list,
-            |place, first, second| self.step(system, place, first, second, text),
-        )
+        let stepped = steps(system, run, self.machine, list, text);
+        self.machine = stepped.machine;
+        stepped.run
     }
 
     // contents goes through a buffer that any list fits.
@@ -59,7 +80,7 @@ impl Runner for Replay {
                 text,
                 run.place,
                 run.refusal,
-                machine::standing_of(self.machine),
+                machine::standing_of(&self.machine),
             );
         }
         machine::blocks(system, text, self.machine);

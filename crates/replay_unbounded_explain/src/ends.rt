@@ -3,9 +3,8 @@ use crate::{Told, seen};
 use replay_explain::Ended;
 use text_output::Text;
 use text_system::System;
-use unbounded_places::Place;
-use unbounded_text::machine;
 use unbounded_text_explain::ends;
+use unbounded_text_places::code::Case;
 
 impl Ended for Told {
     fn is_met(&self) -> bool {
@@ -17,8 +16,9 @@ impl Ended for Told {
     }
 
     fn busy(&self, system: &System, w: u64, text: &mut Text) -> bool {
-        ends::busy(system, text, w, seen(self.machine, w).stood);
-        !matches!(machine::place_of(self.machine, w), Place::Idle(_))
+        let stood = seen(&self.machine, w).stood;
+        ends::busy(system, text, w, stood);
+        stood.case != Case::Idle
     }
 
     fn rest(&self, system: &System, text: &mut Text) {

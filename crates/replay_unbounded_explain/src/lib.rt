@@ -27,7 +27,7 @@ pub struct Told {
     slots: [u64; unbounded_words::POOL],
 }
 
-fn seen(m: Machine, w: u64) -> Seen {
+fn seen(m: &Machine, w: u64) -> Seen {
     let ends = machine::standing_of(m).ends;
     Seen {
         ends: [ends.head.0, ends.tail.0, unbounded_words::number(ends.back)],
@@ -47,14 +47,14 @@ impl Told {
     ) -> u64 {
         let w = first / 16;
         let item = self.how.follows.unwrap_or(0);
-        let before = seen(self.machine, w);
+        let before = seen(&self.machine, w);
         let ran = unbounded::run(self.machine, &[first, second]);
         self.machine = ran.machine;
         if ran.refusal != 0 {
             words::refused(system, text, self.how.colours, place, ran.refusal, w);
             return ran.refusal;
         }
-        let e = unbounded_text_explain::entry(place, first, second, before, seen(ran.machine, w));
+        let e = unbounded_text_explain::entry(place, first, second, before, seen(&ran.machine, w));
         let is_of = notes::is_of(self.notes, &self.slots, e, item);
         notes::claims(&mut self.slots, e, item);
         let follows = self.how.follows.is_some();

@@ -14,7 +14,7 @@ pub struct Standing {
     pub count: u64,
 }
 
-pub fn standing_of(m: Machine) -> Standing {
+pub fn standing_of(m: &Machine) -> Standing {
     Standing {
         ends: m.ends,
         meter: m.meter,
@@ -23,7 +23,7 @@ pub fn standing_of(m: Machine) -> Standing {
 }
 
 // Where a worker stands; idle without an answer where there is no such record.
-pub fn place_of(m: Machine, w: u64) -> Place {
+pub fn place_of(m: &Machine, w: u64) -> Place {
     let i = w as usize;
     if i < queue_entries::WORKERS {
         return m.workers[i].place;
