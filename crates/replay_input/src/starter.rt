@@ -1,6 +1,7 @@
 // What the starter hears, if it asks, on a descriptor that it opens: the path of each file that it is to remove where a signal ends the program,
 // each ended by a 0; then the status, a digit. The program itself ends with 0, or as if a pipe's signal had ended it.
 use std::process::ExitCode;
+use text_numbers::Scan;
 use text_system::System;
 
 // The descriptor where none is named.
@@ -60,4 +61,13 @@ pub fn ending(system: &System, starter: Starter, status: u8) -> ExitCode {
         return ExitCode::from(UNREAD);
     }
     ExitCode::SUCCESS
+}
+
+// The number of a descriptor in an argument, read as the numbers of a schedule are; 0: it is none.
+pub fn number_in(word: &[u8]) -> u64 {
+    let mut numbers = [0; 2];
+    let mut scan = Scan::start(1);
+    let digits = scan.read_piece(false, word, &mut numbers, 0);
+    let end = scan.read_piece(false, b"\n", &mut numbers, digits.count);
+    if end.count == 1 { numbers[0] } else { 0 }
 }
